@@ -15,7 +15,7 @@ use vdesign::dump::{Chosen, DumpCommand, Selection};
 use vdesign::expression::Bounds;
 use vdesign::print::Text;
 use vmodel::history::{Cause, End, History, Item};
-use vmodel::sink::Sink;
+use vmodel::sink::HistorySink;
 use vmodel::values::Values;
 
 // Takes at most so many bytes a call, and fails at a call.

@@ -13,7 +13,7 @@ use vbits::Vec4;
 use vcd_text::{ByteSink, put};
 use vdesign::design::Design;
 use vmodel::history::Item;
-use vmodel::sink::Sink;
+use vmodel::sink::HistorySink;
 
 /// Writes the printed lines of a run as its items come: each line of `$display` and `$strobe` where it stands, and the line of the
 /// monitor in force at the end of its own slot and of each later one in which an argument changed (17.1; docs/FORMATS.md, "Lines").
@@ -116,7 +116,7 @@ impl<'a, O: ByteSink> LinesSink<'a, O> {
     }
 }
 
-impl<'a, O: ByteSink> Sink for LinesSink<'a, O> {
+impl<'a, O: ByteSink> HistorySink for LinesSink<'a, O> {
     ghost use Rattle.lines_text.specs.Sinks.{Takes, Fails};
     ghost use Rattle.lines_text.specs.SinkLaws.{takes_none, takes_joins, fails_after};
 

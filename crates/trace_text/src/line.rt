@@ -7,7 +7,7 @@ use vbits::Vec4;
 use vcd_text::put_digits;
 use vdesign::design::Design;
 use vdesign::dump::DumpCommand;
-use vmodel::SlowState;
+use vmodel::State;
 use vmodel::choice::Choice;
 use vmodel::effect::{Disposition, Effect, Shown};
 use vmodel::history::{Cause, End};
@@ -310,7 +310,7 @@ fn put_slot_end(text: &mut Vec<u8>, time: u64) -> Result<(), NoMemory> {
 }
 
 // The line of a slot end, where the state is one.
-fn put_mark(text: &mut Vec<u8>, state: &SlowState) -> Result<(), NoMemory> {
+fn put_mark(text: &mut Vec<u8>, state: &State) -> Result<(), NoMemory> {
     if state.cause().is_none() && state.is_mark() {
         put_slot_end(text, state.time())?;
     }
@@ -318,7 +318,7 @@ fn put_mark(text: &mut Vec<u8>, state: &SlowState) -> Result<(), NoMemory> {
 }
 
 // What is told of the step of this number before it is taken, if there is such a choice.
-fn taken_of(state: &SlowState, number: u32, index: u32) -> Option<Taken> {
+fn taken_of(state: &State, number: u32, index: u32) -> Option<Taken> {
     let choice = state.choice(index)?;
     let action = match choice {
         Choice::Run(process) => state.place_of(process),
@@ -343,7 +343,7 @@ fn lines_of(
     old: &[Vec4],
     taken: Taken,
     effect: &Effect,
-    state: &SlowState,
+    state: &State,
 ) -> Result<Vec<u8>, NoMemory> {
     let mut text = Vec::new(alloc);
     put_step(&mut text, design, origins, old, taken, effect, state.time())?;
@@ -357,7 +357,7 @@ pub(crate) fn step(
     alloc: Global,
     design: &Design,
     origins: &Origins,
-    state: &mut SlowState,
+    state: &mut State,
     number: u32,
     index: u32,
 ) -> Result<Option<Vec<u8>>, NoMemory> {
@@ -376,7 +376,7 @@ pub(crate) fn step(
 }
 
 /// The line of the opening state, where it is a slot end.
-pub(crate) fn opening_line(alloc: Global, state: &SlowState) -> Result<Vec<u8>, NoMemory> {
+pub(crate) fn opening_line(alloc: Global, state: &State) -> Result<Vec<u8>, NoMemory> {
     let mut text = Vec::new(alloc);
     put_mark(&mut text, state)?;
     Ok(text)

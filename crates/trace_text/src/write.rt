@@ -12,7 +12,7 @@ use std::io::Write;
 use vcd_text::{Metered, WriteFault, put};
 use vdesign::design::Design;
 use vmachine::Machine;
-use vmodel::{SlowState, opening};
+use vmodel::{State, opening};
 
 // Writes a text that was made, unless memory was refused for it.
 fn put_made<W: Write>(
@@ -33,7 +33,7 @@ fn write_steps<W: Write>(
     alloc: Global,
     design: &Design,
     origins: &Origins,
-    state: &mut SlowState,
+    state: &mut State,
     log: &Log,
     steps: u32,
     writer: &mut Metered<W>,

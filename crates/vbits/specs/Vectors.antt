@@ -4,8 +4,8 @@ use Rattle.std.specs.Bool.{beq}
 use Rattle.std.specs.List.{list_any, list_all}
 use Rattle.vbits.specs.declared.bit4.Bit4.{Bit4}
 use Rattle.vbits.specs.declared.bit4.Bit4.TheVariants.{Zero, One, X}
-use Rattle.vbits.specs.declared.red.Red.{Red}
-use Rattle.vbits.specs.declared.red.Red.TheVariants.{And, Nand, Or, Nor, Xor, Xnor}
+use Rattle.vbits.specs.declared.reduction.Reduction.{Reduction}
+use Rattle.vbits.specs.declared.reduction.Reduction.TheVariants.{And, Nand, Or, Nor, Xor, Xnor}
 use Rattle.vbits.specs.Letters.{is_unknown, is_one, is_same, differ, not_letter, and_letter, or_letter, xor_letter, xnor_letter, join_letter}
 use Rattle.vbits.specs.Numbers.{number, digits, integer, wrapped}
 
@@ -125,7 +125,7 @@ unfoldable pub truth : Vector → Bit4
 truth v =
     if list_any is_one v.letters then One else if list_any is_unknown v.letters then X else Zero
 
-unfoldable pub reduced : Red → List Bit4 → Bit4
+unfoldable pub reduced : Reduction → List Bit4 → Bit4
 reduced And letters = fold and_letter One letters
 reduced Nand letters = not_letter (fold and_letter One letters)
 reduced Or letters = fold or_letter Zero letters
@@ -133,7 +133,7 @@ reduced Nor letters = not_letter (fold or_letter Zero letters)
 reduced Xor letters = fold xor_letter Zero letters
 reduced Xnor letters = not_letter (fold xor_letter Zero letters)
 
-unfoldable pub reduce : Vector → Red → Vector
+unfoldable pub reduce : Vector → Reduction → Vector
 reduce v operator = single (reduced operator v.letters)
 
 -- ---- shifts (5.1.12): by an unsigned amount, all x where it is unknown

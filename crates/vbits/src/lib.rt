@@ -6,9 +6,9 @@
 
 mod bit4;
 mod planes;
-mod red;
+mod reduction;
 mod vec4;
 
 pub use bit4::Bit4;
-pub use red::Red;
+pub use reduction::Reduction;
 pub use vec4::Vec4;

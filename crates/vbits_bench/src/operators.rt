@@ -2,7 +2,7 @@
 
 ghost use Rattle.std.specs.Prelude.{◌≡◌, ◌≤◌, length};
 
-use vbits::{Red, Vec4};
+use vbits::{Reduction, Vec4};
 
 /// An operator, or a copy of an operand, which costs what a turn costs without one.
 #[derive(Clone, Copy)]
@@ -114,12 +114,12 @@ pub fn applied(operator: Operator, left: Vec4, right: Vec4) -> Vec4
         Operator::Le => left.le(right),
         Operator::Gt => left.gt(right),
         Operator::Ge => left.ge(right),
-        Operator::ReduceAnd => left.reduce(Red::And),
-        Operator::ReduceNand => left.reduce(Red::Nand),
-        Operator::ReduceOr => left.reduce(Red::Or),
-        Operator::ReduceNor => left.reduce(Red::Nor),
-        Operator::ReduceXor => left.reduce(Red::Xor),
-        Operator::ReduceXnor => left.reduce(Red::Xnor),
+        Operator::ReduceAnd => left.reduce(Reduction::And),
+        Operator::ReduceNand => left.reduce(Reduction::Nand),
+        Operator::ReduceOr => left.reduce(Reduction::Or),
+        Operator::ReduceNor => left.reduce(Reduction::Nor),
+        Operator::ReduceXor => left.reduce(Reduction::Xor),
+        Operator::ReduceXnor => left.reduce(Reduction::Xnor),
         Operator::Truth => Vec4::of_bit(left.truth()),
         Operator::Select => left.select(left.len() - 1, left.len() / 2),
         Operator::Resize => left.resize(right.len() / 2 + 30),

@@ -17,7 +17,7 @@ use vbits::Vec4;
 use vdesign::design::Design;
 use vdesign::dump::DumpCommand;
 use vmodel::history::{End, Item};
-use vmodel::sink::Sink;
+use vmodel::sink::HistorySink;
 use vmodel::values::Values;
 
 /// Writes the dump of a run of a design as its items come: the header and the values at the end of the first slot with a
@@ -283,7 +283,7 @@ impl<'a, O: ByteSink> DumpSink<'a, O> {
     }
 }
 
-impl<'a, O: ByteSink> Sink for DumpSink<'a, O> {
+impl<'a, O: ByteSink> HistorySink for DumpSink<'a, O> {
     ghost use Rattle.vcd_text.specs.Sinks.{IsPassedOver, Takes, Fails};
     ghost use Rattle.vcd_text.specs.SinkLaws.{takes_none, takes_joins, fails_after};
 

@@ -15,7 +15,7 @@ use std::alloc::Global;
 use std::io::Write;
 use vdesign::design::Design;
 use vmodel::history::History;
-use vmodel::sink::Sink;
+use vmodel::sink::HistorySink;
 
 // A whole history into a fresh sink.
 fn fill<O: ByteSink>(

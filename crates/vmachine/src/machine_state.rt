@@ -4,12 +4,12 @@ ghost use Rattle.std.specs.Prelude.{◌≡◌};
 
 use std::hash::{Hash, Hasher};
 use std::marker::Model;
-use vmodel::SlowState;
+use vmodel::State;
 
 /// Where a run stands. What it holds is the machine's own: the calls of `Machine` read it.
 #[derive(Drop)]
 pub struct MachineState {
-    pub(crate) state: SlowState,
+    pub(crate) state: State,
 }
 
 impl Model for MachineState {

@@ -8,10 +8,10 @@ ghost use Rattle.vmachine.specs.Reads.{end_in, slot_in};
 use crate::machine::Machine;
 use crate::machine_state::MachineState;
 use vbits::Vec4;
-use vmodel::SlowState;
+use vmodel::State;
 use vmodel::history::End;
 
-fn end_at(state: &SlowState) -> Option<End>
+fn end_at(state: &State) -> Option<End>
     ensures { result ≡ end_in state.now }
 {
     if state.width() == 0 {
@@ -21,7 +21,7 @@ fn end_at(state: &SlowState) -> Option<End>
     }
 }
 
-fn slot_at(state: &SlowState) -> Option<u64>
+fn slot_at(state: &State) -> Option<u64>
     ensures { result ≡ slot_in state.now }
 {
     if state.is_mark() && state.cause().is_none() {

@@ -18,9 +18,9 @@ use sched_core::{Log, Member, ReplayFault, next_choice};
 use vdesign::design::Design;
 use vmodel::effect::Effect;
 use vmodel::history::{End, History, Item};
-use vmodel::sink::Sink;
+use vmodel::sink::HistorySink;
 use vmodel::values::Values;
-use vmodel::{SlowState, opening, put_items, put_slot_end};
+use vmodel::{State, opening, put_items, put_slot_end};
 
 /// Why a run wasn't handed on to its end, but for want of memory.
 #[derive(Drop)]
@@ -39,7 +39,7 @@ fn refused<F>(fault: ReplayFault) -> OrMemory<RunFault<F>>
 }
 
 // Hands on what waits, if anything does, where a slot or the run has ended.
-fn hand<S: Sink>(
+fn hand<S: HistorySink>(
     sink: &mut S,
     pending: &mut Vec<Item>,
     is_mark: bool,
@@ -70,7 +70,7 @@ struct Chosen<'l> {
 
 // What comes next after `n` steps: a choice, or none where the run has ended as its log has it.
 fn choose<'l>(
-    state: &SlowState,
+    state: &State,
     rest: &'l [Member],
     n: u32,
     steps: u32,
@@ -103,7 +103,7 @@ fn choose<'l>(
 fn note(
     items: &mut Vec<Item>,
     design: &Design,
-    state: &SlowState,
+    state: &State,
     effect: Effect,
     monitors: &[usize],
 ) -> Result<(), NoMemory>
@@ -120,7 +120,7 @@ impl Machine {
     /// The step limit is tested before the log: where the run goes on after `steps` steps the fault is E403, whatever the
     /// log names there; else a named step that isn't reached or hasn't the choice is E402. E901 where memory was refused;
     /// else a fault is the sink's.
-    pub fn run_into<S: Sink>(
+    pub fn run_into<S: HistorySink>(
         &self,
         log: &Log,
         steps: u32,

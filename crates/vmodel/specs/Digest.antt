@@ -27,7 +27,8 @@ abbrev pub digest_of_values : ℕ → List Vector → ℕ
 digest_of_values digest [] = digest
 digest_of_values digest (v ∷ values) = digest_of_values (digest_of_vector digest v) values
 
--- where a process stands, and how many turns are left there; none, where it is to write what it holds
+-- Where a process stands: 0 where nothing is left for it. With it go the turns that are left of a `repeat`, and 0 turns where it is to
+-- write what it holds.
 abbrev pub stand_of : Option Frame → ℕ
 stand_of None = 0
 stand_of (Some (Executing place)) = (place + 1) % 2 ^ 64
@@ -40,7 +41,8 @@ digest_of_processes digest (p ∷ processes) = digest_of_processes (digest_with 
 
 -- ---- the queue
 
--- 256 marks the end of a list: no process has that number
+-- 256 marks the end of a list, and stands for no process. A place or a variable may have that number: then two states may share a
+-- digest, which costs time and nothing else
 abbrev pub digest_of_end : ℕ → ℕ
 digest_of_end digest = digest_with digest 256
 

@@ -7,7 +7,7 @@ use crate::part::{Kept, Part, Parts};
 use crate::process::{Frame, Process};
 use crate::process_set::ProcessSet;
 use crate::queue::{Future, Queue};
-use crate::state::SlowState;
+use crate::state::State;
 use std::collections::VecDeque;
 use std::hash::{Hash, Hasher};
 use vbits::Vec4;
@@ -196,7 +196,7 @@ fn mix_queue(digest: u64, queue: &Queue) -> u64
 }
 
 /// A hash is fed one number made of the time, the values, where the processes stand and what the queue holds.
-impl Hash for SlowState {
+impl Hash for State {
     ghost use Rattle.std.specs.Hash as fed;
     ghost use Rattle.vmodel.specs.Digest.{digest, fed_alike};
 

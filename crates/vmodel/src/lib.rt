@@ -28,5 +28,5 @@ mod waking;
 pub use law::run_law;
 pub use open::opening;
 pub use shown::{pieces_at, put_items, put_slot_end};
-pub use state::SlowState;
+pub use state::State;
 pub use step::{environment_at, slow_step, slow_width};

@@ -7,7 +7,7 @@ use crate::history::Grain;
 use crate::process::Process;
 use crate::process_set::ProcessSet;
 use crate::queue::Queue;
-use crate::state::SlowState;
+use crate::state::State;
 use crate::values::Values;
 use basis::NoMemory;
 use std::alloc::Global;
@@ -63,16 +63,11 @@ fn opening_queue(active: ProcessSet, alloc: Global, until: u64, grain: Grain) ->
 /// The state that a run of the design opens with: time 0, every variable as it starts, all processes active that have something
 /// to do. `until` is the time limit, in units of the precision. Nothing of the design is copied but the number and the
 /// widths of its variables and where its processes begin. E901 is the only refusal.
-pub fn opening(
-    alloc: Global,
-    design: &Design,
-    until: u64,
-    grain: Grain,
-) -> Result<SlowState, NoMemory>
+pub fn opening(alloc: Global, design: &Design, until: u64, grain: Grain) -> Result<State, NoMemory>
     ensures { IfOk result (λ state. state ≡ opening_state design.now until grain) }
 {
     let active = busy(&design.processes);
-    Ok(SlowState {
+    Ok(State {
         values: Values::opening(alloc, &design.variables)?,
         processes: opening_processes(alloc, &design.processes)?,
         queue: opening_queue(active, alloc, until, grain),

@@ -9,7 +9,7 @@ ghost use Rattle.vmodel.specs.Step.{slot_end_of, items_of, HasFront};
 
 use crate::effect::{Effect, Shown};
 use crate::history::Item;
-use crate::state::SlowState;
+use crate::state::State;
 use basis::NoMemory;
 use line_text::put_line;
 use std::alloc::Global;
@@ -37,7 +37,7 @@ pub fn pieces_at<'d>(design: &'d Design, place: usize) -> &'d [Piece]
     }
 }
 
-impl SlowState {
+impl State {
     // The line of the print task of this place, as it is printed now (17.1).
     fn line(&self, alloc: Global, design: &Design, place: usize) -> Result<Item, NoMemory>
         ensures { IfOk result (λ item. item ≡ spec.line_item design.now self.now place) }
@@ -69,7 +69,7 @@ impl SlowState {
 fn put_shown(
     items: &mut Vec<Item>,
     design: &Design,
-    state: &SlowState,
+    state: &State,
     shown: Shown,
 ) -> Result<(), NoMemory>
     ensures ok { OnOk result (items.new.items
@@ -90,7 +90,7 @@ fn put_shown(
 fn put_strobes(
     items: &mut Vec<Item>,
     design: &Design,
-    state: &SlowState,
+    state: &State,
     places: &[usize],
 ) -> Result<(), NoMemory>
     ensures ok { OnOk result (items.new.items
@@ -110,7 +110,7 @@ fn put_strobes(
 fn put_end(
     items: &mut Vec<Item>,
     design: &Design,
-    state: &SlowState,
+    state: &State,
     monitors: &[usize],
 ) -> Result<(), NoMemory>
     ensures ok { OnOk result (items.new.items ≡ items.old.items
@@ -132,7 +132,7 @@ fn put_end(
 pub fn put_items(
     items: &mut Vec<Item>,
     design: &Design,
-    state: &SlowState,
+    state: &State,
     effect: &Effect,
     monitors: &[usize],
 ) -> Result<(), NoMemory>
@@ -148,7 +148,7 @@ pub fn put_items(
 }
 
 /// Puts behind others the slot end of a state, where it is one. Where memory is short, the others stand as they were.
-pub fn put_slot_end(items: &mut Vec<Item>, state: &SlowState) -> Result<(), NoMemory>
+pub fn put_slot_end(items: &mut Vec<Item>, state: &State) -> Result<(), NoMemory>
     ensures ok { OnOk result (items.new.items ≡ items.old.items ++ slot_end_of state.now) }
     ensures err { OnErr result (items.new.items ≡ items.old.items) }
 {

@@ -6,7 +6,7 @@ ghost use Rattle.vmodel.specs.declared.history.Item.{Item};
 use crate::history::Item;
 
 /// A sink of histories: what takes the items of a run, in order, some at a time.
-pub trait Sink {
+pub trait HistorySink {
     type Fault: Drop;
 
     /// What taking these items makes of the sink.

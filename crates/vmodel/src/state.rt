@@ -20,14 +20,14 @@ use vbits::Vec4;
 /// was taken. Statements go by their places in the design's table. A clause sees it as the record `State` of
 /// specs/State.antt.
 #[derive(Drop)]
-pub struct SlowState {
+pub struct State {
     pub(crate) values: Values,
     pub(crate) processes: Vec<Process>,
     pub(crate) queue: Queue,
     pub(crate) cause: Option<Cause>,
 }
 
-impl Model for SlowState {
+impl Model for State {
     ghost use Rattle.vmodel.specs.State as state;
 
     ghost Value = { state.State };
@@ -40,7 +40,7 @@ impl Model for SlowState {
 }
 
 /// Two are equal where they hold the same.
-impl PartialEq for SlowState {
+impl PartialEq for State {
     ghost use Rattle.std.specs.Cmp.{partial_equiv_from_equiv};
     ghost use Rattle.vmodel.specs.Same.{state_same};
     ghost use Rattle.vmodel.specs.SameLaws.{states_equivalent};
@@ -49,25 +49,25 @@ impl PartialEq for SlowState {
 
     ghost laws = { partial_equiv_from_equiv states_equivalent };
 
-    fn eq(&self, other: &SlowState) -> bool {
+    fn eq(&self, other: &State) -> bool {
         // What differs most often first: states of one digest mostly have other queues, and processes are long to compare.
         let held = (&self.values, &self.queue, &self.processes, &self.cause);
         held == (&other.values, &other.queue, &other.processes, &other.cause)
     }
 }
 
-impl Eq for SlowState {
+impl Eq for State {
     ghost use Rattle.vmodel.specs.SameLaws.{states_equivalent};
 
     ghost laws = { states_equivalent };
 }
 
-impl SlowState {
+impl State {
     /// A state that is the same.
-    pub fn copy(&self, alloc: Global) -> Result<SlowState, NoMemory>
+    pub fn copy(&self, alloc: Global) -> Result<State, NoMemory>
         ensures { IfOk result (λ state. state ≡ self.now) }
     {
-        Ok(SlowState {
+        Ok(State {
             values: self.values.copy(alloc)?,
             processes: copy_processes(alloc, &self.processes)?,
             queue: self.queue.copy(alloc)?,

@@ -20,7 +20,7 @@ use crate::part::{Kept, Part, Parts};
 use crate::process::{Frame, Process};
 use crate::queue::Queue;
 use crate::shown::put_items;
-use crate::state::SlowState;
+use crate::state::State;
 use crate::values::Changes;
 use crate::waking::{News, wake};
 use basis::NoMemory;
@@ -149,7 +149,7 @@ pub fn environment_at<'m>(design: &'m Design, values: &'m [Vec4], time: u64) -> 
     }
 }
 
-impl SlowState {
+impl State {
     // The region moves; after `$finish` and `$stop` there are none. The list is then that of the monitor events that ran in them.
     fn close(&mut self, monitors: &mut Vec<usize>)
         ensures state { self.new ≡ with_moves self.old }
@@ -309,6 +309,7 @@ impl SlowState {
         ensures ok { IfOk result (λ effect.
             process_transition design.now number self.old ≡ transition_to self.new effect monitors.new.items) }
         ensures err { OnErr result (self.new ≡ self.old) }
+        ensures err_monitors { OnErr result (monitors.new.items ≡ monitors.old.items) }
     {
         let Some((frame, action)) = self.action_of(design, number) else {
             return Ok(self.stay(monitors));
@@ -349,7 +350,7 @@ impl SlowState {
     /// The step of choice `i`, in place: one step of a process, the write of an update or the advance of the time, and the
     /// region moves after it (11.3, 11.4). The answer is what the step did, and the list is then that of the monitor events that ran:
     /// the places of their print tasks, in order of creation (17.1.2). Where there is no such choice nothing happens. E901 is the
-    /// only refusal, and leaves the state as it was.
+    /// only refusal, and leaves the state and the list as they were.
     pub fn step(
         &mut self,
         design: &Design,
@@ -359,6 +360,7 @@ impl SlowState {
         ensures ok { IfOk result (λ effect.
             next design.now self.old i ≡ transition_to self.new effect monitors.new.items) }
         ensures err { OnErr result (self.new ≡ self.old) }
+        ensures err_monitors { OnErr result (monitors.new.items ≡ monitors.old.items) }
     {
         match self.choice(i) {
             None => Ok(self.stay(monitors)),
@@ -382,7 +384,7 @@ impl SlowState {
 }
 
 /// How many choices the state has: 0 where the run has ended.
-pub fn slow_width(state: &SlowState) -> u32
+pub fn slow_width(state: &State) -> u32
     ensures { result ≡ length (choices_of state.now) }
 {
     state.width()
@@ -393,9 +395,9 @@ pub fn slow_width(state: &SlowState) -> u32
 pub fn slow_step(
     alloc: Global,
     design: &Design,
-    state: &SlowState,
+    state: &State,
     i: u32,
-) -> Result<(SlowState, Vec<Item>), NoMemory>
+) -> Result<(State, Vec<Item>), NoMemory>
     ensures state { IfOk result (λ after. after.0 ≡ (next design.now state.now i).state) }
     ensures items { IfOk result (λ after. after.1.items
         ≡ items_of design.now (next design.now state.now i)) }

@@ -4,7 +4,7 @@ ghost use Rattle.std.specs.Prelude.{◌≡◌};
 ghost use Rattle.vvalue.specs.OperandRules as spec;
 
 use vast::expression::{BinaryOperator, UnaryOperator};
-use vbits::Red;
+use vbits::Reduction;
 
 /// An operator whose operands have the size and the sign of its result.
 #[derive(Clone, Copy, Debug)]
@@ -107,7 +107,7 @@ pub enum UnaryOperandRule {
     /// It has the size and the sign of the result.
     Keeps(Sign),
     /// It is by itself, and its bits are folded to one.
-    Folds(Red),
+    Folds(Reduction),
     /// It is by itself, and the result is the opposite of its truth.
     Denies,
 }
@@ -121,12 +121,12 @@ pub fn unary_operand_rule_of(operator: UnaryOperator) -> UnaryOperandRule
         UnaryOperator::Minus => UnaryOperandRule::Keeps(Sign::Minus),
         UnaryOperator::Not => UnaryOperandRule::Denies,
         UnaryOperator::Invert => UnaryOperandRule::Keeps(Sign::Invert),
-        UnaryOperator::And => UnaryOperandRule::Folds(Red::And),
-        UnaryOperator::Nand => UnaryOperandRule::Folds(Red::Nand),
-        UnaryOperator::Or => UnaryOperandRule::Folds(Red::Or),
-        UnaryOperator::Nor => UnaryOperandRule::Folds(Red::Nor),
-        UnaryOperator::Xor => UnaryOperandRule::Folds(Red::Xor),
-        UnaryOperator::Xnor => UnaryOperandRule::Folds(Red::Xnor),
-        UnaryOperator::XorNot => UnaryOperandRule::Folds(Red::Xnor),
+        UnaryOperator::And => UnaryOperandRule::Folds(Reduction::And),
+        UnaryOperator::Nand => UnaryOperandRule::Folds(Reduction::Nand),
+        UnaryOperator::Or => UnaryOperandRule::Folds(Reduction::Or),
+        UnaryOperator::Nor => UnaryOperandRule::Folds(Reduction::Nor),
+        UnaryOperator::Xor => UnaryOperandRule::Folds(Reduction::Xor),
+        UnaryOperator::Xnor => UnaryOperandRule::Folds(Reduction::Xnor),
+        UnaryOperator::XorNot => UnaryOperandRule::Folds(Reduction::Xnor),
     }
 }

@@ -6,20 +6,20 @@ ghost use Rattle.vbits.specs.Vectors as vectors;
 use super::Vec4;
 use crate::bit4::Bit4;
 use crate::planes;
-use crate::red::Red;
+use crate::reduction::Reduction;
 
 impl Vec4 {
     /// All letters under one operator, as one unsigned letter (5.1.11).
-    pub fn reduce(self, operator: Red) -> Vec4
+    pub fn reduce(self, operator: Reduction) -> Vec4
         ensures { result ≡ vectors.reduce self operator }
     {
         Vec4::of_bit(match operator {
-            Red::And => self.all(),
-            Red::Nand => self.all().not(),
-            Red::Or => self.truth(),
-            Red::Nor => self.truth().not(),
-            Red::Xor => self.parity(),
-            Red::Xnor => self.parity().not(),
+            Reduction::And => self.all(),
+            Reduction::Nand => self.all().not(),
+            Reduction::Or => self.truth(),
+            Reduction::Nor => self.truth().not(),
+            Reduction::Xor => self.parity(),
+            Reduction::Xnor => self.parity().not(),
         })
     }
 

@@ -25,7 +25,7 @@ walk-init g c =
       subst (λ (rest : List (ℕ × ℕ)). IsAt setting c.args.log.now rest c.args.steps 0 c.in_ok-state.state) (sym c.members-rest.ensures.list)
           (at_opening setting c.args.log.now c.args.steps c.in_ok-state.state c.members-rest.ensures.lawful opened),
       [],
-      g.met.S.Sink.none c.args.sink.now,
+      g.met.S.HistorySink.none c.args.sink.now,
       waiting ∙ ap slot_end_of opened,
       refl,
       λ more. refl,
@@ -38,14 +38,14 @@ returns-in_err-hand-clause-left g c =
     let log = c.args.log.now in
     let here = c.walk.invariant.0 in
     let handed = c.walk.invariant.1 in
-    left_by g.S.Sink.takes g.S.Sink.fails setting log c.args.steps c.args.sink.now c.hand.new.sink c.from_residual-in_err-hand.result c.in_err-hand.field-0.0
+    left_by g.S.HistorySink.takes g.S.HistorySink.fails setting log c.args.steps c.args.sink.now c.hand.new.sink c.from_residual-in_err-hand.result c.in_err-hand.field-0.0
     c.from_residual-in_err-hand.ensures.1
-    (sink_left g.S.Sink.takes g.S.Sink.fails setting log c.args.steps c.args.sink.now c.hand.new.sink _ c.in_err-hand.field-0.0
+    (sink_left g.S.HistorySink.takes g.S.HistorySink.fails setting log c.args.steps c.args.sink.now c.hand.new.sink _ c.in_err-hand.field-0.0
     (λ fault failed. (
       c.walk.n,
       underway setting log c.walk.rest.now c.args.steps c.walk.n c.walk.state here,
-      subst (λ (xs : List Item). g.S.Sink.fails c.args.sink.now xs fault c.hand.new.sink) c.walk.invariant.3
-          (g.met.S.Sink.fails_later c.args.sink.now c.walk.sink c.hand.new.sink handed c.walk.pending.items fault c.walk.invariant.2 failed),
+      subst (λ (xs : List Item). g.S.HistorySink.fails c.args.sink.now xs fault c.hand.new.sink) c.walk.invariant.3
+          (g.met.S.HistorySink.fails_later c.args.sink.now c.walk.sink c.hand.new.sink handed c.walk.pending.items fault c.walk.invariant.2 failed),
     ))
     c.in_err-hand.ensures.err)
 
@@ -54,22 +54,22 @@ returns-in-Ok-None-clause-ends g c =
     let setting = c.args.self.now in
     let log = c.args.log.now in
     let here = c.walk.invariant.0 in
-    let on : HandsOn g.S.Sink.takes (is_mark c.walk.state) c.walk.sink c.walk.pending.items c.hand.new.sink c.hand.new.pending.items =
-    subst (λ mark. HandsOn g.S.Sink.takes mark c.walk.sink c.walk.pending.items c.hand.new.sink c.hand.new.pending.items) c.is_mark.ensures c.in_ok-hand.ensures.ok in
+    let on : HandsOn g.S.HistorySink.takes (is_mark c.walk.state) c.walk.sink c.walk.pending.items c.hand.new.sink c.hand.new.pending.items =
+    subst (λ mark. HandsOn g.S.HistorySink.takes mark c.walk.sink c.walk.pending.items c.hand.new.sink c.hand.new.pending.items) c.is_mark.ensures c.in_ok-hand.ensures.ok in
     let after =
-    handed_on g.S.Sink.takes g.met.S.Sink.joins c.walk.state c.args.sink.now c.walk.sink c.hand.new.sink c.walk.invariant.1 c.hand.new.pending.items
+    handed_on g.S.HistorySink.takes g.met.S.HistorySink.joins c.walk.state c.args.sink.now c.walk.sink c.hand.new.sink c.walk.invariant.1 c.hand.new.pending.items
     c.walk.invariant.2 c.walk.invariant.4 c.walk.invariant.5 c.walk.pending.items c.walk.invariant.6 on in
     let all : after.handed ++ c.hand.new.pending.items ≡ items_after setting log c.walk.n = after.is ∙ c.walk.invariant.3 in
     let chosen : IsChosen setting log c.args.steps c.walk.n c.walk.state c.walk.rest.now (Ok None) =
     subst (IsChosen setting log c.args.steps c.walk.n c.walk.state c.walk.rest.now) (c.in-Ok-None.is ∙ ap (λ (o : Option Chosen). Ok o) c.in-Ok-None.field-0-is) (c.choose.ensures setting log here) in
     let nothing : c.hand.new.pending.items ≡ [] =
-    emptied g.S.Sink.takes (is_mark c.walk.state) c.walk.sink c.hand.new.sink c.walk.pending.items c.hand.new.pending.items
+    emptied g.S.HistorySink.takes (is_mark c.walk.state) c.walk.sink c.hand.new.sink c.walk.pending.items c.hand.new.pending.items
     (ended_at_mark setting log c.walk.rest.now c.args.steps c.walk.n c.walk.state _ here chosen) on in
     let whole : after.handed ≡ items_after setting log c.walk.n =
     sym (append-nil after.handed) ∙ ap (λ (xs : List Item). after.handed ++ xs) (sym nothing) ∙ all in (
       c.walk.n,
       subst (λ end. Finishes setting log c.args.steps c.walk.n end) (sym c.end.ensures) chosen,
-      subst (λ (xs : List Item). g.S.Sink.takes c.args.sink.now xs c.hand.new.sink) whole after.taken,
+      subst (λ (xs : List Item). g.S.HistorySink.takes c.args.sink.now xs c.hand.new.sink) whole after.taken,
     )
 
 pub returns-in-Ok-None-clause-slots : goal.returns-in-Ok-None-clause-slots
@@ -77,22 +77,22 @@ returns-in-Ok-None-clause-slots g c =
     let setting = c.args.self.now in
     let log = c.args.log.now in
     let here = c.walk.invariant.0 in
-    let on : HandsOn g.S.Sink.takes (is_mark c.walk.state) c.walk.sink c.walk.pending.items c.hand.new.sink c.hand.new.pending.items =
-    subst (λ mark. HandsOn g.S.Sink.takes mark c.walk.sink c.walk.pending.items c.hand.new.sink c.hand.new.pending.items) c.is_mark.ensures c.in_ok-hand.ensures.ok in
+    let on : HandsOn g.S.HistorySink.takes (is_mark c.walk.state) c.walk.sink c.walk.pending.items c.hand.new.sink c.hand.new.pending.items =
+    subst (λ mark. HandsOn g.S.HistorySink.takes mark c.walk.sink c.walk.pending.items c.hand.new.sink c.hand.new.pending.items) c.is_mark.ensures c.in_ok-hand.ensures.ok in
     let after =
-    handed_on g.S.Sink.takes g.met.S.Sink.joins c.walk.state c.args.sink.now c.walk.sink c.hand.new.sink c.walk.invariant.1 c.hand.new.pending.items
+    handed_on g.S.HistorySink.takes g.met.S.HistorySink.joins c.walk.state c.args.sink.now c.walk.sink c.hand.new.sink c.walk.invariant.1 c.hand.new.pending.items
     c.walk.invariant.2 c.walk.invariant.4 c.walk.invariant.5 c.walk.pending.items c.walk.invariant.6 on in
     let all : after.handed ++ c.hand.new.pending.items ≡ items_after setting log c.walk.n = after.is ∙ c.walk.invariant.3 in
     let chosen : IsChosen setting log c.args.steps c.walk.n c.walk.state c.walk.rest.now (Ok None) =
     subst (IsChosen setting log c.args.steps c.walk.n c.walk.state c.walk.rest.now) (c.in-Ok-None.is ∙ ap (λ (o : Option Chosen). Ok o) c.in-Ok-None.field-0-is) (c.choose.ensures setting log here) in
     let nothing : c.hand.new.pending.items ≡ [] =
-    emptied g.S.Sink.takes (is_mark c.walk.state) c.walk.sink c.hand.new.sink c.walk.pending.items c.hand.new.pending.items
+    emptied g.S.HistorySink.takes (is_mark c.walk.state) c.walk.sink c.hand.new.sink c.walk.pending.items c.hand.new.pending.items
     (ended_at_mark setting log c.walk.rest.now c.args.steps c.walk.n c.walk.state _ here chosen) on in
     let whole : after.handed ≡ items_after setting log c.walk.n =
     sym (append-nil after.handed) ∙ ap (λ (xs : List Item). after.handed ++ xs) (sym nothing) ∙ all in (
       c.walk.n,
       subst (λ end. Finishes setting log c.args.steps c.walk.n end) (sym c.end.ensures) chosen,
-      subst (λ (xs : List Item). TakesEach g.S.Sink.takes c.args.sink.now (by_slot xs) c.hand.new.sink) whole after.each,
+      subst (λ (xs : List Item). TakesEach g.S.HistorySink.takes c.args.sink.now (by_slot xs) c.hand.new.sink) whole after.each,
     )
 
 pub returns-in-Err-clause-left : goal.returns-in-Err-clause-left
@@ -100,54 +100,54 @@ returns-in-Err-clause-left g c =
     let setting = c.args.self.now in
     let log = c.args.log.now in
     let here = c.walk.invariant.0 in
-    let on : HandsOn g.S.Sink.takes (is_mark c.walk.state) c.walk.sink c.walk.pending.items c.hand.new.sink c.hand.new.pending.items =
-    subst (λ mark. HandsOn g.S.Sink.takes mark c.walk.sink c.walk.pending.items c.hand.new.sink c.hand.new.pending.items) c.is_mark.ensures c.in_ok-hand.ensures.ok in
+    let on : HandsOn g.S.HistorySink.takes (is_mark c.walk.state) c.walk.sink c.walk.pending.items c.hand.new.sink c.hand.new.pending.items =
+    subst (λ mark. HandsOn g.S.HistorySink.takes mark c.walk.sink c.walk.pending.items c.hand.new.sink c.hand.new.pending.items) c.is_mark.ensures c.in_ok-hand.ensures.ok in
     let after =
-    handed_on g.S.Sink.takes g.met.S.Sink.joins c.walk.state c.args.sink.now c.walk.sink c.hand.new.sink c.walk.invariant.1 c.hand.new.pending.items
+    handed_on g.S.HistorySink.takes g.met.S.HistorySink.joins c.walk.state c.args.sink.now c.walk.sink c.hand.new.sink c.walk.invariant.1 c.hand.new.pending.items
     c.walk.invariant.2 c.walk.invariant.4 c.walk.invariant.5 c.walk.pending.items c.walk.invariant.6 on in
     let all : after.handed ++ c.hand.new.pending.items ≡ items_after setting log c.walk.n = after.is ∙ c.walk.invariant.3 in
-    subst (λ (e : OrMemory (RunFault _)). LeavesSink g.S.Sink.takes g.S.Sink.fails setting log c.args.steps c.args.sink.now e c.hand.new.sink) (sym c.refused.ensures)
-    (handed_first g.S.Sink.takes setting log c.walk.rest.now c.args.steps c.walk.n c.walk.state c.args.sink.now c.hand.new.sink after.handed c.hand.new.pending.items here after.taken all)
+    subst (λ (e : OrMemory (RunFault _)). LeavesSink g.S.HistorySink.takes g.S.HistorySink.fails setting log c.args.steps c.args.sink.now e c.hand.new.sink) (sym c.refused.ensures)
+    (handed_first g.S.HistorySink.takes setting log c.walk.rest.now c.args.steps c.walk.n c.walk.state c.args.sink.now c.hand.new.sink after.handed c.hand.new.pending.items here after.taken all)
 
 pub returns-in_err-effect-clause-left : goal.returns-in_err-effect-clause-left
 returns-in_err-effect-clause-left g c =
     let setting = c.args.self.now in
     let log = c.args.log.now in
     let here = c.walk.invariant.0 in
-    let on : HandsOn g.S.Sink.takes (is_mark c.walk.state) c.walk.sink c.walk.pending.items c.hand.new.sink c.hand.new.pending.items =
-    subst (λ mark. HandsOn g.S.Sink.takes mark c.walk.sink c.walk.pending.items c.hand.new.sink c.hand.new.pending.items) c.is_mark.ensures c.in_ok-hand.ensures.ok in
+    let on : HandsOn g.S.HistorySink.takes (is_mark c.walk.state) c.walk.sink c.walk.pending.items c.hand.new.sink c.hand.new.pending.items =
+    subst (λ mark. HandsOn g.S.HistorySink.takes mark c.walk.sink c.walk.pending.items c.hand.new.sink c.hand.new.pending.items) c.is_mark.ensures c.in_ok-hand.ensures.ok in
     let after =
-    handed_on g.S.Sink.takes g.met.S.Sink.joins c.walk.state c.args.sink.now c.walk.sink c.hand.new.sink c.walk.invariant.1 c.hand.new.pending.items
+    handed_on g.S.HistorySink.takes g.met.S.HistorySink.joins c.walk.state c.args.sink.now c.walk.sink c.hand.new.sink c.walk.invariant.1 c.hand.new.pending.items
     c.walk.invariant.2 c.walk.invariant.4 c.walk.invariant.5 c.walk.pending.items c.walk.invariant.6 on in
     let all : after.handed ++ c.hand.new.pending.items ≡ items_after setting log c.walk.n = after.is ∙ c.walk.invariant.3 in
-    left_by g.S.Sink.takes g.S.Sink.fails setting log c.args.steps c.args.sink.now c.hand.new.sink c.from_residual-in_err-effect.result (Memory c.in_err-effect.field-0.0)
+    left_by g.S.HistorySink.takes g.S.HistorySink.fails setting log c.args.steps c.args.sink.now c.hand.new.sink c.from_residual-in_err-effect.result (Memory c.in_err-effect.field-0.0)
     c.from_residual-in_err-effect.ensures.1
-    (handed_first g.S.Sink.takes setting log c.walk.rest.now c.args.steps c.walk.n c.walk.state c.args.sink.now c.hand.new.sink after.handed c.hand.new.pending.items here after.taken all)
+    (handed_first g.S.HistorySink.takes setting log c.walk.rest.now c.args.steps c.walk.n c.walk.state c.args.sink.now c.hand.new.sink after.handed c.hand.new.pending.items here after.taken all)
 
 pub returns-in_err-note-clause-left : goal.returns-in_err-note-clause-left
 returns-in_err-note-clause-left g c =
     let setting = c.args.self.now in
     let log = c.args.log.now in
     let here = c.walk.invariant.0 in
-    let on : HandsOn g.S.Sink.takes (is_mark c.walk.state) c.walk.sink c.walk.pending.items c.hand.new.sink c.hand.new.pending.items =
-    subst (λ mark. HandsOn g.S.Sink.takes mark c.walk.sink c.walk.pending.items c.hand.new.sink c.hand.new.pending.items) c.is_mark.ensures c.in_ok-hand.ensures.ok in
+    let on : HandsOn g.S.HistorySink.takes (is_mark c.walk.state) c.walk.sink c.walk.pending.items c.hand.new.sink c.hand.new.pending.items =
+    subst (λ mark. HandsOn g.S.HistorySink.takes mark c.walk.sink c.walk.pending.items c.hand.new.sink c.hand.new.pending.items) c.is_mark.ensures c.in_ok-hand.ensures.ok in
     let after =
-    handed_on g.S.Sink.takes g.met.S.Sink.joins c.walk.state c.args.sink.now c.walk.sink c.hand.new.sink c.walk.invariant.1 c.hand.new.pending.items
+    handed_on g.S.HistorySink.takes g.met.S.HistorySink.joins c.walk.state c.args.sink.now c.walk.sink c.hand.new.sink c.walk.invariant.1 c.hand.new.pending.items
     c.walk.invariant.2 c.walk.invariant.4 c.walk.invariant.5 c.walk.pending.items c.walk.invariant.6 on in
     let all : after.handed ++ c.hand.new.pending.items ≡ items_after setting log c.walk.n = after.is ∙ c.walk.invariant.3 in
-    left_by g.S.Sink.takes g.S.Sink.fails setting log c.args.steps c.args.sink.now c.hand.new.sink c.from_residual-in_err-note.result (Memory c.in_err-note.field-0.0)
+    left_by g.S.HistorySink.takes g.S.HistorySink.fails setting log c.args.steps c.args.sink.now c.hand.new.sink c.from_residual-in_err-note.result (Memory c.in_err-note.field-0.0)
     c.from_residual-in_err-note.ensures.1
-    (handed_first g.S.Sink.takes setting log c.walk.rest.now c.args.steps c.walk.n c.walk.state c.args.sink.now c.hand.new.sink after.handed c.hand.new.pending.items here after.taken all)
+    (handed_first g.S.HistorySink.takes setting log c.walk.rest.now c.args.steps c.walk.n c.walk.state c.args.sink.now c.hand.new.sink after.handed c.hand.new.pending.items here after.taken all)
 
 pub walk-preserved : goal.walk-preserved
 walk-preserved g c =
     let setting = c.args.self.now in
     let log = c.args.log.now in
     let here = c.walk.invariant.0 in
-    let on : HandsOn g.S.Sink.takes (is_mark c.walk.state) c.walk.sink c.walk.pending.items c.hand.new.sink c.hand.new.pending.items =
-    subst (λ mark. HandsOn g.S.Sink.takes mark c.walk.sink c.walk.pending.items c.hand.new.sink c.hand.new.pending.items) c.is_mark.ensures c.in_ok-hand.ensures.ok in
+    let on : HandsOn g.S.HistorySink.takes (is_mark c.walk.state) c.walk.sink c.walk.pending.items c.hand.new.sink c.hand.new.pending.items =
+    subst (λ mark. HandsOn g.S.HistorySink.takes mark c.walk.sink c.walk.pending.items c.hand.new.sink c.hand.new.pending.items) c.is_mark.ensures c.in_ok-hand.ensures.ok in
     let after =
-    handed_on g.S.Sink.takes g.met.S.Sink.joins c.walk.state c.args.sink.now c.walk.sink c.hand.new.sink c.walk.invariant.1 c.hand.new.pending.items
+    handed_on g.S.HistorySink.takes g.met.S.HistorySink.joins c.walk.state c.args.sink.now c.walk.sink c.hand.new.sink c.walk.invariant.1 c.hand.new.pending.items
     c.walk.invariant.2 c.walk.invariant.4 c.walk.invariant.5 c.walk.pending.items c.walk.invariant.6 on in
     let all : after.handed ++ c.hand.new.pending.items ≡ items_after setting log c.walk.n = after.is ∙ c.walk.invariant.3 in
     let chosen : IsChosen setting log c.args.steps c.walk.n c.walk.state c.walk.rest.now (Ok (Some c.in-Ok-Some.chosen)) =

@@ -10,9 +10,9 @@ abbrev pub invariant-walk : goal.invariant-walk
 invariant-walk g l =
     IsAt l.self l.log l.rest l.steps l.n l.state
     × (handed : List Item)
-    × g.S.Sink.takes l.fn.sink handed l.sink
+    × g.S.HistorySink.takes l.fn.sink handed l.sink
     × (handed ++ l.pending.items ≡ items_after l.self l.log l.n)
-    × TakesEach g.S.Sink.takes l.fn.sink (by_slot handed) l.sink
+    × TakesEach g.S.HistorySink.takes l.fn.sink (by_slot handed) l.sink
     × IsCut handed
     × Waits l.pending.items l.state
 

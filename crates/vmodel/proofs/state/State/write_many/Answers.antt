@@ -5,13 +5,13 @@ use Rattle.vmodel.specs.Step.{with_woken}
 use Rattle.vmodel.specs.declared.values.Changes.TheVariants.{Many}
 use Rattle.vdesign.specs.Design.{Design}
 use Rattle.vmodel.proofs.RanLemmas.{awoken_is}
-use Rattle.vmodel.proofs.state.SlowState.write_many.Goals as goal
+use Rattle.vmodel.proofs.state.State.write_many.Goals as goal
 
 pub returns : goal.returns
 returns c =
-    let s : State = Rattle.vmodel.specs.contracts.state.SlowState.the_view c.self.inside in
+    let s : State = Rattle.vmodel.specs.contracts.state.State.the_view c.self.inside in
     let actions = c.deref.ensures.value ∙ ap (λ (d : Design). d.actions) c.design.view_is in
-    let after : State = Rattle.vmodel.specs.contracts.state.SlowState.the_view
+    let after : State = Rattle.vmodel.specs.contracts.state.State.the_view
     (record { values = c.write_all.new.self; processes = c.wake.new.processes; queue = c.wake.new.queue; cause = c.self.inside.cause }) in
     subst (λ (t : State). after ≡ with_woken c.args.design.now t.values c.args.triggered (record t { values = with_parts c.args.parts.now t.values }))
     c.self.view_is

@@ -5,13 +5,13 @@ use Rattle.vmodel.specs.Step.{with_woken}
 use Rattle.vmodel.specs.declared.values.Changes.TheVariants.{One}
 use Rattle.vdesign.specs.Design.{Design}
 use Rattle.vmodel.proofs.RanLemmas.{written_same, awoken_is}
-use Rattle.vmodel.proofs.state.SlowState.write_one.Goals as goal
+use Rattle.vmodel.proofs.state.State.write_one.Goals as goal
 
 pub returns-in-Some : goal.returns-in-Some
 returns-in-Some c =
-    let s : State = Rattle.vmodel.specs.contracts.state.SlowState.the_view c.self.inside in
+    let s : State = Rattle.vmodel.specs.contracts.state.State.the_view c.self.inside in
     let actions = c.deref.ensures.value ∙ ap (λ (d : Design). d.actions) c.design.view_is in
-    let after : State = Rattle.vmodel.specs.contracts.state.SlowState.the_view
+    let after : State = Rattle.vmodel.specs.contracts.state.State.the_view
     (record { values = c.write.new.self; processes = c.wake.new.processes; queue = c.wake.new.queue; cause = c.self.inside.cause }) in
     subst (λ (t : State). after ≡ with_woken c.args.design.now t.values None (record t { values = write c.args.part t.values }))
     c.self.view_is
@@ -20,7 +20,7 @@ returns-in-Some c =
 
 pub returns-in_default : goal.returns-in_default
 returns-in_default c =
-    let s : State = Rattle.vmodel.specs.contracts.state.SlowState.the_view c.self.inside in
-    subst (λ (t : State). Rattle.vmodel.specs.contracts.state.SlowState.the_view (record c.self.inside { values = c.write.new.self }) ≡ with_woken c.args.design.now t.values None (record t { values = write c.args.part t.values }))
+    let s : State = Rattle.vmodel.specs.contracts.state.State.the_view c.self.inside in
+    subst (λ (t : State). Rattle.vmodel.specs.contracts.state.State.the_view (record c.self.inside { values = c.write.new.self }) ≡ with_woken c.args.design.now t.values None (record t { values = write c.args.part t.values }))
     c.self.view_is
     (written_same c.args.design.now (c.args.part ∷ []) s c.write.new.self c.in_default.ensures.values c.in_default.ensures.change)

@@ -1,6 +1,6 @@
 use Rattle.std.proofs.Common.{sym}
 use Rattle.vmodel.proofs.RanLemmas.{written_nothing}
-use Rattle.vmodel.proofs.state.SlowState.write_listed.Goals as goal
+use Rattle.vmodel.proofs.state.State.write_listed.Goals as goal
 
 pub returns-else-is_some : goal.returns-else-is_some
 returns-else-is_some c =

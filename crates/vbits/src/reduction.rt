@@ -1,6 +1,6 @@
 /// The unary reductions (IEEE 1364-2005, 5.1.11): `&`, `~&`, `|`, `~|`, `^`, `~^`.
 #[derive(Clone, Copy, Debug, PartialEq, Eq, Hash)]
-pub enum Red {
+pub enum Reduction {
     And,
     Nand,
     Or,

@@ -2,7 +2,7 @@ use Rattle.std.proofs.Common.{drop}
 use Rattle.basis.specs.declared.memory.OrMemory.{OrMemory}
 use Rattle.lines_text.specs.declared.sink.LinesSink.{LinesSink}
 use Rattle.lines_text.specs.Sinks.{Takes, Fails}
-use Rattle.lines_text.proofs.sink.LinesSinkSink.take.Given as goal
+use Rattle.lines_text.proofs.sink.LinesSinkHistorySink.take.Given as goal
 
 -- what taking the rest does, taking all does
 abbrev pub invariant-loop-item : goal.invariant-loop-item

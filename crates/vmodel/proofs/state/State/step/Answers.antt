@@ -2,7 +2,7 @@ use Rattle.std.proofs.Common.{Option, Some, refl, sym, ap, subst, ◌∙◌}
 use Rattle.vmodel.specs.declared.choice.Choice.{Choice}
 use Rattle.vmodel.specs.Choices.{IsWithin}
 use Rattle.vmodel.specs.Step.{transition_by}
-use Rattle.vmodel.proofs.state.SlowState.step.Goals as goal
+use Rattle.vmodel.proofs.state.State.step.Goals as goal
 
 pub run-requires : goal.run-requires
 run-requires c = subst IsWithin c.in-Some-Run.field-0-is (c.in-Some-Run.ensures.few _ refl)

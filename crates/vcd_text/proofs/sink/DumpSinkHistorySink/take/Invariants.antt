@@ -2,7 +2,7 @@ use Rattle.std.proofs.Common.{drop}
 use Rattle.basis.specs.declared.memory.OrMemory.{OrMemory}
 use Rattle.vcd_text.specs.declared.sink.DumpSink.{DumpSink}
 use Rattle.vcd_text.specs.Sinks.{Takes, Fails}
-use Rattle.vcd_text.proofs.sink.DumpSinkSink.take.Given as goal
+use Rattle.vcd_text.proofs.sink.DumpSinkHistorySink.take.Given as goal
 
 -- what taking the rest does, taking all does
 abbrev pub invariant-loop-item : goal.invariant-loop-item

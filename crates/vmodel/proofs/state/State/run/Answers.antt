@@ -4,7 +4,7 @@ use Rattle.vmodel.specs.State.{State}
 use Rattle.vmodel.specs.Step.{with_woken, complete}
 use Rattle.vmodel.specs.InnerStep.{with_cause}
 use Rattle.vmodel.proofs.RanLemmas.{ran}
-use Rattle.vmodel.proofs.state.SlowState.run.Goals as goal
+use Rattle.vmodel.proofs.state.State.run.Goals as goal
 
 pub returns-clause-ok : goal.returns-clause-ok
 returns-clause-ok c =
