@@ -1,4 +1,4 @@
-// A text that is kept while it is short.
+// A text that is held while it is short.
 
 ghost use Rattle.std.specs.Prelude.{◌≡◌, []};
 
@@ -10,7 +10,7 @@ use std::marker::Model;
 /// As many bytes are held of texts that can be made again.
 pub const HELD_BYTES: usize = 1_048_576;
 
-/// Keeps texts, one behind another, while they fit into the bytes that it was given room for. Its value is what it keeps.
+/// Holds texts, one behind another, while they fit into the bytes that it was given room for. Its value is what it holds.
 /// Who finds it full can make the text again, slot by slot: so a refused growth counts as full, and not as want of memory.
 #[derive(Drop)]
 pub struct HeldText {
@@ -27,7 +27,7 @@ impl Model for HeldText {
 }
 
 impl HeldText {
-    /// Keeps nothing yet, and has room for so many bytes.
+    /// Holds nothing yet, and has room for so many bytes.
     pub fn new(alloc: Global, room: usize) -> HeldText
         ensures { result ≡ [] }
     {
