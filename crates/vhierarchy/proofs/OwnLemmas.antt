@@ -8,18 +8,21 @@ use Rattle.vast.specs.NumberedModules.{ItemTree}
 use Rattle.vast.specs.NumberedTrees.{item_tree}
 use Rattle.vast.specs.declared.module.ModuleItem.{ModuleItem}
 use Rattle.vdesign.specs.Design.{Scope as Room, Variable}
-use Rattle.velab.specs.declared.fault.ElabFault.{ElabFault}
-use Rattle.velab.specs.Rules.{IsBroken}
-use Rattle.velab.specs.Scopes.{Scope}
-use Rattle.velab.specs.Elaborate.{Table, Processes, lowered_items, variables_from}
+use Rattle.velab_expr.specs.declared.fault.ElabFault.{ElabFault}
+use Rattle.velab_expr.specs.Rules.{IsBroken}
+use Rattle.velab_expr.specs.Scopes.{Scope}
+use Rattle.velab_process.specs.Processes.{Processes, lowered_items}
+use Rattle.velab_process.specs.Statements.{Table}
+use Rattle.velab_declaration.specs.Variables.{variables_from}
 use Rattle.vmodules.specs.Names.{letters_of}
 use Rattle.vmodules.specs.Ports.{Port}
 use Rattle.vmodules.specs.declared.ports.PortForm.{PortForm}
-use Rattle.velab.specs.Inner.{AreLowered, port_variables}
+use Rattle.velab_process.specs.Inner.{AreLowered}
+use Rattle.velab_declaration.specs.Inner.{port_variables}
 use Rattle.vhierarchy.specs.Inner.{nets_driven, own_variables}
 use Rattle.vhierarchy.specs.declared.context.Context.{Context as ProgramContext}
 use Rattle.vhierarchy.specs.declared.instantiation.Instantiation.{Instantiation as ProgramInstantiation}
-use Rattle.velab.proofs.FaultLemmas.{first_breaks, then_breaks, both_right, same_rule}
+use Rattle.velab_expr.proofs.FaultLemmas.{first_breaks, then_breaks, both_right, same_rule}
 use Rattle.vhierarchy.specs.Instances.{Instantiation, Part, Context, scope_of, broken_counts, own_by, broken_own_by, variables_by, broken_variables, processes_by, broken_processes}
 
 -- the processes of port connections, and those of items behind them

@@ -15,14 +15,19 @@ use Rattle.vdesign.specs.Design as design
 use Rattle.vdesign.specs.declared.action.Action.{Action}
 use Rattle.vdesign.specs.declared.action.Action.TheVariants.{Assign, Nonblocking, AssignDelayed, NonblockingDelayed, Trigger, Test, Case, While, Repeat, Forever, Delay, EventControl, Wait, ContinuousAssign, Print, DumpVars, Dump, NoOperation, Finish, Stop}
 use Rattle.vdesign.specs.declared.dump.Chosen.{Chosen}
-use Rattle.velab.specs.declared.fault.Rule.{Rule}
-use Rattle.velab.specs.declared.fault.Rule.TheVariants as rule
-use Rattle.velab.specs.declared.fault.ElabFault.{ElabFault}
-use Rattle.velab.specs.Rules.{told, unless, broken_if, broken_at}
-use Rattle.velab.specs.Right.{kind_rule}
-use Rattle.velab.specs.ActionFlaws.{blank_environment, flaw_rule, table_fault}
-use Rattle.velab.specs.Scopes.{Scope, at}
-use Rattle.velab.specs.Elaborate.{Table, port_names, declared_names, Overrides, Base, ScopeDrivers, Processes, symbols_by, valueless_by, symbols_in_head, first_scope, valueless_scope, head_scope, item_scope, variable_of, port_declaration, variables_from, broken_all, broken_ports, broken_from, drivers_by, nets_of, only_name, lowered_joins, broken_joins, lowered_items, broken_items_from}
+use Rattle.velab_expr.specs.declared.fault.Rule.{Rule}
+use Rattle.velab_expr.specs.declared.fault.Rule.TheVariants as rule
+use Rattle.velab_expr.specs.declared.fault.ElabFault.{ElabFault}
+use Rattle.velab_expr.specs.Rules.{told, unless, broken_if, broken_at}
+use Rattle.velab_declaration.specs.Right.{kind_rule}
+use Rattle.velab_declaration.specs.ActionFlaws.{blank_environment, flaw_rule, table_fault}
+use Rattle.velab_expr.specs.Scopes.{Scope, at}
+use Rattle.velab_expr.specs.Symbols.{symbols_by, valueless_by, symbols_in_head}
+use Rattle.velab_process.specs.Connections.{only_name, lowered_joins, broken_joins}
+use Rattle.velab_process.specs.Processes.{Processes, lowered_items, broken_items_from}
+use Rattle.velab_process.specs.Statements.{Table}
+use Rattle.velab_declaration.specs.Parameters.{Overrides, Base, first_scope, valueless_scope, head_scope, item_scope, broken_all}
+use Rattle.velab_declaration.specs.Variables.{port_names, declared_names, ScopeDrivers, variable_of, port_declaration, variables_from, broken_ports, broken_from, drivers_by, nets_of}
 
 -- ---- the instances that a module has (12.1.2)
 

@@ -4,9 +4,9 @@ use Rattle.vast.specs.Words.{Text}
 use Rattle.vexpr_parse.specs.Texts.{words_of}
 use Rattle.vmodules.specs.Ports.{Port}
 use Rattle.vmodules.specs.Inner.{port_form}
-use Rattle.velab.specs.Rules.{IsBroken}
-use Rattle.velab.specs.Scopes.{Scope}
-use Rattle.velab.proofs.FaultLemmas.{handed_on}
+use Rattle.velab_expr.specs.Rules.{IsBroken}
+use Rattle.velab_expr.specs.Scopes.{Scope}
+use Rattle.velab_expr.proofs.FaultLemmas.{handed_on}
 use Rattle.vhierarchy.specs.Instances.{Part, Context, Instantiation, scope_of, broken_own_by, own_by}
 use Rattle.vhierarchy.specs.Inner.{context_tree, instantiation_trees}
 use Rattle.vhierarchy.proofs.OwnLemmas.{own_is, processes_err, counts_err, own_right}
