@@ -8,7 +8,7 @@ pub mod constant;
 pub mod expression;
 pub mod fault;
 pub mod first;
-mod number;
+pub mod number;
 pub mod range;
 pub mod scope;
 pub mod select;

@@ -1,11 +1,11 @@
--- What a `case` puts on the table, branch by branch.
-use Rattle.std.proofs.Common.{◌≡◌, ◌<◌, ◌≤◌, ℕ, ◌+◌, Option, None, List, ◌++◌, length, drop, get_or, Vec, Global, sym, ap, subst, ◌∙◌, append_assoc, append-nil}
+-- What the branches of a `case` put on the table, one behind another.
+use Rattle.std.proofs.Common.{◌≡◌, ℕ, List, [], ◌++◌, Vec, Global, Result, Ok, Err, refl, sym, ap, ◌∙◌, append_assoc, append-nil}
 use Rattle.std.specs.Prelude.{Box}
-use Rattle.std.proofs.Math.ListN.{drop_of_length-le}
+use Rattle.basis.specs.declared.memory.OrMemory.{OrMemory}
+use Rattle.basis.specs.declared.memory.OrMemory.TheVariants.{Fault, Memory}
 use Rattle.vast.specs.Words.{Text}
-use Rattle.vast.specs.NumberedTrees.{tree_of}
-use Rattle.vast.specs.NumberedStatements.{BranchTrees, case_of, no_branch, first_branch}
-use Rattle.vast.specs.NumberedTrees.{statement_tree, branch_tree, branch_trees}
+use Rattle.vast.specs.NumberedTrees.{tree_of, statement_tree, branch_trees}
+use Rattle.vast.specs.NumberedStatements.{case_of}
 use Rattle.vast.specs.declared.expression.Expression.{Expression}
 use Rattle.vast.specs.declared.statement.CaseKind.{CaseKind}
 use Rattle.vast.specs.declared.statement.Branch.{Branch as WrittenBranch}
@@ -13,12 +13,9 @@ use Rattle.vast.specs.declared.statement.Statement.{Statement, Case}
 use Rattle.vast.specs.NumberedWords.{numbered}
 use Rattle.vast.proofs.ToldTrees.{told_case}
 use Rattle.vdesign.specs.declared.action.Branch.{Branch}
-use Rattle.velab_process.specs.Statements.{Table, LoweredBranches, lowered_branch, lowered_branches, broken_branch, broken_branches}
 use Rattle.velab_expr.specs.declared.fault.ElabFault.{ElabFault}
-use Rattle.velab_expr.specs.Scopes.{Scope}
-use Rattle.velab_process.specs.Inner.{AreBranches}
-use Rattle.velab_expr.proofs.FaultLemmas.{goes_on}
-use Rattle.velab_expr.proofs.ListLemmas.{drop_at}
+use Rattle.velab_expr.specs.Answers.{◌>>=◌, behind, Makes}
+use Rattle.velab_process.specs.Statements.{Table, Lowered, places_behind, LoweredBranches, branches_behind}
 
 -- the tree of a `case`
 pub case_tree : (words : List Text) (statement : Statement) (at : ℕ) (kind : CaseKind) (value : Box Expression Global) (branches : Vec WrittenBranch Global)
@@ -32,50 +29,49 @@ case_tree words statement at kind value branches amount items is same these =
     ∙ ap (λ (bs : List WrittenBranch). case_of kind (tree_of words amount) (branch_trees words bs)) (sym these)
     )
 
--- so many branches are lowered: what is left leads to the same as all of them from the start
-pub record LeadsBranches (scope : Scope) (now : Table) (before : List Branch) (default_before : List ℕ) (left : BranchTrees) (all : LoweredBranches) (begun : List Branch) (default_begun : List ℕ) : Type 0 where
-  pub table : (lowered_branches scope now left).table ≡ all.table
-  pub branches : before ++ (lowered_branches scope now left).branches ≡ begun ++ all.branches
-  pub otherwise : default_before ++ (lowered_branches scope now left).otherwise ≡ default_begun ++ all.otherwise
+module _ (before : List Branch) (default_before : List ℕ) where
+  -- a branch, and then those behind it on the table that it leaves
+  module _ (rest : Table → Result LoweredBranches ElabFault) where
+    both_behind : (branches : List Branch) (places : List ℕ) (answer : Result LoweredBranches ElabFault) →
+        branches_behind (before ++ branches) (default_before ++ places) answer ≡ branches_behind before default_before (branches_behind branches places answer)
+    both_behind branches places (Ok l) =
+        ap (λ (all : List Branch). Ok (record { table = l.table; branches = all; otherwise = (default_before ++ places) ++ l.otherwise })) (append_assoc before branches l.branches)
+        ∙ ap (λ (all : List ℕ). Ok (record { table = l.table; branches = before ++ (branches ++ l.branches); otherwise = all })) (append_assoc default_before places l.otherwise)
+    both_behind branches places (Err fault) = refl
 
-module _ (words : List Text) (scope : Scope) (xs : List WrittenBranch) (i : ℕ) where
-  module _ (x : WrittenBranch) (within : i < length xs) (is : x ≡ get_or xs i x) where
-    pub branches_opened : branch_trees words (drop i xs) ≡ first_branch (branch_tree words x) (branch_trees words (drop (i + 1) xs))
-    branches_opened = ap (branch_trees words) (drop_at xs i x within is)
+    pub branch_put : (front : Result LoweredBranches ElabFault) (table : Table) (branches : List Branch) (places : List ℕ) →
+        branches_behind before default_before front ≡ Ok (record { table = table; branches = branches; otherwise = places }) →
+        branches_behind branches places (rest table) ≡ branches_behind before default_before (front >>= λ one. branches_behind one.branches one.otherwise (rest one.table))
+    branch_put (Ok one) table branches places is =
+        let same : record { table = one.table; branches = before ++ one.branches; otherwise = default_before ++ one.otherwise }
+        ≡ record { table = table; branches = branches; otherwise = places } = cc in
+        sym (ap (λ (l : LoweredBranches). branches_behind l.branches l.otherwise (rest l.table)) same) ∙ both_behind one.branches one.otherwise (rest one.table)
+    branch_put (Err fault) table branches places is = absurd cc
 
-    pub branches_step : (table table_after : Table) (before after : List Branch) (places places_after : List ℕ) (all : LoweredBranches) (begun : List Branch) (places_begun : List ℕ) →
-        AreBranches (lowered_branch scope table (branch_tree words x)) before places table_after after places_after →
-        LeadsBranches scope table before places (branch_trees words (drop i xs)) all begun places_begun →
-        LeadsBranches scope table_after after places_after (branch_trees words (drop (i + 1) xs)) all begun places_begun
-    branches_step table table_after before after places places_after all begun places_begun put leads =
-        let rest : BranchTrees = branch_trees words (drop (i + 1) xs) in
-        let front : LoweredBranches = lowered_branch scope table (branch_tree words x) in
-        let here : LeadsBranches scope table before places (first_branch (branch_tree words x) rest) all begun places_begun =
-        subst (λ (t : BranchTrees). LeadsBranches scope table before places t all begun places_begun) branches_opened leads in
-        record {
-          table = ap (λ (t : Table). (lowered_branches scope t rest).table) put.table ∙ here.table;
-          branches = ap (λ (t : Table). after ++ (lowered_branches scope t rest).branches) put.table
-              ∙ ap (λ (p : List Branch). p ++ (lowered_branches scope front.table rest).branches) put.branches
-              ∙ append_assoc before front.branches (lowered_branches scope front.table rest).branches
-              ∙ here.branches;
-          otherwise = ap (λ (t : Table). places_after ++ (lowered_branches scope t rest).otherwise) put.table
-              ∙ ap (λ (p : List ℕ). p ++ (lowered_branches scope front.table rest).otherwise) put.otherwise
-              ∙ append_assoc places front.otherwise (lowered_branches scope front.table rest).otherwise
-              ∙ here.otherwise;
-        }
+  -- the items in front of a statement, which begins at these places
+  pub labels_made : {T : Type 0} (result : Result T (OrMemory ElabFault)) (answer : Result (List Branch) ElabFault) (table : Table) (after : List Branch) →
+      Makes result after (behind before answer) →
+      Makes result (record { table = table; branches = after; otherwise = default_before })
+      (branches_behind before default_before (answer >>= λ branches. Ok (record { table = table; branches = branches; otherwise = [] })))
+  labels_made (Ok t) (Ok branches) table after is =
+      let same : before ++ branches ≡ after = cc in
+      ap (λ (bs : List Branch). Ok (record { table = table; branches = bs; otherwise = default_before ++ [] })) same
+      ∙ ap (λ (ps : List ℕ). Ok (record { table = table; branches = after; otherwise = ps })) (append-nil default_before)
+  labels_made (Ok t) (Err fault) table after is = absurd cc
+  labels_made (Err (Fault f)) (Ok branches) table after is = absurd cc
+  labels_made (Err (Fault f)) (Err fault) table after is = ap Err cc
+  labels_made (Err (Memory m)) answer table after is = tt
 
-    pub branches_right : (all : Option ElabFault) → broken_branch scope (branch_tree words x) ≡ None → broken_branches scope (branch_trees words (drop i xs)) ≡ all →
-        broken_branches scope (branch_trees words (drop (i + 1) xs)) ≡ all
-    branches_right all right same =
-        goes_on (broken_branch scope (branch_tree words x)) _ _ all (ap (broken_branches scope) branches_opened) right same
-
-  pub branches_end : (table : Table) (before : List Branch) (places : List ℕ) (all : LoweredBranches) (begun : List Branch) (places_begun : List ℕ) → length xs ≤ i →
-      LeadsBranches scope table before places (branch_trees words (drop i xs)) all begun places_begun → AreBranches all begun places_begun table before places
-  branches_end table before places all begun places_begun end leads =
-      let here : LeadsBranches scope table before places no_branch all begun places_begun =
-      subst (λ (l : List WrittenBranch). LeadsBranches scope table before places (branch_trees words l) all begun places_begun) (drop_of_length-le xs end) leads in
-      record {
-        table = here.table;
-        branches = sym (append-nil before) ∙ here.branches;
-        otherwise = sym (append-nil places) ∙ here.otherwise;
-      }
+  -- the statement of a `default`
+  pub default_made : {T : Type 0} (result : Result T (OrMemory ElabFault)) (answer : Result Lowered ElabFault) (table : Table) (after : List ℕ) →
+      Makes result (record { table = table; places = after }) (places_behind default_before answer) →
+      Makes result (record { table = table; branches = before; otherwise = after })
+      (branches_behind before default_before (answer >>= λ inner. Ok (record { table = inner.table; branches = []; otherwise = inner.places })))
+  default_made (Ok t) (Ok inner) table after is =
+      let same : record { table = inner.table; places = default_before ++ inner.places } ≡ record { table = table; places = after } = cc in
+      ap (λ (bs : List Branch). Ok (record { table = inner.table; branches = bs; otherwise = default_before ++ inner.places })) (append-nil before)
+      ∙ ap (λ (l : Lowered). Ok (record { table = l.table; branches = before; otherwise = l.places })) same
+  default_made (Ok t) (Err fault) table after is = absurd cc
+  default_made (Err (Fault f)) (Ok inner) table after is = absurd cc
+  default_made (Err (Fault f)) (Err fault) table after is = ap Err cc
+  default_made (Err (Memory m)) answer table after is = tt

@@ -2,4 +2,4 @@ pub mod StatementLemmas
 pub mod BranchLemmas
 pub mod WaitLemmas
 pub mod ProcessLemmas
-pub mod PrintLemmas
+pub mod LineLemmas

@@ -1,63 +1,48 @@
 -- What the steps of elaboration are told by and answer; nothing here has to be believed.
-use Rattle.std.specs.Prelude.{◌≡◌, ℕ, List, [], ◌++◌, Vec, map, Option, None, option_map, Result, OnOk, Bool, true, false}
+use Rattle.std.specs.Prelude.{◌≡◌, ℕ, List, [], ◌++◌, Vec, map, Option, None, option_map, Result, Ok, Err, OnOk, Bool, true, false}
 use Rattle.std.specs.List.{filter_map}
+use Rattle.basis.specs.declared.memory.OrMemory.{OrMemory}
 use Rattle.vast.specs.Words.{Text}
 use Rattle.vast.specs.NumberedWords.{Word, numbered}
-use Rattle.vast.specs.NumberedTrees.{statement_tree, statement_trees, branch_tree, branch_trees}
-use Rattle.vmodules.specs.Connected.{value_for}
-use Rattle.vmodules.specs.Inner.{ConnectionEntry, entries_tree, port_form}
-use Rattle.vmodules.specs.declared.ports.PortForm.{PortForm}
 use Rattle.vast.specs.NumberedTrees.{declared_tree, setting_tree, item_tree}
 use Rattle.vast.specs.declared.module.NetKind.{NetKind}
-use Rattle.vast.specs.declared.statement.Statement.{Statement}
-use Rattle.vast.specs.declared.statement.Branch.{Branch as WrittenBranch}
 use Rattle.vast.specs.declared.module.ModuleItem.{ModuleItem}
 use Rattle.vast.specs.declared.module.Declared.{Declared}
 use Rattle.vast.specs.declared.module.Setting.{Setting}
 use Rattle.vast.specs.declared.token.Token.{Token}
-use Rattle.velab_expr.specs.declared.fault.ElabFault.{ElabFault}
-use Rattle.velab_expr.specs.Scopes.{Scope}
+use Rattle.vdesign.specs.declared.print.Piece.{Piece}
+use Rattle.vmodules.specs.Connected.{value_for}
+use Rattle.vmodules.specs.Inner.{ConnectionEntry, entries_tree, port_form}
+use Rattle.vmodules.specs.declared.ports.PortForm.{PortForm}
 use Rattle.format_text.specs.Pieces.{Argument, Printed, pieces_with}
-use Rattle.velab_process.specs.Connections.{lowered_join, lowered_joins, broken_join, broken_joins}
-use Rattle.velab_process.specs.Processes.{Processes, lowered_processes, lowered_items, process_trees_by, ProcessTree, process_of, driven_by, broken_processes}
-use Rattle.velab_process.specs.Statements.{Table, Lowered, lowered, all_lowered, LoweredBranches, lowered_branch, lowered_branches}
-use Rattle.vdesign.specs.declared.action.Branch.{Branch}
+use Rattle.velab_expr.specs.declared.fault.ElabFault.{ElabFault}
+use Rattle.velab_expr.specs.Answers.{◌>>=◌, Refuses}
+use Rattle.velab_expr.specs.Scopes.{Scope}
+use Rattle.vast.specs.NumberedExpressions as text
+use Rattle.vast.specs.NumberedStatements.{StatementTree, TargetTree}
+use Rattle.vdesign.specs.declared.action.Action.TheVariants.{While}
+use Rattle.velab_expr.specs.FirstWords.{first_in}
+use Rattle.velab_expr.specs.Resolved.{lower_expression}
+use Rattle.velab_process.specs.Statements.{Table, Lowered, lowered_action, places_behind, lower_assignment, lower_statement}
+use Rattle.velab_process.specs.Processes.{Processes, lower_processes, lower_items, process_trees_by, ProcessTree, process_of, driven_by}
+use Rattle.velab_process.specs.Connections.{lower_join, lower_joins, lowered_joins, broken_joins}
 
--- the table was extended, and these places put behind others
-pub record IsLowered (what : Lowered) (before : List ℕ) (table_after : Table) (places_after : List ℕ) : Type 0 where
-  pub table : table_after ≡ what.table
-  pub places : places_after ≡ before ++ what.places
+-- ---- what a call says of places
 
--- the same of the branches of a `case`, and of its `default`
-pub record AreBranches (what : LoweredBranches) (before : List Branch) (default_before : List ℕ) (table_after : Table) (after : List Branch) (default_after : List ℕ) : Type 0 where
-  pub table : table_after ≡ what.table
-  pub branches : after ≡ before ++ what.branches
-  pub otherwise : default_after ≡ default_before ++ what.otherwise
+-- a statement that stands inside another begins at these places of the table, as the answer says
+abbrev pub Begins : {A : Type 0} → Result (Vec ℕ A) (OrMemory ElabFault) → Table → Result Lowered ElabFault → Type 0
+Begins (Ok places) table answer = answer ≡ Ok (record { table = table; places = places.items })
+Begins (Err e) table answer = Refuses e answer
 
--- the same of processes
-pub record AreLowered (what : Processes) (before : List (List ℕ)) (table_after : Table) (begins_after : List (List ℕ)) : Type 0 where
-  pub table : table_after ≡ what.table
-  pub begins : begins_after ≡ before ++ what.begins
+-- a `for` behind its first assignment
+abbrev pub lower_loop : Scope → Table → text.ExpressionTree → StatementTree → TargetTree → text.ExpressionTree → Result Lowered ElabFault
+lower_loop scope table condition body next_target next_value =
+    lower_expression scope condition >>= λ test.
+    lower_statement scope table body >>= λ inner.
+    places_behind inner.places (lower_assignment true scope inner.table next_target None next_value) >>= λ turn.
+    Ok (lowered_action turn.table (first_in condition) (While test turn.places))
 
--- no rule is broken in any of these processes
-abbrev pub AreRight : Scope → List ProcessTree → Type 0
-AreRight scope trees = broken_processes scope trees ≡ None
-
--- a statement lowered onto a table, statements, and the statement of an item
-abbrev pub lowered_of : List Text → Scope → Table → Statement → Lowered
-lowered_of words scope table statement = lowered scope table (statement_tree words statement)
-
-abbrev pub all_lowered_of : List Text → Scope → Table → List Statement → Lowered
-all_lowered_of words scope table statements = all_lowered scope table (statement_trees words statements)
-
-abbrev pub branch_lowered_of : List Text → Scope → Table → WrittenBranch → LoweredBranches
-branch_lowered_of words scope table branch = lowered_branch scope table (branch_tree words branch)
-
-abbrev pub branches_lowered_of : List Text → Scope → Table → List WrittenBranch → LoweredBranches
-branches_lowered_of words scope table branches = lowered_branches scope table (branch_trees words branches)
-
-abbrev pub lowered_of_item : List Text → Scope → Table → ModuleItem → Processes
-lowered_of_item words scope table item = lowered_processes scope table (process_trees_by (item_tree words item))
+-- ---- the trees of program's values
 
 -- the processes by which names are declared with a value, and those of an `assign`
 abbrev pub starts_in : List Text → NetKind → List Declared → List ProcessTree
@@ -66,40 +51,61 @@ starts_in words word list = filter_map (process_of word) (map (declared_tree wor
 abbrev pub drives_in : List Text → List Setting → List ProcessTree
 drives_in words list = map driven_by (map (setting_tree words) list)
 
--- the processes of items
-abbrev pub processes_of : List Text → Scope → Table → List ModuleItem → Processes
-processes_of words scope table items = lowered_items scope table (map (item_tree words) items)
+-- the processes of an item, and of items
+abbrev pub processes_of_item : List Text → Scope → Table → ModuleItem → Result Processes ElabFault
+processes_of_item words scope table item = lower_processes scope table (process_trees_by (item_tree words item))
+
+abbrev pub processes_of : List Text → Scope → Table → List ModuleItem → Result Processes ElabFault
+processes_of words scope table items = lower_items scope table (map (item_tree words) items)
 
 -- a name that was found
 abbrev pub name_of : List Text → Option Token → Option Word
 name_of words = option_map (numbered words)
 
 -- those of port connections
-abbrev pub joins_of : List Text → Token → Scope → Scope → List ConnectionEntry → Table → List PortForm → Processes
-joins_of words whose outer inner connections table ports = lowered_joins (numbered words whose) outer inner (entries_tree words connections) table (map (port_form words) ports)
+abbrev pub joins_of : List Text → Token → Scope → Scope → List ConnectionEntry → Table → List PortForm → Result Processes ElabFault
+joins_of words whose outer inner connections table ports =
+    lower_joins (numbered words whose) outer inner (entries_tree words connections) table (map (port_form words) ports)
 
-abbrev pub join_of : List Text → Token → Scope → Scope → List ConnectionEntry → Table → PortForm → Processes
+abbrev pub join_of : List Text → Token → Scope → Scope → List ConnectionEntry → Table → PortForm → Result Processes ElabFault
 join_of words whose outer inner connections table port =
-    lowered_join (numbered words whose) outer inner table (port_form words port) (value_for (entries_tree words connections) (port_form words port).name.letters)
+    lower_join (numbered words whose) outer inner table (port_form words port) (value_for (entries_tree words connections) (port_form words port).name.letters)
 
-abbrev pub broken_joins_of : List Text → Token → Scope → Scope → List ConnectionEntry → List PortForm → Option ElabFault
-broken_joins_of words whose outer inner connections ports = broken_joins (numbered words whose) outer inner (entries_tree words connections) (map (port_form words) ports)
+-- the same in two parts, as stages above take them
+abbrev pub lowered_joins_of : List Text → Token → Scope → Scope → List ConnectionEntry → Table → List PortForm → Processes
+lowered_joins_of words whose outer inner connections table ports =
+    lowered_joins (numbered words whose) outer inner (entries_tree words connections) table (map (port_form words) ports)
 
-abbrev pub broken_join_of : List Text → Token → Scope → Scope → List ConnectionEntry → PortForm → Option ElabFault
-broken_join_of words whose outer inner connections port =
-    broken_join (numbered words whose) outer inner (port_form words port) (value_for (entries_tree words connections) (port_form words port).name.letters)
+abbrev pub broken_joins_of : List Text → Token → Scope → Scope → List ConnectionEntry → Table → List PortForm → Option ElabFault
+broken_joins_of words whose outer inner connections table ports =
+    broken_joins (numbered words whose) outer inner (entries_tree words connections) table (map (port_form words) ports)
 
--- where there was no fault, these were lowered
-abbrev pub HasLowered : {A B T E : Type 0} → Result T E → Lowered → Vec ℕ A → Table → Vec ℕ B → Type 0
-HasLowered result what before table after = OnOk result (IsLowered what before.items table after.items)
-
-abbrev pub HasBranches : {A B C D T E : Type 0} → Result T E → LoweredBranches → Vec Branch A → Vec ℕ B → Table → Vec Branch C → Vec ℕ D → Type 0
-HasBranches result what before default_before table after default_after = OnOk result (AreBranches what before.items default_before.items table after.items default_after.items)
+-- what processes are made to is put behind others
+pub record AreLowered (what : Processes) (before : List (List ℕ)) (table_after : Table) (begins_after : List (List ℕ)) : Type 0 where
+  pub table : table_after ≡ what.table
+  pub begins : begins_after ≡ before ++ what.begins
 
 abbrev pub HaveLowered : {A B T E : Type 0} → Result T E → Processes → Vec (List ℕ) A → Table → Vec (List ℕ) B → Type 0
 HaveLowered result what before table after = OnOk result (AreLowered what before.items table after.items)
+
+-- ---- lines
+
+-- what there is, where it is right
+abbrev pub right_pieces : Bool → Option (List Piece) → Option (List Piece)
+right_pieces true pieces = pieces
+right_pieces false pieces = None
 
 -- a line takes these arguments, or has no pieces by them
 abbrev pub Prints : Printed → List Argument → Bool → Printed → Type 0
 Prints old arguments true new = pieces_with new [] ≡ pieces_with old arguments
 Prints old arguments false new = pieces_with old arguments ≡ None
+
+-- the answer has something of which this holds
+abbrev pub HasOk : {A F : Type 0} → Result A F → (A → Type 0) → Type 0
+HasOk (Ok x) P = P x
+HasOk (Err fault) P = ⊥
+
+-- a call says this of what the answer has, or gives its fault
+abbrev pub TakesAnswer : {T A F : Type 0} → Result T (OrMemory F) → Result A F → (A → T → Type 0) → Type 0
+TakesAnswer (Ok t) answer P = HasOk answer (λ x. P x t)
+TakesAnswer (Err e) answer P = Refuses e answer

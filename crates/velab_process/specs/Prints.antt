@@ -1,6 +1,5 @@
 -- Print tasks of the text, their names resolved and their formats read (IEEE 1364-2005, 17.1).
-use Rattle.std.specs.Prelude.{◌-◌, Bool, true, false, List, [], ◌∷◌, map, length, take, drop, is_some, Option, None, unwrap_or}
-use Rattle.std.specs.Option.{option_or}
+use Rattle.std.specs.Prelude.{◌-◌, Bool, true, false, List, [], ◌∷◌, length, take, drop, Result, Ok}
 use Rattle.vast.specs.Words.{Text}
 use Rattle.vast.specs.NumberedExpressions as text
 use Rattle.vast.specs.NumberedStatements.{ArgumentTree, quoted, printed}
@@ -13,9 +12,9 @@ use Rattle.format_text.specs.Pieces.{Argument, string, value, pieces_of}
 use Rattle.velab_expr.specs.declared.fault.ElabFault.{ElabFault}
 use Rattle.velab_expr.specs.declared.fault.Rule.TheVariants.{Kind}
 use Rattle.velab_expr.specs.FirstWords.{first_argument}
-use Rattle.velab_expr.specs.Rules.{unless}
+use Rattle.velab_expr.specs.Answers.{◌>>=◌, found}
 use Rattle.velab_expr.specs.Scopes.{Scope}
-use Rattle.velab_expr.specs.Resolved.{resolved, broken_expression}
+use Rattle.velab_expr.specs.Resolved.{lower_expression}
 
 -- 17.1.1, 17.1.2, 17.1.3
 abbrev pub when_of : Printing → When
@@ -32,25 +31,14 @@ abbrev pub is_watched : text.ExpressionTree → Bool
 is_watched (text.time word) = false
 is_watched _ = true
 
-abbrev pub argument_of : Scope → ArgumentTree → Argument
-argument_of scope (quoted letters) = string (between_quotes letters.letters)
-argument_of scope (printed tree) = value (is_watched tree) (resolved scope tree)
+abbrev pub lower_argument : Scope → ArgumentTree → Result Argument ElabFault
+lower_argument scope (quoted letters) = Ok (string (between_quotes letters.letters))
+lower_argument scope (printed tree) = lower_expression scope tree >>= λ e. Ok (value (is_watched tree) e)
 
-abbrev pub broken_argument : Scope → ArgumentTree → Option ElabFault
-broken_argument scope (quoted letters) = None
-broken_argument scope (printed tree) = broken_expression scope tree
+abbrev pub lower_arguments : Scope → List ArgumentTree → Result (List Argument) ElabFault
+lower_arguments scope [] = Ok []
+lower_arguments scope (one ∷ more) = lower_argument scope one >>= λ argument. lower_arguments scope more >>= λ others. Ok (argument ∷ others)
 
-abbrev pub broken_arguments : Scope → List ArgumentTree → Option ElabFault
-broken_arguments scope [] = None
-broken_arguments scope (one ∷ more) = option_or (broken_argument scope one) (broken_arguments scope more)
-
--- the pieces of a line, if its formats are right
-abbrev pub line_pieces : Scope → List ArgumentTree → Option (List Piece)
-line_pieces scope arguments = pieces_of (map (argument_of scope) arguments)
-
-abbrev pub pieces_in : Scope → List ArgumentTree → List Piece
-pieces_in scope arguments = unwrap_or (line_pieces scope arguments) []
-
--- its names are right, and its formats (17.1.1), which are told by the first word of the arguments
-abbrev pub broken_line : Scope → List ArgumentTree → Option ElabFault
-broken_line scope arguments = option_or (broken_arguments scope arguments) (unless (is_some (line_pieces scope arguments)) Kind (first_argument arguments))
+-- the pieces of a line, where its formats are right (17.1.1); they are told by the first word of the arguments
+abbrev pub lower_line : Scope → List ArgumentTree → Result (List Piece) ElabFault
+lower_line scope arguments = lower_arguments scope arguments >>= λ all. found (pieces_of all) Kind (first_argument arguments)

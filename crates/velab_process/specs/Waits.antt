@@ -1,10 +1,9 @@
 -- What event controls and `wait` listen to (IEEE 1364-2005, 9.7): terms, of which one is enough (9.7.4).
-use Rattle.std.specs.Prelude.{List, [], ◌∷◌, ◌++◌, map, Option, None, Some}
+use Rattle.std.specs.Prelude.{List, [], ◌∷◌, ◌++◌, Option, None, Some, Result, Ok}
 use Rattle.std.specs.List.{flat_map}
-use Rattle.std.specs.Option.{option_or}
 use Rattle.vast.specs.NumberedWords.{Word}
 use Rattle.vast.specs.NumberedExpressions as text
-use Rattle.vast.specs.NumberedStatements.{TargetTree, TargetTrees, ArgumentTree, quoted, printed, TaskTree, print, dump_file, dump_vars, dump, end_run, DelayTree, by_number, by_name, by_value, TermTree, FurtherTerm, EventTree, by_event, by_any, by_any_enclosed, by_terms, StatementTree, StatementTrees, empty, block, assign, nonblocking, trigger, if_true, if_else, case_of, while_true, repeat_times, forever, for_loop, wait_for, delay, event, task, no_statement, first_statement, BranchTree, BranchTrees, labelled, default, no_branch, first_branch}
+use Rattle.vast.specs.NumberedStatements.{TargetTree, TargetTrees, ArgumentTree, quoted, printed, TaskTree, print, dump_file, dump_vars, dump, end_run, DelayTree, by_number, by_name, by_value, FurtherTerm, EventTree, by_event, by_any, by_any_enclosed, by_terms, StatementTree, StatementTrees, empty, block, assign, nonblocking, trigger, if_true, if_else, case_of, while_true, repeat_times, forever, for_loop, wait_for, delay, event, task, no_statement, first_statement, BranchTree, BranchTrees, labelled, default, no_branch, first_branch}
 use Rattle.vast.specs.NumberedStatements as written
 use Rattle.vast.specs.declared.statement.Edge.{Edge as WrittenEdge}
 use Rattle.vast.specs.declared.statement.Edge.TheVariants.{Rising, Falling}
@@ -16,7 +15,7 @@ use Rattle.velab_expr.specs.declared.fault.ElabFault.{ElabFault}
 use Rattle.velab_expr.specs.declared.fault.Rule.TheVariants.{Unknown, Kind}
 use Rattle.velab_expr.specs.declared.scope.Meaning.{Meaning}
 use Rattle.velab_expr.specs.declared.scope.Meaning.TheVariants.{Variable, Parameter, Event, Instance}
-use Rattle.velab_expr.specs.Rules.{told}
+use Rattle.velab_expr.specs.Answers.{◌>>=◌, refused}
 use Rattle.velab_expr.specs.Scopes.{Scope, meaning_of}
 
 -- ---- terms (9.7.2)
@@ -27,23 +26,24 @@ edge_of None = Any
 edge_of (Some Rising) = Rise
 edge_of (Some Falling) = Fall
 
--- a change of a variable, or a named event (9.7.3)
-abbrev pub term_for : Edge → Option Meaning → Term
-term_for edge None = Change edge 0
-term_for edge (Some (Variable number)) = Change edge number
-term_for edge (Some (Parameter value bounds before)) = Change edge 0
-term_for edge (Some (Event number)) = Triggered number
-term_for edge (Some Instance) = Change edge 0
+-- what is waited for, in a list of one: a change of a variable, or a named event (9.7.3), which has no edges
+abbrev pub term_by : Edge → Word → Option Meaning → Result (List Term) ElabFault
+term_by edge name None = refused Unknown (Some name)
+term_by edge name (Some (Variable number)) = Ok (Change edge number ∷ [])
+term_by edge name (Some (Parameter value bounds before)) = refused Kind (Some name)
+term_by Any name (Some (Event number)) = Ok (Triggered number ∷ [])
+term_by Rise name (Some (Event number)) = refused Kind (Some name)
+term_by Fall name (Some (Event number)) = refused Kind (Some name)
+term_by edge name (Some Instance) = refused Kind (Some name)
 
-abbrev pub term_by : Scope → Edge → Word → Term
-term_by scope edge name = term_for edge (meaning_of scope name)
-
-abbrev pub term_of : Scope → TermTree → Term
-term_of scope term = term_by scope (edge_of term.edge) term.name
+abbrev pub lower_term : Scope → Edge → Word → Result (List Term) ElabFault
+lower_term scope edge name = term_by edge name (meaning_of scope name)
 
 -- behind a comma or behind `or`: both say the same (9.7.4)
-abbrev pub further_term_of : Scope → FurtherTerm → Term
-further_term_of scope further = term_of scope further.term
+abbrev pub lower_further : Scope → List FurtherTerm → Result (List Term) ElabFault
+lower_further scope [] = Ok []
+lower_further scope (further ∷ more) =
+    lower_term scope (edge_of further.term.edge) further.term.name >>= λ front. lower_further scope more >>= λ others. Ok (front ++ others)
 
 -- any change of a variable is heard; a parameter never changes, and an event or an instance has no value
 abbrev pub heard : Option Meaning → List Term
@@ -163,40 +163,10 @@ abbrev mutual
 
 -- ---- event controls
 
--- what `@control body` listens to; where `@*` reads nothing, it listens to nothing
-abbrev pub terms_of : Scope → EventTree → StatementTree → List Term
-terms_of scope (by_event letters) body = term_by scope Any letters ∷ []
-terms_of scope by_any body = any_of scope (read_by body)
-terms_of scope by_any_enclosed body = any_of scope (read_by body)
-terms_of scope (by_terms term further) body = term_of scope term ∷ map (further_term_of scope) further
-
--- an event has no edges
-abbrev pub edge_rule : Edge → Word → Option ElabFault
-edge_rule Any name = None
-edge_rule Rise name = Some (told Kind (Some name))
-edge_rule Fall name = Some (told Kind (Some name))
-
--- what is waited for is a variable or a named event
-abbrev pub not_heard : Edge → Option Meaning → Word → Option ElabFault
-not_heard edge None name = Some (told Unknown (Some name))
-not_heard edge (Some (Variable number)) name = None
-not_heard edge (Some (Parameter value bounds before)) name = Some (told Kind (Some name))
-not_heard edge (Some (Event number)) name = edge_rule edge name
-not_heard edge (Some Instance) name = Some (told Kind (Some name))
-
-abbrev pub broken_by : Scope → Edge → Word → Option ElabFault
-broken_by scope edge name = not_heard edge (meaning_of scope name) name
-
-abbrev pub broken_term : Scope → TermTree → Option ElabFault
-broken_term scope term = broken_by scope (edge_of term.edge) term.name
-
-abbrev pub broken_further : Scope → List FurtherTerm → Option ElabFault
-broken_further scope [] = None
-broken_further scope (further ∷ more) = option_or (broken_term scope further.term) (broken_further scope more)
-
--- each name that stands in the control is a variable's or a named event's
-abbrev pub broken_control : Scope → EventTree → Option ElabFault
-broken_control scope (by_event letters) = broken_by scope Any letters
-broken_control scope by_any = None
-broken_control scope by_any_enclosed = None
-broken_control scope (by_terms term further) = option_or (broken_term scope term) (broken_further scope further)
+-- What `@control body` listens to. `@*` listens to any change of what its body reads; where that is nothing, it listens to nothing.
+abbrev pub lower_control : Scope → EventTree → StatementTree → Result (List Term) ElabFault
+lower_control scope (by_event letters) body = lower_term scope Any letters
+lower_control scope by_any body = Ok (any_of scope (read_by body))
+lower_control scope by_any_enclosed body = Ok (any_of scope (read_by body))
+lower_control scope (by_terms term further) body =
+    lower_term scope (edge_of term.edge) term.name >>= λ front. lower_further scope further >>= λ others. Ok (front ++ others)

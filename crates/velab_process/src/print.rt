@@ -1,27 +1,26 @@
 // Print tasks (IEEE 1364-2005, 17.1): their names resolved, and their formats read.
 
-ghost use Rattle.std.specs.Prelude.{◌≡◌, ◌≤◌, [], List, map, true, None, Some, IfOk, OnOk};
-ghost use Rattle.basis.specs.Reasons.{IfFault};
+ghost use Rattle.std.specs.Prelude.{◌≡◌, ◌≤◌, [], List, map, true};
 ghost use Rattle.vast.specs.NumberedTrees.{tree_of as text_tree};
 ghost use Rattle.vast.specs.NumberedTrees.{argument_tree};
 ghost use Rattle.vast.specs.Words.{Text};
 ghost use Rattle.vexpr_parse.specs.Texts.{words_of};
 ghost use Rattle.format_text.specs.Pieces.{TakesArgument};
-ghost use Rattle.velab_process.specs.Inner.{Prints};
-ghost use Rattle.velab_expr.specs.FirstWords.{first_argument};
-ghost use Rattle.velab_expr.specs.Rules.{told, IsBroken};
+ghost use Rattle.velab_expr.specs.Answers.{Gives};
+ghost use Rattle.velab_process.specs.Inner.{Prints, TakesAnswer, right_pieces as only_right};
+ghost use Rattle.velab_process.specs.Prints.{lower_argument, lower_arguments, lower_line};
 ghost use Rattle.velab_process.specs.Prints as spec;
 
-use velab_expr::expression::expression_of;
-use velab_expr::fault::{ElabFault, Rule};
-use velab_expr::first::first_argument;
-use velab_expr::scope::Scope;
 use basis::{NoMemory, OrMemory};
 use format_text::Printer;
 use std::alloc::Global;
 use vast::expression::Expression as Value;
 use vast::statement::{Argument, Printing};
 use vdesign::print::{Pieces, When};
+use velab_expr::expression::expression_of;
+use velab_expr::fault::{ElabFault, Rule};
+use velab_expr::first::first_argument;
+use velab_expr::scope::Scope;
 use vlex::Tokens;
 use vmodules::letters::letters;
 
@@ -67,12 +66,9 @@ fn put_argument(
     printer: &mut Printer,
     argument: &Argument,
 ) -> Result<bool, OrMemory<ElabFault>>
-    ensures ok { IfOk result (λ is_right. TakesArgument printer.old (spec.argument_of scope.now
-        (argument_tree (words_of tokens.now) argument.now)) is_right printer.new) }
-    ensures right { OnOk result (spec.broken_argument scope.now
-        (argument_tree (words_of tokens.now) argument.now) ≡ None) }
-    ensures err { IfFault result (IsBroken (spec.broken_argument scope.now
-        (argument_tree (words_of tokens.now) argument.now))) }
+    ensures { TakesAnswer result (lower_argument scope.now
+        (argument_tree (words_of tokens.now) argument.now))
+        (λ argument is_right. TakesArgument printer.old argument is_right printer.new) }
 {
     match argument {
         Argument::Text(word) => {
@@ -94,41 +90,23 @@ fn put_arguments(
     printer: &mut Printer,
     arguments: &[Argument],
 ) -> Result<bool, OrMemory<ElabFault>>
-    ensures ok { IfOk result (λ is_right. Prints printer.old
-        (map (spec.argument_of scope.now) (map (argument_tree (words_of tokens.now)) arguments.now))
-        is_right printer.new) }
-    ensures right { OnOk result (spec.broken_arguments scope.now
-        (map (argument_tree (words_of tokens.now)) arguments.now) ≡ None) }
-    ensures err { IfFault result (IsBroken (spec.broken_arguments scope.now
-        (map (argument_tree (words_of tokens.now)) arguments.now))) }
+    ensures { TakesAnswer result (lower_arguments scope.now
+        (map (argument_tree (words_of tokens.now)) arguments.now))
+        (λ all is_right. Prints printer.old all is_right printer.new) }
 {
     let mut is_right = true;
     for one in arguments {
-        if !put_argument(alloc, scope, tokens, printer, one)? {
-            is_right = false;
-        }
+        let taken = put_argument(alloc, scope, tokens, printer, one)?;
+        is_right = is_right & taken;
     }
     Ok(is_right)
 }
 
-// The pieces of a line, where all its formats are right: else E310.
-fn line_of(
-    is_right: bool,
-    pieces: Option<Pieces>,
-    arguments: &[Argument],
-) -> Result<Pieces, OrMemory<ElabFault>>
-    ensures ok { IfOk result (λ line. (is_right ≡ true) × (pieces ≡ Some line)) }
-    ensures err { IfFault result (λ _. is_right ≡ true → pieces ≡ None) }
-    ensures told { (words : List Text) → IfFault result (λ fault. fault ≡
-        told Rule.Kind (first_argument (map (argument_tree words) arguments.now))) }
+// What there is, where it is right.
+fn right_pieces(is_right: bool, pieces: Option<Pieces>) -> Option<Pieces>
+    ensures { result ≡ only_right is_right pieces }
 {
-    match pieces {
-        Some(line) if is_right => Ok(line),
-        _ => Err(OrMemory::Fault(ElabFault {
-            rule: Rule::Kind,
-            at: first_argument(arguments),
-        })),
-    }
+    if is_right { pieces } else { None }
 }
 
 /// The pieces of a line (17.1.1). E310 where a format isn't right; E303, E306 and E307 as its expressions have them.
@@ -138,15 +116,17 @@ pub fn pieces_in(
     tokens: &Tokens<'_>,
     arguments: &[Argument],
 ) -> Result<Pieces, OrMemory<ElabFault>>
-    ensures ok { IfOk result (λ pieces. pieces ≡ spec.pieces_in scope.now
-        (map (argument_tree (words_of tokens.now)) arguments.now)) }
-    ensures right { OnOk result (spec.broken_line scope.now
-        (map (argument_tree (words_of tokens.now)) arguments.now) ≡ None) }
-    ensures err { IfFault result (IsBroken (spec.broken_line scope.now
-        (map (argument_tree (words_of tokens.now)) arguments.now))) }
+    ensures { Gives result
+        (lower_line scope.now (map (argument_tree (words_of tokens.now)) arguments.now)) }
 {
     let mut printer = Printer::new(alloc);
     let is_right = put_arguments(alloc, scope, tokens, &mut printer, arguments)?;
     let pieces = printer.finish()?;
-    line_of(is_right, pieces, arguments)
+    match right_pieces(is_right, pieces) {
+        Some(line) => Ok(line),
+        None => Err(OrMemory::Fault(ElabFault {
+            rule: Rule::Kind,
+            at: first_argument(arguments),
+        })),
+    }
 }

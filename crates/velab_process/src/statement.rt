@@ -1,31 +1,24 @@
 // Processes: what statements have to do, their names resolved (clause 9).
-ghost use Rattle.std.specs.Prelude.{None, ◌≡◌, ◌<◌, ◌≤◌, ◌+◌, ◌^◌, [], ◌++◌, ◌∷◌, true, false, length, map, option_map, List, IfOk, OnOk};
+ghost use Rattle.std.specs.Prelude.{None, Some, ◌≡◌, ◌<◌, ◌≤◌, ◌+◌, ◌^◌, [], ◌++◌, ◌∷◌, Ok, true, false, length, map, option_map, List, OnOk};
 ghost use Rattle.basis.specs.Reasons.{IfFault};
+ghost use Rattle.velab_expr.specs.Answers.{Gives, Makes, behind};
+ghost use Rattle.velab_expr.specs.Inner.{symbols_in};
+ghost use Rattle.velab_expr.specs.Rules.{IsBroken};
+ghost use Rattle.velab_process.specs.Prints.{when_of};
+ghost use Rattle.velab_process.specs.Statements as spec;
+ghost use Rattle.velab_process.specs.Statements.{at_next, places_behind, branches_behind, lower_amount, lower_own_amount, lower_label, lower_labels, lower_statement};
+ghost use Rattle.velab_process.specs.Processes as processes;
+ghost use Rattle.velab_process.specs.Processes.{procedural, continuous, begins_behind, lower_processes, lowered_items, broken_items_from};
+ghost use Rattle.velab_process.specs.Inner.{Begins, HaveLowered, lower_loop as spec_loop, starts_in, drives_in, processes_of_item, processes_of};
 ghost use Rattle.vast.specs.Words.{Text};
 ghost use Rattle.vast.specs.NumberedTrees.{tree_of as text_tree, trees_of};
-ghost use Rattle.vast.specs.NumberedTrees.{target_tree, delay_tree, task_tree, statement_tree, statement_trees, branch_tree, branch_trees};
+ghost use Rattle.vast.specs.NumberedTrees.{target_tree, delay_tree, argument_tree, task_tree, statement_tree, statement_trees, branch_tree, branch_trees};
 ghost use Rattle.vast.specs.NumberedTrees.{item_tree};
 ghost use Rattle.vast.specs.NumberedWords.{numbered};
 ghost use Rattle.vexpr_parse.specs.Texts.{words_of};
-ghost use Rattle.velab_process.specs.Statements as spec;
-ghost use Rattle.velab_process.specs.Prints.{when_of};
-ghost use Rattle.vast.specs.NumberedStatements.{forever, case_of, assign, whole};
-ghost use Rattle.velab_process.specs.Processes.{procedural, continuous, lowered_process, lowered_processes, broken_process, broken_processes, broken_items_from, process_trees_by};
-ghost use Rattle.velab_process.specs.Statements.{lowered, branches_by, broken_in, broken_in_all, broken_items, broken_branch, broken_branches};
-ghost use Rattle.velab_expr.specs.Inner.{symbols_in};
-ghost use Rattle.velab_process.specs.Inner.{lowered_of, all_lowered_of, branch_lowered_of, branches_lowered_of, lowered_of_item, processes_of, starts_in, drives_in, AreRight, AreLowered, HasLowered, HasBranches, HaveLowered};
-ghost use Rattle.velab_expr.specs.Resolved.{resolved, broken_expression};
-ghost use Rattle.velab_expr.specs.Rules.{IsBroken};
+ghost use Rattle.vast.specs.NumberedStatements.{forever, case_of, assign, whole, print};
 
-use velab_expr::expression::{alone, expression_of, expression_of_name};
-use velab_expr::fault::ElabFault;
-use velab_expr::first::{first_argument, first_delay, first_in, first_target};
-use velab_expr::number::constant_of;
-use velab_expr::symbol::symbol_count;
 use crate::print::{pieces_in, when_of};
-use velab_expr::scope::{Scope, event_of, number_of};
-use velab_expr::select::{levels_of, selection_of};
-use velab_expr::target::{first_token, targets_of};
 use crate::wait::{condition_terms, event_terms};
 use basis::{NoMemory, OrMemory};
 use std::alloc::Global;
@@ -33,15 +26,21 @@ use std::marker::Model;
 use vast::expression::Expression as Value;
 use vast::module::{DeclarationKind, Declared, ModuleItem, NetKind, Setting};
 use vast::statement::{
-    Branch, CaseKind, Delay, Dumping, Printing, Statement, Target as Written, Task,
+    Argument, Branch, CaseKind, Delay, Dumping, Printing, Statement, Target as Written, Task,
 };
 use vast::token::Token;
 use vdesign::action::{Action, Branch as Choice, Branches, Places, Targets, Terms};
 use vdesign::dump::DumpSwitch;
-use vdesign::expression::{Expression, Node};
+use vdesign::expression::Expression;
 use vdesign::print::Pieces;
+use velab_expr::expression::{expression_of, expression_of_name};
+use velab_expr::fault::ElabFault;
+use velab_expr::first::{first_argument, first_delay, first_in, first_target};
+use velab_expr::scope::{Scope, event_of, number_of};
+use velab_expr::select::{levels_of, selection_of};
+use velab_expr::symbol::symbol_count;
+use velab_expr::target::{first_token, targets_of};
 use vlex::Tokens;
-use vmodules::letters::letters;
 
 /// Actions in the order in which they are come to; for each the number of the token that its statement begins with, by which a trace finds
 /// its line, and that of a token, if it has one, by which a fault of it is told. A clause sees all but the first numbers.
@@ -73,9 +72,8 @@ pub fn put(
     word: Option<u32>,
     action: Action,
 ) -> Result<(), OrMemory<ElabFault>>
-    ensures table { OnOk result (table.new ≡ spec.with_numbered table.old word action) }
-    ensures place { OnOk result (into.new.items ≡ into.old.items ++ length table.old.actions ∷ []) }
-    ensures err { IfFault result (IsBroken None) }
+    ensures { Makes result (record { table = table.new; places = into.new.items })
+        (places_behind into.old.items (Ok (at_next table.old word action))) }
 {
     into.push(table.actions.len())?;
     table.origins.push(at)?;
@@ -136,15 +134,11 @@ fn amount_of(
     tokens: &Tokens<'_>,
     amount: &Delay,
 ) -> Result<Expression, OrMemory<ElabFault>>
-    ensures ok { IfOk result (λ e.
-        e ≡ spec.amount_of scope.now (delay_tree (words_of tokens.now) amount.now)) }
-    ensures right { OnOk result
-        (spec.broken_amount scope.now (delay_tree (words_of tokens.now) amount.now) ≡ None) }
-    ensures err { IfFault result (IsBroken
-        (spec.broken_amount scope.now (delay_tree (words_of tokens.now) amount.now))) }
+    ensures { Gives result
+        (lower_amount scope.now (delay_tree (words_of tokens.now) amount.now)) }
 {
     match amount {
-        Delay::Number(word) => alone(alloc, Node::Constant(constant_of(letters(tokens, *word)))),
+        Delay::Number(word) => expression_of(alloc, scope, tokens, &Value::Number(*word)),
         Delay::Name(word) => expression_of_name(alloc, scope, tokens, *word),
         Delay::Value(value) => expression_of(alloc, scope, tokens, value),
     }
@@ -157,12 +151,8 @@ fn own_amount(
     tokens: &Tokens<'_>,
     amount: &Option<Delay>,
 ) -> Result<Option<Expression>, OrMemory<ElabFault>>
-    ensures ok { IfOk result (λ e. e ≡ option_map (spec.amount_of scope.now)
+    ensures { Gives result (lower_own_amount scope.now
         (option_map (delay_tree (words_of tokens.now)) amount.now)) }
-    ensures right { OnOk result (spec.broken_own scope.now
-        (option_map (delay_tree (words_of tokens.now)) amount.now) ≡ None) }
-    ensures err { IfFault result (IsBroken (spec.broken_own scope.now
-        (option_map (delay_tree (words_of tokens.now)) amount.now))) }
 {
     match amount {
         None => Ok(None),
@@ -185,15 +175,8 @@ fn lower_assignment(
     table: &mut Table,
     into: &mut Vec<usize>,
 ) -> Result<(), OrMemory<ElabFault>>
-    ensures ok { HasLowered result (spec.lowered_assignment blocking scope.now table.old
-        (target_tree (words_of tokens.now) target.now)
-        (option_map (delay_tree (words_of tokens.now)) amount.now)
-        (text_tree (words_of tokens.now) value.now)) into.old table.new into.new }
-    ensures right { OnOk result (spec.broken_assignment scope.now
-        (target_tree (words_of tokens.now) target.now)
-        (option_map (delay_tree (words_of tokens.now)) amount.now)
-        (text_tree (words_of tokens.now) value.now) ≡ None) }
-    ensures err { IfFault result (IsBroken (spec.broken_assignment scope.now
+    ensures { Makes result (record { table = table.new; places = into.new.items })
+        (places_behind into.old.items (spec.lower_assignment blocking scope.now table.old
         (target_tree (words_of tokens.now) target.now)
         (option_map (delay_tree (words_of tokens.now)) amount.now)
         (text_tree (words_of tokens.now) value.now))) }
@@ -248,14 +231,8 @@ fn put_label(
     body: &[usize],
     into: &mut Vec<Choice>,
 ) -> Result<(), OrMemory<ElabFault>>
-    ensures ok { OnOk result (into.new.items ≡ into.old.items ++ record {
-      item = resolved scope.now (text_tree (words_of tokens.now) label.now);
-      body = body.now;
-    } ∷ []) }
-    ensures right { OnOk result
-        (broken_expression scope.now (text_tree (words_of tokens.now) label.now) ≡ None) }
-    ensures err { IfFault result (IsBroken (broken_expression scope.now
-        (text_tree (words_of tokens.now) label.now))) }
+    ensures { Makes result into.new.items (behind into.old.items
+        (lower_label scope.now body.now (text_tree (words_of tokens.now) label.now))) }
 {
     let item = expression_of(alloc, scope, tokens, label)?;
     let places = Vec::from_slice(alloc, body)?;
@@ -273,12 +250,8 @@ fn put_labels(
     body: &[usize],
     into: &mut Vec<Choice>,
 ) -> Result<(), OrMemory<ElabFault>>
-    ensures ok { OnOk result (into.new.items ≡ into.old.items
-        ++ branches_by scope.now body.now (trees_of (words_of tokens.now) labels.now)) }
-    ensures right { OnOk result
-        (broken_items scope.now (trees_of (words_of tokens.now) labels.now) ≡ None) }
-    ensures err { IfFault result (IsBroken (broken_items scope.now
-        (trees_of (words_of tokens.now) labels.now))) }
+    ensures { Makes result into.new.items (behind into.old.items
+        (lower_labels scope.now body.now (trees_of (words_of tokens.now) labels.now))) }
 {
     for label in labels {
         put_label(alloc, scope, tokens, label, body, into)?;
@@ -335,6 +308,26 @@ fn print_action(kind: Printing, pieces: Pieces) -> Action
     }
 }
 
+// A print task.
+fn lower_print(
+    alloc: Global,
+    scope: &Scope<'_, '_>,
+    tokens: &Tokens<'_>,
+    at: u32,
+    kind: Printing,
+    arguments: &[Argument],
+    table: &mut Table,
+    into: &mut Vec<usize>,
+) -> Result<(), OrMemory<ElabFault>>
+    ensures { Makes result (record { table = table.new; places = into.new.items })
+        (places_behind into.old.items (spec.lower_task scope.now table.old
+        (print kind (map (argument_tree (words_of tokens.now)) arguments.now)))) }
+{
+    let pieces = pieces_in(alloc, scope, tokens, arguments)?;
+    let action = print_action(kind, pieces);
+    put(table, into, at, first_argument(arguments), action)
+}
+
 // A system task.
 fn lower_task(
     alloc: Global,
@@ -345,24 +338,13 @@ fn lower_task(
     table: &mut Table,
     into: &mut Vec<usize>,
 ) -> Result<(), OrMemory<ElabFault>>
-    ensures ok { HasLowered result
-        (spec.lowered_task scope.now table.old (task_tree (words_of tokens.now) task.now))
-        into.old table.new into.new }
-    ensures right { OnOk result
-        (spec.broken_task scope.now (task_tree (words_of tokens.now) task.now) ≡ None) }
-    ensures err { IfFault result
-        (IsBroken (spec.broken_task scope.now (task_tree (words_of tokens.now) task.now))) }
+    ensures { Makes result (record { table = table.new; places = into.new.items })
+        (places_behind into.old.items
+        (spec.lower_task scope.now table.old (task_tree (words_of tokens.now) task.now))) }
 {
     match task {
         Task::Print { kind, arguments } => {
-            let pieces = pieces_in(alloc, scope, tokens, arguments)?;
-            put(
-                table,
-                into,
-                at,
-                first_argument(arguments),
-                print_action(*kind, pieces),
-            )
+            lower_print(alloc, scope, tokens, at, *kind, arguments, table, into)
         }
         Task::DumpFile(_) => put(table, into, at, None, Action::NoOperation),
         Task::DumpVars(selection) => {
@@ -385,12 +367,9 @@ fn lower(
     table: &mut Table,
     into: &mut Vec<usize>,
 ) -> Result<(), OrMemory<ElabFault>>
-    ensures ok { HasLowered result (lowered_of (words_of tokens.now) scope.now table.old statement.now)
-        into.old table.new into.new }
-    ensures right { OnOk result
-        (broken_in scope.now (statement_tree (words_of tokens.now) statement.now) ≡ None) }
-    ensures err { IfFault result (IsBroken (broken_in scope.now
-        (statement_tree (words_of tokens.now) statement.now))) }
+    ensures { Makes result (record { table = table.new; places = into.new.items })
+        (places_behind into.old.items
+        (lower_statement scope.now table.old (statement_tree (words_of tokens.now) statement.now))) }
 {
     match statement {
         Statement::Empty => Ok(()),
@@ -413,8 +392,7 @@ fn lower(
         ),
         Statement::Delayed { at, delay, body } => {
             let amount = amount_of(alloc, scope, tokens, delay)?;
-            let mut inner = Vec::new(alloc);
-            lower(alloc, scope, tokens, body, table, &mut inner)?;
+            let inner = lower_body(alloc, scope, tokens, body, table)?;
             let body = Places::new(inner);
             put(
                 table,
@@ -437,8 +415,7 @@ fn lower(
             body,
         } => {
             let tested = expression_of(alloc, scope, tokens, condition)?;
-            let mut inner = Vec::new(alloc);
-            lower(alloc, scope, tokens, body, table, &mut inner)?;
+            let inner = lower_body(alloc, scope, tokens, body, table)?;
             let action = test_action(tested, inner, Vec::new(alloc));
             put(table, into, *at, first_in(condition), action)
         }
@@ -449,10 +426,8 @@ fn lower(
             other,
         } => {
             let tested = expression_of(alloc, scope, tokens, condition)?;
-            let mut inner = Vec::new(alloc);
-            lower(alloc, scope, tokens, body, table, &mut inner)?;
-            let mut outer = Vec::new(alloc);
-            lower(alloc, scope, tokens, other, table, &mut outer)?;
+            let inner = lower_body(alloc, scope, tokens, body, table)?;
+            let outer = lower_body(alloc, scope, tokens, other, table)?;
             put(
                 table,
                 into,
@@ -475,8 +450,7 @@ fn lower(
             body,
         } => {
             let tested = expression_of(alloc, scope, tokens, condition)?;
-            let mut inner = Vec::new(alloc);
-            lower(alloc, scope, tokens, body, table, &mut inner)?;
+            let inner = lower_body(alloc, scope, tokens, body, table)?;
             put(
                 table,
                 into,
@@ -487,8 +461,7 @@ fn lower(
         }
         Statement::Repeat { at, count, body } => {
             let repeated = expression_of(alloc, scope, tokens, count)?;
-            let mut inner = Vec::new(alloc);
-            lower(alloc, scope, tokens, body, table, &mut inner)?;
+            let inner = lower_body(alloc, scope, tokens, body, table)?;
             let action = Action::Repeat {
                 count: repeated,
                 body: Places::new(inner),
@@ -496,8 +469,7 @@ fn lower(
             put(table, into, *at, first_in(count), action)
         }
         Statement::Forever { at, body } => {
-            let mut inner = Vec::new(alloc);
-            lower(alloc, scope, tokens, body, table, &mut inner)?;
+            let inner = lower_body(alloc, scope, tokens, body, table)?;
             let body = Places::new(inner);
             put(table, into, *at, None, Action::Forever { body })
         }
@@ -513,26 +485,17 @@ fn lower(
             lower_assignment(
                 alloc, scope, tokens, true, target, &None, value, table, into,
             )?;
-            let tested = expression_of(alloc, scope, tokens, condition)?;
-            let mut inner = Vec::new(alloc);
-            lower(alloc, scope, tokens, body, table, &mut inner)?;
-            lower_assignment(
+            lower_loop(
                 alloc,
                 scope,
                 tokens,
-                true,
+                body,
+                *at,
+                condition,
                 next_target,
-                &None,
                 next_value,
                 table,
-                &mut inner,
-            )?;
-            put(
-                table,
                 into,
-                *at,
-                first_in(condition),
-                while_action(tested, inner),
             )
         }
         Statement::Wait {
@@ -542,8 +505,7 @@ fn lower(
         } => {
             let awaited = expression_of(alloc, scope, tokens, condition)?;
             let terms = condition_terms(alloc, scope, tokens, condition)?;
-            let mut inner = Vec::new(alloc);
-            lower(alloc, scope, tokens, body, table, &mut inner)?;
+            let inner = lower_body(alloc, scope, tokens, body, table)?;
             put(
                 table,
                 into,
@@ -554,12 +516,71 @@ fn lower(
         }
         Statement::OnEvent { at, event, body } => {
             let terms = event_terms(alloc, scope, tokens, event, body)?;
-            let mut inner = Vec::new(alloc);
-            lower(alloc, scope, tokens, body, table, &mut inner)?;
+            let inner = lower_body(alloc, scope, tokens, body, table)?;
             let body = Places::new(inner);
             put(table, into, *at, None, Action::EventControl { terms, body })
         }
     }
+}
+
+// The places at which a statement begins that stands inside another.
+#[cycle(statements)]
+fn lower_body(
+    alloc: Global,
+    scope: &Scope<'_, '_>,
+    tokens: &Tokens<'_>,
+    statement: &Statement,
+    table: &mut Table,
+) -> Result<Vec<usize>, OrMemory<ElabFault>>
+    ensures { Begins result table.new (lower_statement scope.now table.old
+        (statement_tree (words_of tokens.now) statement.now)) }
+{
+    let mut places = Vec::new(alloc);
+    lower(alloc, scope, tokens, statement, table, &mut places)?;
+    Ok(places)
+}
+
+// A `for` behind its first assignment.
+#[cycle(statements)]
+fn lower_loop(
+    alloc: Global,
+    scope: &Scope<'_, '_>,
+    tokens: &Tokens<'_>,
+    body: &Statement,
+    at: u32,
+    condition: &Value,
+    next_target: &Written,
+    next_value: &Value,
+    table: &mut Table,
+    into: &mut Vec<usize>,
+) -> Result<(), OrMemory<ElabFault>>
+    ensures { Makes result (record { table = table.new; places = into.new.items })
+        (places_behind into.old.items (spec_loop scope.now table.old
+        (text_tree (words_of tokens.now) condition.now)
+        (statement_tree (words_of tokens.now) body.now)
+        (target_tree (words_of tokens.now) next_target.now)
+        (text_tree (words_of tokens.now) next_value.now))) }
+{
+    let tested = expression_of(alloc, scope, tokens, condition)?;
+    let mut inner = lower_body(alloc, scope, tokens, body, table)?;
+    lower_assignment(
+        alloc,
+        scope,
+        tokens,
+        true,
+        next_target,
+        &None,
+        next_value,
+        table,
+        &mut inner,
+    )?;
+    put(
+        table,
+        into,
+        at,
+        first_in(condition),
+        while_action(tested, inner),
+    )
 }
 
 #[cycle(statements)]
@@ -571,13 +592,9 @@ fn lower_all(
     table: &mut Table,
     into: &mut Vec<usize>,
 ) -> Result<(), OrMemory<ElabFault>>
-    ensures ok { HasLowered result
-        (all_lowered_of (words_of tokens.now) scope.now table.old statements.now) into.old table.new
-        into.new }
-    ensures right { OnOk result
-        (broken_in_all scope.now (statement_trees (words_of tokens.now) statements.now) ≡ None) }
-    ensures err { IfFault result (IsBroken (broken_in_all scope.now
-        (statement_trees (words_of tokens.now) statements.now))) }
+    ensures { Makes result (record { table = table.new; places = into.new.items })
+        (places_behind into.old.items
+        (spec.lower_all scope.now table.old (statement_trees (words_of tokens.now) statements.now))) }
 {
     for statement in statements {
         lower(alloc, scope, tokens, statement, table, into)?;
@@ -598,13 +615,8 @@ fn lower_case(
     table: &mut Table,
     into: &mut Vec<usize>,
 ) -> Result<(), OrMemory<ElabFault>>
-    ensures ok { HasLowered result (lowered scope.now table.old
-        (case_of kind (text_tree (words_of tokens.now) value.now)
-        (branch_trees (words_of tokens.now) branches.now))) into.old table.new into.new }
-    ensures right { OnOk result (broken_in scope.now
-        (case_of kind (text_tree (words_of tokens.now) value.now)
-        (branch_trees (words_of tokens.now) branches.now)) ≡ None) }
-    ensures err { IfFault result (IsBroken (broken_in scope.now
+    ensures { Makes result (record { table = table.new; places = into.new.items })
+        (places_behind into.old.items (lower_statement scope.now table.old
         (case_of kind (text_tree (words_of tokens.now) value.now)
         (branch_trees (words_of tokens.now) branches.now)))) }
 {
@@ -640,13 +652,12 @@ fn lower_branches(
     into: &mut Vec<Choice>,
     otherwise: &mut Vec<usize>,
 ) -> Result<(), OrMemory<ElabFault>>
-    ensures ok { HasBranches result
-        (branches_lowered_of (words_of tokens.now) scope.now table.old branches.now) into.old
-        otherwise.old table.new into.new otherwise.new }
-    ensures right { OnOk result
-        (broken_branches scope.now (branch_trees (words_of tokens.now) branches.now) ≡ None) }
-    ensures err { IfFault result (IsBroken (broken_branches scope.now
-        (branch_trees (words_of tokens.now) branches.now))) }
+    ensures { Makes result (record {
+      table = table.new;
+      branches = into.new.items;
+      otherwise = otherwise.new.items;
+    }) (branches_behind into.old.items otherwise.old.items
+        (spec.lower_branches scope.now table.old (branch_trees (words_of tokens.now) branches.now))) }
 {
     for branch in branches {
         lower_branch(alloc, scope, tokens, branch, table, into, otherwise)?;
@@ -664,18 +675,16 @@ fn lower_branch(
     into: &mut Vec<Choice>,
     otherwise: &mut Vec<usize>,
 ) -> Result<(), OrMemory<ElabFault>>
-    ensures ok { HasBranches result
-        (branch_lowered_of (words_of tokens.now) scope.now table.old branch.now) into.old
-        otherwise.old table.new into.new otherwise.new }
-    ensures right { OnOk result
-        (broken_branch scope.now (branch_tree (words_of tokens.now) branch.now) ≡ None) }
-    ensures err { IfFault result (IsBroken (broken_branch scope.now
-        (branch_tree (words_of tokens.now) branch.now))) }
+    ensures { Makes result (record {
+      table = table.new;
+      branches = into.new.items;
+      otherwise = otherwise.new.items;
+    }) (branches_behind into.old.items otherwise.old.items
+        (spec.lower_branch scope.now table.old (branch_tree (words_of tokens.now) branch.now))) }
 {
     match branch {
         Branch::Labelled { labels, body } => {
-            let mut places = Vec::new(alloc);
-            lower(alloc, scope, tokens, body, table, &mut places)?;
+            let places = lower_body(alloc, scope, tokens, body, table)?;
             put_labels(alloc, scope, tokens, labels, &places, into)
         }
         Branch::Default { body, .. } => lower(alloc, scope, tokens, body, table, otherwise),
@@ -692,16 +701,11 @@ fn lower_forever(
     table: &mut Table,
     into: &mut Vec<usize>,
 ) -> Result<(), OrMemory<ElabFault>>
-    ensures ok { HasLowered result (lowered scope.now table.old
-        (forever (statement_tree (words_of tokens.now) statement.now))) into.old table.new
-        into.new }
-    ensures right { OnOk result (broken_in scope.now
-        (forever (statement_tree (words_of tokens.now) statement.now)) ≡ None) }
-    ensures err { IfFault result (IsBroken (broken_in scope.now
+    ensures { Makes result (record { table = table.new; places = into.new.items })
+        (places_behind into.old.items (lower_statement scope.now table.old
         (forever (statement_tree (words_of tokens.now) statement.now)))) }
 {
-    let mut inner = Vec::new(alloc);
-    lower(alloc, scope, tokens, statement, table, &mut inner)?;
+    let inner = lower_body(alloc, scope, tokens, statement, table)?;
     let body = Places::new(inner);
     put(table, into, at, None, Action::Forever { body })
 }
@@ -716,14 +720,9 @@ fn lower_drive(
     table: &mut Table,
     into: &mut Vec<usize>,
 ) -> Result<(), OrMemory<ElabFault>>
-    ensures ok { HasLowered result (lowered_process scope.now table.old (continuous
-        (numbered (words_of tokens.now) net) (text_tree (words_of tokens.now) value.now)))
-        into.old table.new into.new }
-    ensures right { OnOk result (broken_process scope.now (continuous
-        (numbered (words_of tokens.now) net) (text_tree (words_of tokens.now) value.now))
-        ≡ None) }
-    ensures err { IfFault result (IsBroken (broken_process scope.now (continuous
-        (numbered (words_of tokens.now) net) (text_tree (words_of tokens.now) value.now)))) }
+    ensures { Makes result (record { table = table.new; places = into.new.items })
+        (places_behind into.old.items (processes.lower_drive scope.now table.old
+        (numbered (words_of tokens.now) net) (text_tree (words_of tokens.now) value.now))) }
 {
     let number = number_of(scope, tokens, net)?;
     let terms = condition_terms(alloc, scope, tokens, value)?;
@@ -746,12 +745,8 @@ fn lower_net(
     table: &mut Table,
     into: &mut Vec<Places>,
 ) -> Result<(), OrMemory<ElabFault>>
-    ensures ok { HaveLowered result (lowered_processes scope.now table.old (continuous
-        (numbered (words_of tokens.now) net) (text_tree (words_of tokens.now) value.now) ∷ []))
-        into.old table.new into.new }
-    ensures right { OnOk result (AreRight scope.now (continuous
-        (numbered (words_of tokens.now) net) (text_tree (words_of tokens.now) value.now) ∷ [])) }
-    ensures err { IfFault result (IsBroken (broken_processes scope.now (continuous
+    ensures { Makes result (record { table = table.new; begins = into.new.items })
+        (begins_behind into.old.items (lower_processes scope.now table.old (continuous
         (numbered (words_of tokens.now) net) (text_tree (words_of tokens.now) value.now) ∷ []))) }
 {
     let mut begins = Vec::new(alloc);
@@ -770,13 +765,8 @@ fn lower_variable(
     table: &mut Table,
     into: &mut Vec<Places>,
 ) -> Result<(), OrMemory<ElabFault>>
-    ensures ok { HaveLowered result (lowered_processes scope.now table.old (procedural (assign
-        (whole (numbered (words_of tokens.now) name)) None
-        (text_tree (words_of tokens.now) value.now)) ∷ [])) into.old table.new into.new }
-    ensures right { OnOk result (AreRight scope.now (procedural (assign
-        (whole (numbered (words_of tokens.now) name)) None
-        (text_tree (words_of tokens.now) value.now)) ∷ [])) }
-    ensures err { IfFault result (IsBroken (broken_processes scope.now (procedural (assign
+    ensures { Makes result (record { table = table.new; begins = into.new.items })
+        (begins_behind into.old.items (lower_processes scope.now table.old (procedural (assign
         (whole (numbered (words_of tokens.now) name)) None
         (text_tree (words_of tokens.now) value.now)) ∷ []))) }
 {
@@ -807,13 +797,9 @@ fn lower_start(
     table: &mut Table,
     into: &mut Vec<Places>,
 ) -> Result<(), OrMemory<ElabFault>>
-    ensures ok { HaveLowered result (lowered_processes scope.now table.old
-        (starts_in (words_of tokens.now) word (one.now ∷ []))) into.old table.new into.new }
-    ensures right { OnOk result
-        (AreRight scope.now (starts_in (words_of tokens.now) word (one.now ∷ []))) }
-    ensures err { IfFault result
-        (IsBroken (broken_processes scope.now (starts_in (words_of tokens.now) word
-        (one.now ∷ [])))) }
+    ensures { Makes result (record { table = table.new; begins = into.new.items })
+        (begins_behind into.old.items (lower_processes scope.now table.old
+        (starts_in (words_of tokens.now) word (one.now ∷ [])))) }
 {
     match &one.value {
         None => Ok(()),
@@ -834,12 +820,9 @@ fn lower_starts(
     table: &mut Table,
     into: &mut Vec<Places>,
 ) -> Result<(), OrMemory<ElabFault>>
-    ensures ok { HaveLowered result (lowered_processes scope.now table.old
-        (starts_in (words_of tokens.now) word list.now)) into.old table.new into.new }
-    ensures right { OnOk result (AreRight scope.now (starts_in (words_of tokens.now) word
-        list.now)) }
-    ensures err { IfFault result
-        (IsBroken (broken_processes scope.now (starts_in (words_of tokens.now) word list.now))) }
+    ensures { Makes result (record { table = table.new; begins = into.new.items })
+        (begins_behind into.old.items (lower_processes scope.now table.old
+        (starts_in (words_of tokens.now) word list.now))) }
 {
     for one in list {
         lower_start(alloc, scope, tokens, word, one, table, into)?;
@@ -856,12 +839,9 @@ fn lower_setting(
     table: &mut Table,
     into: &mut Vec<Places>,
 ) -> Result<(), OrMemory<ElabFault>>
-    ensures ok { HaveLowered result (lowered_processes scope.now table.old
-        (drives_in (words_of tokens.now) (one.now ∷ []))) into.old table.new into.new }
-    ensures right { OnOk result (AreRight scope.now (drives_in (words_of tokens.now)
-        (one.now ∷ []))) }
-    ensures err { IfFault result
-        (IsBroken (broken_processes scope.now (drives_in (words_of tokens.now) (one.now ∷ [])))) }
+    ensures { Makes result (record { table = table.new; begins = into.new.items })
+        (begins_behind into.old.items (lower_processes scope.now table.old
+        (drives_in (words_of tokens.now) (one.now ∷ [])))) }
 {
     lower_net(alloc, scope, tokens, one.name, &one.value, table, into)
 }
@@ -875,11 +855,9 @@ fn lower_drives(
     table: &mut Table,
     into: &mut Vec<Places>,
 ) -> Result<(), OrMemory<ElabFault>>
-    ensures ok { HaveLowered result (lowered_processes scope.now table.old
-        (drives_in (words_of tokens.now) list.now)) into.old table.new into.new }
-    ensures right { OnOk result (AreRight scope.now (drives_in (words_of tokens.now) list.now)) }
-    ensures err { IfFault result
-        (IsBroken (broken_processes scope.now (drives_in (words_of tokens.now) list.now))) }
+    ensures { Makes result (record { table = table.new; begins = into.new.items })
+        (begins_behind into.old.items (lower_processes scope.now table.old
+        (drives_in (words_of tokens.now) list.now))) }
 {
     for one in list {
         lower_setting(alloc, scope, tokens, one, table, into)?;
@@ -896,19 +874,13 @@ fn lower_item(
     table: &mut Table,
     into: &mut Vec<Places>,
 ) -> Result<(), OrMemory<ElabFault>>
-    ensures ok { HaveLowered result
-        (lowered_of_item (words_of tokens.now) scope.now table.old item.now) into.old table.new
-        into.new }
-    ensures right { OnOk result
-        (AreRight scope.now (process_trees_by (item_tree (words_of tokens.now) item.now))) }
-    ensures err { IfFault result (IsBroken
-        (broken_processes scope.now (process_trees_by (item_tree (words_of tokens.now)
-        item.now)))) }
+    ensures { Makes result (record { table = table.new; begins = into.new.items })
+        (begins_behind into.old.items (processes_of_item (words_of tokens.now) scope.now table.old
+        item.now)) }
 {
     match item {
         ModuleItem::Initial { statement, .. } => {
-            let mut begins = Vec::new(alloc);
-            lower(alloc, scope, tokens, statement, table, &mut begins)?;
+            let begins = lower_body(alloc, scope, tokens, statement, table)?;
             into.push(Places::new(begins))?;
             Ok(())
         }
@@ -935,6 +907,29 @@ fn lower_item(
     }
 }
 
+// The processes of items, each in the scope of its place.
+fn lower_items(
+    alloc: Global,
+    tokens: &Tokens<'_>,
+    scope: &Scope<'_, '_>,
+    items: &[ModuleItem],
+    table: &mut Table,
+    into: &mut Vec<Places>,
+) -> Result<(), OrMemory<ElabFault>>
+    requires small { scope.now.known + length (symbols_in (words_of tokens.now) items.now) < 2 ^ 64 }
+    ensures { Makes result (record { table = table.new; begins = into.new.items })
+        (begins_behind into.old.items
+        (processes_of (words_of tokens.now) scope.now table.old items.now)) }
+{
+    let mut known = scope.known;
+    for item in items {
+        let here = scope.at(known);
+        lower_item(alloc, &here, tokens, item, table, into)?;
+        known += symbol_count(item);
+    }
+    Ok(())
+}
+
 /// A process for each `initial`, each `always`, each net that an `assign` drives and each name that is declared with a value, in the order of the
 /// text, behind those that there are. `scope` is that of the first item. Errors: E303, E306, E307, E310, E901.
 pub fn put_processes(
@@ -946,19 +941,15 @@ pub fn put_processes(
     into: &mut Vec<Places>,
 ) -> Result<(), OrMemory<ElabFault>>
     requires small { scope.now.known + length (symbols_in (words_of tokens.now) items.now) < 2 ^ 64 }
-    ensures ok { HaveLowered result
-        (processes_of (words_of tokens.now) scope.now table.old items.now) into.old table.new
-        into.new }
-    ensures right { OnOk result
-        (broken_items_from scope.now (map (item_tree (words_of tokens.now)) items.now) ≡ None) }
-    ensures err { IfFault result
-        (IsBroken (broken_items_from scope.now (map (item_tree (words_of tokens.now)) items.now))) }
+    ensures makes { Makes result (record { table = table.new; begins = into.new.items })
+        (begins_behind into.old.items
+        (processes_of (words_of tokens.now) scope.now table.old items.now)) }
+    ensures ok { HaveLowered result (lowered_items scope.now table.old
+        (map (item_tree (words_of tokens.now)) items.now)) into.old table.new into.new }
+    ensures right { OnOk result (broken_items_from scope.now table.old
+        (map (item_tree (words_of tokens.now)) items.now) ≡ None) }
+    ensures err { IfFault result (IsBroken (broken_items_from scope.now table.old
+        (map (item_tree (words_of tokens.now)) items.now))) }
 {
-    let mut known = scope.known;
-    for item in items {
-        let here = scope.at(known);
-        lower_item(alloc, &here, tokens, item, table, into)?;
-        known += symbol_count(item);
-    }
-    Ok(())
+    lower_items(alloc, tokens, scope, items, table, into)
 }

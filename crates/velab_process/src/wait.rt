@@ -1,21 +1,17 @@
 // What event controls and `wait` listen to (IEEE 1364-2005, clause 9.7).
 
 ghost use Rattle.std.specs.Prelude.{◌≡◌, ◌≤◌, List, None, Some, [], ◌∷◌, ◌++◌, length, map, option_map, IfOk, OnOk};
-ghost use Rattle.basis.specs.Reasons.{IfFault};
 ghost use Rattle.vast.specs.NumberedTrees.{tree_of as text_tree, trees_of as text_trees};
 ghost use Rattle.vast.specs.NumberedWords.{numbered};
 ghost use Rattle.vast.specs.NumberedTrees.{target_tree, target_trees, argument_tree, task_tree, delay_tree, further_term, event_tree, statement_tree, statement_trees, branch_tree, branch_trees};
 ghost use Rattle.vast.specs.Words.{Text};
 ghost use Rattle.vexpr_parse.specs.Texts.{words_of};
 ghost use Rattle.vast.specs.NumberedStatements.{case_of};
-ghost use Rattle.velab_expr.specs.Rules.{IsBroken};
-ghost use Rattle.velab_expr.specs.declared.scope.Meaning.{Meaning};
+ghost use Rattle.velab_expr.specs.Answers.{Gives, Makes, behind};
 ghost use Rattle.velab_expr.specs.Scopes.{meaning_of as spec_meaning};
 ghost use Rattle.velab_process.specs.Waits as spec;
-ghost use Rattle.velab_process.specs.Waits.{any_of, names_in, names_in_parts, read_by, read_by_all, read_by_target, read_by_targets, read_by_own, read_by_assignment, read_by_argument, read_by_arguments, read_by_task, read_by_delay, broken_by, broken_term, broken_control, broken_further, heard, read_by_items, read_by_branch, read_by_branches};
+ghost use Rattle.velab_process.specs.Waits.{any_of, names_in, names_in_parts, read_by, read_by_all, read_by_target, read_by_targets, read_by_own, read_by_assignment, read_by_argument, read_by_arguments, read_by_task, read_by_delay, lower_term, lower_further, lower_control, heard, read_by_items, read_by_branch, read_by_branches};
 
-use velab_expr::fault::{ElabFault, Rule};
-use velab_expr::scope::{Meaning, Scope, meaning_of};
 use basis::{NoMemory, OrMemory};
 use std::alloc::Global;
 use vast::expression::Expression as Value;
@@ -24,6 +20,8 @@ use vast::statement::{
 };
 use vast::token::Token;
 use vdesign::action::{Edge, Term, Terms};
+use velab_expr::fault::{ElabFault, Rule};
+use velab_expr::scope::{Meaning, Scope, meaning_of};
 use vlex::Tokens;
 
 fn edge_of(side: Option<Side>) -> Edge
@@ -36,56 +34,7 @@ fn edge_of(side: Option<Side>) -> Edge
     }
 }
 
-// What a named event is heard by. E310 where it has an edge.
-fn event_term(edge: Edge, number: usize, name: Token) -> Result<Term, OrMemory<ElabFault>>
-    ensures ok { IfOk result (λ term. term ≡ spec.term_for edge (Some (Meaning.Event number))) }
-    ensures right { (words : List Text) →
-        OnOk result (spec.edge_rule edge (numbered words name) ≡ None) }
-    ensures err { (words : List Text) →
-        IfFault result (IsBroken (spec.edge_rule edge (numbered words name))) }
-{
-    if edge == Edge::Any {
-        return Ok(Term::Event(number));
-    }
-    Err(OrMemory::Fault(ElabFault {
-        rule: Rule::Kind,
-        at: Some(name.number),
-    }))
-}
-
-// A term. E303 where the name stands for nothing, E310 where it is no variable's and no event's, or an event's with an edge.
-fn term_of(
-    scope: &Scope<'_, '_>,
-    tokens: &Tokens<'_>,
-    edge: Edge,
-    name: Token,
-) -> Result<Term, OrMemory<ElabFault>>
-    ensures ok { IfOk result (λ term.
-        term ≡ spec.term_by scope.now edge (numbered (words_of tokens.now) name)) }
-    ensures right { OnOk result
-        (broken_by scope.now edge (numbered (words_of tokens.now) name) ≡ None) }
-    ensures err { IfFault result
-        (IsBroken (broken_by scope.now edge (numbered (words_of tokens.now) name))) }
-{
-    match meaning_of(scope, tokens, name) {
-        None => Err(OrMemory::Fault(ElabFault {
-            rule: Rule::Unknown,
-            at: Some(name.number),
-        })),
-        Some(Meaning::Variable(variable)) => Ok(Term::Change { edge, variable }),
-        Some(Meaning::Parameter { .. }) => Err(OrMemory::Fault(ElabFault {
-            rule: Rule::Kind,
-            at: Some(name.number),
-        })),
-        Some(Meaning::Event(number)) => event_term(edge, number, name),
-        Some(Meaning::Instance) => Err(OrMemory::Fault(ElabFault {
-            rule: Rule::Kind,
-            at: Some(name.number),
-        })),
-    }
-}
-
-// One term more. E303 and E310 as above.
+// One term more. E303 where the name stands for nothing, E310 where it is no variable's and no event's, or an event's with an edge.
 fn put_term(
     scope: &Scope<'_, '_>,
     tokens: &Tokens<'_>,
@@ -93,16 +42,21 @@ fn put_term(
     name: Token,
     terms: &mut Vec<Term>,
 ) -> Result<(), OrMemory<ElabFault>>
-    ensures ok { OnOk result (terms.new.items ≡ terms.old.items
-        ++ spec.term_by scope.now edge (numbered (words_of tokens.now) name) ∷ []) }
-    ensures right { OnOk result
-        (broken_by scope.now edge (numbered (words_of tokens.now) name) ≡ None) }
-    ensures err { IfFault result
-        (IsBroken (broken_by scope.now edge (numbered (words_of tokens.now) name))) }
+    ensures { Makes result terms.new.items (behind terms.old.items
+        (lower_term scope.now edge (numbered (words_of tokens.now) name))) }
 {
-    let term = term_of(scope, tokens, edge, name)?;
-    terms.push(term)?;
-    Ok(())
+    match meaning_of(scope, tokens, name) {
+        None => Err(OrMemory::Fault(ElabFault {
+            rule: Rule::Unknown,
+            at: Some(name.number),
+        })),
+        Some(Meaning::Variable(variable)) => Ok(terms.push(Term::Change { edge, variable })?),
+        Some(Meaning::Event(number)) if edge == Edge::Any => Ok(terms.push(Term::Event(number))?),
+        Some(_) => Err(OrMemory::Fault(ElabFault {
+            rule: Rule::Kind,
+            at: Some(name.number),
+        })),
+    }
 }
 
 // Any change of the variable of this name, if it is one's.
@@ -498,22 +452,31 @@ fn put_branch(
     }
 }
 
-// A further term of an event control. E303 and E310 as `term_of`.
+// One term more, by its edge in the text. E303 and E310 as above.
+fn put_edge(
+    scope: &Scope<'_, '_>,
+    tokens: &Tokens<'_>,
+    side: Option<Side>,
+    name: Token,
+    terms: &mut Vec<Term>,
+) -> Result<(), OrMemory<ElabFault>>
+    ensures { Makes result terms.new.items (behind terms.old.items
+        (lower_term scope.now (spec.edge_of side) (numbered (words_of tokens.now) name))) }
+{
+    put_term(scope, tokens, edge_of(side), name, terms)
+}
+
+// A further term of an event control. E303 and E310 as above.
 fn put_further_term(
     scope: &Scope<'_, '_>,
     tokens: &Tokens<'_>,
     one: &FurtherTerm,
     terms: &mut Vec<Term>,
 ) -> Result<(), OrMemory<ElabFault>>
-    ensures ok { OnOk result (terms.new.items ≡ terms.old.items
-        ++ spec.further_term_of scope.now (further_term (words_of tokens.now) one.now) ∷ []) }
-    ensures right { OnOk result
-        (broken_term scope.now (further_term (words_of tokens.now) one.now).term ≡ None) }
-    ensures err { IfFault result
-        (IsBroken (broken_term scope.now (further_term (words_of tokens.now) one.now).term)) }
+    ensures { Makes result terms.new.items (behind terms.old.items (lower_term scope.now
+        (spec.edge_of one.now.term.edge) (numbered (words_of tokens.now) one.now.term.name))) }
 {
-    let edge = edge_of(one.term.edge);
-    put_term(scope, tokens, edge, one.term.name, terms)
+    put_edge(scope, tokens, one.term.edge, one.term.name, terms)
 }
 
 // The further terms of an event control.
@@ -523,12 +486,7 @@ fn put_further(
     further: &[FurtherTerm],
     terms: &mut Vec<Term>,
 ) -> Result<(), OrMemory<ElabFault>>
-    ensures ok { OnOk result (terms.new.items ≡ terms.old.items
-        ++ map (spec.further_term_of scope.now)
-        (map (further_term (words_of tokens.now)) further.now)) }
-    ensures right { OnOk result (broken_further scope.now
-        (map (further_term (words_of tokens.now)) further.now) ≡ None) }
-    ensures err { IfFault result (IsBroken (broken_further scope.now
+    ensures { Makes result terms.new.items (behind terms.old.items (lower_further scope.now
         (map (further_term (words_of tokens.now)) further.now))) }
 {
     let mut rest = further;
@@ -547,27 +505,16 @@ fn put_event(
     body: &Statement,
     terms: &mut Vec<Term>,
 ) -> Result<(), OrMemory<ElabFault>>
-    ensures ok { OnOk result (terms.new.items ≡ terms.old.items ++ spec.terms_of scope.now
+    ensures { Makes result terms.new.items (behind terms.old.items (lower_control scope.now
         (event_tree (words_of tokens.now) event.now)
-        (statement_tree (words_of tokens.now) body.now)) }
-    ensures right { OnOk result
-        (broken_control scope.now (event_tree (words_of tokens.now) event.now) ≡ None) }
-    ensures err { IfFault result
-        (IsBroken (broken_control scope.now (event_tree (words_of tokens.now) event.now))) }
+        (statement_tree (words_of tokens.now) body.now))) }
 {
     match event {
         Event::Named(name) => put_term(scope, tokens, Edge::Any, *name, terms),
-        Event::Any => {
-            put_read(scope, tokens, body, terms)?;
-            Ok(())
-        }
-        Event::AnyEnclosed => {
-            put_read(scope, tokens, body, terms)?;
-            Ok(())
-        }
+        Event::Any => Ok(put_read(scope, tokens, body, terms)?),
+        Event::AnyEnclosed => Ok(put_read(scope, tokens, body, terms)?),
         Event::Terms { term, further } => {
-            let edge = edge_of(term.edge);
-            put_term(scope, tokens, edge, term.name, terms)?;
+            put_edge(scope, tokens, term.edge, term.name, terms)?;
             put_further(scope, tokens, further, terms)
         }
     }
@@ -581,13 +528,9 @@ pub fn event_terms(
     event: &Event,
     body: &Statement,
 ) -> Result<Terms, OrMemory<ElabFault>>
-    ensures ok { IfOk result (λ terms. terms ≡ spec.terms_of scope.now
+    ensures { Gives result (lower_control scope.now
         (event_tree (words_of tokens.now) event.now)
         (statement_tree (words_of tokens.now) body.now)) }
-    ensures right { OnOk result
-        (broken_control scope.now (event_tree (words_of tokens.now) event.now) ≡ None) }
-    ensures err { IfFault result
-        (IsBroken (broken_control scope.now (event_tree (words_of tokens.now) event.now))) }
 {
     let mut terms = Vec::new(alloc);
     put_event(scope, tokens, event, body, &mut terms)?;
