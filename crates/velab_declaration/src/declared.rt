@@ -7,11 +7,11 @@ ghost use Rattle.vmodules.specs.Names.{again_behind, first_again, has_double, le
 ghost use Rattle.vmodules.specs.Inner.{with_words};
 ghost use Rattle.velab_declaration.specs.Inner.{declared_in, names_of, names_before, port_texts, texts_of, DoublesIn};
 
-use velab_expr::fault::ElabFault;
 use crate::names::note;
 use basis::OrMemory;
 use std::alloc::Global;
 use vast::module::{Declared, ModuleItem};
+use velab_expr::fault::ElabFault;
 use vlex::Tokens;
 use vmodules::letters::letters;
 use vmodules::names::Names;

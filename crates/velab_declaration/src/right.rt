@@ -5,11 +5,11 @@ ghost use Rattle.velab_declaration.specs.ActionFlaws.{table_fault};
 ghost use Rattle.velab_declaration.specs.Right as spec;
 ghost use Rattle.velab_expr.specs.Rules.{IsBroken};
 
-use velab_expr::fault::{ElabFault, Rule};
 use crate::width::word_at;
 use basis::OrMemory;
 use vdesign::action::{Action, Target};
 use vdesign::design::{Kind, Variable};
+use velab_expr::fault::{ElabFault, Rule};
 
 fn is_net(kind: Kind) -> bool
     ensures { result ≡ spec.is_net kind }

@@ -7,8 +7,6 @@ ghost use Rattle.vvalue.specs.Flaws.{flaw_of as spec_flaw_of};
 ghost use Rattle.velab_declaration.specs.ActionFlaws as spec;
 ghost use Rattle.velab_expr.specs.Rules.{IsBroken};
 
-use velab_expr::constant::rule_of;
-use velab_expr::fault::ElabFault;
 use basis::{NoMemory, OrMemory};
 use std::alloc::Global;
 use vbits::Vec4;
@@ -16,6 +14,8 @@ use vdesign::action::{Action, Branch, Targets};
 use vdesign::design::Variable;
 use vdesign::expression::Expression;
 use vdesign::print::Piece;
+use velab_expr::constant::rule_of;
+use velab_expr::fault::ElabFault;
 use vvalue::environment::Environment;
 use vvalue::flaw::{Flaw, flaw_of, targets_flaw};
 

@@ -114,9 +114,9 @@ abbrev pub own_processes : List Text → ProgramContext → List PortForm → Li
 own_processes words context ports instantiation scope table =
     processes_by (context_tree words context) (map (port_form words) ports) (instantiation_trees words instantiation) scope table
 
-abbrev pub broken_own_processes : List Text → ProgramContext → List PortForm → List ProgramInstantiation → Scope → Option ElabFault
-broken_own_processes words context ports instantiation scope =
-    broken_processes (context_tree words context) (map (port_form words) ports) (instantiation_trees words instantiation) scope
+abbrev pub broken_own_processes : List Text → ProgramContext → List PortForm → List ProgramInstantiation → Scope → Table → Option ElabFault
+broken_own_processes words context ports instantiation scope table =
+    broken_processes (context_tree words context) (map (port_form words) ports) (instantiation_trees words instantiation) scope table
 
 -- the instances of a list, one after another
 abbrev pub with_each_instance : Units → ℕ → ProgramContext → Scope → Part → List ProgramInstantiation → Part

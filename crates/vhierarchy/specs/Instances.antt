@@ -214,9 +214,10 @@ module _ (context : Context) (ports : List Port) (instantiation : List Instantia
       let own = lowered_items scope joins.table context.unit.items in
       record { table = own.table; begins = joins.begins ++ own.begins }
 
-  abbrev pub broken_processes : Option ElabFault
-  broken_processes =
-      option_or (broken_joins context.name context.overrides.scope scope context.connections ports) (broken_items_from scope context.unit.items)
+  abbrev pub broken_processes : Table → Option ElabFault
+  broken_processes table =
+      option_or (broken_joins context.name context.overrides.scope scope context.connections table ports)
+      (broken_items_from scope (joins_by table).table context.unit.items)
 
   -- with its own variables, its scope and its own processes
   abbrev pub own_by : Part → Part
@@ -231,7 +232,7 @@ module _ (context : Context) (ports : List Port) (instantiation : List Instantia
   abbrev pub broken_own_by : Part → Option ElabFault
   broken_own_by part =
       option_or broken_variables
-      (option_or broken_processes (broken_counts context.name (length (own_by part).begins) (length (own_by part).scopes)))
+      (option_or (broken_processes part.table) (broken_counts context.name (length (own_by part).begins) (length (own_by part).scopes)))
 
 abbrev pub with_own : SourceTree → Part → Context → Part
 with_own modules part context =

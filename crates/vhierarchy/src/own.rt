@@ -27,12 +27,12 @@ use vdesign::action::Places;
 use vdesign::design::{Scope as Room, Variable};
 use velab_declaration::declared::declared;
 use velab_declaration::drivers::ScopeDrivers;
-use velab_expr::fault::{ElabFault, Rule};
-use velab_process::join::put_joins;
 use velab_declaration::parameter::{Growing, MOST_EVENTS, add_head, add_items, add_valueless};
-use velab_expr::scope::Scope;
-use velab_process::statement::{Table, put_processes};
 use velab_declaration::variable::{put_ports, put_variables};
+use velab_expr::fault::{ElabFault, Rule};
+use velab_expr::scope::Scope;
+use velab_process::join::put_joins;
+use velab_process::statement::{Table, put_processes};
 use vlex::Tokens;
 use vmodules::letters::letters;
 use vmodules::ports::PortForm;
@@ -159,9 +159,9 @@ fn put_own_processes(
     ensures ok { (instantiation : List ProgramInstantiation) → OnOk result (AreLowered (own_processes (words_of tokens.now)
         context.now ports.now instantiation scope.now table.old) into.old.items table.new into.new.items) }
     ensures right { (instantiation : List ProgramInstantiation) → OnOk result (broken_own_processes
-        (words_of tokens.now) context.now ports.now instantiation scope.now ≡ None) }
+        (words_of tokens.now) context.now ports.now instantiation scope.now table.old ≡ None) }
     ensures err { (instantiation : List ProgramInstantiation) → IfFault result (IsBroken (broken_own_processes
-        (words_of tokens.now) context.now ports.now instantiation scope.now)) }
+        (words_of tokens.now) context.now ports.now instantiation scope.now table.old)) }
 {
     let overrides = context.overrides;
     put_joins(

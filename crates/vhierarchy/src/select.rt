@@ -9,8 +9,8 @@ ghost use Rattle.vhierarchy.specs.Instances as spec;
 use basis::OrMemory;
 use vdesign::action::Action;
 use vdesign::dump::Chosen;
-use velab_expr::fault::{ElabFault, Rule};
 use velab_declaration::width::word_at;
+use velab_expr::fault::{ElabFault, Rule};
 use vmodules::names::Names;
 
 // E303 where there is nothing of this path, E310 where it is a variable's.

@@ -18,8 +18,16 @@ returns-in_err-put_own_processes-clause-err c =
     let context : Context = context_tree words c.args.context.now in
     let ports : List Port = map (port_form words) c.args.ports.now in
     let instantiation : List Instantiation = instantiation_trees words c.args.instantiation.now in
-    handed_on _ c.from_residual-in_err-put_own_processes.result c.in_err-put_own_processes.field-0.0 c.from_residual-in_err-put_own_processes.ensures.1
-    (processes_err context ports instantiation c.args.scope.now c.args.part.now c.in_ok-put_own_variables.ensures.right c.in_err-put_own_processes.field-0.0 (c.in_err-put_own_processes.ensures.err c.args.instantiation.now))
+    let before : Part = record {
+      variables = c.part.inside.variables.items;
+      scopes = c.part.inside.scopes.items;
+      table = c.part.inside.table;
+      begins = c.part.inside.begins.items;
+      events = c.part.inside.events;
+    } in
+    subst (λ (part : Part). IfFault c.from_residual-in_err-put_own_processes.result (IsBroken (broken_own_by context ports instantiation c.args.scope.now part))) c.part.view_is
+    (handed_on _ c.from_residual-in_err-put_own_processes.result c.in_err-put_own_processes.field-0.0 c.from_residual-in_err-put_own_processes.ensures.1
+    (processes_err context ports instantiation c.args.scope.now before c.in_ok-put_own_variables.ensures.right c.in_err-put_own_processes.field-0.0 (c.in_err-put_own_processes.ensures.err c.args.instantiation.now)))
 
 pub returns-in_err-check_counts-clause-err : goal.returns-in_err-check_counts-clause-err
 returns-in_err-check_counts-clause-err c =
