@@ -5,8 +5,8 @@ use Rattle.basis.specs.declared.memory.OrMemory.TheVariants.{Fault, Memory}
 use Rattle.basis.specs.Reasons.{Because, IfFault}
 use Rattle.vast.specs.Words.{Text}
 use Rattle.vast.specs.NumberedModules.{SourceTree}
-use Rattle.velab.specs.declared.fault.ElabFault.{ElabFault}
-use Rattle.velab.proofs.FaultLemmas.{not_both}
+use Rattle.velab_expr.specs.declared.fault.ElabFault.{ElabFault}
+use Rattle.velab_expr.proofs.FaultLemmas.{not_both}
 use Rattle.vhierarchy.specs.Instances.{broken_rule}
 use Rattle.vhierarchy.specs.Reasons.{IsDesignReason, HasNoDesign}
 

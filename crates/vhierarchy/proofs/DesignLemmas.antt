@@ -12,13 +12,13 @@ use Rattle.vmodules.specs.Names.{has_double, is_declared, first_again}
 use Rattle.vmodules.specs.Connected.{NamedConnection}
 use Rattle.vmodules.proofs.NameLemmas.{doubles}
 use Rattle.vmodules.specs.Hierarchy.{top_of, module_names, rival_of}
-use Rattle.velab.specs.declared.fault.Rule.TheVariants.{Doubled, Top}
-use Rattle.velab.specs.declared.fault.ElabFault.{ElabFault}
-use Rattle.velab.specs.Rules.{told, broken_at, IsBroken}
-use Rattle.velab.specs.Right.{kind_rule}
-use Rattle.velab.specs.ActionFlaws.{blank_environment, flaw_rule, table_fault}
-use Rattle.velab.proofs.ListLemmas.{drop_at}
-use Rattle.velab.proofs.FaultLemmas.{first_breaks, then_breaks, both_right, same_rule}
+use Rattle.velab_expr.specs.declared.fault.Rule.TheVariants.{Doubled, Top}
+use Rattle.velab_expr.specs.declared.fault.ElabFault.{ElabFault}
+use Rattle.velab_expr.specs.Rules.{told, broken_at, IsBroken}
+use Rattle.velab_declaration.specs.Right.{kind_rule}
+use Rattle.velab_declaration.specs.ActionFlaws.{blank_environment, flaw_rule, table_fault}
+use Rattle.velab_expr.proofs.ListLemmas.{drop_at}
+use Rattle.velab_expr.proofs.FaultLemmas.{first_breaks, then_breaks, both_right, same_rule}
 use Rattle.vhierarchy.specs.Instances.{Part, Context, nothing, top_context, with_instances, broken_with_instances, broken_rule, broken_top, broken_whole, whole_of, design_by, Elaborates}
 use Rattle.vhierarchy.specs.Reasons.{IsDesignReason}
 use Rattle.vhierarchy.specs.Inner.{variable_names, scope_names}

@@ -8,13 +8,14 @@ use Rattle.basis.specs.declared.memory.OrMemory.TheVariants.{Fault, Memory}
 use Rattle.vast.specs.NumberedModules.{ModuleTree, SourceTree}
 use Rattle.vmodules.specs.Ports.{Port, ports_of}
 use Rattle.vmodules.specs.Inner.{Units, units_tree}
-use Rattle.velab.specs.declared.fault.Rule.TheVariants.{Depth}
-use Rattle.velab.specs.declared.fault.ElabFault.{ElabFault}
-use Rattle.velab.specs.Rules.{told, IsBroken}
-use Rattle.velab.specs.Scopes.{Scope}
-use Rattle.velab.specs.Elaborate.{Overrides, Base, Symbol, symbols_by, valueless_by, symbols_in_head, with_symbol, with_all, first_scope, valueless_scope, head_scope, whole_scope}
-use Rattle.velab.proofs.ListLemmas.{drop_at}
-use Rattle.velab.proofs.FaultLemmas.{first_breaks, then_breaks, both_right, same_rule}
+use Rattle.velab_expr.specs.declared.fault.Rule.TheVariants.{Depth}
+use Rattle.velab_expr.specs.declared.fault.ElabFault.{ElabFault}
+use Rattle.velab_expr.specs.Rules.{told, IsBroken}
+use Rattle.velab_expr.specs.Scopes.{Scope}
+use Rattle.velab_expr.specs.Symbols.{Symbol, symbols_by, valueless_by, symbols_in_head}
+use Rattle.velab_declaration.specs.Parameters.{Overrides, Base, with_symbol, with_all, first_scope, valueless_scope, head_scope, whole_scope}
+use Rattle.velab_expr.proofs.ListLemmas.{drop_at}
+use Rattle.velab_expr.proofs.FaultLemmas.{first_breaks, then_breaks, both_right, same_rule}
 use Rattle.vhierarchy.specs.Instances.{Instantiation, instantiations_in, broken_among, Part, Context, inside_scope, broken_names, own_by, broken_own_by, with_own, broken_own, child_context, with_instances, broken_each, broken_with_instances}
 use Rattle.vhierarchy.specs.Inner.{context_tree, instantiation_tree, instantiation_trees, with_each_instance, each_broken_with_instances, with_instance, one_broken}
 use Rattle.vhierarchy.specs.declared.instantiation.Instantiation.{Instantiation as ProgramInstantiation}

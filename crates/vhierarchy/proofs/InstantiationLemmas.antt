@@ -8,10 +8,10 @@ use Rattle.vast.specs.NumberedTrees.{item_tree}
 use Rattle.vast.specs.declared.module.ModuleItem.{ModuleItem}
 use Rattle.vmodules.specs.Hierarchy.{module_of}
 use Rattle.vmodules.specs.Inner.{Units, units_tree}
-use Rattle.velab.specs.declared.fault.ElabFault.{ElabFault}
-use Rattle.velab.specs.Elaborate.{Symbol, symbols_by}
-use Rattle.velab.specs.Inner.{symbols_in}
-use Rattle.velab.proofs.ListLemmas.{drop_at}
+use Rattle.velab_expr.specs.declared.fault.ElabFault.{ElabFault}
+use Rattle.velab_expr.specs.Symbols.{Symbol, symbols_by}
+use Rattle.velab_expr.specs.Inner.{symbols_in}
+use Rattle.velab_expr.proofs.ListLemmas.{drop_at}
 use Rattle.vhierarchy.specs.Instances.{Instantiation, instantiations_of, instantiations_by, instantiations_from, broken_instantiation, broken_among, instantiation_by}
 use Rattle.vhierarchy.specs.Inner.{instantiation_tree, instantiation_trees, program_instantiations_in, broken_in}
 use Rattle.vhierarchy.specs.declared.instantiation.Instantiation.{Instantiation as ProgramInstantiation}

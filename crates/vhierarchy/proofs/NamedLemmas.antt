@@ -21,11 +21,12 @@ use Rattle.vmodules.specs.Ports.{Port, port_by, ports_behind, ports_listed, port
 use Rattle.vdesign.specs.Named.{AreNamed}
 use Rattle.vdesign.specs.Design.{Variable, Design}
 use Rattle.vdesign.specs.declared.design.Kind.TheVariants.{Integer}
-use Rattle.velab.specs.Scopes.{Scope}
-use Rattle.velab.specs.Elaborate.{ScopeDrivers, Declaration, all_declared, kind_of, declared_as, declarations_of, port_declaration, variable_of, variables_from, behind_item, symbols_by}
-use Rattle.velab.specs.declared.fault.Rule.TheVariants.{Doubled}
-use Rattle.velab.specs.Rules.{broken_if, broken_at}
-use Rattle.velab.proofs.FaultLemmas.{first_right, then_right}
+use Rattle.velab_expr.specs.Scopes.{Scope}
+use Rattle.velab_expr.specs.Symbols.{behind_item, symbols_by}
+use Rattle.velab_declaration.specs.Variables.{ScopeDrivers, Declaration, all_declared, kind_of, declared_as, declarations_of, port_declaration, variable_of, variables_from}
+use Rattle.velab_expr.specs.declared.fault.Rule.TheVariants.{Doubled}
+use Rattle.velab_expr.specs.Rules.{broken_if, broken_at}
+use Rattle.velab_expr.proofs.FaultLemmas.{first_right, then_right}
 use Rattle.vhierarchy.specs.Instances.{Instantiation, instantiation_by, instantiations_of, instantiations_by, instantiations_from, instantiations_in, Part, Context, own_by, scope_drivers_by, with_own, inside_scope, child_context, with_instances, nothing, top_context, whole_of, variable_paths, design_by, broken_paths, broken_table, broken_design, broken_whole, broken_top, broken_rule, Elaborates}
 
 -- ---- letters and paths

@@ -8,18 +8,21 @@ use Rattle.vast.specs.NumberedModules.{ItemTree}
 use Rattle.vast.specs.NumberedTrees.{item_tree}
 use Rattle.vast.specs.declared.module.ModuleItem.{ModuleItem}
 use Rattle.vdesign.specs.Design.{Scope as Room, Variable}
-use Rattle.velab.specs.declared.fault.ElabFault.{ElabFault}
-use Rattle.velab.specs.Rules.{IsBroken}
-use Rattle.velab.specs.Scopes.{Scope}
-use Rattle.velab.specs.Elaborate.{Table, Processes, lowered_items, variables_from}
+use Rattle.velab_expr.specs.declared.fault.ElabFault.{ElabFault}
+use Rattle.velab_expr.specs.Rules.{IsBroken}
+use Rattle.velab_expr.specs.Scopes.{Scope}
+use Rattle.velab_process.specs.Processes.{Processes, lowered_items}
+use Rattle.velab_process.specs.Statements.{Table}
+use Rattle.velab_declaration.specs.Variables.{variables_from}
 use Rattle.vmodules.specs.Names.{letters_of}
 use Rattle.vmodules.specs.Ports.{Port}
 use Rattle.vmodules.specs.declared.ports.PortForm.{PortForm}
-use Rattle.velab.specs.Inner.{AreLowered, port_variables}
+use Rattle.velab_process.specs.Inner.{AreLowered}
+use Rattle.velab_declaration.specs.Inner.{port_variables}
 use Rattle.vhierarchy.specs.Inner.{nets_driven, own_variables}
 use Rattle.vhierarchy.specs.declared.context.Context.{Context as ProgramContext}
 use Rattle.vhierarchy.specs.declared.instantiation.Instantiation.{Instantiation as ProgramInstantiation}
-use Rattle.velab.proofs.FaultLemmas.{first_breaks, then_breaks, both_right, same_rule}
+use Rattle.velab_expr.proofs.FaultLemmas.{first_breaks, then_breaks, both_right, same_rule}
 use Rattle.vhierarchy.specs.Instances.{Instantiation, Part, Context, scope_of, broken_counts, own_by, broken_own_by, variables_by, broken_variables, processes_by, broken_processes}
 
 -- the processes of port connections, and those of items behind them
@@ -32,6 +35,11 @@ both_lowered scope items joins before b1 b2 t1 t2 first second = record {
       ∙ (λ i. first.begins i ++ (lowered_items scope (first.table i) items).begins)
       ∙ append_assoc before joins.begins (lowered_items scope joins.table items).begins;
 }
+
+-- where the port connections are right, the items come next, on the table that those leave
+pub items_told : (before : List (List ℕ)) (joins : Processes) (broken : Option ElabFault) (rest : Table → Option ElabFault) (b1 : List (List ℕ)) (t1 : Table) → AreLowered joins before t1 b1 → broken ≡ None →
+    rest t1 ≡ option_or broken (rest joins.table)
+items_told before joins broken rest b1 t1 first right = ap rest first.table ∙ sym (ap (λ b. option_or b (rest joins.table)) right)
 
 -- the variables of ports, and those of items behind them
 pub own_variables_are : (words : List Text) (told : ProgramContext) (ports : List PortForm) (instantiation : List ProgramInstantiation) (scope : Scope) (before middle after : List Variable) (driven : List Text)
@@ -63,13 +71,13 @@ module _ (context : Context) (ports : List Port) (instantiation : List Instantia
   counts = broken_counts context.name (length (own_by context ports instantiation scope part).begins) (length (own_by context ports instantiation scope part).scopes)
 
   module _ (variables : broken_variables context ports instantiation scope ≡ None) where
-    pub processes_err : (e : OrMemory ElabFault) → Because (IsBroken (broken_processes context ports instantiation scope)) e →
+    pub processes_err : (e : OrMemory ElabFault) → Because (IsBroken (broken_processes context ports instantiation scope part.table)) e →
         Because (IsBroken (broken_own_by context ports instantiation scope part)) e
     processes_err e h =
-        then_breaks (broken_variables context ports instantiation scope) (option_or (broken_processes context ports instantiation scope) counts) variables e
-        (first_breaks (broken_processes context ports instantiation scope) counts e h)
+        then_breaks (broken_variables context ports instantiation scope) (option_or (broken_processes context ports instantiation scope part.table) counts) variables e
+        (first_breaks (broken_processes context ports instantiation scope part.table) counts e h)
 
-    module _ (processes : broken_processes context ports instantiation scope ≡ None) (begins : List (List ℕ)) (scopes : List Room)
+    module _ (processes : broken_processes context ports instantiation scope part.table ≡ None) (begins : List (List ℕ)) (scopes : List Room)
         (begins_are : begins ≡ part.begins ++ (processes_by context ports instantiation scope part.table).begins)
         (scopes_are : scopes ≡ part.scopes ++ scope_of context scope.variables ∷ []) where
       counts_are : broken_counts context.name (length begins) (length scopes) ≡ counts
@@ -77,10 +85,10 @@ module _ (context : Context) (ports : List Port) (instantiation : List Instantia
 
       pub counts_err : (e : OrMemory ElabFault) → Because (IsBroken (broken_counts context.name (length begins) (length scopes))) e → Because (IsBroken (broken_own_by context ports instantiation scope part)) e
       counts_err e h =
-          then_breaks (broken_variables context ports instantiation scope) (option_or (broken_processes context ports instantiation scope) counts) variables e
-          (then_breaks (broken_processes context ports instantiation scope) counts processes e (same_rule _ _ counts_are e h))
+          then_breaks (broken_variables context ports instantiation scope) (option_or (broken_processes context ports instantiation scope part.table) counts) variables e
+          (then_breaks (broken_processes context ports instantiation scope part.table) counts processes e (same_rule _ _ counts_are e h))
 
       pub own_right : broken_counts context.name (length begins) (length scopes) ≡ None → broken_own_by context ports instantiation scope part ≡ None
       own_right few =
-          both_right (broken_variables context ports instantiation scope) (option_or (broken_processes context ports instantiation scope) counts) variables
-          (both_right (broken_processes context ports instantiation scope) counts processes (sym counts_are ∙ few))
+          both_right (broken_variables context ports instantiation scope) (option_or (broken_processes context ports instantiation scope part.table) counts) variables
+          (both_right (broken_processes context ports instantiation scope part.table) counts processes (sym counts_are ∙ few))

@@ -12,12 +12,14 @@ use Rattle.vmodules.specs.Names.{is_declared, letters_of}
 use Rattle.vmodules.specs.Connected.{open_names}
 use Rattle.vmodules.specs.Inner.{ConnectionEntry, Units, entries_tree, units_tree, port_form}
 use Rattle.vmodules.specs.declared.ports.PortForm.{PortForm}
-use Rattle.velab.specs.declared.fault.ElabFault.{ElabFault}
-use Rattle.velab.specs.Scopes.{Scope}
+use Rattle.velab_expr.specs.declared.fault.ElabFault.{ElabFault}
+use Rattle.velab_expr.specs.Scopes.{Scope}
 use Rattle.basis.specs.declared.timescale.Timescale.{Timescale}
 use Rattle.vdesign.specs.Design.{Variable, Scope as Room, Design}
-use Rattle.velab.specs.Elaborate.{Table, Processes, port_names, nets_of}
-use Rattle.velab.specs.Inner.{overrides_tree, item_drivers}
+use Rattle.velab_process.specs.Processes.{Processes}
+use Rattle.velab_process.specs.Statements.{Table}
+use Rattle.velab_declaration.specs.Variables.{port_names, nets_of}
+use Rattle.velab_declaration.specs.Inner.{overrides_tree, item_drivers}
 use Rattle.vhierarchy.specs.Instances.{Instantiation, instantiation_by, broken_instances, instantiations_from, broken_among, Part, Context, child_context, with_instances, broken_with_instances, broken_each, own_by, broken_own_by, variables_by, broken_variables, processes_by, broken_processes, driven_inside, driven_outputs, driven_outside}
 use Rattle.vhierarchy.specs.declared.instantiation.Instantiation.{Instantiation as ProgramInstantiation}
 use Rattle.vhierarchy.specs.declared.instantiation.Open.{Open}
@@ -112,9 +114,9 @@ abbrev pub own_processes : List Text → ProgramContext → List PortForm → Li
 own_processes words context ports instantiation scope table =
     processes_by (context_tree words context) (map (port_form words) ports) (instantiation_trees words instantiation) scope table
 
-abbrev pub broken_own_processes : List Text → ProgramContext → List PortForm → List ProgramInstantiation → Scope → Option ElabFault
-broken_own_processes words context ports instantiation scope =
-    broken_processes (context_tree words context) (map (port_form words) ports) (instantiation_trees words instantiation) scope
+abbrev pub broken_own_processes : List Text → ProgramContext → List PortForm → List ProgramInstantiation → Scope → Table → Option ElabFault
+broken_own_processes words context ports instantiation scope table =
+    broken_processes (context_tree words context) (map (port_form words) ports) (instantiation_trees words instantiation) scope table
 
 -- the instances of a list, one after another
 abbrev pub with_each_instance : Units → ℕ → ProgramContext → Scope → Part → List ProgramInstantiation → Part

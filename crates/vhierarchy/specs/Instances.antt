@@ -15,14 +15,19 @@ use Rattle.vdesign.specs.Design as design
 use Rattle.vdesign.specs.declared.action.Action.{Action}
 use Rattle.vdesign.specs.declared.action.Action.TheVariants.{Assign, Nonblocking, AssignDelayed, NonblockingDelayed, Trigger, Test, Case, While, Repeat, Forever, Delay, EventControl, Wait, ContinuousAssign, Print, DumpVars, Dump, NoOperation, Finish, Stop}
 use Rattle.vdesign.specs.declared.dump.Chosen.{Chosen}
-use Rattle.velab.specs.declared.fault.Rule.{Rule}
-use Rattle.velab.specs.declared.fault.Rule.TheVariants as rule
-use Rattle.velab.specs.declared.fault.ElabFault.{ElabFault}
-use Rattle.velab.specs.Rules.{told, unless, broken_if, broken_at}
-use Rattle.velab.specs.Right.{kind_rule}
-use Rattle.velab.specs.ActionFlaws.{blank_environment, flaw_rule, table_fault}
-use Rattle.velab.specs.Scopes.{Scope, at}
-use Rattle.velab.specs.Elaborate.{Table, port_names, declared_names, Overrides, Base, ScopeDrivers, Processes, symbols_by, valueless_by, symbols_in_head, first_scope, valueless_scope, head_scope, item_scope, variable_of, port_declaration, variables_from, broken_all, broken_ports, broken_from, drivers_by, nets_of, only_name, lowered_joins, broken_joins, lowered_items, broken_items_from}
+use Rattle.velab_expr.specs.declared.fault.Rule.{Rule}
+use Rattle.velab_expr.specs.declared.fault.Rule.TheVariants as rule
+use Rattle.velab_expr.specs.declared.fault.ElabFault.{ElabFault}
+use Rattle.velab_expr.specs.Rules.{told, unless, broken_if, broken_at}
+use Rattle.velab_declaration.specs.Right.{kind_rule}
+use Rattle.velab_declaration.specs.ActionFlaws.{blank_environment, flaw_rule, table_fault}
+use Rattle.velab_expr.specs.Scopes.{Scope, at}
+use Rattle.velab_expr.specs.Symbols.{symbols_by, valueless_by, symbols_in_head}
+use Rattle.velab_process.specs.Connections.{only_name, lowered_joins, broken_joins}
+use Rattle.velab_process.specs.Processes.{Processes, lowered_items, broken_items_from}
+use Rattle.velab_process.specs.Statements.{Table}
+use Rattle.velab_declaration.specs.Parameters.{Overrides, Base, first_scope, valueless_scope, head_scope, item_scope, broken_all}
+use Rattle.velab_declaration.specs.Variables.{port_names, declared_names, ScopeDrivers, variable_of, port_declaration, variables_from, broken_ports, broken_from, drivers_by, nets_of}
 
 -- ---- the instances that a module has (12.1.2)
 
@@ -209,9 +214,10 @@ module _ (context : Context) (ports : List Port) (instantiation : List Instantia
       let own = lowered_items scope joins.table context.unit.items in
       record { table = own.table; begins = joins.begins ++ own.begins }
 
-  abbrev pub broken_processes : Option ElabFault
-  broken_processes =
-      option_or (broken_joins context.name context.overrides.scope scope context.connections ports) (broken_items_from scope context.unit.items)
+  abbrev pub broken_processes : Table → Option ElabFault
+  broken_processes table =
+      option_or (broken_joins context.name context.overrides.scope scope context.connections table ports)
+      (broken_items_from scope (joins_by table).table context.unit.items)
 
   -- with its own variables, its scope and its own processes
   abbrev pub own_by : Part → Part
@@ -226,7 +232,7 @@ module _ (context : Context) (ports : List Port) (instantiation : List Instantia
   abbrev pub broken_own_by : Part → Option ElabFault
   broken_own_by part =
       option_or broken_variables
-      (option_or broken_processes (broken_counts context.name (length (own_by part).begins) (length (own_by part).scopes)))
+      (option_or (broken_processes part.table) (broken_counts context.name (length (own_by part).begins) (length (own_by part).scopes)))
 
 abbrev pub with_own : SourceTree → Part → Context → Part
 with_own modules part context =

@@ -4,8 +4,8 @@ use Rattle.vast.specs.Words.{Text}
 use Rattle.vast.specs.NumberedModules.{SourceTree}
 use Rattle.basis.specs.declared.timescale.Timescale.{Timescale}
 use Rattle.vdesign.specs.Design.{Design}
-use Rattle.velab.specs.declared.fault.ElabFault.{ElabFault}
-use Rattle.velab.specs.Rules.{IsBroken}
+use Rattle.velab_expr.specs.declared.fault.ElabFault.{ElabFault}
+use Rattle.velab_expr.specs.Rules.{IsBroken}
 use Rattle.vhierarchy.specs.Instances.{broken_rule, Elaborates}
 
 -- what a fault says of the text: this is the first rule that it breaks

@@ -2,7 +2,7 @@
 
 use vast::module::ModuleTree;
 use vast::token::Token;
-use velab::parameter::Overrides;
+use velab_declaration::parameter::Overrides;
 use vmodules::connect::ConnectionMap;
 
 /// An instance, or the top: the top's name, its path, the token that it is named by, how many scopes are round it, its module, what is said of its

@@ -4,7 +4,7 @@ ghost use Rattle.std.specs.Prelude.{◌≡◌, ◌<◌, ◌≤◌, ◌+◌, None
 ghost use Rattle.basis.specs.Reasons.{IfFault};
 ghost use Rattle.vmodules.specs.Inner.{units_tree};
 ghost use Rattle.vhierarchy.specs.Instances as spec;
-ghost use Rattle.velab.specs.Rules.{IsBroken};
+ghost use Rattle.velab_expr.specs.Rules.{IsBroken};
 ghost use Rattle.vhierarchy.specs.Inner.{context_tree, with_each_instance, each_broken_with_instances, with_instance, one_broken};
 
 use crate::context::Context;
@@ -13,10 +13,10 @@ use crate::own::{known_names, put_own};
 use crate::part::Part;
 use basis::OrMemory;
 use std::alloc::Global;
-use velab::fault::{ElabFault, Rule};
-use velab::parameter::Overrides;
-use velab::scope::Scope;
-use velab::variable::dotted_path;
+use velab_declaration::parameter::Overrides;
+use velab_declaration::variable::dotted_path;
+use velab_expr::fault::{ElabFault, Rule};
+use velab_expr::scope::Scope;
 use vmodules::hierarchy::Modules;
 use vmodules::letters::letters;
 use vmodules::ports::ports_of;

@@ -8,9 +8,10 @@ ghost use Rattle.vast.specs.Words.{Text};
 ghost use Rattle.vexpr_parse.specs.Texts.{words_of};
 ghost use Rattle.vmodules.specs.Ports.{ports_of};
 ghost use Rattle.vmodules.specs.Inner.{port_form};
-ghost use Rattle.velab.specs.Elaborate.{head_scope, whole_scope};
-ghost use Rattle.velab.specs.Inner.{AreLowered, symbols_in};
-ghost use Rattle.velab.specs.Rules.{IsBroken};
+ghost use Rattle.velab_declaration.specs.Parameters.{head_scope, whole_scope};
+ghost use Rattle.velab_expr.specs.Inner.{symbols_in};
+ghost use Rattle.velab_process.specs.Inner.{AreLowered};
+ghost use Rattle.velab_expr.specs.Rules.{IsBroken};
 ghost use Rattle.vhierarchy.specs.Instances.{base_of, broken_counts, broken_names};
 ghost use Rattle.vhierarchy.specs.declared.instantiation.Instantiation.{Instantiation as ProgramInstantiation};
 ghost use Rattle.vhierarchy.specs.Inner.{broken_own_part, broken_own_processes, broken_own_variables, own_part, own_processes, own_variables, context_tree};
@@ -24,14 +25,14 @@ use std::alloc::Global;
 use vast::token::Token;
 use vdesign::action::Places;
 use vdesign::design::{Scope as Room, Variable};
-use velab::declared::declared;
-use velab::drivers::ScopeDrivers;
-use velab::fault::{ElabFault, Rule};
-use velab::join::put_joins;
-use velab::parameter::{Growing, MOST_EVENTS, add_head, add_items, add_valueless};
-use velab::scope::Scope;
-use velab::statement::{Table, put_processes};
-use velab::variable::{put_ports, put_variables};
+use velab_declaration::declared::declared;
+use velab_declaration::drivers::ScopeDrivers;
+use velab_declaration::parameter::{Growing, MOST_EVENTS, add_head, add_items, add_valueless};
+use velab_declaration::variable::{put_ports, put_variables};
+use velab_expr::fault::{ElabFault, Rule};
+use velab_expr::scope::Scope;
+use velab_process::join::put_joins;
+use velab_process::statement::{Table, put_processes};
 use vlex::Tokens;
 use vmodules::letters::letters;
 use vmodules::ports::PortForm;
@@ -158,9 +159,9 @@ fn put_own_processes(
     ensures ok { (instantiation : List ProgramInstantiation) → OnOk result (AreLowered (own_processes (words_of tokens.now)
         context.now ports.now instantiation scope.now table.old) into.old.items table.new into.new.items) }
     ensures right { (instantiation : List ProgramInstantiation) → OnOk result (broken_own_processes
-        (words_of tokens.now) context.now ports.now instantiation scope.now ≡ None) }
+        (words_of tokens.now) context.now ports.now instantiation scope.now table.old ≡ None) }
     ensures err { (instantiation : List ProgramInstantiation) → IfFault result (IsBroken (broken_own_processes
-        (words_of tokens.now) context.now ports.now instantiation scope.now)) }
+        (words_of tokens.now) context.now ports.now instantiation scope.now table.old)) }
 {
     let overrides = context.overrides;
     put_joins(

@@ -7,7 +7,7 @@ use std::alloc::Global;
 use std::marker::Model;
 use vdesign::action::Places;
 use vdesign::design::{Scope, Variable};
-use velab::statement::Table;
+use velab_process::statement::Table;
 
 /// A design so far: its variables, its scopes, its actions, where its processes begin, and how many named events it has.
 #[derive(Drop)]

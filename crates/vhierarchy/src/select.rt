@@ -2,15 +2,15 @@
 
 ghost use Rattle.std.specs.Prelude.{◌≡◌, None, OnOk};
 ghost use Rattle.basis.specs.Reasons.{IfFault};
-ghost use Rattle.velab.specs.ActionFlaws.{table_fault};
-ghost use Rattle.velab.specs.Rules.{IsBroken};
+ghost use Rattle.velab_declaration.specs.ActionFlaws.{table_fault};
+ghost use Rattle.velab_expr.specs.Rules.{IsBroken};
 ghost use Rattle.vhierarchy.specs.Instances as spec;
 
 use basis::OrMemory;
 use vdesign::action::Action;
 use vdesign::dump::Chosen;
-use velab::fault::{ElabFault, Rule};
-use velab::width::word_at;
+use velab_declaration::width::word_at;
+use velab_expr::fault::{ElabFault, Rule};
 use vmodules::names::Names;
 
 // E303 where there is nothing of this path, E310 where it is a variable's.

@@ -19,7 +19,7 @@ use Rattle.vexpr_parse.specs.Texts.{words_of}
 use Rattle.vparse.specs.Refusals.{HasNoText, IsOnlyText}
 use Rattle.vhierarchy.specs.Instances.{Elaborates}
 use Rattle.vhierarchy.specs.Reasons.{IsDesignReason, HasNoDesign}
-use Rattle.velab.specs.declared.fault.ElabFault.{ElabFault}
+use Rattle.velab_expr.specs.declared.fault.ElabFault.{ElabFault}
 use Rattle.vrace.specs.Replays.{AreRead, IsTreeOf, texts_of}
 use Rattle.vrace.specs.Unique.{IsCut, IsReadAs}
 use Rattle.vrace.specs.declared.fault.At.{At}

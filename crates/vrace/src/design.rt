@@ -23,7 +23,7 @@ use std::alloc::Global;
 use trace_text::Origins;
 use vast::module::TextTree;
 use vdesign::design::Design;
-use velab::ElabFault;
+use velab_expr::ElabFault;
 use vhierarchy::elaborate;
 use vlex::{LexFault, Tokens, tokens};
 use vparse::{SyntaxFault, parse};

@@ -7,7 +7,7 @@ ghost use Rattle.vrace.specs.declared.fault.Fault.TheVariants.{Memory};
 use basis::NoMemory;
 use std::error::Error;
 use std::fmt;
-use velab::Rule;
+use velab_expr::Rule;
 use vsrc::Place;
 
 /// A place in the files, if one is known. It prints as ` at F:L`, the numbers of the file and of its line from 1, or as

@@ -24,4 +24,4 @@ pub use options::Options;
 pub use read::{LIMIT, read_text};
 pub use replay::{Show, replay_text};
 pub use trace::trace_text;
-pub use velab::Rule;
+pub use velab_expr::Rule;

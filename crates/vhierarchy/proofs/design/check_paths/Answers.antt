@@ -4,12 +4,12 @@ use Rattle.basis.proofs.Results.{on_ok}
 use Rattle.vast.specs.NumberedWords.{Word, numbered}
 use Rattle.vdesign.specs.Design.{Variable, Scope as Room}
 use Rattle.vmodules.specs.Names.{has_double}
-use Rattle.velab.specs.declared.fault.Rule.TheVariants.{Doubled}
-use Rattle.velab.specs.declared.fault.ElabFault.{ElabFault}
-use Rattle.velab.specs.Rules.{broken_if, IsBroken}
-use Rattle.velab.specs.ActionFlaws.{table_fault}
-use Rattle.velab.specs.Elaborate.{Table}
-use Rattle.velab.proofs.FaultLemmas.{handed_on, first_breaks, then_breaks, then_told, both_right}
+use Rattle.velab_expr.specs.declared.fault.Rule.TheVariants.{Doubled}
+use Rattle.velab_expr.specs.declared.fault.ElabFault.{ElabFault}
+use Rattle.velab_expr.specs.Rules.{broken_if, IsBroken}
+use Rattle.velab_declaration.specs.ActionFlaws.{table_fault}
+use Rattle.velab_process.specs.Statements.{Table}
+use Rattle.velab_expr.proofs.FaultLemmas.{handed_on, first_breaks, then_breaks, then_told, both_right}
 use Rattle.vhierarchy.specs.Instances.{Part, broken_paths, broken_selection}
 use Rattle.vhierarchy.specs.Inner.{scope_names, variable_names}
 use Rattle.vhierarchy.proofs.design.check_paths.Goals as goal

@@ -1,6 +1,6 @@
 use Rattle.vast.specs.NumberedWords.{Word, numbered}
 use Rattle.vexpr_parse.specs.Texts.{words_of}
-use Rattle.velab.proofs.FaultLemmas.{handed_on, first_breaks, then_breaks, both_right}
+use Rattle.velab_expr.proofs.FaultLemmas.{handed_on, first_breaks, then_breaks, both_right}
 use Rattle.vhierarchy.specs.Instances.{broken_paths, broken_table}
 use Rattle.vhierarchy.proofs.design.checked_design.Goals as goal
 

@@ -5,7 +5,7 @@ use Rattle.vast.specs.NumberedModules.{ModuleTree, SourceTree}
 use Rattle.vast.specs.NumberedWords.{numbered}
 use Rattle.vast.specs.NumberedTrees.{module_tree}
 use Rattle.vmodules.specs.Inner.{units_tree}
-use Rattle.velab.proofs.FaultLemmas.{handed_on, first_breaks, then_breaks, both_right, same_rule}
+use Rattle.velab_expr.proofs.FaultLemmas.{handed_on, first_breaks, then_breaks, both_right, same_rule}
 use Rattle.vhierarchy.specs.Instances.{broken_design, broken_whole, design_by, whole_of}
 use Rattle.vhierarchy.proofs.GrowLemmas.{fault_leads}
 use Rattle.vhierarchy.proofs.design.design_of.Goals as goal

@@ -7,13 +7,13 @@ use Rattle.vast.specs.NumberedTrees.{source_tree, module_tree}
 use Rattle.vast.specs.declared.module.ModuleTree.{ModuleTree as Parsed}
 use Rattle.vexpr_parse.specs.Texts.{words_of}
 use Rattle.vmodules.specs.Names.{first_again}
-use Rattle.velab.specs.Rules.{IsBroken}
+use Rattle.velab_expr.specs.Rules.{IsBroken}
 use Rattle.vmodules.specs.Hierarchy.{top_of, rival_of}
 use Rattle.vmodules.specs.Inner.{unit_names, unit_tree, units_tree, named_text}
 use Rattle.std.specs.Prelude.{option_map}
 use Rattle.vast.specs.NumberedWords.{Word}
-use Rattle.velab.specs.declared.fault.Rule.TheVariants.{Top}
-use Rattle.velab.proofs.FaultLemmas.{not_both}
+use Rattle.velab_expr.specs.declared.fault.Rule.TheVariants.{Top}
+use Rattle.velab_expr.proofs.FaultLemmas.{not_both}
 use Rattle.vhierarchy.specs.Instances.{broken_rule, broken_top, design_by, whole_of, Elaborates}
 use Rattle.vhierarchy.specs.Reasons.{IsDesignReason}
 use Rattle.vhierarchy.proofs.DesignLemmas.{missing, one_design, top_elaborates, top_reason}

@@ -2,8 +2,8 @@ use Rattle.std.proofs.Common.{◌≡◌, true, Some, List, ℕ, ap, sym, ◌∙�
 use Rattle.vast.specs.NumberedWords.{numbered}
 use Rattle.vmodules.specs.Names.{has_double, is_declared}
 use Rattle.vmodules.proofs.ListLemmas.{handed_on}
-use Rattle.velab.specs.Rules.{broken_if, IsBroken}
-use Rattle.velab.specs.declared.fault.Rule.TheVariants.{Doubled}
+use Rattle.velab_expr.specs.Rules.{broken_if, IsBroken}
+use Rattle.velab_expr.specs.declared.fault.Rule.TheVariants.{Doubled}
 use Rattle.vdesign.specs.Design.{Scope as Room}
 use Rattle.vhierarchy.specs.Inner.{scope_names}
 use Rattle.vhierarchy.proofs.DesignLemmas.{scopes_again}

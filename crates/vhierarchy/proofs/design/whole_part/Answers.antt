@@ -4,7 +4,7 @@ use Rattle.vast.specs.NumberedModules.{ModuleTree, SourceTree}
 use Rattle.vast.specs.NumberedTrees.{module_tree}
 use Rattle.vast.specs.TokenTexts.{token_text}
 use Rattle.vmodules.specs.Inner.{entries_tree, units_tree}
-use Rattle.velab.proofs.FaultLemmas.{handed_on, same_rule}
+use Rattle.velab_expr.proofs.FaultLemmas.{handed_on, same_rule}
 use Rattle.vhierarchy.proofs.DesignLemmas.{whole_is, broken_whole_is, no_ok, top_is}
 use Rattle.vhierarchy.proofs.design.whole_part.Goals as goal
 

@@ -1,6 +1,6 @@
 use Rattle.std.proofs.Common.{◌≡◌, ◌++◌, drop}
 use Rattle.vexpr_parse.specs.Texts.{words_of}
-use Rattle.velab.specs.Inner.{driver_names}
+use Rattle.velab_declaration.specs.Inner.{driver_names}
 use Rattle.vhierarchy.specs.Inner.{inputs_of}
 use Rattle.vhierarchy.proofs.drivers.add_inputs.Given as goal
 

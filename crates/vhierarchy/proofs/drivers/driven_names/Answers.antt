@@ -6,8 +6,8 @@ use Rattle.vast.specs.NumberedTrees.{item_tree}
 use Rattle.vexpr_parse.specs.Texts.{words_of}
 use Rattle.vmodules.specs.Names.{first_again, letters_of}
 use Rattle.vmodules.specs.Inner.{port_form}
-use Rattle.velab.specs.Elaborate.{nets_of}
-use Rattle.velab.specs.Inner.{BreaksDrivers, among, driver_names}
+use Rattle.velab_declaration.specs.Variables.{nets_of}
+use Rattle.velab_declaration.specs.Inner.{BreaksDrivers, among, driver_names}
 use Rattle.vhierarchy.specs.Inner.{words_driven, nets_driven}
 use Rattle.vhierarchy.proofs.DriverLemmas.{same_nets}
 use Rattle.vhierarchy.proofs.drivers.driven_names.Goals as goal

@@ -9,12 +9,12 @@ use Rattle.vexpr_parse.specs.Texts.{words_of}
 use Rattle.vmodules.specs.Ports.{Port, ports_of}
 use Rattle.vmodules.specs.declared.ports.PortForm.{PortForm}
 use Rattle.vmodules.specs.Inner.{units_tree, port_form}
-use Rattle.velab.specs.Rules.{IsBroken}
-use Rattle.velab.specs.Scopes.{Scope, at}
+use Rattle.velab_expr.specs.Rules.{IsBroken}
+use Rattle.velab_expr.specs.Scopes.{Scope, at}
 use Rattle.std.specs.List.{flat_map}
-use Rattle.velab.specs.Elaborate.{symbols_in_head, valueless_by}
-use Rattle.velab.specs.Inner.{symbols_in}
-use Rattle.velab.proofs.FaultLemmas.{handed_on}
+use Rattle.velab_expr.specs.Symbols.{symbols_in_head, valueless_by}
+use Rattle.velab_expr.specs.Inner.{symbols_in}
+use Rattle.velab_expr.proofs.FaultLemmas.{handed_on}
 use Rattle.vhierarchy.specs.Instances.{Instantiation, instantiations_in, Context, base_of, inside_scope, broken_names, own_by}
 use Rattle.vhierarchy.specs.Inner.{broken_in, program_instantiations_in, own_part, broken_own_part, context_tree, instantiation_trees}
 use Rattle.vhierarchy.proofs.GrowLemmas.{each_err, few, head_known, names_err, wanted_err, own_err, each_of_err, unit_is, unit_right, fault_leads}

@@ -1,5 +1,5 @@
 use Rattle.std.proofs.Common.{◌≡◌, ◌<◌, ◌+◌, ◌^◌, ◌++◌, drop, length}
-use Rattle.velab.specs.Inner.{symbols_in}
+use Rattle.velab_expr.specs.Inner.{symbols_in}
 use Rattle.vhierarchy.specs.Inner.{instantiation_trees, program_instantiations_in, broken_in}
 use Rattle.vhierarchy.proofs.instantiation.instantiations_in.Given as goal
 

@@ -4,9 +4,9 @@ use Rattle.vast.specs.Words.{Text}
 use Rattle.vexpr_parse.specs.Texts.{words_of}
 use Rattle.vmodules.specs.Ports.{Port}
 use Rattle.vmodules.specs.Inner.{port_form}
-use Rattle.velab.specs.Rules.{IsBroken}
-use Rattle.velab.specs.Scopes.{Scope}
-use Rattle.velab.proofs.FaultLemmas.{handed_on}
+use Rattle.velab_expr.specs.Rules.{IsBroken}
+use Rattle.velab_expr.specs.Scopes.{Scope}
+use Rattle.velab_expr.proofs.FaultLemmas.{handed_on}
 use Rattle.vhierarchy.specs.Instances.{Part, Context, Instantiation, scope_of, broken_own_by, own_by}
 use Rattle.vhierarchy.specs.Inner.{context_tree, instantiation_trees}
 use Rattle.vhierarchy.proofs.OwnLemmas.{own_is, processes_err, counts_err, own_right}
@@ -18,8 +18,16 @@ returns-in_err-put_own_processes-clause-err c =
     let context : Context = context_tree words c.args.context.now in
     let ports : List Port = map (port_form words) c.args.ports.now in
     let instantiation : List Instantiation = instantiation_trees words c.args.instantiation.now in
-    handed_on _ c.from_residual-in_err-put_own_processes.result c.in_err-put_own_processes.field-0.0 c.from_residual-in_err-put_own_processes.ensures.1
-    (processes_err context ports instantiation c.args.scope.now c.args.part.now c.in_ok-put_own_variables.ensures.right c.in_err-put_own_processes.field-0.0 (c.in_err-put_own_processes.ensures.err c.args.instantiation.now))
+    let before : Part = record {
+      variables = c.part.inside.variables.items;
+      scopes = c.part.inside.scopes.items;
+      table = c.part.inside.table;
+      begins = c.part.inside.begins.items;
+      events = c.part.inside.events;
+    } in
+    subst (λ (part : Part). IfFault c.from_residual-in_err-put_own_processes.result (IsBroken (broken_own_by context ports instantiation c.args.scope.now part))) c.part.view_is
+    (handed_on _ c.from_residual-in_err-put_own_processes.result c.in_err-put_own_processes.field-0.0 c.from_residual-in_err-put_own_processes.ensures.1
+    (processes_err context ports instantiation c.args.scope.now before c.in_ok-put_own_variables.ensures.right c.in_err-put_own_processes.field-0.0 (c.in_err-put_own_processes.ensures.err c.args.instantiation.now)))
 
 pub returns-in_err-check_counts-clause-err : goal.returns-in_err-check_counts-clause-err
 returns-in_err-check_counts-clause-err c =

@@ -7,11 +7,11 @@ use Rattle.vast.specs.declared.module.ModuleItem.{ModuleItem}
 use Rattle.vexpr_parse.specs.Texts.{words_of}
 use Rattle.vmodules.specs.Names.{first_again}
 use Rattle.vmodules.specs.Inner.{port_form}
-use Rattle.velab.specs.declared.fault.Rule.TheVariants.{Drivers}
-use Rattle.velab.specs.Rules.{IsBroken, broken_at}
-use Rattle.velab.specs.Elaborate.{broken_ports, broken_from}
-use Rattle.velab.specs.Inner.{BreaksDrivers}
-use Rattle.velab.proofs.FaultLemmas.{handed_on, first_breaks, then_breaks}
+use Rattle.velab_expr.specs.declared.fault.Rule.TheVariants.{Drivers}
+use Rattle.velab_expr.specs.Rules.{IsBroken, broken_at}
+use Rattle.velab_declaration.specs.Variables.{broken_ports, broken_from}
+use Rattle.velab_declaration.specs.Inner.{BreaksDrivers}
+use Rattle.velab_expr.proofs.FaultLemmas.{handed_on, first_breaks, then_breaks}
 use Rattle.vhierarchy.specs.Inner.{nets_driven}
 use Rattle.vhierarchy.proofs.OwnLemmas.{own_variables_are}
 use Rattle.vhierarchy.proofs.GrowLemmas.{fault_leads}

@@ -1,6 +1,6 @@
 use Rattle.std.proofs.Common.{◌≡◌, Some, ap, sym, ◌∙◌, arith}
 use Rattle.vhierarchy.specs.Instances.{broken_selection}
-use Rattle.velab.proofs.TableLemmas.{breaks_at, breaks_later}
+use Rattle.velab_declaration.proofs.TableLemmas.{breaks_at, breaks_later}
 use Rattle.vhierarchy.proofs.select.first_wrong.Goals as goal
 
 pub returns-in-Some : goal.returns-in-Some

@@ -1,5 +1,5 @@
 use Rattle.std.proofs.Common.{◌≡◌, drop}
-use Rattle.velab.specs.ActionFlaws.{table_fault}
+use Rattle.velab_declaration.specs.ActionFlaws.{table_fault}
 use Rattle.vhierarchy.specs.Instances.{broken_selection}
 use Rattle.vhierarchy.proofs.select.first_wrong.Given as goal
 

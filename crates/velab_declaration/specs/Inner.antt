@@ -1,0 +1,144 @@
+-- What the steps of elaboration are told by and answer; nothing here has to be believed.
+use Rattle.std.specs.Prelude.{List, [], ◌++◌, Vec, map, Option, Some, option_map}
+use Rattle.std.specs.Borrow.{Bor}
+use Rattle.std.specs.List.{filter, flat_map, filter_map}
+use Rattle.vdesign.specs.Design as design
+use Rattle.vast.specs.Words.{Text}
+use Rattle.vast.specs.NumberedWords.{Word, numbered}
+use Rattle.vast.specs.NumberedModules.{ParameterType, ItemTree, declaration, variables, integers}
+use Rattle.vmodules.specs.Names.{is_declared, again_behind}
+use Rattle.vmodules.specs.Inner.{ConnectionEntry, entries_tree, port_form}
+use Rattle.vmodules.specs.declared.ports.PortForm.{PortForm}
+use Rattle.vast.specs.declared.module.Instance.{Instance}
+use Rattle.vast.specs.NumberedTrees.{instance_tree, parameter_type, head_parameter, type_tree, declaration_kind, declared_tree, setting_tree, item_tree}
+use Rattle.vast.specs.declared.module.DeclarationKind.{DeclarationKind as DeclarationWords}
+use Rattle.vast.specs.declared.module.NetKind.{NetKind}
+use Rattle.vast.specs.declared.module.NetKind.TheVariants.{Reg, Wire}
+use Rattle.vast.specs.declared.module.SignAndRange.{SignAndRange}
+use Rattle.vast.specs.declared.module.ModuleItem.{ModuleItem}
+use Rattle.vast.specs.declared.module.Declared.{Declared}
+use Rattle.vast.specs.declared.module.Setting.{Setting}
+use Rattle.vast.specs.declared.token.Token.{Token}
+use Rattle.vast.specs.declared.module.HeadParameter.{HeadParameter as HeadWords}
+use Rattle.vast.specs.declared.module.ParameterType.{ParameterType as ParameterWords}
+use Rattle.velab_expr.specs.declared.fault.Rule.TheVariants.{Doubled, Drivers}
+use Rattle.velab_expr.specs.declared.fault.ElabFault.{ElabFault}
+use Rattle.velab_expr.specs.Rules.{IsBroken, broken_at}
+use Rattle.velab_expr.specs.Scopes.{Scope}
+use Rattle.velab_declaration.specs.declared.variable.Form.{Form}
+use Rattle.velab_declaration.specs.declared.driven.Driver.{Driver}
+use Rattle.velab_expr.specs.Symbols.{instance_symbol, Symbol, parameter_symbol, event_symbol, valueless_by, symbols_in_head}
+use Rattle.velab_declaration.specs.Parameters.{Overrides}
+use Rattle.velab_declaration.specs.Variables.{port_declaration, net_names, declarations_of, variable_by, variable_of, ScopeDrivers, driver_of, drivers_by}
+
+-- the names that an item declares, and those that items do
+abbrev pub names_of : ItemTree → List Word
+names_of item = map (λ d. d.name) (declarations_of item)
+
+abbrev pub declared_in : List ItemTree → List Word
+declared_in items = map (λ d. d.name) (flat_map declarations_of items)
+
+-- one of these words stands again, behind these names
+abbrev pub DoublesIn : List Text → List Word → ElabFault → Type 0
+DoublesIn names words = IsBroken (broken_at Doubled (again_behind names words))
+
+-- one of these nets is driven again, behind those of these names
+abbrev pub BreaksDrivers : List Text → List Word → ElabFault → Type 0
+BreaksDrivers names words = IsBroken (broken_at Drivers (again_behind names words))
+
+-- parameters, in the words of a text
+abbrev pub type_of : List Text → Option (Bor ParameterWords) → Option ParameterType
+type_of words = option_map (λ kind. parameter_type words kind.now)
+
+abbrev pub symbol_of : List Text → Option (Bor ParameterWords) → Setting → Symbol
+symbol_of words kind setting = parameter_symbol (type_of words kind) (setting_tree words setting)
+
+abbrev pub symbols_of : List Text → ParameterWords → List Setting → List Symbol
+symbols_of words kind list = map (parameter_symbol (Some (parameter_type words kind))) (map (setting_tree words) list)
+
+-- what is said from outside, told of the program's values
+pub record OverrideEntries : Type 0 where
+  pub scope : Scope
+  pub values : List ConnectionEntry
+
+abbrev pub overrides_tree : List Text → OverrideEntries → Overrides
+overrides_tree words overrides = record { scope = overrides.scope; values = entries_tree words overrides.values }
+
+abbrev pub instance_symbols : List Text → List Instance → List Symbol
+instance_symbols words list = map (λ one. instance_symbol one.name) (map (instance_tree words) list)
+
+abbrev pub event_symbols : List Text → List Token → List Symbol
+event_symbols words names = map event_symbol (map (numbered words) names)
+
+abbrev pub valueless_in : List Text → List ModuleItem → List Symbol
+valueless_in words items = flat_map valueless_by (map (item_tree words) items)
+
+abbrev pub symbols_at_head : {X : Type 0} → List Text → Option (Vec HeadWords X) → List Symbol
+symbols_at_head {X = X} words list = symbols_in_head (option_map (λ (heads : Vec HeadWords X). map (head_parameter words) heads.items) list)
+
+-- the names that are declared together, in the words of a text
+abbrev pub texts_of : List Text → List Declared → List Word
+texts_of words list = map (λ one. numbered words one.name) list
+
+-- the names of ports, and those behind them that items declare
+abbrev pub port_texts : List Text → List PortForm → List Word
+port_texts words ports = map (λ p. p.name) (map (port_form words) ports)
+
+abbrev pub names_before : List Text → List PortForm → List ModuleItem → List Word
+names_before words ports items = port_texts words ports ++ declared_in (map (item_tree words) items)
+
+-- a variable declared in this form
+abbrev pub variable_in : ScopeDrivers → Form → Text → design.Variable
+variable_in scope form = variable_by scope form.kind form.signed form.bounds
+
+-- the variables of names declared in this form, of an item, and of items
+abbrev pub variables_by : List Text → ScopeDrivers → Form → List Declared → List design.Variable
+variables_by words scope form list = map (λ one. variable_in scope form one.letters) (texts_of words list)
+
+-- a declaration, as an item
+abbrev pub kind_item : List Text → DeclarationWords → List Declared → ItemTree
+kind_item words kind list = declaration (declaration_kind words kind) (map (declared_tree words) list)
+
+abbrev pub net_item : List Text → NetKind → SignAndRange → List Declared → ItemTree
+net_item words net type list = declaration (variables net (type_tree words type)) (map (declared_tree words) list)
+
+abbrev pub integers_item : List Text → List Declared → ItemTree
+integers_item words list = declaration integers (map (declared_tree words) list)
+
+-- the variables of ports
+abbrev pub port_variables : List Text → ScopeDrivers → Scope → List PortForm → List design.Variable
+port_variables words drivers scope ports = map (variable_of drivers scope) (map port_declaration (map (port_form words) ports))
+
+abbrev pub variables_for : List Text → ScopeDrivers → Scope → ModuleItem → List design.Variable
+variables_for words drivers scope item = map (variable_of drivers scope) (declarations_of (item_tree words item))
+
+-- the words that are driven, one driver each
+abbrev pub driver_word : Driver → Word
+driver_word driver = record { letters = driver.net.now; number = driver.at }
+
+abbrev pub driver_names : List Driver → List Word
+driver_names list = map driver_word list
+
+-- those that are among these nets
+abbrev pub among : List Text → List Driver → List Word
+among nets list = filter (λ word. is_declared nets word.letters) (driver_names list)
+
+abbrev pub declared_drivers : List Text → List Declared → List Word
+declared_drivers words list = filter_map driver_of (map (declared_tree words) list)
+
+abbrev pub set_drivers : List Text → List Setting → List Word
+set_drivers words list = map (λ setting. setting.name) (map (setting_tree words) list)
+
+abbrev pub item_drivers : List Text → List ModuleItem → List Word
+item_drivers words items = flat_map drivers_by (map (item_tree words) items)
+
+-- the nets among ports, and among what an item and items declare
+abbrev pub port_nets : List Text → List PortForm → List Text
+port_nets words ports = net_names (map port_declaration (map (port_form words) ports))
+
+abbrev pub nets_as : NetKind → List Text → List Text
+nets_as Reg names = []
+nets_as Wire names = names
+
+abbrev pub item_nets : List Text → List ModuleItem → List Text
+item_nets words items = net_names (flat_map declarations_of (map (item_tree words) items))

@@ -1,0 +1,9 @@
+pub mod NumberLemmas
+pub mod ListLemmas
+pub mod FaultLemmas
+pub mod AnswerLemmas
+pub mod ExpressionLemmas
+pub mod PartLemmas
+pub mod ConstantLemmas
+pub mod TargetLemmas
+pub mod FirstLemmas

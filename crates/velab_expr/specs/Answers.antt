@@ -1,0 +1,71 @@
+-- What a definition makes of a part of a text: a value, or the first fault in it. And what a call says by such an answer.
+use Rattle.std.specs.Prelude.{◌≡◌, Bool, true, false, Option, None, Some, List, ◌++◌, Result, Ok, Err}
+use Rattle.basis.specs.declared.memory.OrMemory.{OrMemory}
+use Rattle.basis.specs.declared.memory.OrMemory.TheVariants.{Fault, Memory}
+use Rattle.vast.specs.NumberedWords.{Word}
+use Rattle.vvalue.specs.declared.flaw.Flaw.{Flaw}
+use Rattle.velab_expr.specs.declared.fault.Rule.{Rule}
+use Rattle.velab_expr.specs.declared.fault.ElabFault.{ElabFault}
+use Rattle.velab_expr.specs.Rules.{told, rule_of}
+
+-- the second step takes what the first gives; the first fault ends both
+infixl 10 ◌>>=◌
+abbrev pub ◌>>=◌ : {A B F : Type 0} → Result A F → (A → Result B F) → Result B F
+Ok x >>= next = next x
+Err fault >>= next = Err fault
+
+-- the rule is broken at this word
+abbrev pub refused : {A : Type 0} → Rule → Option Word → Result A ElabFault
+refused rule word = Err (told rule word)
+
+-- this, where it holds; else the rule is broken at this word
+abbrev pub required : {A : Type 0} → Bool → Rule → Option Word → A → Result A ElabFault
+required true rule word x = Ok x
+required false rule word x = refused rule word
+
+-- this answer, where it holds; else the rule is broken at this word
+abbrev pub provided : {A : Type 0} → Bool → Rule → Option Word → Result A ElabFault → Result A ElabFault
+provided true rule word answer = answer
+provided false rule word answer = refused rule word
+
+-- what there is; where there is nothing, the rule is broken at this word
+abbrev pub found : {A : Type 0} → Option A → Rule → Option Word → Result A ElabFault
+found None rule word = refused rule word
+found (Some x) rule word = Ok x
+
+-- this, where no size is wrong
+abbrev pub unflawed : {A : Type 0} → Option Flaw → Option Word → A → Result A ElabFault
+unflawed None word x = Ok x
+unflawed (Some flaw) word x = refused (rule_of flaw) word
+
+-- what the answer lists, behind these
+abbrev pub behind : {A F : Type 0} → List A → Result (List A) F → Result (List A) F
+behind done answer = answer >>= λ more. Ok (done ++ more)
+
+-- ---- what a call says
+
+abbrev pub Refuses : {A F : Type 0} → OrMemory F → Result A F → Type 0
+Refuses (Fault fault) answer = answer ≡ Err fault
+Refuses (Memory m) answer = Unit {0}
+
+-- it gives the answer, or it had no memory
+abbrev pub Gives : {A F : Type 0} → Result A (OrMemory F) → Result A F → Type 0
+Gives (Ok x) answer = answer ≡ Ok x
+Gives (Err e) answer = Refuses e answer
+
+-- the same of a call that changes something into what the answer says
+abbrev pub Makes : {T A F : Type 0} → Result T (OrMemory F) → A → Result A F → Type 0
+Makes (Ok x) made answer = answer ≡ Ok made
+Makes (Err e) made answer = Refuses e answer
+
+-- ---- an answer in two parts
+
+-- the fault, if there is one
+abbrev pub fault_of : {A F : Type 0} → Result A F → Option F
+fault_of (Ok x) = None
+fault_of (Err fault) = Some fault
+
+-- what there is, or what stands for it
+abbrev pub value_or : {A F : Type 0} → A → Result A F → A
+value_or other (Ok x) = x
+value_or other (Err fault) = other

@@ -1,0 +1,13 @@
+pub mod Literals
+pub mod FirstWords
+pub mod Rules
+pub mod Answers
+pub mod Scopes
+pub mod Constants
+pub mod Resolved
+pub mod Ranges
+pub mod Written
+pub mod Selections
+pub mod Symbols
+pub mod Inner
+pub mod InnerParts

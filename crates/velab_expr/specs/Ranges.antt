@@ -1,0 +1,43 @@
+-- Ranges (IEEE 1364-2005, 4.3.1): two bounds, at most 64 bits apart.
+use Rattle.std.specs.Prelude.{ℕ, ◌+◌, ◌-◌, max, min, nat_le, Option, None, Some, Result, Ok}
+use Rattle.vast.specs.NumberedWords.{Word}
+use Rattle.vast.specs.NumberedExpressions as text
+use Rattle.vast.specs.NumberedModules.{RangeTree}
+use Rattle.vdesign.specs.declared.expression.Bounds.{Bounds}
+use Rattle.velab_expr.specs.declared.fault.ElabFault.{ElabFault}
+use Rattle.velab_expr.specs.declared.fault.Rule.TheVariants as rule
+use Rattle.velab_expr.specs.FirstWords.{first_in}
+use Rattle.velab_expr.specs.Scopes.{Scope}
+use Rattle.velab_expr.specs.Constants.{bound_in}
+use Rattle.velab_expr.specs.Answers.{◌>>=◌, required, found, fault_of, value_or}
+use Rattle.velab_expr.specs.Resolved.{lower_value}
+
+-- rising or falling
+abbrev pub span : Bounds → ℕ
+span bounds = max bounds.left bounds.right - min bounds.left bounds.right + 1
+
+-- 4.3.1: a bound, told by its first word where it is none
+abbrev pub lower_bound : Scope → text.ExpressionTree → Result ℕ ElabFault
+lower_bound scope tree = lower_value scope tree >>= λ value. found (bound_in value) rule.Width (first_in tree)
+
+-- at most 64 bits from one bound to the other
+abbrev pub narrow : Option Word → Bounds → Result Bounds ElabFault
+narrow word bounds = required (nat_le (span bounds) 64) rule.Width word bounds
+
+abbrev pub lower_range : Scope → RangeTree → Result Bounds ElabFault
+lower_range scope range =
+    lower_bound scope range.left >>= λ left.
+    lower_bound scope range.right >>= λ right.
+    narrow (first_in range.left) (record { left = left; right = right })
+
+-- the bounds of a range, where there is one
+abbrev pub lower_bounds : Scope → Option RangeTree → Result (Option Bounds) ElabFault
+lower_bounds scope None = Ok None
+lower_bounds scope (Some range) = lower_range scope range >>= λ bounds. Ok (Some bounds)
+
+-- the same in two parts, as stages above take them
+abbrev pub bounds_of : Scope → RangeTree → Bounds
+bounds_of scope range = value_or (record { left = 0; right = 0 }) (lower_range scope range)
+
+abbrev pub broken_range : Scope → Option RangeTree → Option ElabFault
+broken_range scope range = fault_of (lower_bounds scope range)

@@ -1,0 +1,5 @@
+pub mod StatementLemmas
+pub mod BranchLemmas
+pub mod WaitLemmas
+pub mod ProcessLemmas
+pub mod LineLemmas

@@ -1,0 +1,111 @@
+-- What the steps of elaboration are told by and answer; nothing here has to be believed.
+use Rattle.std.specs.Prelude.{◌≡◌, ℕ, List, [], ◌++◌, Vec, map, Option, None, option_map, Result, Ok, Err, OnOk, Bool, true, false}
+use Rattle.std.specs.List.{filter_map}
+use Rattle.basis.specs.declared.memory.OrMemory.{OrMemory}
+use Rattle.vast.specs.Words.{Text}
+use Rattle.vast.specs.NumberedWords.{Word, numbered}
+use Rattle.vast.specs.NumberedTrees.{declared_tree, setting_tree, item_tree}
+use Rattle.vast.specs.declared.module.NetKind.{NetKind}
+use Rattle.vast.specs.declared.module.ModuleItem.{ModuleItem}
+use Rattle.vast.specs.declared.module.Declared.{Declared}
+use Rattle.vast.specs.declared.module.Setting.{Setting}
+use Rattle.vast.specs.declared.token.Token.{Token}
+use Rattle.vdesign.specs.declared.print.Piece.{Piece}
+use Rattle.vmodules.specs.Connected.{value_for}
+use Rattle.vmodules.specs.Inner.{ConnectionEntry, entries_tree, port_form}
+use Rattle.vmodules.specs.declared.ports.PortForm.{PortForm}
+use Rattle.format_text.specs.Pieces.{Argument, Printed, pieces_with}
+use Rattle.velab_expr.specs.declared.fault.ElabFault.{ElabFault}
+use Rattle.velab_expr.specs.Answers.{◌>>=◌, Refuses}
+use Rattle.velab_expr.specs.Scopes.{Scope}
+use Rattle.vast.specs.NumberedExpressions as text
+use Rattle.vast.specs.NumberedStatements.{StatementTree, TargetTree}
+use Rattle.vdesign.specs.declared.action.Action.TheVariants.{While}
+use Rattle.velab_expr.specs.FirstWords.{first_in}
+use Rattle.velab_expr.specs.Resolved.{lower_expression}
+use Rattle.velab_process.specs.Statements.{Table, Lowered, lowered_action, places_behind, lower_assignment, lower_statement}
+use Rattle.velab_process.specs.Processes.{Processes, lower_processes, lower_items, process_trees_by, ProcessTree, process_of, driven_by}
+use Rattle.velab_process.specs.Connections.{lower_join, lower_joins, lowered_joins, broken_joins}
+
+-- ---- what a call says of places
+
+-- a statement that stands inside another begins at these places of the table, as the answer says
+abbrev pub Begins : {A : Type 0} → Result (Vec ℕ A) (OrMemory ElabFault) → Table → Result Lowered ElabFault → Type 0
+Begins (Ok places) table answer = answer ≡ Ok (record { table = table; places = places.items })
+Begins (Err e) table answer = Refuses e answer
+
+-- a `for` behind its first assignment
+abbrev pub lower_loop : Scope → Table → text.ExpressionTree → StatementTree → TargetTree → text.ExpressionTree → Result Lowered ElabFault
+lower_loop scope table condition body next_target next_value =
+    lower_expression scope condition >>= λ test.
+    lower_statement scope table body >>= λ inner.
+    places_behind inner.places (lower_assignment true scope inner.table next_target None next_value) >>= λ turn.
+    Ok (lowered_action turn.table (first_in condition) (While test turn.places))
+
+-- ---- the trees of program's values
+
+-- the processes by which names are declared with a value, and those of an `assign`
+abbrev pub starts_in : List Text → NetKind → List Declared → List ProcessTree
+starts_in words word list = filter_map (process_of word) (map (declared_tree words) list)
+
+abbrev pub drives_in : List Text → List Setting → List ProcessTree
+drives_in words list = map driven_by (map (setting_tree words) list)
+
+-- the processes of an item, and of items
+abbrev pub processes_of_item : List Text → Scope → Table → ModuleItem → Result Processes ElabFault
+processes_of_item words scope table item = lower_processes scope table (process_trees_by (item_tree words item))
+
+abbrev pub processes_of : List Text → Scope → Table → List ModuleItem → Result Processes ElabFault
+processes_of words scope table items = lower_items scope table (map (item_tree words) items)
+
+-- a name that was found
+abbrev pub name_of : List Text → Option Token → Option Word
+name_of words = option_map (numbered words)
+
+-- those of port connections
+abbrev pub joins_of : List Text → Token → Scope → Scope → List ConnectionEntry → Table → List PortForm → Result Processes ElabFault
+joins_of words whose outer inner connections table ports =
+    lower_joins (numbered words whose) outer inner (entries_tree words connections) table (map (port_form words) ports)
+
+abbrev pub join_of : List Text → Token → Scope → Scope → List ConnectionEntry → Table → PortForm → Result Processes ElabFault
+join_of words whose outer inner connections table port =
+    lower_join (numbered words whose) outer inner table (port_form words port) (value_for (entries_tree words connections) (port_form words port).name.letters)
+
+-- the same in two parts, as stages above take them
+abbrev pub lowered_joins_of : List Text → Token → Scope → Scope → List ConnectionEntry → Table → List PortForm → Processes
+lowered_joins_of words whose outer inner connections table ports =
+    lowered_joins (numbered words whose) outer inner (entries_tree words connections) table (map (port_form words) ports)
+
+abbrev pub broken_joins_of : List Text → Token → Scope → Scope → List ConnectionEntry → Table → List PortForm → Option ElabFault
+broken_joins_of words whose outer inner connections table ports =
+    broken_joins (numbered words whose) outer inner (entries_tree words connections) table (map (port_form words) ports)
+
+-- what processes are made to is put behind others
+pub record AreLowered (what : Processes) (before : List (List ℕ)) (table_after : Table) (begins_after : List (List ℕ)) : Type 0 where
+  pub table : table_after ≡ what.table
+  pub begins : begins_after ≡ before ++ what.begins
+
+abbrev pub HaveLowered : {A B T E : Type 0} → Result T E → Processes → Vec (List ℕ) A → Table → Vec (List ℕ) B → Type 0
+HaveLowered result what before table after = OnOk result (AreLowered what before.items table after.items)
+
+-- ---- lines
+
+-- what there is, where it is right
+abbrev pub right_pieces : Bool → Option (List Piece) → Option (List Piece)
+right_pieces true pieces = pieces
+right_pieces false pieces = None
+
+-- a line takes these arguments, or has no pieces by them
+abbrev pub Prints : Printed → List Argument → Bool → Printed → Type 0
+Prints old arguments true new = pieces_with new [] ≡ pieces_with old arguments
+Prints old arguments false new = pieces_with old arguments ≡ None
+
+-- the answer has something of which this holds
+abbrev pub HasOk : {A F : Type 0} → Result A F → (A → Type 0) → Type 0
+HasOk (Ok x) P = P x
+HasOk (Err fault) P = ⊥
+
+-- a call says this of what the answer has, or gives its fault
+abbrev pub TakesAnswer : {T A F : Type 0} → Result T (OrMemory F) → Result A F → (A → T → Type 0) → Type 0
+TakesAnswer (Ok t) answer P = HasOk answer (λ x. P x t)
+TakesAnswer (Err e) answer P = Refuses e answer

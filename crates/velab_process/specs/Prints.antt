@@ -1,0 +1,44 @@
+-- Print tasks of the text, their names resolved and their formats read (IEEE 1364-2005, 17.1).
+use Rattle.std.specs.Prelude.{◌-◌, Bool, true, false, List, [], ◌∷◌, length, take, drop, Result, Ok}
+use Rattle.vast.specs.Words.{Text}
+use Rattle.vast.specs.NumberedExpressions as text
+use Rattle.vast.specs.NumberedStatements.{ArgumentTree, quoted, printed}
+use Rattle.vast.specs.declared.statement.Printing.{Printing}
+use Rattle.vast.specs.declared.statement.Printing.TheVariants as printing
+use Rattle.vdesign.specs.declared.print.When.{When}
+use Rattle.vdesign.specs.declared.print.When.TheVariants.{Now, AtSlotEnd, AtChange}
+use Rattle.vdesign.specs.declared.print.Piece.{Piece}
+use Rattle.format_text.specs.Pieces.{Argument, string, value, pieces_of}
+use Rattle.velab_expr.specs.declared.fault.ElabFault.{ElabFault}
+use Rattle.velab_expr.specs.declared.fault.Rule.TheVariants.{Kind}
+use Rattle.velab_expr.specs.FirstWords.{first_argument}
+use Rattle.velab_expr.specs.Answers.{◌>>=◌, found}
+use Rattle.velab_expr.specs.Scopes.{Scope}
+use Rattle.velab_expr.specs.Resolved.{lower_expression}
+
+-- 17.1.1, 17.1.2, 17.1.3
+abbrev pub when_of : Printing → When
+when_of printing.Display = Now
+when_of printing.Strobe = AtSlotEnd
+when_of printing.Monitor = AtChange
+
+-- what stands between the quotes of a string (3.6)
+abbrev pub between_quotes : Text → Text
+between_quotes letters = take (length letters - 2) (drop 1 letters)
+
+-- 17.1.3: a monitor watches an argument, but `$time` alone
+abbrev pub is_watched : text.ExpressionTree → Bool
+is_watched (text.time word) = false
+is_watched _ = true
+
+abbrev pub lower_argument : Scope → ArgumentTree → Result Argument ElabFault
+lower_argument scope (quoted letters) = Ok (string (between_quotes letters.letters))
+lower_argument scope (printed tree) = lower_expression scope tree >>= λ e. Ok (value (is_watched tree) e)
+
+abbrev pub lower_arguments : Scope → List ArgumentTree → Result (List Argument) ElabFault
+lower_arguments scope [] = Ok []
+lower_arguments scope (one ∷ more) = lower_argument scope one >>= λ argument. lower_arguments scope more >>= λ others. Ok (argument ∷ others)
+
+-- the pieces of a line, where its formats are right (17.1.1); they are told by the first word of the arguments
+abbrev pub lower_line : Scope → List ArgumentTree → Result (List Piece) ElabFault
+lower_line scope arguments = lower_arguments scope arguments >>= λ all. found (pieces_of all) Kind (first_argument arguments)

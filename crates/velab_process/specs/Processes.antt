@@ -1,0 +1,88 @@
+-- The processes of a module (IEEE 1364-2005, 6.1, 9.9): those of its items, in the order of the text.
+use Rattle.std.specs.Prelude.{ℕ, List, [], ◌∷◌, ◌++◌, map, Option, None, Some, option_map, Result, Ok}
+use Rattle.std.specs.List.{filter_map}
+use Rattle.vast.specs.NumberedWords.{Word}
+use Rattle.vast.specs.NumberedExpressions as text
+use Rattle.vast.specs.NumberedStatements.{StatementTree, assign, forever}
+use Rattle.vast.specs.NumberedStatements as written
+use Rattle.vast.specs.NumberedModules.{DeclarationKind, variables, integers, SettingTree, DeclaredTree, ItemTree, parameters, declaration, events, assignments, initial, always, instances}
+use Rattle.vast.specs.declared.module.NetKind.{NetKind}
+use Rattle.vast.specs.declared.module.NetKind.TheVariants as net
+use Rattle.vdesign.specs.declared.action.Action.TheVariants.{ContinuousAssign}
+use Rattle.velab_expr.specs.declared.fault.ElabFault.{ElabFault}
+use Rattle.velab_expr.specs.Symbols.{behind_item}
+use Rattle.velab_expr.specs.Answers.{◌>>=◌, fault_of, value_or}
+use Rattle.velab_expr.specs.Scopes.{Scope, lower_variable}
+use Rattle.velab_expr.specs.Resolved.{lower_expression}
+use Rattle.velab_process.specs.Waits.{any_of, names_in}
+use Rattle.velab_process.specs.Statements.{Table, Lowered, lowered_action, lower_statement}
+
+-- what a process does: a statement, or it drives the net of this name (6.1)
+pub data ProcessTree : Type 0 where
+  procedural : StatementTree → ProcessTree
+  continuous : Word → text.ExpressionTree → ProcessTree
+
+-- the table of several processes, and where each of them begins
+pub record Processes : Type 0 where
+  pub table : Table
+  pub begins : List (List ℕ)
+
+-- the same, with these in front
+abbrev pub begins_behind : List (List ℕ) → Result Processes ElabFault → Result Processes ElabFault
+begins_behind before answer = answer >>= λ processes. Ok (record { table = processes.table; begins = before ++ processes.begins })
+
+-- 6.1: it writes, and it writes again at any change of a name that is read
+abbrev pub lower_drive : Scope → Table → Word → text.ExpressionTree → Result Lowered ElabFault
+lower_drive scope table name value =
+    lower_variable scope name >>= λ net.
+    lower_expression scope value >>= λ e.
+    Ok (lowered_action table (Some name) (ContinuousAssign net e (any_of scope (names_in value))))
+
+abbrev pub lower_process : Scope → Table → ProcessTree → Result Lowered ElabFault
+lower_process scope table (procedural statement) = lower_statement scope table statement
+lower_process scope table (continuous name value) = lower_drive scope table name value
+
+abbrev pub lower_processes : Scope → Table → List ProcessTree → Result Processes ElabFault
+lower_processes scope table [] = Ok (record { table = table; begins = [] })
+lower_processes scope table (process ∷ rest) =
+    lower_process scope table process >>= λ front. begins_behind (front.places ∷ []) (lower_processes scope front.table rest)
+
+-- `reg a = e` is an `initial a = e` at its place (6.2.1), and `wire a = e` drives a (6.1.1)
+abbrev pub process_by : NetKind → Word → text.ExpressionTree → ProcessTree
+process_by net.Wire letters value = continuous letters value
+process_by net.Reg letters value = procedural (assign (written.whole letters) None value)
+
+abbrev pub process_of : NetKind → DeclaredTree → Option ProcessTree
+process_of word declared = option_map (process_by word declared.name) declared.value
+
+abbrev pub starts_of : DeclarationKind → List DeclaredTree → List ProcessTree
+starts_of (variables word type) list = filter_map (process_of word) list
+starts_of integers list = filter_map (process_of net.Reg) list
+
+-- 6.1.2
+abbrev pub driven_by : SettingTree → ProcessTree
+driven_by setting = continuous setting.name setting.value
+
+-- the processes that an item makes
+abbrev pub process_trees_by : ItemTree → List ProcessTree
+process_trees_by (parameters local type settings) = []
+process_trees_by (declaration kind list) = starts_of kind list
+process_trees_by (events names) = []
+process_trees_by (assignments settings) = map driven_by settings
+process_trees_by (initial statement) = procedural statement ∷ []
+process_trees_by (always statement) = procedural (forever statement) ∷ []  -- 9.9.2
+process_trees_by (instances letters overrides list) = []
+
+-- the processes of items, each in the scope of its place
+abbrev pub lower_items : Scope → Table → List ItemTree → Result Processes ElabFault
+lower_items scope table [] = Ok (record { table = table; begins = [] })
+lower_items scope table (item ∷ more) =
+    lower_processes scope table (process_trees_by item) >>= λ front. begins_behind front.begins (lower_items (behind_item scope item) front.table more)
+
+-- ---- the same in two parts, as stages above take them
+
+abbrev pub lowered_items : Scope → Table → List ItemTree → Processes
+lowered_items scope table items = value_or (record { table = table; begins = [] }) (lower_items scope table items)
+
+abbrev pub broken_items_from : Scope → Table → List ItemTree → Option ElabFault
+broken_items_from scope table items = fault_of (lower_items scope table items)

@@ -1,0 +1,132 @@
+// Print tasks (IEEE 1364-2005, 17.1): their names resolved, and their formats read.
+
+ghost use Rattle.std.specs.Prelude.{◌≡◌, ◌≤◌, [], List, map, true};
+ghost use Rattle.vast.specs.NumberedTrees.{tree_of as text_tree};
+ghost use Rattle.vast.specs.NumberedTrees.{argument_tree};
+ghost use Rattle.vast.specs.Words.{Text};
+ghost use Rattle.vexpr_parse.specs.Texts.{words_of};
+ghost use Rattle.format_text.specs.Pieces.{TakesArgument};
+ghost use Rattle.velab_expr.specs.Answers.{Gives};
+ghost use Rattle.velab_process.specs.Inner.{Prints, TakesAnswer, right_pieces as only_right};
+ghost use Rattle.velab_process.specs.Prints.{lower_argument, lower_arguments, lower_line};
+ghost use Rattle.velab_process.specs.Prints as spec;
+
+use basis::{NoMemory, OrMemory};
+use format_text::Printer;
+use std::alloc::Global;
+use vast::expression::Expression as Value;
+use vast::statement::{Argument, Printing};
+use vdesign::print::{Pieces, When};
+use velab_expr::expression::expression_of;
+use velab_expr::fault::{ElabFault, Rule};
+use velab_expr::first::first_argument;
+use velab_expr::scope::Scope;
+use vlex::Tokens;
+use vmodules::letters::letters;
+
+/// When a print task prints (17.1.1, 17.1.2, 17.1.3).
+pub fn when_of(kind: Printing) -> When
+    ensures { result ≡ spec.when_of kind }
+{
+    match kind {
+        Printing::Display => When::Now,
+        Printing::Strobe => When::AtSlotEnd,
+        Printing::Monitor => When::AtChange,
+    }
+}
+
+// What stands between the quotes of a string.
+fn between_quotes(string: &[u8]) -> &[u8]
+    ensures { result.now ≡ spec.between_quotes string.now }
+{
+    let Some((_, behind)) = string.split_first() else {
+        return b"";
+    };
+    match behind.split_last() {
+        None => b"",
+        Some((_, inner)) => inner,
+    }
+}
+
+// Whether a monitor watches an argument.
+fn is_watched(value: &Value) -> bool
+    ensures { (words : List Text) → result ≡ spec.is_watched (text_tree words value.now) }
+{
+    match value {
+        Value::Time(_) => false,
+        _ => true,
+    }
+}
+
+// An argument more. False where the format before it isn't right.
+fn put_argument(
+    alloc: Global,
+    scope: &Scope<'_, '_>,
+    tokens: &Tokens<'_>,
+    printer: &mut Printer,
+    argument: &Argument,
+) -> Result<bool, OrMemory<ElabFault>>
+    ensures { TakesAnswer result (lower_argument scope.now
+        (argument_tree (words_of tokens.now) argument.now))
+        (λ argument is_right. TakesArgument printer.old argument is_right printer.new) }
+{
+    match argument {
+        Argument::Text(word) => {
+            let string = between_quotes(letters(tokens, *word));
+            Ok(printer.string(string)?)
+        }
+        Argument::Value(value) => {
+            let shown = expression_of(alloc, scope, tokens, value)?;
+            Ok(printer.value(is_watched(value), shown)?)
+        }
+    }
+}
+
+// The arguments of a line. False where a format among them, but for the last, isn't right.
+fn put_arguments(
+    alloc: Global,
+    scope: &Scope<'_, '_>,
+    tokens: &Tokens<'_>,
+    printer: &mut Printer,
+    arguments: &[Argument],
+) -> Result<bool, OrMemory<ElabFault>>
+    ensures { TakesAnswer result (lower_arguments scope.now
+        (map (argument_tree (words_of tokens.now)) arguments.now))
+        (λ all is_right. Prints printer.old all is_right printer.new) }
+{
+    let mut is_right = true;
+    for one in arguments {
+        let taken = put_argument(alloc, scope, tokens, printer, one)?;
+        is_right = is_right & taken;
+    }
+    Ok(is_right)
+}
+
+// What there is, where it is right.
+fn right_pieces(is_right: bool, pieces: Option<Pieces>) -> Option<Pieces>
+    ensures { result ≡ only_right is_right pieces }
+{
+    if is_right { pieces } else { None }
+}
+
+/// The pieces of a line (17.1.1). E310 where a format isn't right; E303, E306 and E307 as its expressions have them.
+pub fn pieces_in(
+    alloc: Global,
+    scope: &Scope<'_, '_>,
+    tokens: &Tokens<'_>,
+    arguments: &[Argument],
+) -> Result<Pieces, OrMemory<ElabFault>>
+    ensures { Gives result
+        (lower_line scope.now (map (argument_tree (words_of tokens.now)) arguments.now)) }
+{
+    let mut printer = Printer::new(alloc);
+    let is_right = put_arguments(alloc, scope, tokens, &mut printer, arguments)?;
+    let pieces = printer.finish()?;
+    match right_pieces(is_right, pieces) {
+        Some(line) => Ok(line),
+        None => Err(OrMemory::Fault(ElabFault {
+            rule: Rule::Kind,
+            at: first_argument(arguments),
+        })),
+    }
+}
