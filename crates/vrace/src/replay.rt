@@ -296,8 +296,8 @@ pub(crate) fn replay_input_of(
 /// E1xx to E3xx where their text has no tokens, no tree or no design; E401 where the log's text is none; E403 where the
 /// run takes more steps than allowed; E402 where a step that the log names isn't reached or hasn't that choice. Then
 /// nothing is written, as the run is seen to end before its first byte goes out: a text of up to `HELD_BYTES` is held until
-/// then; for a longer one the run is taken again and written slot by slot. E902 where the writer failed, and E901 where
-/// memory was refused: then a prefix of the text may stand written.
+/// then; for a longer one the run is taken again to its end, and once more to be written slot by slot. E902 where the writer
+/// failed, and E901 where memory was refused: then a prefix of the text may stand written.
 pub fn replay_text<W: Write>(
     alloc: Global,
     files: &[Vec<u8>],

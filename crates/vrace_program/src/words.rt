@@ -104,7 +104,7 @@ fn explore_command<'a>(alloc: Global) -> Result<Command<'a>, NoMemory> {
     let entries = number(
         alloc,
         "entries",
-        "How many states are looked on from before the search is cut",
+        "The most states that are visited before the search is cut",
         "100000",
     );
     let command = Command::new(alloc, "explore")
