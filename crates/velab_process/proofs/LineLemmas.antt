@@ -6,7 +6,8 @@ use Rattle.velab_expr.specs.declared.fault.Rule.TheVariants.{Kind}
 use Rattle.velab_expr.specs.declared.fault.ElabFault.{ElabFault}
 use Rattle.velab_expr.specs.Answers.{◌>>=◌, found}
 use Rattle.velab_process.specs.Inner.{Prints, HasOk, right_pieces}
-use Rattle.format_text.specs.Pieces.{Argument, Printed, TakesArgument, behind, pieces_with, pieces_of}
+use Rattle.format_text.specs.Pieces.{Argument, Printed, TakesArgument, pieces_with, pieces_of}
+use Rattle.format_text.proofs.ArgumentLaws.{none_taken}
 
 -- with what is left behind it, a line has the pieces of all; or all have none
 abbrev pub GoesOn : Printed → List Argument → List Argument → Bool → Printed → Type 0
@@ -50,17 +51,13 @@ ended old (Ok xs) true new goes = goes
 ended old (Ok xs) false new goes = goes
 ended old (Err fault) is_right new goes = absurd goes
 
--- nothing stood before the arguments: the pieces of a line are theirs, where it is right
-nothing_before : (pieces : Option (List Piece)) → behind [] pieces ≡ pieces
-nothing_before None = refl
-nothing_before (Some pieces) = refl
-
+-- the pieces of a line are those of its arguments, where it is right
 whole_line : (old : Printed) (arguments : List Argument) (is_right : Bool) (new : Printed) (pieces : Option (List Piece)) →
     old ≡ record { pieces = []; format = [] } → Prints old arguments is_right new → pieces ≡ pieces_with new [] → pieces_of arguments ≡ right_pieces is_right pieces
 whole_line old arguments true new pieces starts prints is =
-    sym (is ∙ prints ∙ ap (λ (o : Printed). pieces_with o arguments) starts ∙ nothing_before (pieces_of arguments))
+    sym (is ∙ prints ∙ ap (λ (o : Printed). pieces_with o arguments) starts ∙ none_taken arguments)
 whole_line old arguments false new pieces starts prints is =
-    sym (nothing_before (pieces_of arguments)) ∙ sym (ap (λ (o : Printed). pieces_with o arguments) starts) ∙ prints
+    sym (none_taken arguments) ∙ sym (ap (λ (o : Printed). pieces_with o arguments) starts) ∙ prints
 
 pub line_by : (answer : Result (List Argument) ElabFault) (is_right : Bool) (old new : Printed) (pieces right : Option (List Piece)) (word : Option Word) →
     old ≡ record { pieces = []; format = [] } → HasOk answer (λ all. Prints old all is_right new) → pieces ≡ pieces_with new [] → right ≡ right_pieces is_right pieces →
