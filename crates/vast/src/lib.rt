@@ -1,5 +1,5 @@
 // Trees of a Verilog text: `TextTree` is what the grammar makes of the tokens. In goes nothing: the parser builds it, and `vmodules`,
-// `velab` and `vhierarchy` read it. Out come its words, by `spell`, and whether it stands as the grammar lets it, by `fits`. The law: a
+// the crates of elaboration read it. Out come its words, by `spell`, and whether it stands as the grammar lets it, by `fits`. The law: a
 // tree derives the words that it spells, where it fits.
 #![tactic(auto)]
 

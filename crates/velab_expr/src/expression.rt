@@ -301,8 +301,8 @@ fn put_expression(
     }
 }
 
-/// The expression of a design that an expression of the text is lowered to. E303 where a name in it is not declared, E306 or E307 where
-/// what has to be constant in it is wrong.
+/// The expression of a design that an expression of the text is lowered to. E303 where a name in it is not declared, E310 where it is
+/// the name of an event or an instance, E306 or E307 where what has to be constant in it is wrong.
 pub fn expression_of(
     alloc: Global,
     scope: &Scope<'_, '_>,
@@ -345,7 +345,7 @@ pub fn expression_of_name(
     Ok(Expression::new(nodes))
 }
 
-/// The expression that a constant of the text is lowered to. E303, E306 or E307 where it is none.
+/// The expression that a constant of the text is lowered to. E303, E306, E307 or E310 where it is none.
 pub fn constant_expression(
     alloc: Global,
     scope: &Scope<'_, '_>,

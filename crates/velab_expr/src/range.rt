@@ -74,7 +74,7 @@ fn bounds_of(
     Ok(bounds)
 }
 
-/// The bounds of a declaration's range, where it has one. E303, E306 or E307 where they are none.
+/// The bounds of a declaration's range, where it has one. E303, E306, E307 or E310 where they are none.
 pub fn range_bounds(
     alloc: Global,
     scope: &Scope<'_, '_>,

@@ -17,57 +17,57 @@ use Rattle.velab_expr.specs.Rules.{IsBroken}
 use Rattle.velab_expr.specs.Scopes.{Scope, at}
 use Rattle.velab_expr.specs.Symbols.{symbols_by}
 use Rattle.velab_expr.proofs.ListLemmas.{drop_at}
-use Rattle.velab_process.specs.Statements.{Table, Lowered, places_behind}
-use Rattle.velab_process.specs.Processes.{ProcessTree, Processes, begins_behind, lower_process, lower_processes, process_of}
+use Rattle.velab_process.specs.Statements.{Table, Lowered, with_places_before}
+use Rattle.velab_process.specs.Processes.{ProcessTree, Processes, with_begins_before, lower_process, lower_processes, process_of}
 use Rattle.velab_process.specs.Inner.{starts_in, processes_of_item, processes_of, AreLowered}
 
 -- a process, or several, and then what stands behind on the table that they leave
 module _ (before : List (List ℕ)) where
-  pub both_behind : (begins : List (List ℕ)) (answer : Result Processes ElabFault) → begins_behind (before ++ begins) answer ≡ begins_behind before (begins_behind begins answer)
+  pub both_behind : (begins : List (List ℕ)) (answer : Result Processes ElabFault) → with_begins_before (before ++ begins) answer ≡ with_begins_before before (with_begins_before begins answer)
   both_behind begins (Ok p) = ap (λ (all : List (List ℕ)). Ok (record { table = p.table; begins = all })) (append_assoc before begins p.begins)
   both_behind begins (Err fault) = refl
 
   pub processes_put : (rest : Table → Result Processes ElabFault) (front : Result Processes ElabFault) (table : Table) (begins : List (List ℕ)) →
-      begins_behind before front ≡ Ok (record { table = table; begins = begins }) →
-      begins_behind begins (rest table) ≡ begins_behind before (front >>= λ one. begins_behind one.begins (rest one.table))
+      with_begins_before before front ≡ Ok (record { table = table; begins = begins }) →
+      with_begins_before begins (rest table) ≡ with_begins_before before (front >>= λ one. with_begins_before one.begins (rest one.table))
   processes_put rest (Ok one) table begins is =
       let same : record { table = one.table; begins = before ++ one.begins } ≡ record { table = table; begins = begins } = cc in
-      sym (ap (λ (p : Processes). begins_behind p.begins (rest p.table)) same) ∙ both_behind one.begins (rest one.table)
+      sym (ap (λ (p : Processes). with_begins_before p.begins (rest p.table)) same) ∙ both_behind one.begins (rest one.table)
   processes_put rest (Err fault) table begins is = absurd cc
 
-  pub processes_refused : (rest : Table → Result Processes ElabFault) (front : Result Processes ElabFault) (fault : ElabFault) → begins_behind before front ≡ Err fault →
-      begins_behind before (front >>= λ one. begins_behind one.begins (rest one.table)) ≡ Err fault
+  pub processes_refused : (rest : Table → Result Processes ElabFault) (front : Result Processes ElabFault) (fault : ElabFault) → with_begins_before before front ≡ Err fault →
+      with_begins_before before (front >>= λ one. with_begins_before one.begins (rest one.table)) ≡ Err fault
   processes_refused rest (Ok one) fault is = absurd cc
   processes_refused rest (Err other) fault is = let same : other ≡ fault = cc in ap Err same
 
   -- one process, by the places at which its statement begins
   pub process_put : (answer : Result Lowered ElabFault) (table : Table) (places : List ℕ) → answer ≡ Ok (record { table = table; places = places }) →
-      begins_behind before (answer >>= λ front. begins_behind (front.places ∷ []) (Ok (record { table = front.table; begins = [] })))
+      with_begins_before before (answer >>= λ front. with_begins_before (front.places ∷ []) (Ok (record { table = front.table; begins = [] })))
       ≡ Ok (record { table = table; begins = before ++ places ∷ [] })
   process_put answer table places is =
-      ap (λ (a : Result Lowered ElabFault). begins_behind before (a >>= λ front. begins_behind (front.places ∷ []) (Ok (record { table = front.table; begins = [] })))) is
+      ap (λ (a : Result Lowered ElabFault). with_begins_before before (a >>= λ front. with_begins_before (front.places ∷ []) (Ok (record { table = front.table; begins = [] })))) is
 
 -- processes in two parts
 pub processes_split : (scope : Scope) (table : Table) (xs ys : List ProcessTree) →
-    lower_processes scope table (xs ++ ys) ≡ (lower_processes scope table xs >>= λ front. begins_behind front.begins (lower_processes scope front.table ys))
+    lower_processes scope table (xs ++ ys) ≡ (lower_processes scope table xs >>= λ front. with_begins_before front.begins (lower_processes scope front.table ys))
 processes_split scope table [] ys = sym (none_in_front (lower_processes scope table ys))
   where
-    none_in_front : (answer : Result Processes ElabFault) → begins_behind [] answer ≡ answer
+    none_in_front : (answer : Result Processes ElabFault) → with_begins_before [] answer ≡ answer
     none_in_front (Ok p) = refl
     none_in_front (Err fault) = refl
 processes_split scope table (x ∷ xs) ys = by (λ t. processes_split scope t xs ys) (lower_process scope table x)
   where
     then : (p : List ℕ) (front : Result Processes ElabFault) (rest : Table → Result Processes ElabFault) →
-        begins_behind (p ∷ []) (front >>= λ one. begins_behind one.begins (rest one.table))
-        ≡ (begins_behind (p ∷ []) front >>= λ one. begins_behind one.begins (rest one.table))
+        with_begins_before (p ∷ []) (front >>= λ one. with_begins_before one.begins (rest one.table))
+        ≡ (with_begins_before (p ∷ []) front >>= λ one. with_begins_before one.begins (rest one.table))
     then p (Ok one) rest = sym (both_behind (p ∷ []) one.begins (rest one.table))
     then p (Err fault) rest = refl
 
-    by : ((t : Table) → lower_processes scope t (xs ++ ys) ≡ (lower_processes scope t xs >>= λ front. begins_behind front.begins (lower_processes scope front.table ys))) →
+    by : ((t : Table) → lower_processes scope t (xs ++ ys) ≡ (lower_processes scope t xs >>= λ front. with_begins_before front.begins (lower_processes scope front.table ys))) →
         (answer : Result Lowered ElabFault) →
-        (answer >>= λ front. begins_behind (front.places ∷ []) (lower_processes scope front.table (xs ++ ys)))
-        ≡ ((answer >>= λ front. begins_behind (front.places ∷ []) (lower_processes scope front.table xs)) >>= λ front. begins_behind front.begins (lower_processes scope front.table ys))
-    by split (Ok one) = ap (begins_behind (one.places ∷ [])) (split one.table) ∙ then one.places (lower_processes scope one.table xs) (λ t. lower_processes scope t ys)
+        (answer >>= λ front. with_begins_before (front.places ∷ []) (lower_processes scope front.table (xs ++ ys)))
+        ≡ ((answer >>= λ front. with_begins_before (front.places ∷ []) (lower_processes scope front.table xs)) >>= λ front. with_begins_before front.begins (lower_processes scope front.table ys))
+    by split (Ok one) = ap (with_begins_before (one.places ∷ [])) (split one.table) ∙ then one.places (lower_processes scope one.table xs) (λ t. lower_processes scope t ys)
     by split (Err fault) = refl
 
 -- the names that are declared with a value, name by name
@@ -83,16 +83,16 @@ starts_open words word list i x within is =
 -- the next item, in the scope of its place
 pub item_put : (words : List Text) (scope : Scope) (items : List ModuleItem) (i : ℕ) (x : ModuleItem) → i < length items → x ≡ get_or items i x → (known n : ℕ) (here : Scope) →
     here ≡ at scope known → n ≡ length (symbols_by (item_tree words x)) → (now after : Table) (before begins : List (List ℕ)) (all : Result Processes ElabFault) →
-    begins_behind before (processes_of_item words here now x) ≡ Ok (record { table = after; begins = begins }) →
-    begins_behind before (processes_of words (at scope known) now (drop i items)) ≡ all →
-    begins_behind begins (processes_of words (at scope (known + n)) after (drop (i + 1) items)) ≡ all
+    with_begins_before before (processes_of_item words here now x) ≡ Ok (record { table = after; begins = begins }) →
+    with_begins_before before (processes_of words (at scope known) now (drop i items)) ≡ all →
+    with_begins_before begins (processes_of words (at scope (known + n)) after (drop (i + 1) items)) ≡ all
 item_put words scope items i x within is known n here there counted now after before begins all put same =
     let rest : List ModuleItem = drop (i + 1) items in
     let later : Scope = at scope (known + length (symbols_by (item_tree words x))) in
-    ap (λ k. begins_behind begins (processes_of words (at scope (known + k)) after rest)) counted
+    ap (λ k. with_begins_before begins (processes_of words (at scope (known + k)) after rest)) counted
     ∙ processes_put before (λ t. processes_of words later t rest) (processes_of_item words (at scope known) now x) after begins
-    (ap (λ (s : Scope). begins_behind before (processes_of_item words s now x)) (sym there) ∙ put)
-    ∙ ap (λ (l : List ModuleItem). begins_behind before (processes_of words (at scope known) now l)) (sym (drop_at items i x within is))
+    (ap (λ (s : Scope). with_begins_before before (processes_of_item words s now x)) (sym there) ∙ put)
+    ∙ ap (λ (l : List ModuleItem). with_begins_before before (processes_of words (at scope known) now l)) (sym (drop_at items i x within is))
     ∙ same
 
 -- the parameters that are left
@@ -107,7 +107,7 @@ fewer_given words items i x within is known small =
 -- ---- an answer in two parts
 
 module _ {T : Type 0} (before : List (List ℕ)) (filler : Processes) (after : Table) (begins : List (List ℕ)) where
-  pub lowered_by : (result : Result T (OrMemory ElabFault)) (answer : Result Processes ElabFault) → Makes result (record { table = after; begins = begins }) (begins_behind before answer) →
+  pub lowered_by : (result : Result T (OrMemory ElabFault)) (answer : Result Processes ElabFault) → Makes result (record { table = after; begins = begins }) (with_begins_before before answer) →
       OnOk result (AreLowered (value_or filler answer) before after begins)
   lowered_by (Ok t) (Ok p) is =
       let same : record { table = p.table; begins = before ++ p.begins } ≡ record { table = after; begins = begins } = cc in
@@ -115,13 +115,13 @@ module _ {T : Type 0} (before : List (List ℕ)) (filler : Processes) (after : T
   lowered_by (Ok t) (Err fault) is = absurd cc
   lowered_by (Err e) answer is = tt
 
-  pub right_by : (result : Result T (OrMemory ElabFault)) (answer : Result Processes ElabFault) → Makes result (record { table = after; begins = begins }) (begins_behind before answer) →
+  pub right_by : (result : Result T (OrMemory ElabFault)) (answer : Result Processes ElabFault) → Makes result (record { table = after; begins = begins }) (with_begins_before before answer) →
       OnOk result (fault_of answer ≡ None)
   right_by (Ok t) (Ok p) is = refl
   right_by (Ok t) (Err fault) is = absurd cc
   right_by (Err e) answer is = tt
 
-  pub broken_by : (result : Result T (OrMemory ElabFault)) (answer : Result Processes ElabFault) → Makes result (record { table = after; begins = begins }) (begins_behind before answer) →
+  pub broken_by : (result : Result T (OrMemory ElabFault)) (answer : Result Processes ElabFault) → Makes result (record { table = after; begins = begins }) (with_begins_before before answer) →
       IfFault result (IsBroken (fault_of answer))
   broken_by (Ok t) answer is = tt
   broken_by (Err (Fault f)) (Ok p) is = absurd cc

@@ -10,7 +10,7 @@ use Rattle.vast.specs.NumberedWords.{numbered}
 use Rattle.vast.proofs.ToldTrees.{told_block}
 use Rattle.velab_expr.specs.declared.fault.ElabFault.{ElabFault}
 use Rattle.velab_expr.specs.Answers.{◌>>=◌, Makes}
-use Rattle.velab_process.specs.Statements.{Table, Lowered, places_behind}
+use Rattle.velab_process.specs.Statements.{Table, Lowered, with_places_before}
 use Rattle.velab_process.specs.Inner.{Begins}
 
 -- the statements of a block
@@ -19,19 +19,19 @@ module _ (words : List Text) (statement : Statement) (statements : Vec Statement
   block_trees = sym (ap (statement_tree words) is ∙ told_block (numbered words) statements ∙ ap (λ (xs : List Statement). block (statement_trees words xs)) (sym same))
 
 -- nothing stands in front
-pub none_in_front : (answer : Result Lowered ElabFault) → places_behind [] answer ≡ answer
+pub none_in_front : (answer : Result Lowered ElabFault) → with_places_before [] answer ≡ answer
 none_in_front (Ok lowered) = refl
 none_in_front (Err fault) = refl
 
 -- a statement, and then what stands behind it on the table that it leaves
 module _ (before : List ℕ) (rest : Table → Result Lowered ElabFault) where
-  both_behind : (places : List ℕ) (answer : Result Lowered ElabFault) → places_behind (before ++ places) answer ≡ places_behind before (places_behind places answer)
+  both_behind : (places : List ℕ) (answer : Result Lowered ElabFault) → with_places_before (before ++ places) answer ≡ with_places_before before (with_places_before places answer)
   both_behind places (Ok l) = ap (λ (all : List ℕ). Ok (record { table = l.table; places = all })) (append_assoc before places l.places)
   both_behind places (Err fault) = refl
 
-  pub statement_put : (front : Result Lowered ElabFault) (table : Table) (places : List ℕ) → places_behind before front ≡ Ok (record { table = table; places = places }) →
-      places_behind places (rest table) ≡ places_behind before (front >>= λ one. places_behind one.places (rest one.table))
+  pub statement_put : (front : Result Lowered ElabFault) (table : Table) (places : List ℕ) → with_places_before before front ≡ Ok (record { table = table; places = places }) →
+      with_places_before places (rest table) ≡ with_places_before before (front >>= λ one. with_places_before one.places (rest one.table))
   statement_put (Ok one) table places is =
       let same : record { table = one.table; places = before ++ one.places } ≡ record { table = table; places = places } = cc in
-      sym (ap (λ (l : Lowered). places_behind l.places (rest l.table)) same) ∙ both_behind one.places (rest one.table)
+      sym (ap (λ (l : Lowered). with_places_before l.places (rest l.table)) same) ∙ both_behind one.places (rest one.table)
   statement_put (Err fault) table places is = absurd cc

@@ -14,7 +14,7 @@ use Rattle.velab_expr.specs.Scopes.{Scope, lower_variable}
 use Rattle.velab_expr.specs.Resolved.{lower_expression}
 use Rattle.velab_process.specs.Waits.{any_of, names_in}
 use Rattle.velab_process.specs.Statements.{Table, with_numbered}
-use Rattle.velab_process.specs.Processes.{Processes, begins_behind}
+use Rattle.velab_process.specs.Processes.{Processes, with_begins_before}
 
 -- the name that an expression is, alone
 abbrev pub only_name : text.ExpressionTree → Option Word
@@ -65,7 +65,7 @@ abbrev pub lower_joins : Word → Scope → Scope → List NamedConnection → T
 lower_joins whose outer inner connections table [] = Ok (record { table = table; begins = [] })
 lower_joins whose outer inner connections table (p ∷ more) =
     lower_join whose outer inner table p (value_for connections p.name.letters) >>= λ front.
-    begins_behind front.begins (lower_joins whose outer inner connections front.table more)
+    with_begins_before front.begins (lower_joins whose outer inner connections front.table more)
 
 -- ---- the same in two parts, as stages above take them
 

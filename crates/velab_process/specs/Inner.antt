@@ -23,7 +23,7 @@ use Rattle.vast.specs.NumberedStatements.{StatementTree, TargetTree}
 use Rattle.vdesign.specs.declared.action.Action.TheVariants.{While}
 use Rattle.velab_expr.specs.FirstWords.{first_in}
 use Rattle.velab_expr.specs.Resolved.{lower_expression}
-use Rattle.velab_process.specs.Statements.{Table, Lowered, lowered_action, places_behind, lower_assignment, lower_statement}
+use Rattle.velab_process.specs.Statements.{Table, Lowered, lowered_action, with_places_before, lower_assignment, lower_statement}
 use Rattle.velab_process.specs.Processes.{Processes, lower_processes, lower_items, process_trees_by, ProcessTree, process_of, driven_by}
 use Rattle.velab_process.specs.Connections.{lower_join, lower_joins, lowered_joins, broken_joins}
 
@@ -39,7 +39,7 @@ abbrev pub lower_loop : Scope → Table → text.ExpressionTree → StatementTre
 lower_loop scope table condition body next_target next_value =
     lower_expression scope condition >>= λ test.
     lower_statement scope table body >>= λ inner.
-    places_behind inner.places (lower_assignment true scope inner.table next_target None next_value) >>= λ turn.
+    with_places_before inner.places (lower_assignment true scope inner.table next_target None next_value) >>= λ turn.
     Ok (lowered_action turn.table (first_in condition) (While test turn.places))
 
 -- ---- the trees of program's values

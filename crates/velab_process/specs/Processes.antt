@@ -28,8 +28,8 @@ pub record Processes : Type 0 where
   pub begins : List (List ℕ)
 
 -- the same, with these in front
-abbrev pub begins_behind : List (List ℕ) → Result Processes ElabFault → Result Processes ElabFault
-begins_behind before answer = answer >>= λ processes. Ok (record { table = processes.table; begins = before ++ processes.begins })
+abbrev pub with_begins_before : List (List ℕ) → Result Processes ElabFault → Result Processes ElabFault
+with_begins_before before answer = answer >>= λ processes. Ok (record { table = processes.table; begins = before ++ processes.begins })
 
 -- 6.1: it writes, and it writes again at any change of a name that is read
 abbrev pub lower_drive : Scope → Table → Word → text.ExpressionTree → Result Lowered ElabFault
@@ -45,7 +45,7 @@ lower_process scope table (continuous name value) = lower_drive scope table name
 abbrev pub lower_processes : Scope → Table → List ProcessTree → Result Processes ElabFault
 lower_processes scope table [] = Ok (record { table = table; begins = [] })
 lower_processes scope table (process ∷ rest) =
-    lower_process scope table process >>= λ front. begins_behind (front.places ∷ []) (lower_processes scope front.table rest)
+    lower_process scope table process >>= λ front. with_begins_before (front.places ∷ []) (lower_processes scope front.table rest)
 
 -- `reg a = e` is an `initial a = e` at its place (6.2.1), and `wire a = e` drives a (6.1.1)
 abbrev pub process_by : NetKind → Word → text.ExpressionTree → ProcessTree
@@ -77,7 +77,7 @@ process_trees_by (instances letters overrides list) = []
 abbrev pub lower_items : Scope → Table → List ItemTree → Result Processes ElabFault
 lower_items scope table [] = Ok (record { table = table; begins = [] })
 lower_items scope table (item ∷ more) =
-    lower_processes scope table (process_trees_by item) >>= λ front. begins_behind front.begins (lower_items (behind_item scope item) front.table more)
+    lower_processes scope table (process_trees_by item) >>= λ front. with_begins_before front.begins (lower_items (behind_item scope item) front.table more)
 
 -- ---- the same in two parts, as stages above take them
 

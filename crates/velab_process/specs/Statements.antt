@@ -1,4 +1,4 @@
--- What statements are lowered to (IEEE 1364-2005, clause 9): actions, each behind those that stand inside it; or the first fault in them.
+-- What statements are lowered to (IEEE 1364-2005, clause 9): actions, each after those of its body; or the first fault in them.
 use Rattle.std.specs.Prelude.{ℕ, if◌then◌else◌, List, [], ◌∷◌, ◌++◌, length, Option, None, Some, option_map, Bool, true, false, Result, Ok}
 use Rattle.vast.specs.NumberedWords.{Word}
 use Rattle.vast.specs.NumberedExpressions as text
@@ -45,8 +45,8 @@ abbrev pub lowered_action : Table → Option Word → Action → Lowered
 lowered_action table word action = at_next table (number_in word) action
 
 -- the same, with these places in front
-abbrev pub places_behind : List ℕ → Result Lowered ElabFault → Result Lowered ElabFault
-places_behind before answer = answer >>= λ lowered. Ok (record { table = lowered.table; places = before ++ lowered.places })
+abbrev pub with_places_before : List ℕ → Result Lowered ElabFault → Result Lowered ElabFault
+with_places_before before answer = answer >>= λ lowered. Ok (record { table = lowered.table; places = before ++ lowered.places })
 
 -- ---- assignments (9.2), delays (9.7.1, 9.7.7) and tasks
 
@@ -103,8 +103,8 @@ pub record LoweredBranches : Type 0 where
   pub otherwise : List ℕ
 
 -- the same, with these branches and these places of a `default` in front
-abbrev pub branches_behind : List Branch → List ℕ → Result LoweredBranches ElabFault → Result LoweredBranches ElabFault
-branches_behind before places answer =
+abbrev pub with_branches_before : List Branch → List ℕ → Result LoweredBranches ElabFault → Result LoweredBranches ElabFault
+with_branches_before before places answer =
     answer >>= λ lowered. Ok (record { table = lowered.table; branches = before ++ lowered.branches; otherwise = places ++ lowered.otherwise })
 
 -- 9.5: an item in front of a statement, in a list of one; each is a branch of its own with the same places
@@ -116,8 +116,8 @@ lower_labels scope places text.none = Ok []
 lower_labels scope places (text.first item more) =
     lower_label scope places item >>= λ front. lower_labels scope places more >>= λ others. Ok (front ++ others)
 
--- A statement behind what the table has. `begin`, `end` and `;` are no action. What stands in front of a statement is looked at before the
--- statement, and the actions of a statement inside stand before the action that it stands in.
+-- What a statement adds to a table. `begin`, `end` and `;` are no action. A condition, a value, a count, a delay or an event control is
+-- lowered before the body, the items of a `case` after the statement that they stand before. An action stands after those of its body.
 abbrev mutual
   pub lower_statement : Scope → Table → StatementTree → Result Lowered ElabFault
   lower_statement scope table empty = Ok (record { table = table; places = [] })
@@ -152,11 +152,11 @@ abbrev mutual
   -- the first assignment, and then a `while` whose body ends with the other one
   lower_statement scope table (for_loop target value condition next_target next_value body) =
       lower_assignment true scope table target None value >>= λ first.
-      places_behind first.places
+      with_places_before first.places
       (
       lower_expression scope condition >>= λ test.
       lower_statement scope first.table body >>= λ inner.
-      places_behind inner.places (lower_assignment true scope inner.table next_target None next_value) >>= λ turn.
+      with_places_before inner.places (lower_assignment true scope inner.table next_target None next_value) >>= λ turn.
       Ok (lowered_action turn.table (first_in condition) (While test turn.places))
       )
   lower_statement scope table (wait_for condition body) =  -- 9.7.6
@@ -176,7 +176,7 @@ abbrev mutual
   pub lower_all : Scope → Table → StatementTrees → Result Lowered ElabFault
   lower_all scope table no_statement = Ok (record { table = table; places = [] })
   lower_all scope table (first_statement statement rest) =
-      lower_statement scope table statement >>= λ front. places_behind front.places (lower_all scope front.table rest)
+      lower_statement scope table statement >>= λ front. with_places_before front.places (lower_all scope front.table rest)
 
   pub lower_branch : Scope → Table → BranchTree → Result LoweredBranches ElabFault
   lower_branch scope table (labelled items body) =
@@ -190,4 +190,4 @@ abbrev mutual
   pub lower_branches : Scope → Table → BranchTrees → Result LoweredBranches ElabFault
   lower_branches scope table no_branch = Ok (record { table = table; branches = []; otherwise = [] })
   lower_branches scope table (first_branch branch rest) =
-      lower_branch scope table branch >>= λ front. branches_behind front.branches front.otherwise (lower_branches scope front.table rest)
+      lower_branch scope table branch >>= λ front. with_branches_before front.branches front.otherwise (lower_branches scope front.table rest)

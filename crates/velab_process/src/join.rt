@@ -9,7 +9,7 @@ ghost use Rattle.vexpr_parse.specs.Texts.{words_of};
 ghost use Rattle.vmodules.specs.Inner.{port_form, value_tree};
 ghost use Rattle.velab_expr.specs.Answers.{Gives, Makes};
 ghost use Rattle.velab_expr.specs.Rules.{IsBroken};
-ghost use Rattle.velab_process.specs.Processes.{begins_behind};
+ghost use Rattle.velab_process.specs.Processes.{with_begins_before};
 ghost use Rattle.velab_process.specs.Connections as spec;
 ghost use Rattle.velab_process.specs.Connections.{lower_input, lower_output, lower_connection};
 ghost use Rattle.velab_process.specs.Inner.{name_of, joins_of, join_of, lowered_joins_of, broken_joins_of, HaveLowered};
@@ -50,7 +50,7 @@ fn put_process(
     into: &mut Vec<Places>,
 ) -> Result<(), OrMemory<ElabFault>>
     ensures { Makes result (record { table = table.new; begins = into.new.items })
-        (begins_behind into.old.items (Ok (spec.one_process table.old
+        (with_begins_before into.old.items (Ok (spec.one_process table.old
         (Some (numbered (words_of tokens.now) whose)) action))) }
 {
     let mut begins = Vec::new(alloc);
@@ -144,7 +144,7 @@ fn lower_connected(
     into: &mut Vec<Places>,
 ) -> Result<(), OrMemory<ElabFault>>
     ensures { Makes result (record { table = table.new; begins = into.new.items })
-        (begins_behind into.old.items (spec.lower_join (numbered (words_of tokens.now) whose)
+        (with_begins_before into.old.items (spec.lower_join (numbered (words_of tokens.now) whose)
         outer.now inner.now table.old (port_form (words_of tokens.now) port.now)
         (Some (text_tree (words_of tokens.now) value.now)))) }
 {
@@ -165,7 +165,7 @@ fn lower_join(
     into: &mut Vec<Places>,
 ) -> Result<(), OrMemory<ElabFault>>
     ensures { Makes result (record { table = table.new; begins = into.new.items })
-        (begins_behind into.old.items (join_of (words_of tokens.now) whose outer.now inner.now
+        (with_begins_before into.old.items (join_of (words_of tokens.now) whose outer.now inner.now
         connections.now table.old port.now)) }
 {
     match connections.value(letters(tokens, port.name)) {
@@ -189,7 +189,7 @@ fn lower_joins(
     into: &mut Vec<Places>,
 ) -> Result<(), OrMemory<ElabFault>>
     ensures { Makes result (record { table = table.new; begins = into.new.items })
-        (begins_behind into.old.items (joins_of (words_of tokens.now) whose outer.now inner.now
+        (with_begins_before into.old.items (joins_of (words_of tokens.now) whose outer.now inner.now
         connections.now table.old ports.now)) }
 {
     for port in ports {
@@ -209,8 +209,9 @@ fn lower_joins(
 }
 
 /// A process for each port that is connected, in the order of the ports, behind the processes that there are. `outer` are the names
-/// where the instance stands, `inner` its own, `connections` what its ports are connected to, `whose` the token of its name. E303 or E310 where
-/// a name that is connected is wrong, E305 where an output isn't connected to a name alone; E901.
+/// where the instance stands, `inner` its own, `connections` what its ports are connected to, `whose` the token of its name. E303 or E310
+/// where a name that is connected is wrong, E305 where an output isn't connected to a name alone, E306 or E307 where what is constant in
+/// a connection is wrong; E901.
 pub fn put_joins(
     alloc: Global,
     outer: &Scope<'_, '_>,
@@ -223,7 +224,7 @@ pub fn put_joins(
     into: &mut Vec<Places>,
 ) -> Result<(), OrMemory<ElabFault>>
     ensures makes { Makes result (record { table = table.new; begins = into.new.items })
-        (begins_behind into.old.items (joins_of (words_of tokens.now) whose outer.now inner.now
+        (with_begins_before into.old.items (joins_of (words_of tokens.now) whose outer.now inner.now
         connections.now table.old ports.now)) }
     ensures ok { HaveLowered result (lowered_joins_of (words_of tokens.now) whose outer.now
         inner.now connections.now table.old ports.now) into.old table.new into.new }

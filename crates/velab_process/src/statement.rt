@@ -6,9 +6,9 @@ ghost use Rattle.velab_expr.specs.Inner.{symbols_in};
 ghost use Rattle.velab_expr.specs.Rules.{IsBroken};
 ghost use Rattle.velab_process.specs.Prints.{when_of};
 ghost use Rattle.velab_process.specs.Statements as spec;
-ghost use Rattle.velab_process.specs.Statements.{at_next, places_behind, branches_behind, lower_amount, lower_own_amount, lower_label, lower_labels, lower_statement};
+ghost use Rattle.velab_process.specs.Statements.{at_next, with_places_before, with_branches_before, lower_amount, lower_own_amount, lower_label, lower_labels, lower_statement};
 ghost use Rattle.velab_process.specs.Processes as processes;
-ghost use Rattle.velab_process.specs.Processes.{procedural, continuous, begins_behind, lower_processes, lowered_items, broken_items_from};
+ghost use Rattle.velab_process.specs.Processes.{procedural, continuous, with_begins_before, lower_processes, lowered_items, broken_items_from};
 ghost use Rattle.velab_process.specs.Inner.{Begins, HaveLowered, lower_loop as spec_loop, starts_in, drives_in, processes_of_item, processes_of};
 ghost use Rattle.vast.specs.Words.{Text};
 ghost use Rattle.vast.specs.NumberedTrees.{tree_of as text_tree, trees_of};
@@ -73,7 +73,7 @@ pub fn put(
     action: Action,
 ) -> Result<(), OrMemory<ElabFault>>
     ensures { Makes result (record { table = table.new; places = into.new.items })
-        (places_behind into.old.items (Ok (at_next table.old word action))) }
+        (with_places_before into.old.items (Ok (at_next table.old word action))) }
 {
     into.push(table.actions.len())?;
     table.origins.push(at)?;
@@ -176,7 +176,7 @@ fn lower_assignment(
     into: &mut Vec<usize>,
 ) -> Result<(), OrMemory<ElabFault>>
     ensures { Makes result (record { table = table.new; places = into.new.items })
-        (places_behind into.old.items (spec.lower_assignment blocking scope.now table.old
+        (with_places_before into.old.items (spec.lower_assignment blocking scope.now table.old
         (target_tree (words_of tokens.now) target.now)
         (option_map (delay_tree (words_of tokens.now)) amount.now)
         (text_tree (words_of tokens.now) value.now))) }
@@ -320,7 +320,7 @@ fn lower_print(
     into: &mut Vec<usize>,
 ) -> Result<(), OrMemory<ElabFault>>
     ensures { Makes result (record { table = table.new; places = into.new.items })
-        (places_behind into.old.items (spec.lower_task scope.now table.old
+        (with_places_before into.old.items (spec.lower_task scope.now table.old
         (print kind (map (argument_tree (words_of tokens.now)) arguments.now)))) }
 {
     let pieces = pieces_in(alloc, scope, tokens, arguments)?;
@@ -339,7 +339,7 @@ fn lower_task(
     into: &mut Vec<usize>,
 ) -> Result<(), OrMemory<ElabFault>>
     ensures { Makes result (record { table = table.new; places = into.new.items })
-        (places_behind into.old.items
+        (with_places_before into.old.items
         (spec.lower_task scope.now table.old (task_tree (words_of tokens.now) task.now))) }
 {
     match task {
@@ -368,7 +368,7 @@ fn lower(
     into: &mut Vec<usize>,
 ) -> Result<(), OrMemory<ElabFault>>
     ensures { Makes result (record { table = table.new; places = into.new.items })
-        (places_behind into.old.items
+        (with_places_before into.old.items
         (lower_statement scope.now table.old (statement_tree (words_of tokens.now) statement.now))) }
 {
     match statement {
@@ -555,7 +555,7 @@ fn lower_loop(
     into: &mut Vec<usize>,
 ) -> Result<(), OrMemory<ElabFault>>
     ensures { Makes result (record { table = table.new; places = into.new.items })
-        (places_behind into.old.items (spec_loop scope.now table.old
+        (with_places_before into.old.items (spec_loop scope.now table.old
         (text_tree (words_of tokens.now) condition.now)
         (statement_tree (words_of tokens.now) body.now)
         (target_tree (words_of tokens.now) next_target.now)
@@ -593,7 +593,7 @@ fn lower_all(
     into: &mut Vec<usize>,
 ) -> Result<(), OrMemory<ElabFault>>
     ensures { Makes result (record { table = table.new; places = into.new.items })
-        (places_behind into.old.items
+        (with_places_before into.old.items
         (spec.lower_all scope.now table.old (statement_trees (words_of tokens.now) statements.now))) }
 {
     for statement in statements {
@@ -616,7 +616,7 @@ fn lower_case(
     into: &mut Vec<usize>,
 ) -> Result<(), OrMemory<ElabFault>>
     ensures { Makes result (record { table = table.new; places = into.new.items })
-        (places_behind into.old.items (lower_statement scope.now table.old
+        (with_places_before into.old.items (lower_statement scope.now table.old
         (case_of kind (text_tree (words_of tokens.now) value.now)
         (branch_trees (words_of tokens.now) branches.now)))) }
 {
@@ -656,7 +656,7 @@ fn lower_branches(
       table = table.new;
       branches = into.new.items;
       otherwise = otherwise.new.items;
-    }) (branches_behind into.old.items otherwise.old.items
+    }) (with_branches_before into.old.items otherwise.old.items
         (spec.lower_branches scope.now table.old (branch_trees (words_of tokens.now) branches.now))) }
 {
     for branch in branches {
@@ -679,7 +679,7 @@ fn lower_branch(
       table = table.new;
       branches = into.new.items;
       otherwise = otherwise.new.items;
-    }) (branches_behind into.old.items otherwise.old.items
+    }) (with_branches_before into.old.items otherwise.old.items
         (spec.lower_branch scope.now table.old (branch_tree (words_of tokens.now) branch.now))) }
 {
     match branch {
@@ -702,7 +702,7 @@ fn lower_forever(
     into: &mut Vec<usize>,
 ) -> Result<(), OrMemory<ElabFault>>
     ensures { Makes result (record { table = table.new; places = into.new.items })
-        (places_behind into.old.items (lower_statement scope.now table.old
+        (with_places_before into.old.items (lower_statement scope.now table.old
         (forever (statement_tree (words_of tokens.now) statement.now)))) }
 {
     let inner = lower_body(alloc, scope, tokens, statement, table)?;
@@ -721,7 +721,7 @@ fn lower_drive(
     into: &mut Vec<usize>,
 ) -> Result<(), OrMemory<ElabFault>>
     ensures { Makes result (record { table = table.new; places = into.new.items })
-        (places_behind into.old.items (processes.lower_drive scope.now table.old
+        (with_places_before into.old.items (processes.lower_drive scope.now table.old
         (numbered (words_of tokens.now) net) (text_tree (words_of tokens.now) value.now))) }
 {
     let number = number_of(scope, tokens, net)?;
@@ -746,7 +746,7 @@ fn lower_net(
     into: &mut Vec<Places>,
 ) -> Result<(), OrMemory<ElabFault>>
     ensures { Makes result (record { table = table.new; begins = into.new.items })
-        (begins_behind into.old.items (lower_processes scope.now table.old (continuous
+        (with_begins_before into.old.items (lower_processes scope.now table.old (continuous
         (numbered (words_of tokens.now) net) (text_tree (words_of tokens.now) value.now) ∷ []))) }
 {
     let mut begins = Vec::new(alloc);
@@ -766,7 +766,7 @@ fn lower_variable(
     into: &mut Vec<Places>,
 ) -> Result<(), OrMemory<ElabFault>>
     ensures { Makes result (record { table = table.new; begins = into.new.items })
-        (begins_behind into.old.items (lower_processes scope.now table.old (procedural (assign
+        (with_begins_before into.old.items (lower_processes scope.now table.old (procedural (assign
         (whole (numbered (words_of tokens.now) name)) None
         (text_tree (words_of tokens.now) value.now)) ∷ []))) }
 {
@@ -798,7 +798,7 @@ fn lower_start(
     into: &mut Vec<Places>,
 ) -> Result<(), OrMemory<ElabFault>>
     ensures { Makes result (record { table = table.new; begins = into.new.items })
-        (begins_behind into.old.items (lower_processes scope.now table.old
+        (with_begins_before into.old.items (lower_processes scope.now table.old
         (starts_in (words_of tokens.now) word (one.now ∷ [])))) }
 {
     match &one.value {
@@ -821,7 +821,7 @@ fn lower_starts(
     into: &mut Vec<Places>,
 ) -> Result<(), OrMemory<ElabFault>>
     ensures { Makes result (record { table = table.new; begins = into.new.items })
-        (begins_behind into.old.items (lower_processes scope.now table.old
+        (with_begins_before into.old.items (lower_processes scope.now table.old
         (starts_in (words_of tokens.now) word list.now))) }
 {
     for one in list {
@@ -840,7 +840,7 @@ fn lower_setting(
     into: &mut Vec<Places>,
 ) -> Result<(), OrMemory<ElabFault>>
     ensures { Makes result (record { table = table.new; begins = into.new.items })
-        (begins_behind into.old.items (lower_processes scope.now table.old
+        (with_begins_before into.old.items (lower_processes scope.now table.old
         (drives_in (words_of tokens.now) (one.now ∷ [])))) }
 {
     lower_net(alloc, scope, tokens, one.name, &one.value, table, into)
@@ -856,7 +856,7 @@ fn lower_drives(
     into: &mut Vec<Places>,
 ) -> Result<(), OrMemory<ElabFault>>
     ensures { Makes result (record { table = table.new; begins = into.new.items })
-        (begins_behind into.old.items (lower_processes scope.now table.old
+        (with_begins_before into.old.items (lower_processes scope.now table.old
         (drives_in (words_of tokens.now) list.now))) }
 {
     for one in list {
@@ -875,7 +875,7 @@ fn lower_item(
     into: &mut Vec<Places>,
 ) -> Result<(), OrMemory<ElabFault>>
     ensures { Makes result (record { table = table.new; begins = into.new.items })
-        (begins_behind into.old.items (processes_of_item (words_of tokens.now) scope.now table.old
+        (with_begins_before into.old.items (processes_of_item (words_of tokens.now) scope.now table.old
         item.now)) }
 {
     match item {
@@ -918,7 +918,7 @@ fn lower_items(
 ) -> Result<(), OrMemory<ElabFault>>
     requires small { scope.now.known + length (symbols_in (words_of tokens.now) items.now) < 2 ^ 64 }
     ensures { Makes result (record { table = table.new; begins = into.new.items })
-        (begins_behind into.old.items
+        (with_begins_before into.old.items
         (processes_of (words_of tokens.now) scope.now table.old items.now)) }
 {
     let mut known = scope.known;
@@ -942,7 +942,7 @@ pub fn put_processes(
 ) -> Result<(), OrMemory<ElabFault>>
     requires small { scope.now.known + length (symbols_in (words_of tokens.now) items.now) < 2 ^ 64 }
     ensures makes { Makes result (record { table = table.new; begins = into.new.items })
-        (begins_behind into.old.items
+        (with_begins_before into.old.items
         (processes_of (words_of tokens.now) scope.now table.old items.now)) }
     ensures ok { HaveLowered result (lowered_items scope.now table.old
         (map (item_tree (words_of tokens.now)) items.now)) into.old table.new into.new }

@@ -1,10 +1,10 @@
 use Rattle.std.proofs.Common.{◌≡◌, drop}
 use Rattle.vexpr_parse.specs.Texts.{words_of}
-use Rattle.velab_process.specs.Processes.{begins_behind}
+use Rattle.velab_process.specs.Processes.{with_begins_before}
 use Rattle.velab_process.specs.Inner.{joins_of}
 use Rattle.velab_process.proofs.join.lower_joins.Given as goal
 
 abbrev pub invariant-loop-port : goal.invariant-loop-port
 invariant-loop-port l =
-    begins_behind l.into.items (joins_of (words_of l.tokens) l.whose l.outer l.inner l.connections l.table (drop l.port-index l.ports))
-    ≡ begins_behind l.initial.into.items (joins_of (words_of l.tokens) l.whose l.outer l.inner l.connections l.initial.table l.ports)
+    with_begins_before l.into.items (joins_of (words_of l.tokens) l.whose l.outer l.inner l.connections l.table (drop l.port-index l.ports))
+    ≡ with_begins_before l.initial.into.items (joins_of (words_of l.tokens) l.whose l.outer l.inner l.connections l.initial.table l.ports)

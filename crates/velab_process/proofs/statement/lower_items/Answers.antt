@@ -7,7 +7,7 @@ use Rattle.velab_expr.specs.Scopes.{Scope, at}
 use Rattle.velab_expr.specs.Symbols.{symbols_by}
 use Rattle.velab_expr.proofs.AnswerLemmas.{hands_on, still_refused}
 use Rattle.velab_expr.proofs.ListLemmas.{drop_at}
-use Rattle.velab_process.specs.Processes.{begins_behind}
+use Rattle.velab_process.specs.Processes.{with_begins_before}
 use Rattle.velab_process.specs.Inner.{processes_of, processes_of_item}
 use Rattle.velab_process.proofs.ProcessLemmas.{item_put, fewer_given, processes_refused}
 use Rattle.velab_process.proofs.statement.lower_items.Goals as goal
@@ -35,12 +35,12 @@ returns-in_err-lower_item c =
     let here = at scope c.loop-item.known in
     let later = at scope (c.loop-item.known + length (symbols_by (item_tree words c.item-item.result))) in
     let rest = drop (c.loop-item.item-index + 1) c.args.items.now in
-    let all = begins_behind c.args.into.now.items (processes_of words scope c.args.table.now c.args.items.now) in
+    let all = with_begins_before c.args.into.now.items (processes_of words scope c.args.table.now c.args.items.now) in
     hands_on c.from_residual.result c.in_err-lower_item.field-0.0 (record { table = c.lower_item.new.table; begins = c.lower_item.new.into.items }) all c.from_residual.ensures.1
-    (still_refused (begins_behind before (processes_of_item words c.at-here.result c.loop-item.table c.item-item.result)) all
+    (still_refused (with_begins_before before (processes_of_item words c.at-here.result c.loop-item.table c.item-item.result)) all
     (λ fault h. sym c.loop-item.invariant.same
-    ∙ ap (λ (l : List ModuleItem). begins_behind before (processes_of words here c.loop-item.table l))
+    ∙ ap (λ (l : List ModuleItem). with_begins_before before (processes_of words here c.loop-item.table l))
     (drop_at c.args.items.now c.loop-item.item-index c.item-item.result c.loop-item-test.true c.item-item.is)
     ∙ processes_refused before (λ t. processes_of words later t rest) (processes_of_item words here c.loop-item.table c.item-item.result) fault
-    (ap (λ (s : Scope). begins_behind before (processes_of_item words s c.loop-item.table c.item-item.result)) (sym c.at-here.ensures) ∙ h))
+    (ap (λ (s : Scope). with_begins_before before (processes_of_item words s c.loop-item.table c.item-item.result)) (sym c.at-here.ensures) ∙ h))
     c.in_err-lower_item.field-0.0 c.in_err-lower_item.ensures)

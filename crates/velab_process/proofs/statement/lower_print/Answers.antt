@@ -7,7 +7,7 @@ use Rattle.velab_expr.specs.declared.fault.ElabFault.{ElabFault}
 use Rattle.velab_expr.specs.Answers.{◌>>=◌, Makes}
 use Rattle.velab_expr.specs.FirstWords.{first_argument}
 use Rattle.velab_process.specs.Prints.{when_of, lower_line}
-use Rattle.velab_process.specs.Statements.{Lowered, at_next, lowered_action, places_behind}
+use Rattle.velab_process.specs.Statements.{Lowered, at_next, lowered_action, with_places_before}
 use Rattle.velab_process.proofs.statement.lower_print.Goals as goal
 
 pub returns : goal.returns
@@ -19,5 +19,5 @@ returns c =
     let same : Ok (at_next table c.first_argument.result c.print_action-action.result) ≡ (lower_line c.args.scope.now trees >>= then) =
     (λ i. Ok (at_next table (c.first_argument.ensures words i) (c.print_action-action.ensures i)))
     ∙ sym (ap (λ (a : Result (List Piece) ElabFault). a >>= then) c.in_ok-pieces.ensures) in
-    subst (λ (answer : Result Lowered ElabFault). Makes c.put.result (record { table = c.put.new.table; places = c.put.new.into.items }) (places_behind c.args.into.now.items answer))
+    subst (λ (answer : Result Lowered ElabFault). Makes c.put.result (record { table = c.put.new.table; places = c.put.new.into.items }) (with_places_before c.args.into.now.items answer))
     same c.put.ensures
