@@ -20,6 +20,11 @@ pub trait HistorySink {
         ensures ok { OnOk result (takes self.old items.now self.new) }
         ensures err { IfErr result (λ fault. fails self.old items.now fault self.new) };
 
+    /// Whether it has all that it is to hold: then a run may pause, and go on into another sink.
+    fn is_full(&self) -> bool {
+        false
+    }
+
     /// To take nothing changes nothing.
     ghost none: { (s : Self) → takes s [] s };
 
