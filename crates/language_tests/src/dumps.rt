@@ -250,7 +250,8 @@ fn dump_of_chosen_scopes(rt: HostRuntime) -> Result<(), Fail> {
     Ok(())
 }
 
-// Eight bytes have room for two pieces of four, and for no more.
+// Eight bytes have room for two pieces of four. A byte more makes the text full, but it is held all the same, as a mebibyte is; past that
+// nothing is.
 #[test]
 fn held_to_the_last_byte(rt: HostRuntime) -> Result<(), Fail> {
     let mut held = HeldText::new(rt.alloc(), 8);
@@ -259,7 +260,16 @@ fn held_to_the_last_byte(rt: HostRuntime) -> Result<(), Fail> {
     assert_eq!(rt; held.put(b""), Ok(()));
     assert_eq!(rt; held.put(b"b1 !"), Ok(()));
     assert_eq!(rt; held.text(), &b"#12\nb1 !"[..]);
-    assert_eq!(rt; held.put(b"\n"), Err(Full));
+    assert!(rt; !held.is_full());
+    assert_eq!(rt; held.put(b"\n"), Ok(()));
+    assert_eq!(rt; held.text(), &b"#12\nb1 !\n"[..]);
+    assert!(rt; held.is_full());
+    let mut long = Vec::new(rt.alloc());
+    long.resize(1_048_576, b'x')?;
+    assert_eq!(rt; held.put(&long), Err(Full));
+    long.resize(1_048_575, b'x')?;
+    assert_eq!(rt; held.put(&long), Ok(()));
+    assert_eq!(rt; held.text().len(), 1_048_584);
     Ok(())
 }
 

@@ -10,7 +10,7 @@ use Rattle.lines_text.specs.declared.sink.LinesSink.{LinesSink}
 use Rattle.lines_text.specs.LinesText.{item_text, in_force_after, lines_from}
 use Rattle.lines_text.specs.Sinks.{in_force_over, text_of, Takes, Fails}
 
-text_joins : (design : Design) (m : InForce) (xs ys : List Item) →
+pub text_joins : (design : Design) (m : InForce) (xs ys : List Item) →
     lines_from design m (xs ++ ys) ≡ lines_from design m xs ++ lines_from design (in_force_over design m xs) ys
 text_joins design m [] ys = refl
 text_joins design m (x ∷ xs) ys =

@@ -44,6 +44,26 @@ impl<'a, O: ByteSink> LinesSink<'a, O> {
         }
     }
 
+    /// Lines that have come so far, which the byte sink has.
+    pub fn resumed(
+        alloc: Global,
+        design: &'a Design,
+        byte_sink: &'a mut O,
+        in_force: InForce,
+    ) -> LinesSink<'a, O>
+        ensures same_byte_sink { result.byte_sink.ghost_name ≡ byte_sink.entry.ghost_name }
+        ensures unwritten { result.byte_sink.now ≡ byte_sink.old }
+        ensures design { result.design.now ≡ design.now }
+        ensures in_force { result.in_force ≡ in_force }
+    {
+        LinesSink {
+            alloc,
+            design,
+            byte_sink,
+            in_force,
+        }
+    }
+
     // The monitor of this place prints.
     fn tell(&mut self, place: usize, time: u64, values: &[Vec4]) -> Result<(), OrMemory<O::Fault>>
         ensures ok { OnOk result (Tells O.takes self.old place time values.now self.new) }
@@ -106,13 +126,22 @@ impl<'a, O: ByteSink> LinesSink<'a, O> {
         ensures same_byte_sink { result.ghost_name ≡ self.entry.byte_sink.ghost_name }
         ensures written { result.now ≡ self.entry.byte_sink.now }
     {
+        self.into_parts().0
+    }
+
+    /// The same, and the monitor in force.
+    pub fn into_parts(self) -> (&'a mut O, InForce)
+        ensures same_byte_sink { result.0.ghost_name ≡ self.entry.byte_sink.ghost_name }
+        ensures written { result.0.now ≡ self.entry.byte_sink.now }
+        ensures in_force { result.1 ≡ self.entry.in_force }
+    {
         let LinesSink {
             alloc: _,
             design: _,
             byte_sink,
-            in_force: _,
+            in_force,
         } = self;
-        byte_sink
+        (byte_sink, in_force)
     }
 }
 
@@ -138,6 +167,10 @@ impl<'a, O: ByteSink> HistorySink for LinesSink<'a, O> {
             }
         }
         Ok(())
+    }
+
+    fn is_full(&self) -> bool {
+        self.byte_sink.is_full()
     }
 
     ghost none = { takes_none O.takes O.fails O.lawful };

@@ -12,6 +12,7 @@ use Rattle.vcd_text.specs.declared.progress.Progress.TheVariants.{Waiting, Start
 use Rattle.vcd_text.specs.Sinks.{end_text, history_text, items_text, last_line, progress_over, start_text, text_at_time, text_of, Takes, Fails}
 use Rattle.vcd_text.specs.ByteSinks.{IsByteSink, Stopped}
 use Rattle.vcd_text.specs.ByteSinkLaws.{stopped_after, stopped_before}
+use Rattle.vcd_text.specs.SinkLaws.{text_joins}
 use Rattle.basis.specs.declared.memory.OrMemory.{OrMemory}
 use Rattle.vcd_text.specs.declared.sink.DumpSink.{DumpSink}
 
@@ -98,6 +99,19 @@ module _ (design : Design) (end : ℕ) where
 
 pub whole_text : (design : Design) (history : History) → history_text design history ≡ vcd design history
 whole_text design history = waiting_text design history.end.time [] history.items
+
+-- the text of what came first stands at the front of the dump
+pub front_of_dump : (design : Design) (history : History) (first later : List Item) → history.items ≡ first ++ later →
+    (rest : List ℕ) × (vcd design history ≡ items_text design (Waiting []) first ++ rest)
+front_of_dump design history first later is =
+    let end : List ℕ = end_text (progress_over design (Waiting []) history.items) history.end.time in
+    let more : List ℕ = items_text design (progress_over design (Waiting []) first) later in (
+      more ++ end,
+      sym (whole_text design history)
+          ∙ ap (λ (items : List Item). items_text design (Waiting []) items ++ end) is
+          ∙ ap (λ (text : List ℕ). text ++ end) (text_joins design (Waiting []) first later)
+          ∙ append_assoc (items_text design (Waiting []) first) more end,
+    )
 
 -- ---- of a sink with nothing come
 

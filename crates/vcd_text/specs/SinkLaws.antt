@@ -9,7 +9,7 @@ use Rattle.vcd_text.specs.ByteSinkLaws.{stopped_after, stopped_before}
 use Rattle.vcd_text.specs.declared.progress.Progress.{Progress}
 use Rattle.vcd_text.specs.Sinks.{item_text, items_text, progress_after, progress_over, text_of, Takes, Fails}
 
-text_joins : (design : Design) (p : Progress) (xs ys : List Item) →
+pub text_joins : (design : Design) (p : Progress) (xs ys : List Item) →
     items_text design p (xs ++ ys) ≡ items_text design p xs ++ items_text design (progress_over design p xs) ys
 text_joins design p [] ys = refl
 text_joins design p (x ∷ xs) ys =

@@ -20,6 +20,11 @@ pub trait ByteSink {
         ensures ok { OnOk result (takes self.old text.now self.new) }
         ensures err { IfErr result (λ fault. fails self.old text.now fault self.new) };
 
+    /// Whether it has all that it is to hold. It takes more all the same.
+    fn is_full(&self) -> bool {
+        false
+    }
+
     /// Nothing changes nothing, texts may come joined, and a fault in a text is one in it with more around it.
     ghost lawful: { IsByteSink takes fails };
 }

@@ -10,7 +10,7 @@ use vdesign::dump::DumpCommand;
 
 /// The dump commands of a slot, in the order of their steps. A clause sees their list.
 #[derive(Drop)]
-pub(crate) struct Commands {
+pub struct Commands {
     list: Vec<DumpCommand>,
 }
 

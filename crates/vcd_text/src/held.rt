@@ -10,8 +10,9 @@ use std::marker::Model;
 /// As many bytes are held of texts that can be made again.
 pub const HELD_BYTES: usize = 1_048_576;
 
-/// Holds texts, one behind another, while they fit into the bytes that it was given room for. Its value is what it holds.
-/// Who finds it full can make the text again, slot by slot: so a refused growth counts as full, and not as want of memory.
+/// Holds texts, one after another. Its value is what it holds. It is full when that no longer fits into the room that it was given, but it
+/// takes as much as `HELD_BYTES` more, so that whoever looks at it between two slots finds whole ones in it. Past that, and where memory is
+/// refused, a text fails as `Full`: the caller can make all of it again, slot by slot.
 #[derive(Drop)]
 pub struct HeldText {
     text: Vec<u8>,
@@ -56,16 +57,18 @@ impl ByteSink for HeldText {
     ghost fails = { λ _ _ _ _. ⊤ };
 
     fn put(&mut self, text: &[u8]) -> Result<(), Full> {
-        let Some(room) = self.room.checked_sub(text.len()) else {
+        let most = self.room.saturating_add(HELD_BYTES);
+        if text.len() > most.saturating_sub(self.text.len()) {
             return Err(Full);
-        };
+        }
         match self.text.extend_from_slice(text) {
-            Ok(()) => {
-                self.room = room;
-                Ok(())
-            }
+            Ok(()) => Ok(()),
             Err(_) => Err(Full),
         }
+    }
+
+    fn is_full(&self) -> bool {
+        self.text.len() > self.room
     }
 
     ghost lawful = { held_laws };

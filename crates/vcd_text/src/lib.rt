@@ -26,6 +26,7 @@ pub use fault::{Full, Never, TooMany, WriteFault};
 pub use held::{HELD_BYTES, HeldText};
 pub use law::{dumps_are_readable, expected_is_whole, sinks_complete_dumps};
 pub use metered::Metered;
+pub use progress::Progress;
 pub use sink::DumpSink;
 pub use values::put_digits;
 pub use write::write_vcd;

@@ -16,7 +16,7 @@ use vmodel::values::Values;
 
 /// How far a dump has come.
 #[derive(Drop)]
-pub(crate) enum Progress {
+pub enum Progress {
     /// No slot with a `$dumpvars` has ended; the commands of the slot that runs.
     Waiting(Commands),
     /// The last time line; whether the slots that ended left the dump on; for each variable whether it is selected; the values at the

@@ -14,7 +14,7 @@ use vdesign::dump::{Chosen, DumpCommand};
 
 /// For each variable, or for each scope, whether it is selected. A clause sees the list.
 #[derive(Drop)]
-pub(crate) struct Marks {
+pub struct Marks {
     list: Vec<bool>,
 }
 

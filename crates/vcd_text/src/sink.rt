@@ -166,6 +166,26 @@ impl<'a, O: ByteSink> DumpSink<'a, O> {
         }
     }
 
+    /// A dump that has come so far, whose text so far the byte sink has.
+    pub fn resumed(
+        alloc: Global,
+        design: &'a Design,
+        byte_sink: &'a mut O,
+        progress: Progress,
+    ) -> DumpSink<'a, O>
+        ensures same_byte_sink { result.byte_sink.ghost_name ≡ byte_sink.entry.ghost_name }
+        ensures unwritten { result.byte_sink.now ≡ byte_sink.old }
+        ensures design { result.design.now ≡ design.now }
+        ensures progress { result.progress ≡ progress }
+    {
+        DumpSink {
+            alloc,
+            design,
+            byte_sink,
+            progress,
+        }
+    }
+
     // A slot has ended.
     fn end_slot(&mut self, time: u64, values: &[Vec4]) -> Result<(), OrMemory<O::Fault>>
         ensures ok { OnOk result (Takes O.takes self.old (SlotEnd time values.now ∷ []) self.new) }
@@ -273,13 +293,22 @@ impl<'a, O: ByteSink> DumpSink<'a, O> {
         ensures same_byte_sink { result.ghost_name ≡ self.entry.byte_sink.ghost_name }
         ensures written { result.now ≡ self.entry.byte_sink.now }
     {
+        self.into_parts().0
+    }
+
+    /// The same, and how far the dump has come.
+    pub fn into_parts(self) -> (&'a mut O, Progress)
+        ensures same_byte_sink { result.0.ghost_name ≡ self.entry.byte_sink.ghost_name }
+        ensures written { result.0.now ≡ self.entry.byte_sink.now }
+        ensures progress { result.1 ≡ self.entry.progress }
+    {
         let DumpSink {
             alloc: _,
             design: _,
             byte_sink,
-            progress: _,
+            progress,
         } = self;
-        byte_sink
+        (byte_sink, progress)
     }
 }
 
@@ -314,6 +343,10 @@ impl<'a, O: ByteSink> HistorySink for DumpSink<'a, O> {
             }
         }
         Ok(())
+    }
+
+    fn is_full(&self) -> bool {
+        self.byte_sink.is_full()
     }
 
     ghost none = { takes_none O.takes O.fails O.lawful };

@@ -1,3 +1,4 @@
 mod StandLemmas
 mod RunProgressLemmas
 mod SlotLemmas
+pub mod GivenLemmas

@@ -14,11 +14,7 @@ use Rattle.vmodel.specs.Step.{Transition, idle_items, slot_end_by, slot_end_of, 
 use Rattle.vmodel.specs.Run.{is_mark}
 use Rattle.vmachine.specs.Handed.{ends_slot, in_first, by_slot, TakesEach}
 use Rattle.vmachine.specs.Inner.{HandsOn}
-
--- none of these ends a slot
-abbrev pub IsUnended : List Item → Type 0
-IsUnended [] = Unit {0}
-IsUnended (item ∷ more) = (ends_slot item ≡ false) × IsUnended more
+use Rattle.vmachine.specs.Runs.{IsCut, IsUnended, Waits}
 
 unended_both : (xs ys : List Item) → IsUnended xs → IsUnended ys → IsUnended (xs ++ ys)
 unended_both [] ys h k = k
@@ -38,10 +34,6 @@ behind_end (x ∷ xs) time values more h =
 without_end : (x : Item) (xs : List Item) → IsUnended (x ∷ xs) → by_slot (x ∷ xs) ≡ (x ∷ xs) ∷ []
 without_end x [] h = within x [] h.0
 without_end x (y ∷ ys) h = within x (y ∷ ys) h.0 ∙ ap (in_first x) (without_end y ys h.1)
-
--- what comes behind these is a slot of its own
-abbrev pub IsCut : List Item → Type 0
-IsCut front = (more : List Item) → by_slot (front ++ more) ≡ by_slot front ++ by_slot more
 
 cut_behind : (handed front : List Item) (time : ℕ) (values : List Vector) → IsCut handed → IsUnended front →
     IsCut (handed ++ (front ++ SlotEnd time values ∷ []))
@@ -92,10 +84,6 @@ over : (s : State) → is_some s.cause ≡ true → length (choices s) ≡ 0
 over s e = ap (λ (b : Bool). length (if b then [] else queue_choices s.queue)) e
 
 -- ---- what waits to be handed on
-
--- of what waits in a state only the last item ends a slot, and does where the state is a slot end
-abbrev pub Waits : List Item → State → Type 0
-Waits items s = (front : List Item) × IsUnended front × (items ≡ front ++ slot_end_of s)
 
 pub waits_more : (xs ys : List Item) (s : State) → IsUnended xs → Waits ys s → Waits (xs ++ ys) s
 waits_more xs ys s unended (front, unended_too, is) = (

@@ -3,3 +3,4 @@ pub mod MachineLaws
 pub mod Reads
 pub mod Handed
 pub mod Inner
+pub mod Runs

@@ -13,4 +13,4 @@ mod run;
 pub use law::machine_law;
 pub use machine::Machine;
 pub use machine_state::MachineState;
-pub use run::RunFault;
+pub use run::{Run, RunFault};

@@ -1,11 +1,13 @@
 // The run of a machine under a log, handed on slot by slot, or kept whole.
 
-ghost use Rattle.std.specs.Prelude.{◌≡◌, ◌++◌, ℕ, List, IfOk, IfErr, OnOk};
+ghost use Rattle.std.specs.Prelude.{◌≡◌, ◌++◌, ℕ, List, [], Decides, IfOk, IfErr, OnOk, IsSome, false};
 ghost use Rattle.basis.specs.Reasons.{IfFault};
 ghost use Rattle.basis.specs.declared.memory.OrMemory.TheVariants.{Fault};
 ghost use Rattle.vmachine.specs.declared.run.RunFault.TheVariants.{Replay};
 ghost use Rattle.vmachine.specs.Handed.{RunsInto, RunsBySlot, IsHistory, IsNoSuchRun, LeavesSink};
 ghost use Rattle.vmachine.specs.Inner.{IsOfSink, HandsOn, IsAt, IsChosen};
+ghost use Rattle.vmachine.specs.Runs.{AllWaits, IsHandedBySlot, IsHandedSo, IsRunAt, Reaches, ReachesBySlot};
+ghost use Rattle.vmodel.specs.RunProgress.{Finishes};
 ghost use Rattle.sched_core.specs.Logs.{IsLogFrom};
 ghost use Rattle.sched_core.specs.Replay.{IsReplayReason};
 ghost use Rattle.vmodel.specs.Run.{Setting, rules_of};
@@ -15,6 +17,7 @@ ghost use Rattle.vmodel.specs.InnerStep.{transition_to};
 use crate::machine::Machine;
 use basis::{NoMemory, OrMemory};
 use sched_core::{Log, Member, ReplayFault, next_choice};
+use std::convert::Infallible;
 use vdesign::design::Design;
 use vmodel::effect::Effect;
 use vmodel::history::{End, History, Item};
@@ -59,6 +62,13 @@ fn hand<S: HistorySink>(
         }
         Err(fault) => Err(OrMemory::Fault(RunFault::Sink(fault))),
     }
+}
+
+// Whether no item waits to be handed on.
+fn none_waits(pending: &[Item]) -> bool
+    ensures { Decides result (pending.now ≡ []) }
+{
+    pending.is_empty()
 }
 
 /// The choice of a step, and what is left of the log after it.
@@ -113,7 +123,174 @@ fn note(
     put_items(items, design, state, &effect, monitors)
 }
 
+/// A run on its way: what its state is after so many steps, what is left of its log, and the items that wait to be handed on. Where it
+/// has paused none wait.
+#[derive(Drop)]
+pub struct Run<'l> {
+    log: &'l Log,
+    rest: &'l [Member],
+    n: u32,
+    state: State,
+    pending: Vec<Item>,
+}
+
+// Nobody watches: items are passed over.
+#[derive(Drop)]
+struct Unwatched;
+
+impl HistorySink for Unwatched {
+    ghost use Rattle.std.specs.Prelude.{⊤};
+
+    type Fault = Infallible;
+
+    ghost takes = { λ _ _ _. ⊤ };
+
+    ghost fails = { λ _ _ _ _. ⊥ };
+
+    fn take(&mut self, items: &[Item]) -> Result<(), Infallible> {
+        Ok(())
+    }
+
+    ghost none = { λ s. tt };
+
+    ghost joins = { λ s t u xs ys p q. tt };
+
+    ghost fails_later = { λ s t u xs ys fault p q. q };
+}
+
 impl Machine {
+    /// The run under the log, of which no step has been taken.
+    pub fn open_run<'l>(&self, log: &'l Log) -> Result<Run<'l>, NoMemory>
+        ensures log { IfOk result (λ run. run.log.now ≡ log.now) }
+        ensures here { IfOk result (λ run. (steps : ℕ) → IsRunAt self.now steps run) }
+        ensures waits { IfOk result (λ run. AllWaits self.now run) }
+    {
+        let state = opening(self.alloc, &self.design, self.until, self.grain)?;
+        let mut pending = Vec::new(self.alloc);
+        put_slot_end(&mut pending, &state)?;
+        Ok(Run {
+            log,
+            rest: log.members(),
+            n: 0,
+            state,
+            pending,
+        })
+    }
+
+    // Goes on with a run, by at most `steps` steps in all, and hands on what it gives, slot by slot: to its end, or to where the sink is
+    // full, if it may pause.
+    fn walk<S: HistorySink>(
+        &self,
+        run: &mut Run<'_>,
+        may_pause: bool,
+        steps: u32,
+        sink: &mut S,
+    ) -> Result<Option<End>, OrMemory<RunFault<S::Fault>>>
+        requires here { IsRunAt self.now steps run.old }
+        ensures here { IfOk result (λ end. IsRunAt self.now steps run.new) }
+        ensures log { IfOk result (λ end. run.new.log.now ≡ run.old.log.now) }
+        ensures ends { (first : S) → IsHandedSo S.takes self.now run.old first sink.old →
+            IfOk result (Reaches S.takes self.now steps first run.new sink.new) }
+        ensures slots { (first : S) → IsHandedBySlot S.takes self.now run.old first sink.old →
+            IfOk result (ReachesBySlot S.takes self.now steps first run.new sink.new) }
+        ensures reason { IfFault result (IsNoSuchRun self.now run.old.log.now steps) }
+        ensures left { (first : S) → IsHandedSo S.takes self.now run.old first sink.old →
+            IfErr result (λ fault.
+            LeavesSink S.takes S.fails self.now run.old.log.now steps first fault sink.new) }
+        ensures whole { may_pause ≡ false → IfOk result IsSome }
+    {
+        let mut monitors = Vec::new(self.alloc);
+        'walk: loop {
+            hand(sink, &mut run.pending, run.state.is_mark())?;
+            if may_pause && none_waits(&run.pending) && sink.is_full() {
+                return Ok(None);
+            }
+            let chosen = match choose(&run.state, run.rest, run.n, steps) {
+                Ok(Some(chosen)) => chosen,
+                Ok(None) => return Ok(Some(run.state.end())),
+                Err(fault) => return Err(refused(fault)),
+            };
+            let effect = run.state.step(&self.design, chosen.choice, &mut monitors)?;
+            note(
+                &mut run.pending,
+                &self.design,
+                &run.state,
+                effect,
+                &monitors,
+            )?;
+            run.rest = chosen.later;
+            run.n += 1;
+        }
+    }
+
+    /// Goes on with a run to its end, or to the end of the first slot after which the sink is full: then the answer is None, and the run
+    /// has paused there. By at most `steps` steps in all; the faults are those of `run_into`.
+    pub fn run_till_full<S: HistorySink>(
+        &self,
+        run: &mut Run<'_>,
+        steps: u32,
+        sink: &mut S,
+    ) -> Result<Option<End>, OrMemory<RunFault<S::Fault>>>
+        requires here { IsRunAt self.now steps run.old }
+        ensures here { IfOk result (λ end. IsRunAt self.now steps run.new) }
+        ensures log { IfOk result (λ end. run.new.log.now ≡ run.old.log.now) }
+        ensures ends { (first : S) → IsHandedSo S.takes self.now run.old first sink.old →
+            IfOk result (Reaches S.takes self.now steps first run.new sink.new) }
+        ensures reason { IfFault result (IsNoSuchRun self.now run.old.log.now steps) }
+        ensures left { (first : S) → IsHandedSo S.takes self.now run.old first sink.old →
+            IfErr result (λ fault.
+            LeavesSink S.takes S.fails self.now run.old.log.now steps first fault sink.new) }
+    {
+        self.walk(run, true, steps, sink)
+    }
+
+    /// Goes on with a run to its end, by at most `steps` steps in all, and hands on what it gives, slot by slot. The faults are those of
+    /// `run_into`.
+    pub fn run_out<S: HistorySink>(
+        &self,
+        run: &mut Run<'_>,
+        steps: u32,
+        sink: &mut S,
+    ) -> Result<End, OrMemory<RunFault<S::Fault>>>
+        requires here { IsRunAt self.now steps run.old }
+        ensures ends { (first : S) → IsHandedSo S.takes self.now run.old first sink.old →
+            IfOk result (λ end. RunsInto S.takes self.now run.old.log.now steps first end sink.new) }
+        ensures slots { (first : S) → IsHandedBySlot S.takes self.now run.old first sink.old →
+            IfOk result (λ end. RunsBySlot S.takes self.now run.old.log.now steps first end sink.new) }
+        ensures reason { IfFault result (IsNoSuchRun self.now run.old.log.now steps) }
+        ensures left { (first : S) → IsHandedSo S.takes self.now run.old first sink.old →
+            IfErr result (λ fault.
+            LeavesSink S.takes S.fails self.now run.old.log.now steps first fault sink.new) }
+    {
+        match self.walk(run, false, steps, sink) {
+            Ok(Some(end)) => Ok(end),
+            Ok(None) => unreachable!(),
+            Err(fault) => Err(fault),
+        }
+    }
+
+    /// Whether a run that has paused ends, by at most `steps` steps in all: it is taken on from there, and stands where it stood.
+    /// E402, E403, E901 as `run_into` has them.
+    pub fn see_end(&self, run: &Run<'_>, steps: u32) -> Result<End, OrMemory<ReplayFault>>
+        requires here { IsRunAt self.now steps run.now }
+        ensures ends { IfOk result (λ end. (n : ℕ) × Finishes self.now run.now.log.now steps n end) }
+        ensures reason { IfFault result (IsReplayReason (rules_of self.now) run.now.log.now steps) }
+    {
+        let mut ahead = Run {
+            log: run.log,
+            rest: run.rest,
+            n: run.n,
+            state: run.state.copy(self.alloc)?,
+            pending: Vec::new(self.alloc),
+        };
+        match self.run_out(&mut ahead, steps, &mut Unwatched) {
+            Ok(end) => Ok(end),
+            Err(OrMemory::Fault(RunFault::Replay(fault))) => Err(OrMemory::Fault(fault)),
+            Err(OrMemory::Fault(RunFault::Sink(never))) => match never {},
+            Err(OrMemory::Memory(refused)) => Err(OrMemory::Memory(refused)),
+        }
+    }
+
     /// Runs the design under the log to its end, by at most `steps` steps, and hands all that it gives to its history on
     /// to the sink, in order: once for each slot, and once more for what a slot without an end left, if it left anything.
     ///
@@ -134,24 +311,8 @@ impl Machine {
         ensures left { IfErr result (λ fault.
             LeavesSink S.takes S.fails self.now log.now steps sink.old fault sink.new) }
     {
-        let mut state = opening(self.alloc, &self.design, self.until, self.grain)?;
-        let mut pending = Vec::new(self.alloc);
-        put_slot_end(&mut pending, &state)?;
-        let mut monitors = Vec::new(self.alloc);
-        let mut rest = log.members();
-        let mut n = 0;
-        'walk: loop {
-            hand(sink, &mut pending, state.is_mark())?;
-            let chosen = match choose(&state, rest, n, steps) {
-                Ok(Some(chosen)) => chosen,
-                Ok(None) => return Ok(state.end()),
-                Err(fault) => return Err(refused(fault)),
-            };
-            let effect = state.step(&self.design, chosen.choice, &mut monitors)?;
-            note(&mut pending, &self.design, &state, effect, &monitors)?;
-            rest = chosen.later;
-            n += 1;
-        }
+        let mut run = self.open_run(log)?;
+        self.run_out(&mut run, steps, sink)
     }
 
     /// The whole history of the run under the log, by at most `steps` steps; the faults are those of `run_into`.

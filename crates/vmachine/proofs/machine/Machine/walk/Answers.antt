@@ -1,0 +1,183 @@
+use Rattle.std.proofs.Common.{◌≡◌, ◌≢◌, List, [], ◌++◌, length, Option, Some, None, Ok, sym, ap, subst, ◌∙◌, append-nil, arith}
+use Rattle.basis.specs.declared.memory.OrMemory.{OrMemory}
+use Rattle.basis.specs.declared.memory.OrMemory.TheVariants.{Memory}
+use Rattle.vmodel.specs.declared.history.Item.{Item}
+use Rattle.vmodel.specs.InnerStep.{transition_to}
+use Rattle.vmodel.specs.Step.{Transition, next, items_of}
+use Rattle.vdesign.specs.Design.{Design}
+use Rattle.vmodel.specs.Run.{Setting, items_after, is_mark}
+use Rattle.vmodel.specs.RunProgress.{Finishes}
+use Rattle.vmachine.specs.declared.run.Chosen.{Chosen}
+use Rattle.vmachine.specs.declared.run.RunFault.{RunFault}
+use Rattle.vmachine.specs.Handed.{LeavesSink, TakesEach, by_slot}
+use Rattle.vmachine.specs.Inner.{IsChosen, HandsOn}
+use Rattle.vmachine.specs.Runs.{Waits}
+use Rattle.vmachine.proofs.GivenLemmas.{gave_more, taken_on}
+use Rattle.vmachine.proofs.RunProgressLemmas.{at_next, items_next, underway, handed_first, left_by, sink_left, ended_at_mark, less_differs}
+use Rattle.vmodel.specs.Choices.{choices}
+use Rattle.vmachine.proofs.SlotLemmas.{handed_on, emptied, waits_more, items_wait}
+use Rattle.vmachine.proofs.machine.Machine.walk.Goals as goal
+
+pub returns-in_err-hand-clause-left : goal.returns-in_err-hand-clause-left
+returns-in_err-hand-clause-left g c = λ first start.
+    let setting = c.args.self.now in
+    let log = c.walk.run.log.now in
+    let here = c.walk.invariant.0 in
+    let given = c.walk.invariant.2 first start in
+    left_by g.S.HistorySink.takes g.S.HistorySink.fails setting c.args.run.now.log.now c.args.steps first c.hand.new.sink c.from_residual.result c.in_err-hand.field-0.0
+    c.from_residual.ensures.1
+    (subst (λ l. LeavesSink g.S.HistorySink.takes g.S.HistorySink.fails setting l c.args.steps first c.in_err-hand.field-0.0 c.hand.new.sink) c.walk.invariant.1
+    (sink_left g.S.HistorySink.takes g.S.HistorySink.fails setting log c.args.steps first c.hand.new.sink _ c.in_err-hand.field-0.0
+    (λ fault failed. (
+      c.walk.run.n,
+      underway setting log c.walk.run.rest.now c.args.steps c.walk.run.n c.walk.run.state here,
+      subst (λ (xs : List Item). g.S.HistorySink.fails first xs fault c.hand.new.sink) given.is
+          (g.met.S.HistorySink.fails_later first c.walk.sink c.hand.new.sink given.handed c.walk.run.pending.items fault given.taken failed),
+    ))
+    c.in_err-hand.ensures.err))
+
+pub returns-then-is_full-clause-ends : goal.returns-then-is_full-clause-ends
+returns-then-is_full-clause-ends g c = λ first start.
+    let given = c.walk.invariant.2 first start in
+    let on : HandsOn g.S.HistorySink.takes (is_mark c.walk.run.state) c.walk.sink c.walk.run.pending.items c.hand.new.sink c.hand.new.pending.items =
+    subst (λ mark. HandsOn g.S.HistorySink.takes mark c.walk.sink c.walk.run.pending.items c.hand.new.sink c.hand.new.pending.items) c.is_mark.ensures c.in_ok-hand.ensures.ok in
+    let after = taken_on g.S.HistorySink.takes g.met.S.HistorySink.joins (is_mark c.walk.run.state) first c.walk.sink c.hand.new.sink given.handed c.walk.run.pending.items
+    c.hand.new.pending.items given.taken on in
+    (record { handed = after.handed; taken = after.taken; is = after.is ∙ given.is }, sym c.deref.ensures.value ∙ c.none_waits.ensures.0 c.if-none_waits.true)
+
+pub returns-in-Ok-None-clause-ends : goal.returns-in-Ok-None-clause-ends
+returns-in-Ok-None-clause-ends g c = λ first start.
+    let setting = c.args.self.now in
+    let log = c.walk.run.log.now in
+    let here = c.walk.invariant.0 in
+    let given = c.walk.invariant.2 first start in
+    let on : HandsOn g.S.HistorySink.takes (is_mark c.walk.run.state) c.walk.sink c.walk.run.pending.items c.hand.new.sink c.hand.new.pending.items =
+    subst (λ mark. HandsOn g.S.HistorySink.takes mark c.walk.sink c.walk.run.pending.items c.hand.new.sink c.hand.new.pending.items) c.is_mark.ensures c.in_ok-hand.ensures.ok in
+    let after = taken_on g.S.HistorySink.takes g.met.S.HistorySink.joins (is_mark c.walk.run.state) first c.walk.sink c.hand.new.sink given.handed c.walk.run.pending.items
+    c.hand.new.pending.items given.taken on in
+    let chosen : IsChosen setting log c.args.steps c.walk.run.n c.walk.run.state c.walk.run.rest.now (Ok None) =
+    subst (IsChosen setting log c.args.steps c.walk.run.n c.walk.run.state c.walk.run.rest.now) (c.in-Ok-None.is ∙ ap (λ (o : Option Chosen). Ok o) c.in-Ok-None.field-0-is) (c.choose.ensures setting log here) in
+    let nothing : c.hand.new.pending.items ≡ [] =
+    emptied g.S.HistorySink.takes (is_mark c.walk.run.state) c.walk.sink c.hand.new.sink c.walk.run.pending.items c.hand.new.pending.items
+    (ended_at_mark setting log c.walk.run.rest.now c.args.steps c.walk.run.n c.walk.run.state _ here chosen) on in
+    let whole : after.handed ≡ items_after setting log c.walk.run.n =
+    sym (append-nil after.handed) ∙ ap (λ (xs : List Item). after.handed ++ xs) (sym nothing) ∙ after.is ∙ given.is in (
+      c.walk.run.n,
+      subst (λ end. Finishes setting log c.args.steps c.walk.run.n end) (sym c.end.ensures) chosen,
+      subst (λ (xs : List Item). g.S.HistorySink.takes first xs c.hand.new.sink) whole after.taken,
+    )
+
+pub returns-in-Ok-None-clause-slots : goal.returns-in-Ok-None-clause-slots
+returns-in-Ok-None-clause-slots g c = λ first start.
+    let setting = c.args.self.now in
+    let log = c.walk.run.log.now in
+    let here = c.walk.invariant.0 in
+    let given = c.walk.invariant.3 first start in
+    let on : HandsOn g.S.HistorySink.takes (is_mark c.walk.run.state) c.walk.sink c.walk.run.pending.items c.hand.new.sink c.hand.new.pending.items =
+    subst (λ mark. HandsOn g.S.HistorySink.takes mark c.walk.sink c.walk.run.pending.items c.hand.new.sink c.hand.new.pending.items) c.is_mark.ensures c.in_ok-hand.ensures.ok in
+    let after =
+    handed_on g.S.HistorySink.takes g.met.S.HistorySink.joins c.walk.run.state first c.walk.sink c.hand.new.sink given.so.handed c.hand.new.pending.items
+    given.so.taken given.each given.cut c.walk.run.pending.items given.waits on in
+    let chosen : IsChosen setting log c.args.steps c.walk.run.n c.walk.run.state c.walk.run.rest.now (Ok None) =
+    subst (IsChosen setting log c.args.steps c.walk.run.n c.walk.run.state c.walk.run.rest.now) (c.in-Ok-None.is ∙ ap (λ (o : Option Chosen). Ok o) c.in-Ok-None.field-0-is) (c.choose.ensures setting log here) in
+    let nothing : c.hand.new.pending.items ≡ [] =
+    emptied g.S.HistorySink.takes (is_mark c.walk.run.state) c.walk.sink c.hand.new.sink c.walk.run.pending.items c.hand.new.pending.items
+    (ended_at_mark setting log c.walk.run.rest.now c.args.steps c.walk.run.n c.walk.run.state _ here chosen) on in
+    let whole : after.handed ≡ items_after setting log c.walk.run.n =
+    sym (append-nil after.handed) ∙ ap (λ (xs : List Item). after.handed ++ xs) (sym nothing) ∙ after.is ∙ given.so.is in (
+      c.walk.run.n,
+      subst (λ end. Finishes setting log c.args.steps c.walk.run.n end) (sym c.end.ensures) chosen,
+      subst (λ (xs : List Item). TakesEach g.S.HistorySink.takes first (by_slot xs) c.hand.new.sink) whole after.each,
+    )
+
+pub returns-in-Err-clause-left : goal.returns-in-Err-clause-left
+returns-in-Err-clause-left g c = λ first start.
+    let setting = c.args.self.now in
+    let log = c.walk.run.log.now in
+    let here = c.walk.invariant.0 in
+    let given = c.walk.invariant.2 first start in
+    let on : HandsOn g.S.HistorySink.takes (is_mark c.walk.run.state) c.walk.sink c.walk.run.pending.items c.hand.new.sink c.hand.new.pending.items =
+    subst (λ mark. HandsOn g.S.HistorySink.takes mark c.walk.sink c.walk.run.pending.items c.hand.new.sink c.hand.new.pending.items) c.is_mark.ensures c.in_ok-hand.ensures.ok in
+    let after = taken_on g.S.HistorySink.takes g.met.S.HistorySink.joins (is_mark c.walk.run.state) first c.walk.sink c.hand.new.sink given.handed c.walk.run.pending.items
+    c.hand.new.pending.items given.taken on in
+    subst (λ l. LeavesSink g.S.HistorySink.takes g.S.HistorySink.fails setting l c.args.steps first c.refused.result c.hand.new.sink) c.walk.invariant.1
+    (subst (λ (e : OrMemory (RunFault _)). LeavesSink g.S.HistorySink.takes g.S.HistorySink.fails setting log c.args.steps first e c.hand.new.sink) (sym c.refused.ensures)
+    (handed_first g.S.HistorySink.takes setting log c.walk.run.rest.now c.args.steps c.walk.run.n c.walk.run.state first c.hand.new.sink after.handed c.hand.new.pending.items here after.taken (after.is ∙ given.is)))
+
+pub returns-in_err-effect-clause-left : goal.returns-in_err-effect-clause-left
+returns-in_err-effect-clause-left g c = λ first start.
+    let setting = c.args.self.now in
+    let log = c.walk.run.log.now in
+    let here = c.walk.invariant.0 in
+    let given = c.walk.invariant.2 first start in
+    let on : HandsOn g.S.HistorySink.takes (is_mark c.walk.run.state) c.walk.sink c.walk.run.pending.items c.hand.new.sink c.hand.new.pending.items =
+    subst (λ mark. HandsOn g.S.HistorySink.takes mark c.walk.sink c.walk.run.pending.items c.hand.new.sink c.hand.new.pending.items) c.is_mark.ensures c.in_ok-hand.ensures.ok in
+    let after = taken_on g.S.HistorySink.takes g.met.S.HistorySink.joins (is_mark c.walk.run.state) first c.walk.sink c.hand.new.sink given.handed c.walk.run.pending.items
+    c.hand.new.pending.items given.taken on in
+    left_by g.S.HistorySink.takes g.S.HistorySink.fails setting c.args.run.now.log.now c.args.steps first c.hand.new.sink c.from_residual-in_err-effect.result (Memory c.in_err-effect.field-0.0)
+    c.from_residual-in_err-effect.ensures.1
+    (subst (λ l. LeavesSink g.S.HistorySink.takes g.S.HistorySink.fails setting l c.args.steps first (Memory c.in_err-effect.field-0.0) c.hand.new.sink) c.walk.invariant.1
+    (handed_first g.S.HistorySink.takes setting log c.walk.run.rest.now c.args.steps c.walk.run.n c.walk.run.state first c.hand.new.sink after.handed c.hand.new.pending.items here after.taken (after.is ∙ given.is)))
+
+pub returns-in_err-note-clause-left : goal.returns-in_err-note-clause-left
+returns-in_err-note-clause-left g c = λ first start.
+    let setting = c.args.self.now in
+    let log = c.walk.run.log.now in
+    let here = c.walk.invariant.0 in
+    let given = c.walk.invariant.2 first start in
+    let on : HandsOn g.S.HistorySink.takes (is_mark c.walk.run.state) c.walk.sink c.walk.run.pending.items c.hand.new.sink c.hand.new.pending.items =
+    subst (λ mark. HandsOn g.S.HistorySink.takes mark c.walk.sink c.walk.run.pending.items c.hand.new.sink c.hand.new.pending.items) c.is_mark.ensures c.in_ok-hand.ensures.ok in
+    let after = taken_on g.S.HistorySink.takes g.met.S.HistorySink.joins (is_mark c.walk.run.state) first c.walk.sink c.hand.new.sink given.handed c.walk.run.pending.items
+    c.hand.new.pending.items given.taken on in
+    left_by g.S.HistorySink.takes g.S.HistorySink.fails setting c.args.run.now.log.now c.args.steps first c.hand.new.sink c.from_residual-in_err-note.result (Memory c.in_err-note.field-0.0)
+    c.from_residual-in_err-note.ensures.1
+    (subst (λ l. LeavesSink g.S.HistorySink.takes g.S.HistorySink.fails setting l c.args.steps first (Memory c.in_err-note.field-0.0) c.hand.new.sink) c.walk.invariant.1
+    (handed_first g.S.HistorySink.takes setting log c.walk.run.rest.now c.args.steps c.walk.run.n c.walk.run.state first c.hand.new.sink after.handed c.hand.new.pending.items here after.taken (after.is ∙ given.is)))
+
+pub walk-preserved : goal.walk-preserved
+walk-preserved g c =
+    let setting = c.args.self.now in
+    let log = c.walk.run.log.now in
+    let here = c.walk.invariant.0 in
+    let on : HandsOn g.S.HistorySink.takes (is_mark c.walk.run.state) c.walk.sink c.walk.run.pending.items c.hand.new.sink c.hand.new.pending.items =
+    subst (λ mark. HandsOn g.S.HistorySink.takes mark c.walk.sink c.walk.run.pending.items c.hand.new.sink c.hand.new.pending.items) c.is_mark.ensures c.in_ok-hand.ensures.ok in
+    let chosen : IsChosen setting log c.args.steps c.walk.run.n c.walk.run.state c.walk.run.rest.now (Ok (Some c.in-Ok-Some.chosen)) =
+    subst (IsChosen setting log c.args.steps c.walk.run.n c.walk.run.state c.walk.run.rest.now) (c.in-Ok-Some.is ∙ ap (λ (o : Option Chosen). Ok o) c.in-Ok-Some.field-0-is) (c.choose.ensures setting log here) in
+    let design = ap (λ (s : Setting). s.design) c.self.view_is in
+    let transition_is : Transition = transition_to c.step.new.self c.in_ok-effect.effect c.deref-in-walk.result.now in
+    let transition : next setting.design c.walk.run.state c.in-Ok-Some.chosen.choice ≡ transition_is =
+    ap (λ (d : Design). next d c.walk.run.state c.in-Ok-Some.chosen.choice) (sym design) ∙ c.in_ok-effect.ensures.ok ∙ ap (transition_to c.step.new.self c.in_ok-effect.effect) (sym c.deref-in-walk.ensures.value) in
+    let gave = items_next setting log c.walk.run.rest.now c.args.steps c.walk.run.n c.walk.run.state here c.in-Ok-Some.chosen.choice c.in-Ok-Some.chosen.later.now chosen.2
+    transition_is transition in
+    let goes_on : length (choices c.walk.run.state) ≢ 0 = λ none. absurd (omega (arith, none, chosen.1)) in
+    let more : c.note.new.items.items ≡ c.hand.new.pending.items ++ items_of setting.design transition_is =
+    c.in_ok-note.ensures ∙ ap (λ (d : Design). c.hand.new.pending.items ++ items_of d transition_is) design in (
+      at_next setting log c.walk.run.rest.now c.args.steps c.walk.run.n c.walk.run.state here c.in-Ok-Some.chosen.choice c.in-Ok-Some.chosen.later.now chosen.2
+          c.step.new.self (less_differs c.walk.run.n c.args.steps chosen.0) chosen.1 chosen.3 (ap (λ (t : Transition). t.state) transition),
+      c.walk.invariant.1,
+      λ first start.
+          let given = c.walk.invariant.2 first start in
+          let after = taken_on g.S.HistorySink.takes g.met.S.HistorySink.joins (is_mark c.walk.run.state) first c.walk.sink c.hand.new.sink given.handed c.walk.run.pending.items
+          c.hand.new.pending.items given.taken on in
+          record {
+            handed = after.handed;
+            taken = after.taken;
+            is = gave_more setting log c.walk.run.n (items_of setting.design transition_is) gave after.handed c.hand.new.pending.items c.note.new.items.items more (after.is ∙ given.is);
+          },
+      λ first start.
+          let given = c.walk.invariant.3 first start in
+          let after =
+          handed_on g.S.HistorySink.takes g.met.S.HistorySink.joins c.walk.run.state first c.walk.sink c.hand.new.sink given.so.handed c.hand.new.pending.items
+          given.so.taken given.each given.cut c.walk.run.pending.items given.waits on in
+          record {
+            so = record {
+              handed = after.handed;
+              taken = after.taken;
+              is = gave_more setting log c.walk.run.n (items_of setting.design transition_is) gave after.handed c.hand.new.pending.items c.note.new.items.items more (after.is ∙ given.so.is);
+            };
+            each = after.each;
+            cut = after.cut goes_on;
+            waits = subst (λ (xs : List Item). Waits xs c.step.new.self) (sym more)
+                (waits_more c.hand.new.pending.items (items_of setting.design transition_is) c.step.new.self (after.unended goes_on) (items_wait setting.design transition_is));
+          },
+    )

@@ -1,0 +1,56 @@
+-- Runs on their way: where they stand, and what was handed on of what they gave.
+use Rattle.std.specs.Prelude.{◌≡◌, ℕ, false, List, [], ◌∷◌, ◌++◌, Option, Some, None}
+use Rattle.vmodel.specs.declared.history.End.{End}
+use Rattle.vmodel.specs.declared.history.Item.{Item}
+use Rattle.vmodel.specs.State.{State}
+use Rattle.vmodel.specs.Step.{slot_end_of}
+use Rattle.vmodel.specs.Run.{Setting, items_after}
+use Rattle.vmachine.specs.Handed.{RunsInto, RunsBySlot, ends_slot, by_slot, TakesEach}
+use Rattle.vmachine.specs.Inner.{IsAt}
+use Rattle.vmachine.specs.declared.run.Run.{Run}
+
+-- the run stands where its log leads it, and has taken no more steps than allowed
+abbrev pub IsRunAt : Setting → ℕ → Run → Type 0
+IsRunAt setting steps run = IsAt setting run.log.now run.rest.now steps run.n run.state
+
+-- the sink took all that the run gave so far, but for what waits
+pub record IsHandedSo {T : Type 0} (takes : T → List Item → T → Type 0) (setting : Setting) (run : Run) (first now : T) : Type 0 where
+  pub handed : List Item
+  pub taken : takes first handed now
+  pub is : handed ++ run.pending.items ≡ items_after setting run.log.now run.n
+
+-- the run ended, or it stands where all that it gave was taken
+abbrev pub Reaches : {T : Type 0} → (T → List Item → T → Type 0) → Setting → ℕ → T → Run → T → Option End → Type 0
+Reaches takes setting steps first run now (Some end) = RunsInto takes setting run.log.now steps first end now
+Reaches takes setting steps first run now None = IsHandedSo takes setting run first now × (run.pending.items ≡ [])
+
+-- ---- slot by slot
+
+-- none of these ends a slot
+abbrev pub IsUnended : List Item → Type 0
+IsUnended [] = Unit {0}
+IsUnended (item ∷ more) = (ends_slot item ≡ false) × IsUnended more
+
+-- what comes after these is a slot of its own
+abbrev pub IsCut : List Item → Type 0
+IsCut front = (more : List Item) → by_slot (front ++ more) ≡ by_slot front ++ by_slot more
+
+-- of what waits in a state only the last item ends a slot, and does where the state is a slot end
+abbrev pub Waits : List Item → State → Type 0
+Waits items s = (front : List Item) × IsUnended front × (items ≡ front ++ slot_end_of s)
+
+-- all that the run gave so far waits
+pub record AllWaits (setting : Setting) (run : Run) : Type 0 where
+  pub is : run.pending.items ≡ items_after setting run.log.now run.n
+  pub waits : Waits run.pending.items run.state
+
+-- the sink took what each slot gave by itself, but for what waits
+pub record IsHandedBySlot {T : Type 0} (takes : T → List Item → T → Type 0) (setting : Setting) (run : Run) (first now : T) : Type 0 where
+  pub so : IsHandedSo takes setting run first now
+  pub each : TakesEach takes first (by_slot so.handed) now
+  pub cut : IsCut so.handed
+  pub waits : Waits run.pending.items run.state
+
+abbrev pub ReachesBySlot : {T : Type 0} → (T → List Item → T → Type 0) → Setting → ℕ → T → Run → T → Option End → Type 0
+ReachesBySlot takes setting steps first run now (Some end) = RunsBySlot takes setting run.log.now steps first end now
+ReachesBySlot takes setting steps first run now None = Unit {0}
