@@ -2,6 +2,7 @@ mod DesignLemmas
 mod DumpLemmas
 mod ReplayLemmas
 mod LinesLemmas
+pub mod LinesFrontLemmas
 mod ExploreLemmas
 mod CheckLemmas
 mod ReadLemmas

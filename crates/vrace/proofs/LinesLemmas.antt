@@ -33,7 +33,7 @@ use Rattle.vrace.specs.RunDumps.{StopsText, fault_of}
 use Rattle.vrace.specs.declared.fault.Fault.{Fault}
 
 -- the lines of a run that ends
-the_lines : (setting : Setting) (log : List (ℕ × ℕ)) (limit n : ℕ) (end : End) → Finishes setting log limit n end →
+pub the_lines : (setting : Setting) (log : List (ℕ × ℕ)) (limit n : ℕ) (end : End) → Finishes setting log limit n end →
     IsRunLines setting log limit (lines setting.design (items_after setting log n))
 the_lines setting log limit n end finishes = record { steps = n; end = end; finishes = finishes; is_text = refl }
 

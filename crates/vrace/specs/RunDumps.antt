@@ -50,6 +50,10 @@ abbrev pub replay_fault_of : ReplayFault → Fault
 replay_fault_of replay.NoSuchChoice = NoSuchChoice
 replay_fault_of replay.TooManySteps = TooManySteps
 
+abbrev pub seeing_fault_of : OrMemory ReplayFault → Fault
+seeing_fault_of (or.Fault fault) = replay_fault_of fault
+seeing_fault_of (or.Memory m) = Memory m
+
 -- the run wasn't begun to be written, or the fault came as it went out
 abbrev pub Ends : {W : Type 0} → (W → Option (List ℕ)) → (List ℕ → Type 0) → Setting → List (ℕ × ℕ) → ℕ → Metered W → Metered W → Fault → Type 0
 Ends contents Holds setting log limit old new fault =

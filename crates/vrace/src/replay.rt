@@ -11,13 +11,13 @@ ghost use Rattle.vcd_text.specs.Metered.{Grows};
 ghost use Rattle.vrace.specs.Request.{request_of};
 ghost use Rattle.vrace.specs.Replays.{IsShown, IsReplayInput, grain_under as grain_by};
 ghost use Rattle.vrace.specs.Refusals.{IsLogFault, IsReason, Leaves};
-ghost use Rattle.vreport.specs.Dumps.{HasDump, IsRunDump};
-ghost use Rattle.vrace.specs.RunLines.{HasEnd, IsRunLines};
-ghost use Rattle.vrace.specs.RunDumps.{IsRunFault, IsRunShown, IsUnwritten, StopsText, Ends, fault_of, replay_fault_of, failures_after};
+ghost use Rattle.vreport.specs.Dumps.{HasDump, IsDumpFront, IsRunDump};
+ghost use Rattle.vrace.specs.RunLines.{HasEnd, IsLinesFront, IsRunLines};
+ghost use Rattle.vrace.specs.RunDumps.{IsRunFault, IsRunShown, IsUnwritten, StopsText, Ends, fault_of, replay_fault_of, seeing_fault_of, failures_after};
 
 use crate::design::placed_design_of;
 use crate::fault::Fault;
-use crate::lines::{hold_lines, write_lines};
+use crate::lines::{HeldLines, LinesFront, hold_lines, write_lines, write_lines_on};
 use crate::options::Options;
 use basis::OrMemory;
 use sched_core::{Log, LogFault, LogHead, ReplayFault, read_named_log, replay};
@@ -27,7 +27,7 @@ use trace_text::Origins;
 use vcd_text::{HELD_BYTES, HeldText, Metered, WriteFault, put};
 use vmachine::{Machine, machine_law};
 use vmodel::history::Grain;
-use vreport::{hold_dump, write_dump};
+use vreport::{DumpFront, HeldDump, hold_dump, write_dump, write_on};
 
 /// What a replay shows of a run.
 #[derive(Clone, Copy, Debug, PartialEq, Eq)]
@@ -63,6 +63,16 @@ pub(crate) fn of_writing(fault: OrMemory<WriteFault>) -> Fault
 {
     match fault {
         OrMemory::Fault(WriteFault::Write) => Fault::Write,
+        OrMemory::Memory(refused) => Fault::Memory(refused),
+    }
+}
+
+// Why a run that has paused isn't replayed to its end.
+fn of_seeing(fault: OrMemory<ReplayFault>) -> Fault
+    ensures { result ≡ seeing_fault_of fault }
+{
+    match fault {
+        OrMemory::Fault(fault) => of_replay(fault),
         OrMemory::Memory(refused) => Fault::Memory(refused),
     }
 }
@@ -164,42 +174,53 @@ fn print_run<W: Write>(
     write_run_lines(alloc, machine, log, steps, writer)
 }
 
-// Writes what is to be shown of the run slot by slot, once it is known to end.
-fn stream_run<W: Write>(
+// Writes the dump of a run of which the front is held, once the run is seen to end.
+fn dump_on<W: Write>(
     alloc: Global,
     machine: &Machine,
-    log: &Log,
     steps: u32,
-    show: Show,
+    front: DumpFront<'_>,
     writer: &mut Metered<W>,
 ) -> Result<(), Fault>
-    ensures ok { OnOk result ((text : List ℕ) × IsRunShown show machine.now log.now steps text ×
+    requires front { IsDumpFront machine.now front.run.log.now steps front }
+    ensures ok { OnOk result ((text : List ℕ) × IsRunDump machine.now front.entry.run.log.now steps text ×
         Grows W.contents writer.old writer.new text) }
     ensures err { IfErr result (λ fault.
-        Ends W.contents (IsRunShown show machine.now log.now steps) machine.now log.now steps
+        Ends W.contents (IsRunDump machine.now front.entry.run.log.now steps) machine.now front.entry.run.log.now steps
         writer.old writer.new fault) }
 {
-    match show {
-        Show::Dump => dump_run(alloc, machine, log, steps, writer),
-        Show::Lines => print_run(alloc, machine, log, steps, writer),
+    match front.see_end(machine, steps) {
+        Ok(_) => {}
+        Err(fault) => return Err(of_seeing(fault)),
+    }
+    match write_on(alloc, machine, steps, front, writer) {
+        Ok(()) => Ok(()),
+        Err(fault) => Err(of_writing(fault)),
     }
 }
 
-// Runs the design under the log, and holds what is to be shown of it, where that is short.
-fn hold_run(
+// Writes the lines of a run of which those in front are held, once the run is seen to end.
+fn print_on<W: Write>(
     alloc: Global,
     machine: &Machine,
-    log: &Log,
     steps: u32,
-    show: Show,
-) -> Result<Option<HeldText>, ReplayFault>
-    ensures held { IfOk result (λ held.
-        IfSome held (IsRunShown show machine.now log.now steps)) }
-    ensures reason { IfErr result (IsReplayReason (rules_of machine.now) log.now steps) }
+    front: LinesFront<'_>,
+    writer: &mut Metered<W>,
+) -> Result<(), Fault>
+    requires front { IsLinesFront machine.now front.run.log.now steps front }
+    ensures ok { OnOk result ((text : List ℕ) × IsRunLines machine.now front.entry.run.log.now steps text ×
+        Grows W.contents writer.old writer.new text) }
+    ensures err { IfErr result (λ fault.
+        Ends W.contents (IsRunLines machine.now front.entry.run.log.now steps) machine.now front.entry.run.log.now steps
+        writer.old writer.new fault) }
 {
-    match show {
-        Show::Dump => hold_dump(alloc, machine, log, steps, HELD_BYTES),
-        Show::Lines => hold_lines(alloc, machine, log, steps, HELD_BYTES),
+    match front.see_end(machine, steps) {
+        Ok(_) => {}
+        Err(fault) => return Err(of_seeing(fault)),
+    }
+    match write_lines_on(alloc, machine, steps, front, writer) {
+        Ok(()) => Ok(()),
+        Err(fault) => Err(of_writing(fault)),
     }
 }
 
@@ -215,7 +236,51 @@ fn write_held<W: Write>(text: &HeldText, writer: &mut Metered<W>) -> Result<(), 
     }
 }
 
-// Writes what is to be shown of the run: at once where it could be held, else slot by slot.
+// Writes the dump of the run: what could be held of it at once, the rest slot by slot.
+fn show_dump<W: Write>(
+    alloc: Global,
+    machine: &Machine,
+    log: &Log,
+    steps: u32,
+    writer: &mut Metered<W>,
+) -> Result<(), Fault>
+    ensures ok { OnOk result ((text : List ℕ) × IsRunDump machine.now log.now steps text ×
+        Grows W.contents writer.old writer.new text) }
+    ensures err { IfErr result (λ fault.
+        Ends W.contents (IsRunDump machine.now log.now steps) machine.now log.now steps
+        writer.old writer.new fault) }
+{
+    match hold_dump(alloc, machine, log, steps, HELD_BYTES) {
+        Ok(Some(HeldDump::Whole(text))) => write_held(&text, writer),
+        Ok(Some(HeldDump::Front(front))) => dump_on(alloc, machine, steps, front, writer),
+        Ok(None) => dump_run(alloc, machine, log, steps, writer),
+        Err(fault) => Err(of_replay(fault)),
+    }
+}
+
+// Writes the lines of the run: what could be held of them at once, the others slot by slot.
+fn show_lines<W: Write>(
+    alloc: Global,
+    machine: &Machine,
+    log: &Log,
+    steps: u32,
+    writer: &mut Metered<W>,
+) -> Result<(), Fault>
+    ensures ok { OnOk result ((text : List ℕ) × IsRunLines machine.now log.now steps text ×
+        Grows W.contents writer.old writer.new text) }
+    ensures err { IfErr result (λ fault.
+        Ends W.contents (IsRunLines machine.now log.now steps) machine.now log.now steps
+        writer.old writer.new fault) }
+{
+    match hold_lines(alloc, machine, log, steps, HELD_BYTES) {
+        Ok(Some(HeldLines::Whole(text))) => write_held(&text, writer),
+        Ok(Some(HeldLines::Front(front))) => print_on(alloc, machine, steps, front, writer),
+        Ok(None) => print_run(alloc, machine, log, steps, writer),
+        Err(fault) => Err(of_replay(fault)),
+    }
+}
+
+// Writes what is to be shown of the run.
 fn show_run<W: Write>(
     alloc: Global,
     machine: &Machine,
@@ -230,10 +295,9 @@ fn show_run<W: Write>(
         Ends W.contents (IsRunShown show machine.now log.now steps) machine.now log.now steps
         writer.old writer.new fault) }
 {
-    match hold_run(alloc, machine, log, steps, show) {
-        Ok(Some(text)) => write_held(&text, writer),
-        Ok(None) => stream_run(alloc, machine, log, steps, show, writer),
-        Err(fault) => Err(of_replay(fault)),
+    match show {
+        Show::Dump => show_dump(alloc, machine, log, steps, writer),
+        Show::Lines => show_lines(alloc, machine, log, steps, writer),
     }
 }
 
@@ -296,7 +360,7 @@ pub(crate) fn replay_input_of(
 /// E1xx to E3xx where their text has no tokens, no tree or no design; E401 where the log's text is none; E403 where the
 /// run takes more steps than allowed; E402 where a step that the log names isn't reached or hasn't that choice. Then
 /// nothing is written, as the run is seen to end before its first byte goes out: a text of up to `HELD_BYTES` is held until
-/// then; for a longer one the run is taken again to its end, and once more to be written slot by slot. E902 where the writer
+/// then; of a longer one so much is held, and from there the run is taken on twice, to see its end and to write the rest slot by slot. E902 where the writer
 /// failed, and E901 where memory was refused: then a prefix of the text may stand written.
 pub fn replay_text<W: Write>(
     alloc: Global,

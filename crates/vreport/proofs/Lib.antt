@@ -8,6 +8,7 @@ pub mod WholeLemmas
 pub mod LeadLemmas
 pub mod WriteLemmas
 pub mod HeldLemmas
+pub mod FrontLemmas
 pub mod ExploredLemmas
 pub mod MappedLemmas
 pub mod TextOrderLemmas

@@ -1,17 +1,50 @@
-// The dump of a run, to a writer, a count or a text that is expected, or held whole.
+// The dump of a run, to a writer, a count or a text that is expected, or held, whole or as much of it as has room.
 
-ghost use Rattle.std.specs.Prelude.{◌≡◌, [], IfOk, IfSome, OnOk, IfErr};
+ghost use Rattle.std.specs.Prelude.{◌≡◌, [], ℕ, IfOk, IfSome, OnOk, IfErr};
+ghost use Rattle.basis.specs.Reasons.{IfFault};
 ghost use Rattle.sched_core.specs.Replay.{IsReplayReason};
 ghost use Rattle.vcd_text.specs.declared.progress.Progress.TheVariants.{Waiting};
-ghost use Rattle.vcd_text.specs.Sinks.{IsSameDump};
+ghost use Rattle.vcd_text.specs.declared.sink.DumpSink.{DumpSink as Dump};
+ghost use Rattle.vcd_text.specs.Sinks.{IsSameDump, Takes};
+ghost use Rattle.vmachine.specs.Runs.{IsHandedSo, IsRunAt};
 ghost use Rattle.vmodel.specs.Run.{rules_of};
-ghost use Rattle.vreport.specs.Dumps.{HasDump, IsRunDump, StopsDump, TakesDump};
+ghost use Rattle.vmodel.specs.RunProgress.{Finishes};
+ghost use Rattle.vreport.specs.Dumps.{HasDump, IsDumpFront, IsFrontOf, IsHeldDump, StopsDump, TakesDump};
 
 use basis::OrMemory;
 use sched_core::{Log, ReplayFault};
 use std::alloc::Global;
-use vcd_text::{ByteSink, DumpSink, HeldText};
-use vmachine::{Machine, RunFault};
+use vcd_text::{ByteSink, DumpSink, HeldText, Progress, put};
+use vmachine::{Machine, Run, RunFault};
+use vmodel::history::End;
+
+// Hands what a run gives, which ends, to a sink, from where it stands.
+fn fill_on<O: ByteSink>(
+    machine: &Machine,
+    run: &mut Run<'_>,
+    steps: u32,
+    sink: &mut DumpSink<'_, O>,
+) -> Result<(), OrMemory<O::Fault>>
+    requires here { IsRunAt machine.now steps run.old }
+    requires ends { HasDump machine.now run.old.log.now steps }
+    ensures same { (first : Dump O) → IsFrontOf O.takes machine.now run.old first sink.old → IsSameDump sink.old sink.new }
+    ensures ok { (first : Dump O) → IsFrontOf O.takes machine.now run.old first sink.old →
+        OnOk result (TakesDump O.takes machine.now run.old.log.now steps first.byte_sink.now
+        sink.new.byte_sink.now) }
+    ensures err { (first : Dump O) → IsFrontOf O.takes machine.now run.old first sink.old →
+        IfErr result (λ fault. StopsDump O.takes O.fails machine.now run.old.log.now steps
+        first.byte_sink.now fault sink.new.byte_sink.now) }
+{
+    match machine.run_out(run, steps, sink) {
+        Ok(end) => match sink.finish(&end) {
+            Ok(()) => Ok(()),
+            Err(fault) => Err(fault),
+        },
+        Err(OrMemory::Fault(RunFault::Sink(fault))) => Err(fault),
+        Err(OrMemory::Fault(RunFault::Replay(_))) => unreachable!(),
+        Err(OrMemory::Memory(refused)) => Err(OrMemory::Memory(refused)),
+    }
+}
 
 // Runs the design under the log, which ends, into a fresh sink.
 fn fill<O: ByteSink>(
@@ -30,15 +63,8 @@ fn fill<O: ByteSink>(
         StopsDump O.takes O.fails machine.now log.now steps sink.old.byte_sink.now fault
         sink.new.byte_sink.now) }
 {
-    match machine.run_into(log, steps, sink) {
-        Ok(end) => match sink.finish(&end) {
-            Ok(()) => Ok(()),
-            Err(fault) => Err(fault),
-        },
-        Err(OrMemory::Fault(RunFault::Sink(fault))) => Err(fault),
-        Err(OrMemory::Fault(RunFault::Replay(_))) => unreachable!(),
-        Err(OrMemory::Memory(refused)) => Err(OrMemory::Memory(refused)),
-    }
+    let mut run = machine.open_run(log)?;
+    fill_on(machine, &mut run, steps, sink)
 }
 
 /// Runs the machine under the log, which ends within so many steps, and hands its dump to the byte sink,
@@ -64,25 +90,55 @@ pub fn write_dump<O: ByteSink>(
     result
 }
 
-/// Runs the machine under the log and holds its dump, where that fits into so many bytes. None says nothing of the run: its
-/// dump has no room, or memory was refused. A fault is that there is no such run (E402, E403).
-pub fn hold_dump(
+/// As much of the dump of a run as had room, and where the run stands then.
+#[derive(Drop)]
+pub struct DumpFront<'l> {
+    text: HeldText,
+    progress: Progress,
+    run: Run<'l>,
+}
+
+/// A dump that is held: whole, or its front.
+#[derive(Drop)]
+pub enum HeldDump<'l> {
+    Whole(HeldText),
+    Front(DumpFront<'l>),
+}
+
+/// Runs the machine under the log and holds its dump, whole where it fits into so many bytes; else the run pauses where the room is full,
+/// and the front is held. None says nothing of the run: memory was refused, or one slot alone has no room. A fault is that there is no such
+/// run (E402, E403).
+pub fn hold_dump<'l>(
     alloc: Global,
     machine: &Machine,
-    log: &Log,
+    log: &'l Log,
     steps: u32,
     room: usize,
-) -> Result<Option<HeldText>, ReplayFault>
-    ensures held { IfOk result (λ held. IfSome held (IsRunDump machine.now log.now steps)) }
+) -> Result<Option<HeldDump<'l>>, ReplayFault>
+    ensures held { IfOk result (λ held. IfSome held (IsHeldDump machine.now log.now steps)) }
     ensures reason { IfErr result (IsReplayReason (rules_of machine.now) log.now steps) }
 {
+    let mut run = match machine.open_run(log) {
+        Ok(run) => run,
+        Err(_) => return Ok(None),
+    };
     let mut held = HeldText::new(alloc, room);
     let mut sink = DumpSink::new(alloc, machine.design(), &mut held);
-    let end = match machine.run_into(log, steps, &mut sink) {
+    let end = match machine.run_till_full(&mut run, steps, &mut sink) {
         Ok(end) => end,
         Err(OrMemory::Fault(RunFault::Replay(fault))) => return Err(fault),
         Err(OrMemory::Fault(RunFault::Sink(_))) => return Ok(None),
         Err(OrMemory::Memory(_)) => return Ok(None),
+    };
+    let Some(end) = end else {
+        let (byte_sink, progress) = sink.into_parts();
+        // No effect at run time. The proof reads what is held from this use.
+        let _ = &*byte_sink;
+        return Ok(Some(HeldDump::Front(DumpFront {
+            text: held,
+            progress,
+            run,
+        })));
     };
     match sink.finish(&end) {
         Ok(()) => {}
@@ -91,5 +147,49 @@ pub fn hold_dump(
     let byte_sink = sink.into_byte_sink();
     // No effect at run time. The proof reads what is held from this use.
     let _ = &*byte_sink;
-    Ok(Some(held))
+    Ok(Some(HeldDump::Whole(held)))
+}
+
+impl<'l> DumpFront<'l> {
+    /// Whether the run ends within so many steps: it is taken on from where it paused (E402, E403, E901).
+    pub fn see_end(&self, machine: &Machine, steps: u32) -> Result<End, OrMemory<ReplayFault>>
+        requires front { IsDumpFront machine.now self.now.run.log.now steps self.now }
+        ensures ends { IfOk result (λ end. (n : ℕ) × Finishes machine.now self.now.run.log.now steps n end) }
+        ensures reason { IfFault result (IsReplayReason (rules_of machine.now) self.now.run.log.now steps) }
+    {
+        machine.see_end(&self.run, steps)
+    }
+}
+
+/// Hands the dump of a run that ends to the byte sink: its front, which is held, and then the rest, slot by slot, as the run goes on from
+/// where it paused. The faults are those of `write_dump`.
+pub fn write_on<O: ByteSink>(
+    alloc: Global,
+    machine: &Machine,
+    steps: u32,
+    front: DumpFront<'_>,
+    byte_sink: &mut O,
+) -> Result<(), OrMemory<O::Fault>>
+    requires front { IsDumpFront machine.now front.run.log.now steps front }
+    requires ends { HasDump machine.now front.run.log.now steps }
+    ensures ok { OnOk result
+        (TakesDump O.takes machine.now front.entry.run.log.now steps byte_sink.old byte_sink.new) }
+    ensures err { IfErr result (λ fault.
+        StopsDump O.takes O.fails machine.now front.entry.run.log.now steps byte_sink.old fault byte_sink.new) }
+{
+    let DumpFront {
+        text,
+        progress,
+        mut run,
+    } = front;
+    match put(byte_sink, text.text()) {
+        Ok(()) => {}
+        Err(fault) => return Err(fault),
+    }
+    let mut sink = DumpSink::resumed(alloc, machine.design(), byte_sink, progress);
+    let result = fill_on(machine, &mut run, steps, &mut sink);
+    let byte_sink = sink.into_byte_sink();
+    // No effect at run time. The proof reads what the byte sink holds from this use.
+    let _ = &*byte_sink;
+    result
 }

@@ -6,12 +6,12 @@ ghost use Rattle.basis.specs.Reasons.{IfFault};
 ghost use Rattle.explore.specs.Found.{ListsFound};
 ghost use Rattle.report_text.specs.WellFormed.{Each, EachTwo, IsEndBefore};
 ghost use Rattle.vmachine.specs.Machines.{machine_rules};
-ghost use Rattle.vreport.specs.Dumps.{HasDump};
+ghost use Rattle.vreport.specs.Dumps.{HasDump, IsDumpFront};
 ghost use Rattle.vreport.specs.Ends.{GivesEveryEnd, HasBytes, HasLongDump, HasSomeLongDump, IsTrueEnd};
 ghost use Rattle.vreport.specs.Written.{AreHeld, IsHeld};
 ghost use Rattle.vreport.specs.Inner.{AreEnds, AreRows, AreSortedRows, CountsDump, HasTimeAndLog, IsCounted, IsEndOfRow, IsRowOfSome, Repeats, key_cmp};
 
-use crate::dump::{hold_dump, write_dump};
+use crate::dump::{DumpFront, HeldDump, hold_dump, write_dump, write_on};
 use crate::row::{Row, cause_of, rows_in_order};
 use basis::OrMemory;
 use explore::Findings;
@@ -47,7 +47,26 @@ struct Measured {
     held: Option<HeldText>,
 }
 
-// The dump of the run: held where it fits into so many bytes, else made to be counted alone.
+// How many bytes the dump has whose front is held, of a run that ends.
+fn dump_len_on(
+    alloc: Global,
+    machine: &Machine,
+    steps: u32,
+    front: DumpFront<'_>,
+) -> Result<u64, OrMemory<TooMany>>
+    requires front { IsDumpFront machine.now front.run.log.now steps front }
+    requires ends { HasDump machine.now front.run.log.now steps }
+    ensures ok { IfOk result (CountsDump machine.now front.entry.run.log.now steps) }
+    ensures long { IfFault result (λ _. HasLongDump machine.now front.entry.run.log.now steps) }
+{
+    let mut counter = Counter::new();
+    match write_on(alloc, machine, steps, front, &mut counter) {
+        Ok(()) => Ok(counter.count()),
+        Err(fault) => Err(fault),
+    }
+}
+
+// The dump of the run: held where it fits into so many bytes; else its bytes are counted, as they are made.
 fn measure_dump(
     alloc: Global,
     machine: &Machine,
@@ -61,13 +80,18 @@ fn measure_dump(
         IfSome dump.held (IsCounted machine.now log.now steps dump.bytes)) }
     ensures long { IfFault result (λ _. HasLongDump machine.now log.now steps) }
 {
-    if let Ok(Some(held)) = hold_dump(alloc, machine, log, steps, room) {
-        return Ok(Measured {
-            bytes: held.text().len() as u64,
-            held: Some(held),
-        });
-    }
-    match dump_len(alloc, machine, log, steps) {
+    let counted = match hold_dump(alloc, machine, log, steps, room) {
+        Ok(Some(HeldDump::Whole(text))) => {
+            return Ok(Measured {
+                bytes: text.text().len() as u64,
+                held: Some(text),
+            });
+        }
+        Ok(Some(HeldDump::Front(front))) => dump_len_on(alloc, machine, steps, front),
+        Ok(None) => dump_len(alloc, machine, log, steps),
+        Err(_) => dump_len(alloc, machine, log, steps),
+    };
+    match counted {
         Ok(bytes) => Ok(Measured { bytes, held: None }),
         Err(fault) => Err(fault),
     }

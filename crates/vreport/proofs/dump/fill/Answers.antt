@@ -1,23 +1,34 @@
-use Rattle.vreport.proofs.DumpLemmas.{on_memory, on_sink, stops_at_end, takes_whole}
+use Rattle.std.proofs.Common.{ℕ, List, IfErr, OnOk, refl, sym, subst}
+use Rattle.basis.specs.declared.memory.OrMemory.TheVariants.{Memory}
+use Rattle.vreport.specs.Dumps.{HasDump, StopsDump, TakesDump}
+use Rattle.vreport.proofs.FrontLemmas.{fresh_front, of_fault, stops_unbegun}
 use Rattle.vreport.proofs.dump.fill.Goals as goal
 
-pub returns-in-Ok-finish-clause-ok : goal.returns-in-Ok-finish-clause-ok
-returns-in-Ok-finish-clause-ok g c =
-    takes_whole g.O.ByteSink.takes g.O.ByteSink.fails g.met.O.ByteSink.lawful c.args.machine.now c.args.log.now c.args.steps c.args.sink.now c.requires.fresh c.requires.design
-    c.run_into.new.sink c.finish.new.self.byte_sink.now c.in-Ok.end c.in-Ok.ensures.ends c.in-Ok-finish.ensures.ok
+pub returns-in_err-run-clause-err : goal.returns-in_err-run-clause-err
+returns-in_err-run-clause-err g c =
+    of_fault (λ fault. StopsDump g.O.ByteSink.takes g.O.ByteSink.fails c.args.machine.now c.args.log.now c.args.steps c.args.sink.now.byte_sink.now fault c.args.sink.now.byte_sink.now)
+    c.from_residual.result (Memory c.in_err-run.field-0.0) c.from_residual.ensures.1
+    (stops_unbegun g.O.ByteSink.takes g.O.ByteSink.fails g.met.O.ByteSink.lawful c.args.machine.now c.args.log.now c.args.steps c.args.sink.now.byte_sink.now c.in_err-run.field-0.0 c.requires.ends)
 
-pub returns-in-Err-clause-err : goal.returns-in-Err-clause-err
-returns-in-Err-clause-err g c =
-    stops_at_end g.O.ByteSink.takes g.O.ByteSink.fails g.met.O.ByteSink.lawful c.args.machine.now c.args.log.now c.args.steps c.args.sink.now c.requires.fresh c.requires.design
-    c.run_into.new.sink c.finish.new.self.byte_sink.now c.in-Ok.end c.in-Err.fault c.in-Ok.ensures.ends c.in-Err.ensures.err
+pub fill_on-requires : goal.fill_on-requires
+fill_on-requires g c = record {
+  here = c.in_ok-run.ensures.here c.args.steps;
+  ends = subst (λ (log : List (ℕ × ℕ)). HasDump c.args.machine.now log c.args.steps) (sym c.in_ok-run.ensures.log) c.requires.ends;
+}
 
-pub returns-in-Err-Fault-Sink-clause-err : goal.returns-in-Err-Fault-Sink-clause-err
-returns-in-Err-Fault-Sink-clause-err g c =
-    on_sink g.O.ByteSink.takes g.O.ByteSink.fails g.met.O.ByteSink.lawful c.args.machine.now c.args.log.now c.args.steps c.args.sink.now c.requires.fresh c.requires.design
-    c.run_into.new.sink c.in-Err-Fault-Sink.field-0 c.in-Err-Fault-Sink.field-0-0 c.in-Err-Fault-Sink.fault c.in-Err-Fault-Sink.field-0-is
-    c.in-Err-Fault-Sink.field-0-0-is c.in-Err-Fault-Sink.ensures.left c.requires.ends
+pub returns-clause-ok : goal.returns-clause-ok
+returns-clause-ok g c =
+    subst (λ (log : List (ℕ × ℕ)). OnOk c.fill_on.result (TakesDump g.O.ByteSink.takes c.args.machine.now log c.args.steps c.args.sink.now.byte_sink.now c.fill_on.new.sink.byte_sink.now)) c.in_ok-run.ensures.log
+    (c.fill_on.ensures.ok c.args.sink.now (fresh_front g.O.ByteSink.takes g.O.ByteSink.fails g.met.O.ByteSink.lawful c.args.machine.now c.in_ok-run.run' c.args.sink.now c.requires.fresh c.requires.design c.in_ok-run.ensures.waits))
 
-pub returns-in-Err-Memory-clause-err : goal.returns-in-Err-Memory-clause-err
-returns-in-Err-Memory-clause-err g c =
-    on_memory g.O.ByteSink.takes g.O.ByteSink.fails g.met.O.ByteSink.lawful c.args.machine.now c.args.log.now c.args.steps c.args.sink.now c.requires.fresh c.requires.design
-    c.run_into.new.sink c.in-Err-Memory.field-0 c.in-Err-Memory.refused c.in-Err-Memory.field-0-is c.in-Err-Memory.ensures.left c.requires.ends
+pub returns-clause-err : goal.returns-clause-err
+returns-clause-err g c =
+    subst (λ (log : List (ℕ × ℕ)). IfErr c.fill_on.result (λ fault. StopsDump g.O.ByteSink.takes g.O.ByteSink.fails c.args.machine.now log c.args.steps c.args.sink.now.byte_sink.now fault c.fill_on.new.sink.byte_sink.now)) c.in_ok-run.ensures.log
+    (c.fill_on.ensures.err c.args.sink.now (fresh_front g.O.ByteSink.takes g.O.ByteSink.fails g.met.O.ByteSink.lawful c.args.machine.now c.in_ok-run.run' c.args.sink.now c.requires.fresh c.requires.design c.in_ok-run.ensures.waits))
+
+pub returns-in_err-run-clause-same : goal.returns-in_err-run-clause-same
+returns-in_err-run-clause-same g c = (refl, refl)
+
+pub returns-clause-same : goal.returns-clause-same
+returns-clause-same g c =
+    c.fill_on.ensures.same c.args.sink.now (fresh_front g.O.ByteSink.takes g.O.ByteSink.fails g.met.O.ByteSink.lawful c.args.machine.now c.in_ok-run.run' c.args.sink.now c.requires.fresh c.requires.design c.in_ok-run.ensures.waits)

@@ -1,0 +1,85 @@
+-- Lines of which those in front are held.
+use Rattle.std.proofs.Common.{◌≡◌, ℕ, List, [], ◌++◌, refl, sym, ap, subst, ◌∙◌, append-nil}
+use Rattle.basis.specs.declared.memory.NoMemory.{NoMemory}
+use Rattle.basis.specs.declared.memory.OrMemory.{OrMemory}
+use Rattle.basis.specs.declared.memory.OrMemory.TheVariants as or
+use Rattle.vdesign.specs.Design.{Design}
+use Rattle.vmodel.specs.declared.history.Item.{Item}
+use Rattle.vmodel.specs.Run.{Setting, rules_of, items_after}
+use Rattle.vmachine.specs.Runs.{AllWaits, IsHandedSo, IsRunAt}
+use Rattle.vmachine.specs.declared.run.Run.{Run}
+use Rattle.vmachine.proofs.GivenLemmas.{given_nothing}
+use Rattle.vcd_text.specs.ByteSinks.{IsByteSink, Stopped}
+use Rattle.vcd_text.specs.ByteSinkLaws.{stopped_before}
+use Rattle.lines_text.specs.LinesText.{lines, lines_from}
+use Rattle.lines_text.specs.Sinks.{Takes, in_force_over}
+use Rattle.lines_text.specs.SinkLaws.{takes_none, text_joins}
+use Rattle.lines_text.specs.declared.in_force.InForce.{InForce}
+use Rattle.lines_text.specs.declared.in_force.InForce.TheVariants.{Nobody}
+use Rattle.lines_text.specs.declared.sink.LinesSink.{LinesSink}
+use Rattle.vreport.specs.RunLaws.{not_behind, given_front}
+use Rattle.vrace.specs.declared.lines.LinesFront.{LinesFront}
+use Rattle.vrace.specs.RunLines.{HasEnd, IsLinesFront, IsFrontOf, IsRunLines, StopsLines}
+use Rattle.vrace.proofs.LinesLemmas.{the_lines}
+
+module _ {O F : Type 0} (takes : O → List ℕ → O → Type 0) (fails : O → List ℕ → F → O → Type 0) (laws : IsByteSink takes fails) (setting : Setting) where
+  -- a run of which nothing was handed on, to a sink that has taken nothing
+  pub fresh_front : (run : Run) (s : LinesSink O) → s.in_force ≡ Nobody → s.design.now ≡ setting.design → AllWaits setting run →
+      IsFrontOf takes setting run s s
+  fresh_front run s fresh design waits = record {
+    fresh = fresh;
+    design = design;
+    given = given_nothing (Takes takes) (takes_none takes fails laws) setting run waits s;
+  }
+
+  -- want of memory before the run was begun
+  pub stops_unbegun : (log : List (ℕ × ℕ)) (limit : ℕ) (old : O) (refused : NoMemory) → HasEnd setting log limit →
+      StopsLines takes fails setting log limit old (or.Memory refused) old
+  stops_unbegun log limit old refused (n, end, finishes) =
+      (lines setting.design (items_after setting log n), the_lines setting log limit n end finishes, (0, laws.none old))
+
+  module _ (limit : ℕ) (front : LinesFront) (is : IsLinesFront setting front.run.log.now limit front) where
+    abbrev gave : List Item
+    gave = items_after setting front.run.log.now front.run.n
+
+    -- the sink as it was before it took anything
+    abbrev pub unfilled : LinesSink O → O → LinesSink O
+    unfilled s old = record {
+      alloc = s.alloc;
+      design = s.design;
+      byte_sink = record { ref_ptr = s.byte_sink.ref_ptr; ghost_name = s.byte_sink.ghost_name; now = old };
+      in_force = Nobody;
+    }
+
+    -- a sink that goes on from the front
+    pub resumed_front : (s : LinesSink O) (old : O) → s.design.now ≡ setting.design → s.in_force ≡ front.in_force → takes old front.text s.byte_sink.now →
+        IsFrontOf takes setting front.run (unfilled s old) s
+    resumed_front s old design in_force taken = record {
+      fresh = refl;
+      design = design;
+      given = record {
+        handed = gave;
+        taken = (
+          (refl, refl),
+          in_force ∙ is.in_force_is ∙ ap (λ (d : Design). in_force_over d Nobody gave) (sym design),
+          subst (λ (text : List ℕ). takes old text s.byte_sink.now) (is.text_is ∙ ap (λ (d : Design). lines_from d Nobody gave) (sym design)) taken,
+        );
+        is = ap (λ (xs : List Item). gave ++ xs) is.none_wait ∙ append-nil gave;
+      };
+    }
+
+    -- the fault came in the front
+    pub stops_in_front : (old new : O) (fault : OrMemory F) → HasEnd setting front.run.log.now limit → Stopped takes fails old front.text fault new →
+        StopsLines takes fails setting front.run.log.now limit old fault new
+    stops_in_front old new fault (steps, end, finishes) stops =
+        let log : List (ℕ × ℕ) = front.run.log.now in
+        let later = given_front setting log front.run.n steps (not_behind (rules_of setting) log front.run.n steps is.here.run finishes.ends) in
+        let more : List ℕ = lines_from setting.design (in_force_over setting.design Nobody gave) later.0 in
+        let whole : lines setting.design (items_after setting log steps) ≡ lines setting.design gave ++ more =
+        ap (lines setting.design) later.1 ∙ text_joins setting.design Nobody gave later.0 in (
+          lines setting.design (items_after setting log steps),
+          the_lines setting log limit steps end finishes,
+          subst (λ (text : List ℕ). Stopped takes fails old text fault new) (sym whole)
+              (stopped_before takes fails laws old new (lines setting.design gave) more fault
+              (subst (λ (text : List ℕ). Stopped takes fails old text fault new) is.text_is stops)),
+        )
