@@ -11,7 +11,7 @@ Usage: benches/races/measure.py [PATH_OF_vrace_program [PART..]]
 Entries are counted from outside: a search is cut exactly where it has as many as `--entries` says. Choices met are those of the
 entries of the default run, of which a trace tells the widths, and one for each other entry (K = 1). Instructions by callgrind, of
 `explore_alone` with all that it calls, so without the reading of the text and the writing of the report; a step's by replays of
-twice as many, each of which runs twice, once to see how the run ends and once to write; bytes by massif at the peak.
+twice as many, which take each once, as their dumps are short; bytes by massif at the peak.
 
 Beside the other kinds stands what `vvp` takes, where it is installed. It runs each text in one order, so it is told by the step of
 that one run, and of updates by the process, the reading of its compiled text with it.
@@ -112,12 +112,12 @@ def default_run(program, text):
 
 
 def step_cost(program):
-    """Instructions of a plain step: those of twice as many, less those of as many; a replay takes each twice."""
+    """Instructions of a plain step: those of twice as many, less those of as many."""
     def run(count):
         return counted(program, ["replay", "--steps", "1000000"], b"module t; reg [7:0] a, b; initial begin " + b"a = b; " * count + b"end endmodule")[0]
     def read(count):
         return counted(program, ["replay", "--steps", "1"], b"module t; reg [7:0] a, b; initial begin " + b"a = b; " * count + b"end endmodule")[0]
-    return ((run(40_000) - run(20_000)) - (read(40_000) - read(20_000))) / 40_000
+    return ((run(40_000) - run(20_000)) - (read(40_000) - read(20_000))) / 20_000
 
 
 def searched(program, name, text):
