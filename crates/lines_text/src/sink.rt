@@ -44,7 +44,7 @@ impl<'a, O: ByteSink> LinesSink<'a, O> {
         }
     }
 
-    /// Lines that have come so far, which the byte sink has.
+    /// Lines of which some have come: the byte sink has them, and this monitor is in force.
     pub fn resumed(
         alloc: Global,
         design: &'a Design,

@@ -20,7 +20,7 @@ pub trait ByteSink {
         ensures ok { OnOk result (takes self.old text.now self.new) }
         ensures err { IfErr result (λ fault. fails self.old text.now fault self.new) };
 
-    /// Whether it has all that it is to hold. It takes more all the same.
+    /// Whether it has all that it is to hold. It may take more all the same.
     fn is_full(&self) -> bool {
         false
     }

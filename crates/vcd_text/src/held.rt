@@ -7,7 +7,7 @@ use crate::fault::Full;
 use std::alloc::Global;
 use std::marker::Model;
 
-/// As many bytes are held of texts that can be made again.
+/// So many bytes of a text that can be made again are held, and as many more where a slot adds them.
 pub const HELD_BYTES: usize = 1_048_576;
 
 /// Holds texts, one after another. Its value is what it holds. It is full when that no longer fits into the room that it was given, but it

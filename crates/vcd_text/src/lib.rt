@@ -1,5 +1,5 @@
 // Histories to the text of a value change dump (IEEE 1364-2005, clause 18). In go a design and what its run shows;
-// out come bytes in a byte sink (a writer, a count, a text that is kept, or one to compare with), as the run goes or at once,
+// out come bytes in a byte sink (a writer, a count, a text that is held, or one to compare with), as the run goes or at once,
 // and a fault where they don't.
 // The law: the bytes are those of specs/DumpText.antt, and after a fault a prefix of them.
 #![tactic(auto)]
