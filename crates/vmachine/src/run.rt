@@ -17,7 +17,6 @@ ghost use Rattle.vmodel.specs.InnerStep.{transition_to};
 use crate::machine::Machine;
 use basis::{NoMemory, OrMemory};
 use sched_core::{Log, Member, ReplayFault, next_choice};
-use std::convert::Infallible;
 use vdesign::design::Design;
 use vmodel::effect::Effect;
 use vmodel::history::{End, History, Item};
@@ -134,30 +133,6 @@ pub struct Run<'l> {
     pending: Vec<Item>,
 }
 
-// Nobody watches: items are passed over.
-#[derive(Drop)]
-struct Unwatched;
-
-impl HistorySink for Unwatched {
-    ghost use Rattle.std.specs.Prelude.{⊤};
-
-    type Fault = Infallible;
-
-    ghost takes = { λ _ _ _. ⊤ };
-
-    ghost fails = { λ _ _ _ _. ⊥ };
-
-    fn take(&mut self, items: &[Item]) -> Result<(), Infallible> {
-        Ok(())
-    }
-
-    ghost none = { λ s. tt };
-
-    ghost joins = { λ s t u xs ys p q. tt };
-
-    ghost fails_later = { λ s t u xs ys fault p q. q };
-}
-
 impl Machine {
     /// The run under the log, of which no step has been taken.
     pub fn open_run<'l>(&self, log: &'l Log) -> Result<Run<'l>, NoMemory>
@@ -224,8 +199,8 @@ impl Machine {
     }
 
     /// Goes on with a run to its end, or to the end of the first slot after which the sink is full: then the answer is None, and the run
-    /// has paused there. By at most `steps` steps in all; the faults are those of `run_into`.
-    pub fn run_till_full<S: HistorySink>(
+    /// has paused there. It takes at most `steps` steps in all; the faults are those of `run_into`.
+    pub fn run_until_full<S: HistorySink>(
         &self,
         run: &mut Run<'_>,
         steps: u32,
@@ -236,6 +211,8 @@ impl Machine {
         ensures log { IfOk result (λ end. run.new.log.now ≡ run.old.log.now) }
         ensures ends { (first : S) → IsHandedSo S.takes self.now run.old first sink.old →
             IfOk result (Reaches S.takes self.now steps first run.new sink.new) }
+        ensures slots { (first : S) → IsHandedBySlot S.takes self.now run.old first sink.old →
+            IfOk result (ReachesBySlot S.takes self.now steps first run.new sink.new) }
         ensures reason { IfFault result (IsNoSuchRun self.now run.old.log.now steps) }
         ensures left { (first : S) → IsHandedSo S.takes self.now run.old first sink.old →
             IfErr result (λ fault.
@@ -244,9 +221,9 @@ impl Machine {
         self.walk(run, true, steps, sink)
     }
 
-    /// Goes on with a run to its end, by at most `steps` steps in all, and hands on what it gives, slot by slot. The faults are those of
-    /// `run_into`.
-    pub fn run_out<S: HistorySink>(
+    /// Goes on with a run to its end, and hands on what it gives, slot by slot. It takes at most `steps` steps in all; the faults are those
+    /// of `run_into`.
+    pub fn run_to_end<S: HistorySink>(
         &self,
         run: &mut Run<'_>,
         steps: u32,
@@ -269,25 +246,25 @@ impl Machine {
         }
     }
 
-    /// Whether a run that has paused ends, by at most `steps` steps in all: it is taken on from there, and stands where it stood.
+    /// Whether a run that has paused ends within `steps` steps in all: a copy of its state is taken on, and no items are made.
     /// E402, E403, E901 as `run_into` has them.
     pub fn see_end(&self, run: &Run<'_>, steps: u32) -> Result<End, OrMemory<ReplayFault>>
         requires here { IsRunAt self.now steps run.now }
         ensures ends { IfOk result (λ end. (n : ℕ) × Finishes self.now run.now.log.now steps n end) }
         ensures reason { IfFault result (IsReplayReason (rules_of self.now) run.now.log.now steps) }
     {
-        let mut ahead = Run {
-            log: run.log,
-            rest: run.rest,
-            n: run.n,
-            state: run.state.copy(self.alloc)?,
-            pending: Vec::new(self.alloc),
-        };
-        match self.run_out(&mut ahead, steps, &mut Unwatched) {
-            Ok(end) => Ok(end),
-            Err(OrMemory::Fault(RunFault::Replay(fault))) => Err(OrMemory::Fault(fault)),
-            Err(OrMemory::Fault(RunFault::Sink(never))) => match never {},
-            Err(OrMemory::Memory(refused)) => Err(OrMemory::Memory(refused)),
+        let mut state = run.state.copy(self.alloc)?;
+        let mut rest = run.rest;
+        let mut n = run.n;
+        'walk: loop {
+            let chosen = match choose(&state, rest, n, steps) {
+                Ok(Some(chosen)) => chosen,
+                Ok(None) => return Ok(state.end()),
+                Err(fault) => return Err(OrMemory::Fault(fault)),
+            };
+            state.go(&self.design, chosen.choice)?;
+            rest = chosen.later;
+            n += 1;
         }
     }
 
@@ -312,7 +289,7 @@ impl Machine {
             LeavesSink S.takes S.fails self.now log.now steps sink.old fault sink.new) }
     {
         let mut run = self.open_run(log)?;
-        self.run_out(&mut run, steps, sink)
+        self.run_to_end(&mut run, steps, sink)
     }
 
     /// The whole history of the run under the log, by at most `steps` steps; the faults are those of `run_into`.

@@ -50,6 +50,7 @@ abbrev pub replay_fault_of : ReplayFault → Fault
 replay_fault_of replay.NoSuchChoice = NoSuchChoice
 replay_fault_of replay.TooManySteps = TooManySteps
 
+-- the same where memory may be refused, too
 abbrev pub seeing_fault_of : OrMemory ReplayFault → Fault
 seeing_fault_of (or.Fault fault) = replay_fault_of fault
 seeing_fault_of (or.Memory m) = Memory m

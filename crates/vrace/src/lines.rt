@@ -36,7 +36,7 @@ fn fill_on<O: ByteSink>(
         IfErr result (λ fault. StopsLines O.takes O.fails machine.now run.old.log.now steps
         first.byte_sink.now fault sink.new.byte_sink.now) }
 {
-    match machine.run_out(run, steps, sink) {
+    match machine.run_to_end(run, steps, sink) {
         Ok(_) => Ok(()),
         Err(OrMemory::Fault(RunFault::Sink(fault))) => Err(fault),
         Err(OrMemory::Fault(RunFault::Replay(_))) => unreachable!(),
@@ -87,7 +87,7 @@ pub(crate) fn write_lines<O: ByteSink>(
     result
 }
 
-/// As many of the lines of a run as had room, and where the run stands then.
+/// As many of the lines of a run as had room, the monitor in force then, and where the run stands.
 #[derive(Drop)]
 pub(crate) struct LinesFront<'l> {
     text: HeldText,
@@ -102,9 +102,9 @@ pub(crate) enum HeldLines<'l> {
     Front(LinesFront<'l>),
 }
 
-// Runs the machine under the log and holds its lines, all where they fit into so many bytes; else the run pauses where the room is full,
-// and those in front are held. None says nothing of the run: memory was refused, or one slot alone has no room. A fault is that there is
-// no such run (E402, E403).
+// Runs the machine under the log and holds its lines, all where they fit into so many bytes; else the run pauses at the end of the first
+// slot after which they don't, and those in front are held. None says nothing of the run: memory was refused, or one slot adds more than
+// `HELD_BYTES`. A fault is that there is no such run (E402, E403).
 pub(crate) fn hold_lines<'l>(
     alloc: Global,
     machine: &Machine,
@@ -121,7 +121,7 @@ pub(crate) fn hold_lines<'l>(
     };
     let mut held = HeldText::new(alloc, room);
     let mut sink = LinesSink::new(alloc, machine.design(), &mut held);
-    let end = match machine.run_till_full(&mut run, steps, &mut sink) {
+    let end = match machine.run_until_full(&mut run, steps, &mut sink) {
         Ok(end) => end,
         Err(OrMemory::Fault(RunFault::Replay(fault))) => return Err(fault),
         Err(OrMemory::Fault(RunFault::Sink(_))) => return Ok(None),
@@ -157,7 +157,7 @@ impl<'l> LinesFront<'l> {
 
 // Hands the lines of a run that ends to the byte sink: those in front, which are held, and then the others, slot by slot, as the run goes
 // on from where it paused. The faults are those of `write_lines`.
-pub(crate) fn write_lines_on<O: ByteSink>(
+pub(crate) fn write_lines_from<O: ByteSink>(
     alloc: Global,
     machine: &Machine,
     steps: u32,

@@ -17,7 +17,7 @@ ghost use Rattle.vrace.specs.RunDumps.{IsRunFault, IsRunShown, IsUnwritten, Stop
 
 use crate::design::placed_design_of;
 use crate::fault::Fault;
-use crate::lines::{HeldLines, LinesFront, hold_lines, write_lines, write_lines_on};
+use crate::lines::{HeldLines, LinesFront, hold_lines, write_lines, write_lines_from};
 use crate::options::Options;
 use basis::OrMemory;
 use sched_core::{Log, LogFault, LogHead, ReplayFault, read_named_log, replay};
@@ -27,7 +27,7 @@ use trace_text::Origins;
 use vcd_text::{HELD_BYTES, HeldText, Metered, WriteFault, put};
 use vmachine::{Machine, machine_law};
 use vmodel::history::Grain;
-use vreport::{DumpFront, HeldDump, hold_dump, write_dump, write_on};
+use vreport::{DumpFront, HeldDump, hold_dump, write_dump, write_from};
 
 /// What a replay shows of a run.
 #[derive(Clone, Copy, Debug, PartialEq, Eq)]
@@ -85,8 +85,7 @@ pub(crate) fn see_end(machine: &Machine, log: &Log, steps: u32) -> Result<(), Fa
     machine_law();
     match replay(machine, log, steps) {
         Ok(_) => Ok(()),
-        Err(OrMemory::Fault(fault)) => Err(of_replay(fault)),
-        Err(OrMemory::Memory(refused)) => Err(Fault::Memory(refused)),
+        Err(fault) => Err(of_seeing(fault)),
     }
 }
 
@@ -193,7 +192,7 @@ fn dump_on<W: Write>(
         Ok(_) => {}
         Err(fault) => return Err(of_seeing(fault)),
     }
-    match write_on(alloc, machine, steps, front, writer) {
+    match write_from(alloc, machine, steps, front, writer) {
         Ok(()) => Ok(()),
         Err(fault) => Err(of_writing(fault)),
     }
@@ -218,7 +217,7 @@ fn print_on<W: Write>(
         Ok(_) => {}
         Err(fault) => return Err(of_seeing(fault)),
     }
-    match write_lines_on(alloc, machine, steps, front, writer) {
+    match write_lines_from(alloc, machine, steps, front, writer) {
         Ok(()) => Ok(()),
         Err(fault) => Err(of_writing(fault)),
     }
@@ -359,9 +358,10 @@ pub(crate) fn replay_input_of(
 /// Refusals, in the order in which they are looked for: E904 where the files together are longer than 16,777,216 bytes;
 /// E1xx to E3xx where their text has no tokens, no tree or no design; E401 where the log's text is none; E403 where the
 /// run takes more steps than allowed; E402 where a step that the log names isn't reached or hasn't that choice. Then
-/// nothing is written, as the run is seen to end before its first byte goes out: a text of up to `HELD_BYTES` is held until
-/// then; of a longer one so much is held, and from there the run is taken on twice, to see its end and to write the rest slot by slot. E902 where the writer
-/// failed, and E901 where memory was refused: then a prefix of the text may stand written.
+/// nothing is written, as the run is seen to end before its first byte goes out: its text is held until then. Of a text of more than
+/// `HELD_BYTES` the front is held, up to the end of a slot, and from there the run is taken on twice: to see its end, and to write the
+/// rest slot by slot. Where no front can be held it is taken from its opening. E902 where the writer failed, and E901 where memory
+/// was refused: then a prefix of the text may stand written.
 pub fn replay_text<W: Write>(
     alloc: Global,
     files: &[Vec<u8>],

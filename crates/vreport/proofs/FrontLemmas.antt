@@ -118,16 +118,16 @@ held_front setting log limit front s t log_is here given none fresh design empty
       here = here;
       none_wait = none;
       text_is =
-        text
-            ∙ given.taken.2
-            ∙ ap (λ (old : List ℕ). old ++ items_text s.design.now s.progress given.handed) empty
-            ∙ ap (λ (d : Design). items_text d s.progress given.handed) design
-            ∙ ap (λ (p : Progress). items_text setting.design p given.handed) fresh
-            ∙ ap (items_text setting.design (Waiting [])) all;
+          text
+          ∙ given.taken.2
+          ∙ ap (λ (old : List ℕ). old ++ items_text s.design.now s.progress given.handed) empty
+          ∙ ap (λ (d : Design). items_text d s.progress given.handed) design
+          ∙ ap (λ (p : Progress). items_text setting.design p given.handed) fresh
+          ∙ ap (items_text setting.design (Waiting [])) all;
       progress_is =
-        progress
-            ∙ given.taken.1
-            ∙ ap (λ (d : Design). progress_over d s.progress given.handed) design
-            ∙ ap (λ (p : Progress). progress_over setting.design p given.handed) fresh
-            ∙ ap (progress_over setting.design (Waiting [])) all;
+          progress
+          ∙ given.taken.1
+          ∙ ap (λ (d : Design). progress_over d s.progress given.handed) design
+          ∙ ap (λ (p : Progress). progress_over setting.design p given.handed) fresh
+          ∙ ap (progress_over setting.design (Waiting [])) all;
     }

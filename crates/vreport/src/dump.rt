@@ -35,7 +35,7 @@ fn fill_on<O: ByteSink>(
         IfErr result (λ fault. StopsDump O.takes O.fails machine.now run.old.log.now steps
         first.byte_sink.now fault sink.new.byte_sink.now) }
 {
-    match machine.run_out(run, steps, sink) {
+    match machine.run_to_end(run, steps, sink) {
         Ok(end) => match sink.finish(&end) {
             Ok(()) => Ok(()),
             Err(fault) => Err(fault),
@@ -90,7 +90,7 @@ pub fn write_dump<O: ByteSink>(
     result
 }
 
-/// As much of the dump of a run as had room, and where the run stands then.
+/// As much of the dump of a run as had room, how far the dump has come with that, and where the run stands.
 #[derive(Drop)]
 pub struct DumpFront<'l> {
     text: HeldText,
@@ -105,9 +105,9 @@ pub enum HeldDump<'l> {
     Front(DumpFront<'l>),
 }
 
-/// Runs the machine under the log and holds its dump, whole where it fits into so many bytes; else the run pauses where the room is full,
-/// and the front is held. None says nothing of the run: memory was refused, or one slot alone has no room. A fault is that there is no such
-/// run (E402, E403).
+/// Runs the machine under the log and holds its dump, whole where it fits into so many bytes; else the run pauses at the end of the first
+/// slot after which it doesn't, and the front is held. None says nothing of the run: memory was refused, or one slot adds more than
+/// `HELD_BYTES`. A fault is that there is no such run (E402, E403).
 pub fn hold_dump<'l>(
     alloc: Global,
     machine: &Machine,
@@ -124,7 +124,7 @@ pub fn hold_dump<'l>(
     };
     let mut held = HeldText::new(alloc, room);
     let mut sink = DumpSink::new(alloc, machine.design(), &mut held);
-    let end = match machine.run_till_full(&mut run, steps, &mut sink) {
+    let end = match machine.run_until_full(&mut run, steps, &mut sink) {
         Ok(end) => end,
         Err(OrMemory::Fault(RunFault::Replay(fault))) => return Err(fault),
         Err(OrMemory::Fault(RunFault::Sink(_))) => return Ok(None),
@@ -163,7 +163,7 @@ impl<'l> DumpFront<'l> {
 
 /// Hands the dump of a run that ends to the byte sink: its front, which is held, and then the rest, slot by slot, as the run goes on from
 /// where it paused. The faults are those of `write_dump`.
-pub fn write_on<O: ByteSink>(
+pub fn write_from<O: ByteSink>(
     alloc: Global,
     machine: &Machine,
     steps: u32,

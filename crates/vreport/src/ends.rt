@@ -11,7 +11,7 @@ ghost use Rattle.vreport.specs.Ends.{GivesEveryEnd, HasBytes, HasLongDump, HasSo
 ghost use Rattle.vreport.specs.Written.{AreHeld, IsHeld};
 ghost use Rattle.vreport.specs.Inner.{AreEnds, AreRows, AreSortedRows, CountsDump, HasTimeAndLog, IsCounted, IsEndOfRow, IsRowOfSome, Repeats, key_cmp};
 
-use crate::dump::{DumpFront, HeldDump, hold_dump, write_dump, write_on};
+use crate::dump::{DumpFront, HeldDump, hold_dump, write_dump, write_from};
 use crate::row::{Row, cause_of, rows_in_order};
 use basis::OrMemory;
 use explore::Findings;
@@ -60,7 +60,7 @@ fn dump_len_on(
     ensures long { IfFault result (λ _. HasLongDump machine.now front.entry.run.log.now steps) }
 {
     let mut counter = Counter::new();
-    match write_on(alloc, machine, steps, front, &mut counter) {
+    match write_from(alloc, machine, steps, front, &mut counter) {
         Ok(()) => Ok(counter.count()),
         Err(fault) => Err(fault),
     }

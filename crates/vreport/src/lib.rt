@@ -13,7 +13,7 @@ mod row;
 mod values;
 mod write;
 
-pub use dump::{DumpFront, HeldDump, hold_dump, write_dump, write_on};
+pub use dump::{DumpFront, HeldDump, hold_dump, write_dump, write_from};
 pub use explored::{Explored, report_alone, report_shared};
 pub use law::{agreement_law, report_law};
 pub use report::report_of;

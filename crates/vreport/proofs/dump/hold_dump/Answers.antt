@@ -11,29 +11,29 @@ use Rattle.vreport.proofs.FrontLemmas.{fresh_front, held_front}
 use Rattle.vreport.proofs.HeldLemmas.{held_whole}
 use Rattle.vreport.proofs.dump.hold_dump.Goals as goal
 
-pub run_till_full-requires : goal.run_till_full-requires
-run_till_full-requires c = record { here = c.in-Ok.ensures.here c.args.steps }
+pub run_until_full-requires : goal.run_until_full-requires
+run_until_full-requires c = record { here = c.in-Ok.ensures.here c.args.steps }
 
 pub returns-in_default-clause-held : goal.returns-in_default-clause-held
 returns-in_default-clause-held c =
     let setting = c.args.machine.now in
     let design = c.new-sink.ensures.design ∙ c.design.ensures in
     let start = fresh_front {F = Full} Appended (λ _ _ _ _. ⊤) held_laws setting c.in-Ok.run' c.new-sink.result c.new-sink.ensures.progress design c.in-Ok.ensures.waits in
-    let reached = subst (Reaches (Takes Appended) setting c.args.steps c.new-sink.result c.run_till_full.new.run c.run_till_full.new.sink) c.in_default.is
-    (c.in-Ok-run_till_full.ensures.ends c.new-sink.result start.given) in
-    held_front setting c.args.log.now c.args.steps _ c.new-sink.result c.run_till_full.new.sink (c.in-Ok-run_till_full.ensures.log ∙ c.in-Ok.ensures.log)
-    c.in-Ok-run_till_full.ensures.here reached.0 reached.1 c.new-sink.ensures.progress design (c.new-sink.ensures.unwritten ∙ c.new-held.ensures) (search rules) c.into_parts-byte_sink.ensures.progress
+    let reached = subst (Reaches (Takes Appended) setting c.args.steps c.new-sink.result c.run_until_full.new.run c.run_until_full.new.sink) c.in_default.is
+    (c.in-Ok-run_until_full.ensures.ends c.new-sink.result start.given) in
+    held_front setting c.args.log.now c.args.steps _ c.new-sink.result c.run_until_full.new.sink (c.in-Ok-run_until_full.ensures.log ∙ c.in-Ok.ensures.log)
+    c.in-Ok-run_until_full.ensures.here reached.0 reached.1 c.new-sink.ensures.progress design (c.new-sink.ensures.unwritten ∙ c.new-held.ensures) (search rules) c.into_parts-byte_sink.ensures.progress
 
 pub returns-clause-held : goal.returns-clause-held
 returns-clause-held c =
     let setting = c.args.machine.now in
     let design = c.new-sink.ensures.design ∙ c.design.ensures in
     let start = fresh_front {F = Full} Appended (λ _ _ _ _. ⊤) held_laws setting c.in-Ok.run' c.new-sink.result c.new-sink.ensures.progress design c.in-Ok.ensures.waits in
-    let reached = subst (Reaches (Takes Appended) setting c.args.steps c.new-sink.result c.run_till_full.new.run c.run_till_full.new.sink) c.in-Some.is
-    (c.in-Ok-run_till_full.ensures.ends c.new-sink.result start.given) in
-    let ended = subst (λ (log : List (ℕ × ℕ)). RunsInto (Takes Appended) setting log c.args.steps c.new-sink.result c.in-Some.end c.run_till_full.new.sink)
-    (c.in-Ok-run_till_full.ensures.log ∙ c.in-Ok.ensures.log) reached in
+    let reached = subst (Reaches (Takes Appended) setting c.args.steps c.new-sink.result c.run_until_full.new.run c.run_until_full.new.sink) c.in-Some.is
+    (c.in-Ok-run_until_full.ensures.ends c.new-sink.result start.given) in
+    let ended = subst (λ (log : List (ℕ × ℕ)). RunsInto (Takes Appended) setting log c.args.steps c.new-sink.result c.in-Some.end c.run_until_full.new.sink)
+    (c.in-Ok-run_until_full.ensures.log ∙ c.in-Ok.ensures.log) reached in
     subst (IsRunDump setting c.args.log.now c.args.steps) (search rules)
     (held_whole setting c.args.log.now c.args.steps c.new-sink.result.byte_sink.now c.finish.new.self.byte_sink.now (c.new-sink.ensures.unwritten ∙ c.new-held.ensures)
     (takes_whole {F = Full} Appended (λ _ _ _ _. ⊤) held_laws setting c.args.log.now c.args.steps c.new-sink.result c.new-sink.ensures.progress design
-    c.run_till_full.new.sink c.finish.new.self.byte_sink.now c.in-Some.end ended c.in-Ok-finish.ensures.ok))
+    c.run_until_full.new.sink c.finish.new.self.byte_sink.now c.in-Some.end ended c.in-Ok-finish.ensures.ok))

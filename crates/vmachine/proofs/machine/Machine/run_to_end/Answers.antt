@@ -1,7 +1,7 @@
 use Rattle.std.proofs.Common.{ℕ, List, subst}
 use Rattle.vmachine.specs.Handed.{RunsInto, RunsBySlot}
 use Rattle.vmachine.specs.Runs.{Reaches, ReachesBySlot}
-use Rattle.vmachine.proofs.machine.Machine.run_out.Goals as goal
+use Rattle.vmachine.proofs.machine.Machine.run_to_end.Goals as goal
 
 pub returns-in-Ok-Some-clause-ends : goal.returns-in-Ok-Some-clause-ends
 returns-in-Ok-Some-clause-ends g c = λ first start.

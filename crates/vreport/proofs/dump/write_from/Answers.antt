@@ -2,7 +2,7 @@ use Rattle.std.proofs.Common.{rules, ℕ, List, OnOk, IfErr, ◌∙◌, sym, sub
 use Rattle.vcd_text.specs.ByteSinks.{Stopped}
 use Rattle.vreport.specs.Dumps.{StopsDump, TakesDump}
 use Rattle.vreport.proofs.FrontLemmas.{resumed_front, stops_in_front}
-use Rattle.vreport.proofs.dump.write_on.Goals as goal
+use Rattle.vreport.proofs.dump.write_from.Goals as goal
 
 pub returns-in-Err-clause-err : goal.returns-in-Err-clause-err
 returns-in-Err-clause-err g c =
