@@ -11,6 +11,8 @@ mod faults;
 #[cfg(test)]
 mod gates;
 #[cfg(test)]
+mod long_reports;
+#[cfg(test)]
 mod searches;
 #[cfg(test)]
 mod shared_books;

@@ -3,3 +3,4 @@ pub mod EndLemmas
 pub mod WalkLemmas
 pub mod EachLemmas
 pub mod FirstLemmas
+pub mod ShownLemmas

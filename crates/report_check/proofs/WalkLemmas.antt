@@ -136,7 +136,7 @@ module _ (setting : Setting) (report : Report) (time variable : ℕ) (seen : Lis
     };
   }
 
-  so_seen : length seen.1 ≤ report.depart → IsSeenWithin setting report.steps time variable seen → IsTrueWitness setting report time variable seen
+  pub so_seen : length seen.1 ≤ report.depart → IsSeenWithin setting report.steps time variable seen → IsTrueWitness setting report time variable seen
   so_seen short is =
       let at = is.before.at in
       let earlier = is.before.earlier in

@@ -1,5 +1,5 @@
 -- Words for the contracts of calls within.
-use Rattle.std.specs.Prelude.{◌≡◌, ℕ, ◌+◌, ◌<◌, ◌≤◌, ◌⊎◌, Bool, true, List, slice_get, Option, Some, None, Decides}
+use Rattle.std.specs.Prelude.{◌≡◌, ℕ, ◌+◌, ◌<◌, ◌≤◌, ◌⊎◌, Bool, true, List, length, slice_get, Option, Some, None, Decides}
 use Rattle.sched_core.specs.Rules.{IsRun, NamesBelow}
 use Rattle.vbits.specs.Vectors.{Vector}
 use Rattle.vmodel.specs.State.{State}
@@ -7,10 +7,10 @@ use Rattle.vmodel.specs.Run.{Setting, rules_of, state_after}
 use Rattle.vmachine.specs.declared.machine_state.MachineState.{MachineState}
 use Rattle.vmachine.specs.Machines.{Stands}
 use Rattle.vmachine.specs.Reads.{end_in, slot_in}
-use Rattle.report_text.specs.Report.{End, Report}
+use Rattle.report_text.specs.Report.{End, Race, Report}
 use Rattle.report_text.specs.WellFormed.{Each}
 use Rattle.vreport.specs.Ends.{IsEndAfter}
-use Rattle.vreport.specs.Truth.{AreTrueEnds, IsTrueRace}
+use Rattle.vreport.specs.Truth.{AreTrueEnds, IsTrueRace, IsTrueWitness}
 use Rattle.vreport.specs.Values.{report_digits, values_line}
 use Rattle.report_check.specs.FirstBad.{AreFirstEndsTrue, AreFirstRacesTrue, IsFalseEnd, IsFalseRace}
 
@@ -62,6 +62,27 @@ pub record IsSeenWithin (setting : Setting) (limit time variable : ℕ) (seen : 
   pub names : NamesBelow seen.1 steps
   pub within : steps ≤ limit
   pub before : IsSeenBefore setting time variable seen.0 seen.1 (steps + 1)
+
+-- ---- values of races that were shown in the runs of all logs
+
+-- the run under the log comes to this state, within the limits that the head names, and nothing is left of the log
+pub record ComesTo (setting : Setting) (report : Report) (log : List (ℕ × ℕ)) (s : MachineState) : Type 0 where
+  pub steps : ℕ
+  pub run : IsRun (rules_of setting) log steps
+  pub names : NamesBelow log steps
+  pub within : steps ≤ report.steps
+  pub short : length log ≤ report.depart
+  pub at : Stands setting s (state_after setting log steps)
+
+-- the value stands at this place: that of its race in the report, and its own in the race
+pub record IsValueAt (report : Report) (place : ℕ × ℕ) (race : Race) (seen : List ℕ × List (ℕ × ℕ)) : Type 0 where
+  pub race_at : slice_get report.races place.0 ≡ Some race
+  pub value_at : slice_get race.values place.1 ≡ Some seen
+
+-- the value that stands at this place is true
+abbrev pub IsTrueAt : Setting → Report → ℕ × ℕ → Type 0
+IsTrueAt setting report place = (race : Race) (seen : List ℕ × List (ℕ × ℕ)) → IsValueAt report place race seen →
+    IsTrueWitness setting report race.time race.variable seen
 
 -- ---- the first that isn't true
 

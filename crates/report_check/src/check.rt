@@ -9,6 +9,7 @@ ghost use Rattle.report_check.specs.Inner.{TellsEnds, TellsRaces};
 use crate::end::is_true_end;
 use crate::head::is_true_head;
 use crate::race::is_true_race;
+use crate::shown::shown_places;
 use basis::{NoMemory, OrMemory};
 use report_text::Report;
 use std::alloc::Global;
@@ -51,8 +52,9 @@ fn first_false_race(
 ) -> Result<Option<usize>, NoMemory>
     ensures { IfOk result (TellsRaces machine.now report.now) }
 {
+    let shown = shown_places(alloc, machine, report)?;
     for place in 0..report.races.len() {
-        if !is_true_race(alloc, machine, report, &report.races[place])? {
+        if !is_true_race(alloc, machine, report, &report.races[place], place, &shown)? {
             return Ok(Some(place));
         }
     }
@@ -63,7 +65,8 @@ fn first_false_race(
 /// each end with its dump, and each value of each race. Whether the report lists all that there is, is not tested.
 ///
 /// The fault is the first item that isn't true (E504, E502, E503); else it is want of memory, E901. An end's log is
-/// run twice, that of a value once, within the steps that the report's head allows. No dump is made in memory.
+/// run twice, a log of races once for all the values that name it, within the steps that the report's head allows; a
+/// value that its log doesn't show once all that it names is taken has one more run. No dump is made in memory.
 pub fn check_report(
     alloc: Global,
     machine: &Machine,

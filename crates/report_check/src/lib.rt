@@ -7,5 +7,6 @@ mod check;
 mod end;
 mod head;
 mod race;
+mod shown;
 
 pub use check::{FirstBad, check_report};

@@ -1,9 +1,10 @@
 // Whether a race of a report is true.
 
-ghost use Rattle.std.specs.Prelude.{◌≡◌, [], true, IfOk, Decides};
+ghost use Rattle.std.specs.Prelude.{◌≡◌, [], true, All, IfOk, Decides, Some, slice_get};
 ghost use Rattle.vreport.specs.Truth.{IsTrueRace, IsTrueWitness};
-ghost use Rattle.report_check.specs.Inner.{IsSeenWithin, TellsSeen, TellsSeenByNow};
+ghost use Rattle.report_check.specs.Inner.{IsSeenWithin, IsTrueAt, IsValueAt, TellsSeen, TellsSeenByNow};
 
+use crate::shown::{Place, is_among};
 use basis::NoMemory;
 use report_text::{Race, RaceValue, Report};
 use sched_core::{Member, Space, next_choice};
@@ -11,8 +12,8 @@ use std::alloc::Global;
 use vmachine::{Machine, MachineState, machine_law};
 use vreport::text_of_value;
 
-// Whether the slot of the race's time ends here, and its variable has this value.
-fn shows(
+/// Whether the slot of the race's time ends here, and its variable has this value.
+pub fn shows(
     alloc: Global,
     machine: &Machine,
     machine_state: &MachineState,
@@ -118,18 +119,45 @@ fn is_true_witness(
     is_seen(alloc, machine, report.steps, race, race_value)
 }
 
-/// Whether a race of the report is true: each of its values is seen in the run under its log, at the end of that slot.
-/// E901 is the only refusal.
+// Whether the value at this place is true: it was shown in the run of its log, or else a run of its own shows it.
+fn is_true_value(
+    alloc: Global,
+    machine: &Machine,
+    report: &Report,
+    race: &Race,
+    race_value: &RaceValue,
+    place: Place,
+    shown: &[Place],
+) -> Result<bool, NoMemory>
+    requires at { IsValueAt report.now place race.now race_value.now }
+    requires shown { All (IsTrueAt machine.now report.now) shown.now }
+    ensures { IfOk result (λ is.
+        Decides is (IsTrueWitness machine.now report.now race.now.time race.now.variable
+        race_value.now)) }
+{
+    if is_among(shown, place) {
+        return Ok(true);
+    }
+    is_true_witness(alloc, machine, report, race, race_value)
+}
+
+/// Whether the race at this place of the report is true: each of its values is seen in the run under its log, at the end of
+/// that slot. No run is made for the values that were shown. E901 is the only refusal.
 pub fn is_true_race(
     alloc: Global,
     machine: &Machine,
     report: &Report,
     race: &Race,
+    place: usize,
+    shown: &[Place],
 ) -> Result<bool, NoMemory>
+    requires at { slice_get report.now.races place ≡ Some race.now }
+    requires shown { All (IsTrueAt machine.now report.now) shown.now }
     ensures { IfOk result (λ is. Decides is (IsTrueRace machine.now report.now race.now)) }
 {
-    for race_value in &race.values {
-        if !is_true_witness(alloc, machine, report, race, race_value)? {
+    for (value, race_value) in race.values.iter().enumerate() {
+        let at = (place, value);
+        if !is_true_value(alloc, machine, report, race, race_value, at, shown)? {
             return Ok(false);
         }
     }

@@ -1,9 +1,14 @@
-use Rattle.std.proofs.Common.{◌≡◌, ◌<◌, ◌≤◌, List, length, get_or, ap, sym, subst, ◌∙◌, arith}
+use Rattle.std.proofs.Common.{◌≡◌, ℕ, ◌<◌, List, length, get_or, All, ap, sym, subst, ◌∙◌, arith}
 use Rattle.report_text.specs.Report.{Race, Report}
 use Rattle.vreport.specs.Truth.{IsTrueRace}
+use Rattle.report_check.specs.Inner.{IsTrueAt}
 use Rattle.report_check.proofs.EachLemmas.{each_all}
 use Rattle.report_check.proofs.FirstLemmas.{false_race, race_more}
 use Rattle.report_check.proofs.check.first_false_race.Goals as goal
+
+pub is_true_race-requires-clause-shown : goal.is_true_race-requires-clause-shown
+is_true_race-requires-clause-shown c =
+    subst (λ (shown : List (ℕ × ℕ)). All (IsTrueAt c.args.machine.now c.args.report.now) shown) (sym c.deref.ensures.value) c.in_ok-shown.ensures
 
 pub returns-then-not-branch : goal.returns-then-not-branch
 returns-then-not-branch c =
