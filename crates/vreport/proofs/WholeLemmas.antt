@@ -1,5 +1,5 @@
 -- The ends that are listed are those of runs, and where the findings are all, they are all.
-use Rattle.std.proofs.Common.{◌≡◌, ℕ, ◌≤◌, ◌⊎◌, true, List, length, slice_get, Some, sym, ap, ◌∙◌, subst, inl, inr, arith}
+use Rattle.std.proofs.Common.{◌≡◌, ℕ, ◌≤◌, ◌⊎◌, true, List, length, slice_get, Some, refl, sym, ap, ◌∙◌, subst, inl, inr, le_refl, arith}
 use Rattle.std.specs.List.{Contains}
 use Rattle.std.proofs.lemmas.Option.{same_Some, slice_get-get_or}
 use Rattle.basis.proofs.Lists.{place_within}
@@ -85,6 +85,12 @@ module _ (setting : Setting) (alike : Alike setting) (all : AllStand setting) (t
           line_is = listed.line_is ∙ row_at.line_is ∙ sym line_is;
           fewest = (let a = listed.fewest in let b = has.of.departures_are in omega arith);
         }
+
+    -- every end among the marks
+    pub ends_marked : (place : ℕ) (found : MachineState × List (ℕ × ℕ)) (t : State) (time : ℕ) (cause : Cause) → slice_get marks place ≡ Some found → Stands setting found.0 t →
+        end_in t ≡ Some (record { time = time; cause = cause }) → ListsEnd ends time cause (values_line t.values) (length found.1)
+    ends_marked place found t time cause at st told =
+        row_listed found place t time cause (values_line t.values) (length found.1) st told refl (le_refl (length found.1)) (of_marks.whole place found (place_within marks place found at) at)
 
     pub ends_all : (depart : ℕ) → IsCovered (machine_rules setting) depart (IsListedMark (machine_rules setting) marks) → ListsEveryEnd setting depart ends
     ends_all depart covered = λ log steps time cause line short after.

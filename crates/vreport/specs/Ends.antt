@@ -6,6 +6,9 @@ use Rattle.vmachine.specs.declared.machine_state.MachineState.{MachineState}
 use Rattle.racebook.specs.Races.{IsWhole}
 use Rattle.statebook.specs.declared.limits.Limits.{Limits}
 use Rattle.vmodel.specs.declared.history.Cause.{Cause}
+use Rattle.vmachine.specs.Machines.{Stands}
+use Rattle.vmachine.specs.Reads.{end_in}
+use Rattle.vmodel.specs.State.{State}
 use Rattle.vmodel.specs.Run.{Setting, rules_of, state_after, end_of}
 use Rattle.report_text.specs.Report.{End}
 use Rattle.vreport.specs.Dumps.{IsRunDump}
@@ -54,6 +57,12 @@ abbrev pub ListsEveryEnd : Setting → ℕ → List End → Type 0
 ListsEveryEnd setting depart ends = (log : List (ℕ × ℕ)) (steps time : ℕ) (cause : Cause) (line : List ℕ) →
     length log ≤ depart → IsEndAfter setting log steps time cause line → ListsEnd ends time cause line (length log)
 
--- so it is where the findings are all
+-- every mark at which a run has ended is listed, under no more departures than its own, whatever the status of the findings
+abbrev pub ListsEveryMarkedEnd : Setting → Findings MachineState → List End → Type 0
+ListsEveryMarkedEnd setting findings ends = (place : ℕ) (found : MachineState × List (ℕ × ℕ)) (t : State) (time : ℕ) (cause : Cause) →
+    slice_get findings.marks.entries place ≡ Some found → Stands setting found.0 t → end_in t ≡ Some (record { time = time; cause = cause }) →
+    ListsEnd ends time cause (values_line t.values) (length found.1)
+
+-- where the findings are all, so is every end
 abbrev pub GivesEveryEnd : Setting → Limits → Findings MachineState → List End → Type 0
 GivesEveryEnd setting limits findings ends = IsWhole setting limits findings → ListsEveryEnd setting limits.depart ends

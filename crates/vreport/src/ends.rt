@@ -7,7 +7,7 @@ ghost use Rattle.explore.specs.Found.{ListsFound};
 ghost use Rattle.report_text.specs.WellFormed.{Each, EachTwo, IsEndBefore};
 ghost use Rattle.vmachine.specs.Machines.{machine_rules};
 ghost use Rattle.vreport.specs.Dumps.{HasDump, IsDumpFront};
-ghost use Rattle.vreport.specs.Ends.{GivesEveryEnd, HasBytes, HasLongDump, HasSomeLongDump, IsTrueEnd};
+ghost use Rattle.vreport.specs.Ends.{GivesEveryEnd, HasBytes, HasLongDump, HasSomeLongDump, IsTrueEnd, ListsEveryMarkedEnd};
 ghost use Rattle.vreport.specs.Written.{AreHeld, IsHeld};
 ghost use Rattle.vreport.specs.Inner.{AreEnds, AreRows, AreSortedRows, CountsDump, HasTimeAndLog, IsCounted, IsEndOfRow, IsRowOfSome, Repeats, key_cmp};
 
@@ -241,6 +241,8 @@ pub fn ends_of(
         Each (HasBytes machine.now limits.now.steps) found.ends.items) }
     ensures all { IfOk result (λ found.
         GivesEveryEnd machine.now limits.now findings.now found.ends.items) }
+    ensures marked { IfOk result (λ found.
+        ListsEveryMarkedEnd machine.now findings.now found.ends.items) }
     ensures kept { IfOk result (λ found. Each HasTimeAndLog found.ends.items) }
     ensures order { IfOk result (λ found. EachTwo IsEndBefore found.ends.items) }
     ensures held { IfOk result (λ found.

@@ -6,7 +6,7 @@ ghost use Rattle.explore.specs.Found.{ListsFound};
 ghost use Rattle.report_text.specs.WellFormed.{Each, EachTwo, IsEndBefore};
 ghost use Rattle.vdesign.specs.Named.{AreNamed};
 ghost use Rattle.vmachine.specs.Machines.{machine_rules};
-ghost use Rattle.vreport.specs.Ends.{GivesEveryEnd, HasBytes, HasSomeLongDump, IsTrueEnd};
+ghost use Rattle.vreport.specs.Ends.{GivesEveryEnd, HasBytes, HasSomeLongDump, IsTrueEnd, ListsEveryMarkedEnd};
 ghost use Rattle.vreport.specs.Formed.{IsFormed};
 ghost use Rattle.vreport.specs.Inner.{HasLog, HasTimeAndLogs, HasWidth};
 ghost use Rattle.vreport.specs.Reports.{HasOutcome, IsHeadOf, ShowsRaces, outcome_of as outcome_by_status, report_race, report_value};
@@ -115,6 +115,8 @@ pub fn hold_report(
         Each (HasBytes machine.now limits.now.steps) told.report.ends) }
     ensures every_end { IfOk result (λ told.
         GivesEveryEnd machine.now limits.now findings.now told.report.ends) }
+    ensures marked_ends { IfOk result (λ told.
+        ListsEveryMarkedEnd machine.now findings.now told.report.ends) }
     ensures ends_order { IfOk result (λ told. EachTwo IsEndBefore told.report.ends) }
     ensures races { IfOk result (λ told.
         ShowsRaces machine.now limits.now findings.now told.report.races) }
@@ -167,6 +169,8 @@ pub fn report_of(
         Each (HasBytes machine.now limits.now.steps) report.ends) }
     ensures every_end { IfOk result (λ report.
         GivesEveryEnd machine.now limits.now findings.now report.ends) }
+    ensures marked_ends { IfOk result (λ report.
+        ListsEveryMarkedEnd machine.now findings.now report.ends) }
     ensures ends_order { IfOk result (λ report. EachTwo IsEndBefore report.ends) }
     ensures races { IfOk result (λ report.
         ShowsRaces machine.now limits.now findings.now report.races) }
