@@ -66,18 +66,18 @@ fn time_of(race: &racebook::Race) -> u64
 
 // The races, as a report tells them.
 fn report_races(alloc: Global, races: &[racebook::Race]) -> Result<Vec<Race>, NoMemory>
-    ensures told { IfOk result (λ told. told.items ≡ map report_race races.now) }
-    ensures kept { IfOk result (λ told. Each HasTimeAndLogs told.items) }
+    ensures told { IfOk result (λ listed. listed.items ≡ map report_race races.now) }
+    ensures kept { IfOk result (λ listed. Each HasTimeAndLogs listed.items) }
 {
-    let mut told = Vec::with_capacity(alloc, races.len())?;
+    let mut listed = Vec::with_capacity(alloc, races.len())?;
     for race in races {
-        told.push(Race {
+        listed.push(Race {
             time: time_of(race),
             variable: race.variable,
             values: race_values_of(alloc, &race.values)?,
         })?;
     }
-    Ok(told)
+    Ok(listed)
 }
 
 // How the exploration went.
@@ -107,23 +107,23 @@ pub fn hold_report(
     limits: &Limits,
 ) -> Result<HeldReport, OrMemory<TooMany>>
     requires found { ListsFound (machine_rules machine.now) limits.now findings.now }
-    ensures head { IfOk result (λ told. IsHeadOf machine.now limits.now told.report) }
-    ensures outcome { IfOk result (λ told. HasOutcome findings.now.status told.report) }
-    ensures true_ends { IfOk result (λ told.
-        Each (IsTrueEnd machine.now limits.now) told.report.ends) }
-    ensures bytes { IfOk result (λ told.
-        Each (HasBytes machine.now limits.now.steps) told.report.ends) }
-    ensures every_end { IfOk result (λ told.
-        GivesEveryEnd machine.now limits.now findings.now told.report.ends) }
-    ensures marked_ends { IfOk result (λ told.
-        ListsEveryMarkedEnd machine.now findings.now told.report.ends) }
-    ensures ends_order { IfOk result (λ told. EachTwo IsEndBefore told.report.ends) }
-    ensures races { IfOk result (λ told.
-        ShowsRaces machine.now limits.now findings.now told.report.races) }
+    ensures head { IfOk result (λ with_dumps. IsHeadOf machine.now limits.now with_dumps.report) }
+    ensures outcome { IfOk result (λ with_dumps. HasOutcome findings.now.status with_dumps.report) }
+    ensures true_ends { IfOk result (λ with_dumps.
+        Each (IsTrueEnd machine.now limits.now) with_dumps.report.ends) }
+    ensures bytes { IfOk result (λ with_dumps.
+        Each (HasBytes machine.now limits.now.steps) with_dumps.report.ends) }
+    ensures every_end { IfOk result (λ with_dumps.
+        GivesEveryEnd machine.now limits.now findings.now with_dumps.report.ends) }
+    ensures marked_ends { IfOk result (λ with_dumps.
+        ListsEveryMarkedEnd machine.now findings.now with_dumps.report.ends) }
+    ensures ends_order { IfOk result (λ with_dumps. EachTwo IsEndBefore with_dumps.report.ends) }
+    ensures races { IfOk result (λ with_dumps.
+        ShowsRaces machine.now limits.now findings.now with_dumps.report.races) }
     ensures formed { AreNamed machine.now.design → machine.now.until ≤ 4611686018427387903 →
-        IfOk result (λ told. IsFormed machine.now told.report) }
-    ensures held { IfOk result (λ told.
-        AreHeld machine.now limits.now.steps told.report.ends told.held.items) }
+        IfOk result (λ with_dumps. IsFormed machine.now with_dumps.report) }
+    ensures held { IfOk result (λ with_dumps.
+        AreHeld machine.now limits.now.steps with_dumps.report.ends with_dumps.held.items) }
     ensures long { IfFault result (λ _. HasSomeLongDump machine.now limits.now) }
 {
     run_law();
@@ -179,7 +179,7 @@ pub fn report_of(
     ensures long { IfFault result (λ _. HasSomeLongDump machine.now limits.now) }
 {
     match hold_report(alloc, machine, findings, limits) {
-        Ok(told) => Ok(told.report),
+        Ok(with_dumps) => Ok(with_dumps.report),
         Err(fault) => Err(fault),
     }
 }

@@ -5,4 +5,4 @@ use Rattle.vreport.specs.Reports.{report_race}
 use Rattle.vreport.proofs.report.report_races.Given as goal
 
 abbrev pub invariant-loop-race : goal.invariant-loop-race
-invariant-loop-race l = (l.told.items ++ map report_race (drop l.race-index l.races) ≡ map report_race l.races) × Each HasTimeAndLogs l.told.items
+invariant-loop-race l = (l.listed.items ++ map report_race (drop l.race-index l.races) ≡ map report_race l.races) × Each HasTimeAndLogs l.listed.items
