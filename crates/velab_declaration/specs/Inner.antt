@@ -5,16 +5,15 @@ use Rattle.std.specs.List.{filter, flat_map, filter_map}
 use Rattle.vdesign.specs.Design as design
 use Rattle.vast.specs.Words.{Text}
 use Rattle.vast.specs.NumberedWords.{Word, numbered}
-use Rattle.vast.specs.NumberedModules.{ParameterType, ItemTree, declaration, variables, integers}
+use Rattle.vast.specs.NumberedModules.{ParameterType, ItemTree, declaration}
 use Rattle.vmodules.specs.Names.{is_declared, again_behind}
 use Rattle.vmodules.specs.Inner.{ConnectionEntry, entries_tree, port_form}
 use Rattle.vmodules.specs.declared.ports.PortForm.{PortForm}
 use Rattle.vast.specs.declared.module.Instance.{Instance}
-use Rattle.vast.specs.NumberedTrees.{instance_tree, parameter_type, head_parameter, type_tree, declaration_kind, declared_tree, setting_tree, item_tree}
+use Rattle.vast.specs.NumberedTrees.{instance_tree, parameter_type, head_parameter, declaration_kind, declared_tree, setting_tree, item_tree}
 use Rattle.vast.specs.declared.module.DeclarationKind.{DeclarationKind as DeclarationWords}
 use Rattle.vast.specs.declared.module.NetKind.{NetKind}
 use Rattle.vast.specs.declared.module.NetKind.TheVariants.{Reg, Wire}
-use Rattle.vast.specs.declared.module.SignAndRange.{SignAndRange}
 use Rattle.vast.specs.declared.module.ModuleItem.{ModuleItem}
 use Rattle.vast.specs.declared.module.Declared.{Declared}
 use Rattle.vast.specs.declared.module.Setting.{Setting}
@@ -29,7 +28,7 @@ use Rattle.velab_declaration.specs.declared.variable.Form.{Form}
 use Rattle.velab_declaration.specs.declared.driven.Driver.{Driver}
 use Rattle.velab_expr.specs.Symbols.{instance_symbol, Symbol, parameter_symbol, event_symbol, valueless_by, symbols_in_head}
 use Rattle.velab_declaration.specs.Parameters.{Overrides}
-use Rattle.velab_declaration.specs.Variables.{port_declaration, net_names, declarations_of, variable_by, variable_of, ScopeDrivers, driver_of, drivers_by}
+use Rattle.velab_declaration.specs.Variables.{port_declaration, net_names, declarations_of, variables_in, ScopeDrivers, driver_of, drivers_by}
 
 -- the names that an item declares, and those that items do
 abbrev pub names_of : ItemTree → List Word
@@ -87,30 +86,13 @@ port_texts words ports = map (λ p. p.name) (map (port_form words) ports)
 abbrev pub names_before : List Text → List PortForm → List ModuleItem → List Word
 names_before words ports items = port_texts words ports ++ declared_in (map (item_tree words) items)
 
--- a variable declared in this form
-abbrev pub variable_in : ScopeDrivers → Form → Text → design.Variable
-variable_in scope form = variable_by scope form.kind form.signed form.bounds
-
--- the variables of names declared in this form, of an item, and of items
+-- the variables of names declared in this form
 abbrev pub variables_by : List Text → ScopeDrivers → Form → List Declared → List design.Variable
-variables_by words scope form list = map (λ one. variable_in scope form one.letters) (texts_of words list)
+variables_by words drivers form list = variables_in drivers form (map (declared_tree words) list)
 
 -- a declaration, as an item
 abbrev pub kind_item : List Text → DeclarationWords → List Declared → ItemTree
 kind_item words kind list = declaration (declaration_kind words kind) (map (declared_tree words) list)
-
-abbrev pub net_item : List Text → NetKind → SignAndRange → List Declared → ItemTree
-net_item words net type list = declaration (variables net (type_tree words type)) (map (declared_tree words) list)
-
-abbrev pub integers_item : List Text → List Declared → ItemTree
-integers_item words list = declaration integers (map (declared_tree words) list)
-
--- the variables of ports
-abbrev pub port_variables : List Text → ScopeDrivers → Scope → List PortForm → List design.Variable
-port_variables words drivers scope ports = map (variable_of drivers scope) (map port_declaration (map (port_form words) ports))
-
-abbrev pub variables_for : List Text → ScopeDrivers → Scope → ModuleItem → List design.Variable
-variables_for words drivers scope item = map (variable_of drivers scope) (declarations_of (item_tree words item))
 
 -- the words that are driven, one driver each
 abbrev pub driver_word : Driver → Word

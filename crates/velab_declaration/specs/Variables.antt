@@ -1,7 +1,6 @@
 -- The variables of an instance (IEEE 1364-2005, 4.2, 4.3.1, 4.8), and the nets that something drives in it (6.1).
-use Rattle.std.specs.Prelude.{ℕ, Bool, true, false, if◌then◌else◌, List, [], ◌∷◌, ◌++◌, map, length, Option, None, Some, option_map}
+use Rattle.std.specs.Prelude.{ℕ, Bool, true, false, if◌then◌else◌, List, [], ◌∷◌, ◌++◌, map, Option, None, Some, option_map, Result, Ok}
 use Rattle.std.specs.List.{filter, flat_map, filter_map}
-use Rattle.std.specs.Option.{option_or}
 use Rattle.vbits.specs.declared.bit4.Bit4.TheVariants.{X, Z}
 use Rattle.vbits.specs.declared.bit4.Bit4.{Bit4}
 use Rattle.vast.specs.Words.{Text}
@@ -17,7 +16,9 @@ use Rattle.vdesign.specs.declared.design.Kind.TheVariants.{Reg, Integer, Wire}
 use Rattle.vdesign.specs.declared.expression.Bounds.{Bounds}
 use Rattle.velab_expr.specs.declared.fault.ElabFault.{ElabFault}
 use Rattle.velab_expr.specs.Scopes.{Scope}
-use Rattle.velab_expr.specs.Ranges.{span, bounds_of, broken_range}
+use Rattle.velab_expr.specs.Ranges.{span, lower_bounds}
+use Rattle.velab_expr.specs.Answers.{◌>>=◌}
+use Rattle.velab_declaration.specs.declared.variable.Form.{Form}
 use Rattle.velab_expr.specs.Symbols.{behind_item}
 
 pub record Declaration : Type 0 where
@@ -66,23 +67,6 @@ declared_names m = port_names m ++ map (λ d. d.name) (declarations m)
 abbrev pub port_declaration : Port → Declaration
 port_declaration p = declared (kind_of p.net) p.type.signed p.type.range p.name
 
-abbrev pub broken_kind : Scope → DeclarationKind → Option ElabFault
-broken_kind scope (variables word type) = broken_range scope type.range
-broken_kind scope integers = None
-
-abbrev pub broken_declaration : Scope → ItemTree → Option ElabFault
-broken_declaration scope (parameters local type settings) = None
-broken_declaration scope (declaration kind list) = broken_kind scope kind
-broken_declaration scope (events names) = None
-broken_declaration scope (assignments settings) = None
-broken_declaration scope (initial statement) = None
-broken_declaration scope (always statement) = None
-broken_declaration scope (instances letters overrides list) = None
-
-abbrev pub broken_ports : Scope → List Port → Option ElabFault
-broken_ports scope [] = None
-broken_ports scope (p ∷ more) = option_or (broken_range scope p.type.range) (broken_ports scope more)
-
 -- without a range a `reg` or a `wire` has 1 bit, an `integer` 32
 abbrev pub length_of : Kind → Option Bounds → ℕ
 length_of kind (Some bounds) = span bounds
@@ -102,18 +86,15 @@ start_by drivers Integer text = X
 start_by drivers Wire text = if is_declared drivers.driven text then X else Z
 
 -- its name stands behind its instance's and a dot
-abbrev pub variable_by : ScopeDrivers → Kind → Bool → Option Bounds → Text → design.Variable
-variable_by drivers kind signed bounds text = record {
+abbrev pub variable_in : ScopeDrivers → Form → Text → design.Variable
+variable_in drivers form text = record {
   name = drivers.name ++ 46 ∷ text;
-  kind = kind;
-  length = length_of kind bounds;
-  signed = signed;
-  start = start_by drivers kind text;
-  bounds = bounds;
+  kind = form.kind;
+  length = length_of form.kind form.bounds;
+  signed = form.signed;
+  start = start_by drivers form.kind text;
+  bounds = form.bounds;
 }
-
-abbrev pub variable_of : ScopeDrivers → Scope → Declaration → design.Variable
-variable_of drivers scope d = variable_by drivers d.kind d.signed (option_map (bounds_of scope) d.range) d.name.letters
 
 -- a net that is declared with a value is driven by it (6.1.1)
 abbrev pub driver_of : DeclaredTree → Option Word
@@ -147,11 +128,42 @@ net_names list = map (λ d. d.name.letters) (filter (λ d. is_wire d.kind) list)
 abbrev pub nets_of : List Port → List ItemTree → List Text
 nets_of ports items = net_names (map port_declaration ports ++ flat_map declarations_of items)
 
-abbrev pub variables_from : ScopeDrivers → Scope → List ItemTree → List design.Variable
-variables_from drivers scope [] = []
-variables_from drivers scope (item ∷ more) =
-    map (variable_of drivers scope) (declarations_of item) ++ variables_from drivers (behind_item scope item) more
+-- ---- what is declared, lowered to the variables of a design
 
-abbrev pub broken_from : Scope → List ItemTree → Option ElabFault
-broken_from scope [] = None
-broken_from scope (item ∷ more) = option_or (broken_declaration scope item) (broken_from (behind_item scope item) more)
+abbrev pub form_of : NetKind → Bool → Option Bounds → Form
+form_of word signed bounds = record { kind = kind_of word; signed = signed; bounds = bounds }
+
+-- what a declaration says of each of its names
+abbrev pub lower_kind : Scope → DeclarationKind → Result Form ElabFault
+lower_kind scope (variables word type) = lower_bounds scope type.range >>= λ bounds. Ok (form_of word type.signed bounds)
+lower_kind scope integers = Ok (record { kind = Integer; signed = true; bounds = None })
+
+-- a variable for each name
+abbrev pub variables_in : ScopeDrivers → Form → List DeclaredTree → List design.Variable
+variables_in drivers form list = map (λ one. variable_in drivers form one.name.letters) list
+
+abbrev pub lower_names : ScopeDrivers → Scope → DeclarationKind → List DeclaredTree → Result (List design.Variable) ElabFault
+lower_names drivers scope kind list = lower_kind scope kind >>= λ form. Ok (variables_in drivers form list)
+
+abbrev pub lower_declaration : ScopeDrivers → Scope → ItemTree → Result (List design.Variable) ElabFault
+lower_declaration drivers scope (parameters local type settings) = Ok []
+lower_declaration drivers scope (declaration kind list) = lower_names drivers scope kind list
+lower_declaration drivers scope (events names) = Ok []
+lower_declaration drivers scope (assignments settings) = Ok []
+lower_declaration drivers scope (initial statement) = Ok []
+lower_declaration drivers scope (always statement) = Ok []
+lower_declaration drivers scope (instances letters overrides list) = Ok []
+
+-- in the order of the text, each in the scope of its place
+abbrev pub lower_variables : ScopeDrivers → Scope → List ItemTree → Result (List design.Variable) ElabFault
+lower_variables drivers scope [] = Ok []
+lower_variables drivers scope (item ∷ more) =
+    lower_declaration drivers scope item >>= λ front. lower_variables drivers (behind_item scope item) more >>= λ others. Ok (front ++ others)
+
+-- 12.3.3: a port is declared where it stands
+abbrev pub lower_port : ScopeDrivers → Scope → Port → Result design.Variable ElabFault
+lower_port drivers scope p = lower_bounds scope p.type.range >>= λ bounds. Ok (variable_in drivers (form_of p.net p.type.signed bounds) p.name.letters)
+
+abbrev pub lower_ports : ScopeDrivers → Scope → List Port → Result (List design.Variable) ElabFault
+lower_ports drivers scope [] = Ok []
+lower_ports drivers scope (p ∷ more) = lower_port drivers scope p >>= λ one. lower_ports drivers scope more >>= λ others. Ok (one ∷ others)

@@ -4,6 +4,7 @@ ghost use Rattle.std.specs.Prelude.{◌≡◌, ◌++◌, ◌∷◌, [], Some, tr
 ghost use Rattle.basis.specs.Reasons.{IfFault};
 ghost use Rattle.vmodules.specs.Names.{has_double, is_declared};
 
+use crate::refusal::refused;
 use basis::OrMemory;
 use velab_expr::fault::{ElabFault, Rule};
 use vmodules::names::Names;
@@ -18,10 +19,7 @@ pub fn note<'t>(names: &mut Names<'t>, text: &'t [u8], at: u32) -> Result<(), Or
 {
     let new = names.add(text)?;
     if !new {
-        return Err(OrMemory::Fault(ElabFault {
-            rule: Rule::Doubled,
-            at: Some(at),
-        }));
+        return Err(refused(Rule::Doubled, Some(at)));
     }
     Ok(())
 }

@@ -9,6 +9,7 @@ ghost use Rattle.velab_declaration.specs.Variables.{nets_of as spec_nets_of};
 ghost use Rattle.velab_declaration.specs.Inner.{BreaksDrivers, among, item_nets, nets_as, port_nets, texts_of};
 
 use crate::driven::Driver;
+use crate::refusal::refused;
 use basis::{NoMemory, OrMemory};
 use std::alloc::Global;
 use vast::module::{DeclarationKind, Declared, ModuleItem, NetKind};
@@ -147,10 +148,7 @@ fn add_net<'t>(driver: &Driver<'t>, into: &mut Names<'t>) -> Result<(), OrMemory
 {
     let new = into.add(driver.net)?;
     if !new {
-        return Err(OrMemory::Fault(ElabFault {
-            rule: Rule::Drivers,
-            at: Some(driver.at),
-        }));
+        return Err(refused(Rule::Drivers, Some(driver.at)));
     }
     Ok(())
 }

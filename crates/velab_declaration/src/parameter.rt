@@ -1,20 +1,20 @@
 // Parameters (IEEE 1364-2005, 4.10, 12.2), their values known to what stands behind them, named events (9.7.3) and instances (12.1.2).
 
-ghost use Rattle.std.specs.Prelude.{◌≡◌, ◌<◌, ◌≤◌, ◌^◌, List, None, Some, map, option_map, length, IfOk, OnOk};
+ghost use Rattle.std.specs.Prelude.{◌≡◌, ◌<◌, ◌≤◌, ◌^◌, List, None, map, length, IfOk};
 ghost use Rattle.std.specs.Option.{option_or};
-ghost use Rattle.basis.specs.Reasons.{IfFault};
 ghost use Rattle.vast.specs.Words.{Text};
 ghost use Rattle.vast.specs.NumberedWords.{numbered};
 ghost use Rattle.vast.specs.NumberedTrees.{head_parameter, item_tree, parameter_type, setting_tree};
 ghost use Rattle.vexpr_parse.specs.Texts.{words_of};
 ghost use Rattle.velab_declaration.specs.Parameters as spec;
 ghost use Rattle.velab_expr.specs.Symbols.{parameter_symbol, symbols_by, symbols_behind, valueless_by, event_symbol, instance_symbol};
-ghost use Rattle.velab_declaration.specs.Parameters.{with_symbol, with_all, broken_symbol, broken_all, broken_type};
+ghost use Rattle.velab_declaration.specs.Parameters.{add_symbol, add_symbols};
+ghost use Rattle.velab_expr.specs.Answers.{Gives, Makes};
 ghost use Rattle.velab_expr.specs.Inner.{symbols_in, IsNarrow};
 ghost use Rattle.velab_declaration.specs.Inner.{symbol_of, symbols_of, event_symbols, instance_symbols, overrides_tree, valueless_in, symbols_at_head, type_of};
-ghost use Rattle.velab_expr.specs.Rules.{IsBroken};
 
 use crate::names::note;
+use crate::refusal::refused;
 use basis::OrMemory;
 use std::alloc::Global;
 use std::marker::Model;
@@ -111,13 +111,9 @@ fn bounds_of(
     tokens: &Tokens<'_>,
     kind: Option<&ParameterType>,
 ) -> Result<Option<Bounds>, OrMemory<ElabFault>>
-    ensures ok { IfOk result (λ bounds.
-        bounds ≡ spec.parameter_bounds scope.now (type_of (words_of tokens.now) kind.entry)) }
+    ensures gives { Gives result
+        (spec.lower_type scope.now (type_of (words_of tokens.now) kind.entry)) }
     ensures few { IfOk result IsNarrow }
-    ensures right { OnOk result
-        (broken_type scope.now (type_of (words_of tokens.now) kind.entry) ≡ None) }
-    ensures err { IfFault result
-        (IsBroken (broken_type scope.now (type_of (words_of tokens.now) kind.entry))) }
 {
     match kind {
         None => Ok(None),
@@ -162,14 +158,8 @@ fn value_of(
     scope: &Scope<'_, '_>,
     setting: &Setting,
 ) -> Result<Expression, OrMemory<ElabFault>>
-    ensures ok { IfOk result (λ e. e ≡ spec.value_of (overrides_tree (words_of tokens.now)
-        overrides.now)
+    ensures { Gives result (spec.lower_setting (overrides_tree (words_of tokens.now) overrides.now)
         scope.now (setting_tree (words_of tokens.now) setting.now)) }
-    ensures right { OnOk result (spec.broken_value (overrides_tree (words_of tokens.now) overrides.now)
-        scope.now (setting_tree (words_of tokens.now) setting.now) ≡ None) }
-    ensures err { IfFault result (IsBroken
-        (spec.broken_value (overrides_tree (words_of tokens.now) overrides.now) scope.now
-        (setting_tree (words_of tokens.now) setting.now))) }
 {
     let own = constant_expression(alloc, scope, tokens, &setting.value)?;
     match overrides.values.value(letters(tokens, setting.name)) {
@@ -187,16 +177,10 @@ fn add<'t>(
     setting: &Setting,
     into: &mut Growing<'t>,
 ) -> Result<(), OrMemory<ElabFault>>
-    ensures ok { OnOk result
-        (into.new ≡ with_symbol (overrides_tree (words_of tokens.now) overrides.now)
+    ensures makes { Makes result into.new
+        (add_symbol (overrides_tree (words_of tokens.now) overrides.now)
         into.old (symbol_of (words_of tokens.now) kind.entry setting.now)) }
     ensures variables { into.new.variables ≡ into.old.variables }
-    ensures right { OnOk result
-        (broken_symbol (overrides_tree (words_of tokens.now) overrides.now)
-        into.old (symbol_of (words_of tokens.now) kind.entry setting.now) ≡ None) }
-    ensures err { IfFault result
-        (IsBroken (broken_symbol (overrides_tree (words_of tokens.now) overrides.now)
-        into.old (symbol_of (words_of tokens.now) kind.entry setting.now))) }
 {
     let scope = into.scope();
     let bounds = bounds_of(alloc, &scope, tokens, kind)?;
@@ -221,16 +205,10 @@ fn add_all<'t>(
     list: &[Setting],
     into: &mut Growing<'t>,
 ) -> Result<(), OrMemory<ElabFault>>
-    ensures ok { OnOk result
-        (into.new ≡ with_all (overrides_tree (words_of tokens.now) overrides.now)
+    ensures makes { Makes result into.new
+        (add_symbols (overrides_tree (words_of tokens.now) overrides.now)
         into.old (symbols_of (words_of tokens.now) kind.now list.now)) }
     ensures variables { into.new.variables ≡ into.old.variables }
-    ensures right { OnOk result
-        (broken_all (overrides_tree (words_of tokens.now) overrides.now)
-        into.old (symbols_of (words_of tokens.now) kind.now list.now) ≡ None) }
-    ensures err { IfFault result
-        (IsBroken (broken_all (overrides_tree (words_of tokens.now) overrides.now)
-        into.old (symbols_of (words_of tokens.now) kind.now list.now))) }
 {
     for one in list {
         add(alloc, tokens, overrides, Some(kind), one, into)?;
@@ -245,22 +223,13 @@ fn add_event<'t>(
     name: Token,
     into: &mut Growing<'t>,
 ) -> Result<(), OrMemory<ElabFault>>
-    ensures ok { OnOk result
-        (into.new ≡ with_symbol (overrides_tree (words_of tokens.now) overrides.now)
+    ensures makes { Makes result into.new
+        (add_symbol (overrides_tree (words_of tokens.now) overrides.now)
         into.old (event_symbol (numbered (words_of tokens.now) name))) }
     ensures variables { into.new.variables ≡ into.old.variables }
-    ensures right { OnOk result
-        (broken_symbol (overrides_tree (words_of tokens.now) overrides.now)
-        into.old (event_symbol (numbered (words_of tokens.now) name)) ≡ None) }
-    ensures err { IfFault result
-        (IsBroken (broken_symbol (overrides_tree (words_of tokens.now) overrides.now)
-        into.old (event_symbol (numbered (words_of tokens.now) name)))) }
 {
     if into.events >= MOST_EVENTS {
-        return Err(OrMemory::Fault(ElabFault {
-            rule: Rule::TooMany,
-            at: Some(name.number),
-        }));
+        return Err(refused(Rule::TooMany, Some(name.number)));
     }
     note(&mut into.names, letters(tokens, name), name.number)?;
     into.others.push(Meaning::Event(into.events))?;
@@ -275,16 +244,10 @@ fn add_events<'t>(
     names: &[Token],
     into: &mut Growing<'t>,
 ) -> Result<(), OrMemory<ElabFault>>
-    ensures ok { OnOk result
-        (into.new ≡ with_all (overrides_tree (words_of tokens.now) overrides.now)
+    ensures makes { Makes result into.new
+        (add_symbols (overrides_tree (words_of tokens.now) overrides.now)
         into.old (event_symbols (words_of tokens.now) names.now)) }
     ensures variables { into.new.variables ≡ into.old.variables }
-    ensures right { OnOk result
-        (broken_all (overrides_tree (words_of tokens.now) overrides.now)
-        into.old (event_symbols (words_of tokens.now) names.now) ≡ None) }
-    ensures err { IfFault result
-        (IsBroken (broken_all (overrides_tree (words_of tokens.now) overrides.now)
-        into.old (event_symbols (words_of tokens.now) names.now))) }
 {
     for name in names {
         add_event(tokens, overrides, *name, into)?;
@@ -299,16 +262,10 @@ fn add_instance<'t>(
     name: Token,
     into: &mut Growing<'t>,
 ) -> Result<(), OrMemory<ElabFault>>
-    ensures ok { OnOk result (into.new ≡
-        with_symbol (overrides_tree (words_of tokens.now) overrides.now)
+    ensures makes { Makes result into.new
+        (add_symbol (overrides_tree (words_of tokens.now) overrides.now)
         into.old (instance_symbol (numbered (words_of tokens.now) name))) }
     ensures variables { into.new.variables ≡ into.old.variables }
-    ensures right { OnOk result (broken_symbol (overrides_tree (words_of tokens.now) overrides.now)
-        into.old
-        (instance_symbol (numbered (words_of tokens.now) name)) ≡ None) }
-    ensures err { IfFault result (IsBroken (broken_symbol
-        (overrides_tree (words_of tokens.now) overrides.now)
-        into.old (instance_symbol (numbered (words_of tokens.now) name)))) }
 {
     note(&mut into.names, letters(tokens, name), name.number)?;
     into.others.push(Meaning::Instance)?;
@@ -322,16 +279,10 @@ fn add_instances<'t>(
     list: &[Instance],
     into: &mut Growing<'t>,
 ) -> Result<(), OrMemory<ElabFault>>
-    ensures ok { OnOk result
-        (into.new ≡ with_all (overrides_tree (words_of tokens.now) overrides.now)
+    ensures makes { Makes result into.new
+        (add_symbols (overrides_tree (words_of tokens.now) overrides.now)
         into.old (instance_symbols (words_of tokens.now) list.now)) }
     ensures variables { into.new.variables ≡ into.old.variables }
-    ensures right { OnOk result
-        (broken_all (overrides_tree (words_of tokens.now) overrides.now)
-        into.old (instance_symbols (words_of tokens.now) list.now) ≡ None) }
-    ensures err { IfFault result
-        (IsBroken (broken_all (overrides_tree (words_of tokens.now) overrides.now)
-        into.old (instance_symbols (words_of tokens.now) list.now))) }
 {
     for one in list {
         add_instance(tokens, overrides, one.name, into)?;
@@ -347,16 +298,10 @@ fn add_item<'t>(
     item: &ModuleItem,
     into: &mut Growing<'t>,
 ) -> Result<(), OrMemory<ElabFault>>
-    ensures ok { OnOk result
-        (into.new ≡ with_all (overrides_tree (words_of tokens.now) overrides.now)
+    ensures makes { Makes result into.new
+        (add_symbols (overrides_tree (words_of tokens.now) overrides.now)
         into.old (symbols_by (item_tree (words_of tokens.now) item.now))) }
     ensures variables { into.new.variables ≡ into.old.variables }
-    ensures right { OnOk result
-        (broken_all (overrides_tree (words_of tokens.now) overrides.now)
-        into.old (symbols_by (item_tree (words_of tokens.now) item.now)) ≡ None) }
-    ensures err { IfFault result
-        (IsBroken (broken_all (overrides_tree (words_of tokens.now) overrides.now)
-        into.old (symbols_by (item_tree (words_of tokens.now) item.now)))) }
 {
     match item {
         ModuleItem::Parameters { kind, settings, .. } => {
@@ -378,16 +323,10 @@ fn add_valueless_of<'t>(
     item: &ModuleItem,
     into: &mut Growing<'t>,
 ) -> Result<(), OrMemory<ElabFault>>
-    ensures ok { OnOk result
-        (into.new ≡ with_all (overrides_tree (words_of tokens.now) overrides.now)
+    ensures makes { Makes result into.new
+        (add_symbols (overrides_tree (words_of tokens.now) overrides.now)
         into.old (valueless_by (item_tree (words_of tokens.now) item.now))) }
     ensures variables { into.new.variables ≡ into.old.variables }
-    ensures right { OnOk result
-        (broken_all (overrides_tree (words_of tokens.now) overrides.now)
-        into.old (valueless_by (item_tree (words_of tokens.now) item.now)) ≡ None) }
-    ensures err { IfFault result
-        (IsBroken (broken_all (overrides_tree (words_of tokens.now) overrides.now)
-        into.old (valueless_by (item_tree (words_of tokens.now) item.now)))) }
 {
     match item {
         ModuleItem::Parameters { .. } => Ok(()),
@@ -409,16 +348,10 @@ pub fn add_valueless<'t>(
     items: &[ModuleItem],
     into: &mut Growing<'t>,
 ) -> Result<(), OrMemory<ElabFault>>
-    ensures ok { OnOk result
-        (into.new ≡ with_all (overrides_tree (words_of tokens.now) overrides.now)
+    ensures makes { Makes result into.new
+        (add_symbols (overrides_tree (words_of tokens.now) overrides.now)
         into.old (valueless_in (words_of tokens.now) items.now)) }
     ensures variables { into.new.variables ≡ into.old.variables }
-    ensures right { OnOk result
-        (broken_all (overrides_tree (words_of tokens.now) overrides.now)
-        into.old (valueless_in (words_of tokens.now) items.now) ≡ None) }
-    ensures err { IfFault result
-        (IsBroken (broken_all (overrides_tree (words_of tokens.now) overrides.now)
-        into.old (valueless_in (words_of tokens.now) items.now))) }
 {
     for item in items {
         add_valueless_of(tokens, overrides, item, into)?;
@@ -434,16 +367,10 @@ pub fn add_items<'t>(
     items: &[ModuleItem],
     into: &mut Growing<'t>,
 ) -> Result<(), OrMemory<ElabFault>>
-    ensures ok { OnOk result
-        (into.new ≡ with_all (overrides_tree (words_of tokens.now) overrides.now)
+    ensures makes { Makes result into.new
+        (add_symbols (overrides_tree (words_of tokens.now) overrides.now)
         into.old (symbols_in (words_of tokens.now) items.now)) }
     ensures variables { into.new.variables ≡ into.old.variables }
-    ensures right { OnOk result
-        (broken_all (overrides_tree (words_of tokens.now) overrides.now)
-        into.old (symbols_in (words_of tokens.now) items.now) ≡ None) }
-    ensures err { IfFault result
-        (IsBroken (broken_all (overrides_tree (words_of tokens.now) overrides.now)
-        into.old (symbols_in (words_of tokens.now) items.now))) }
 {
     for item in items {
         add_item(alloc, tokens, overrides, item, into)?;
@@ -473,16 +400,10 @@ fn add_listed<'t>(
     list: &[HeadParameter],
     into: &mut Growing<'t>,
 ) -> Result<(), OrMemory<ElabFault>>
-    ensures ok { OnOk result
-        (into.new ≡ with_all (overrides_tree (words_of tokens.now) overrides.now)
+    ensures makes { Makes result into.new
+        (add_symbols (overrides_tree (words_of tokens.now) overrides.now)
         into.old (symbols_behind None (map (head_parameter (words_of tokens.now)) list.now))) }
     ensures variables { into.new.variables ≡ into.old.variables }
-    ensures right { OnOk result
-        (broken_all (overrides_tree (words_of tokens.now) overrides.now)
-        into.old (symbols_behind None (map (head_parameter (words_of tokens.now)) list.now)) ≡ None) }
-    ensures err { IfFault result
-        (IsBroken (broken_all (overrides_tree (words_of tokens.now) overrides.now)
-        into.old (symbols_behind None (map (head_parameter (words_of tokens.now)) list.now)))) }
 {
     let mut kind: Option<&ParameterType> = None;
     for head in list {
@@ -492,7 +413,7 @@ fn add_listed<'t>(
     Ok(())
 }
 
-/// The parameters of a module's head.
+/// The parameters of a module's head. Errors: E302, E303, E306, E307, E310, E901.
 pub fn add_head<'t>(
     alloc: Global,
     tokens: &Tokens<'t>,
@@ -500,16 +421,10 @@ pub fn add_head<'t>(
     list: &Option<Vec<HeadParameter>>,
     into: &mut Growing<'t>,
 ) -> Result<(), OrMemory<ElabFault>>
-    ensures ok { OnOk result
-        (into.new ≡ with_all (overrides_tree (words_of tokens.now) overrides.now)
+    ensures makes { Makes result into.new
+        (add_symbols (overrides_tree (words_of tokens.now) overrides.now)
         into.old (symbols_at_head (words_of tokens.now) list.now)) }
     ensures variables { into.new.variables ≡ into.old.variables }
-    ensures right { OnOk result
-        (broken_all (overrides_tree (words_of tokens.now) overrides.now)
-        into.old (symbols_at_head (words_of tokens.now) list.now) ≡ None) }
-    ensures err { IfFault result
-        (IsBroken (broken_all (overrides_tree (words_of tokens.now) overrides.now)
-        into.old (symbols_at_head (words_of tokens.now) list.now))) }
 {
     match list {
         None => Ok(()),

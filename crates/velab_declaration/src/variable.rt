@@ -1,24 +1,20 @@
 // Variables and nets: ports, and what a module declares by `reg`, by `integer` and by `wire` (4.2, 4.3, 4.8, 12.3.3).
-ghost use Rattle.std.specs.Prelude.{◌≡◌, ◌<◌, ◌≤◌, ◌+◌, ◌^◌, [], ◌++◌, ◌∷◌, ℕ, List, Some, None, true, false, length, map, option_map, IfOk, OnOk};
-ghost use Rattle.basis.specs.Reasons.{IfFault};
-ghost use Rattle.vast.specs.NumberedWords.{numbered};
-ghost use Rattle.vast.specs.NumberedTrees.{item_tree};
+ghost use Rattle.std.specs.Prelude.{◌≡◌, ◌<◌, ◌≤◌, ◌+◌, ◌^◌, [], ◌++◌, ◌∷◌, List, None, length, map, IfOk, OnOk};
+ghost use Rattle.vast.specs.NumberedTrees.{declaration_kind, item_tree};
 ghost use Rattle.vexpr_parse.specs.Texts.{words_of};
 ghost use Rattle.velab_declaration.specs.Variables as variables;
-ghost use Rattle.velab_expr.specs.Ranges as ranges;
-ghost use Rattle.velab_expr.specs.Ranges.{broken_range};
-ghost use Rattle.velab_declaration.specs.Variables.{variable_of, declarations_of, variables_from, broken_declaration, broken_from, broken_ports, length_of};
+ghost use Rattle.velab_declaration.specs.Variables.{lower_kind, lower_declaration, lower_variables, lower_ports, variable_in};
 ghost use Rattle.vmodules.specs.Inner.{port_form};
 ghost use Rattle.vast.specs.Words.{Text};
+ghost use Rattle.velab_expr.specs.Answers.{Gives, Makes, behind};
 ghost use Rattle.velab_expr.specs.Inner.{symbols_in, IsNarrow};
-ghost use Rattle.velab_declaration.specs.Inner.{port_variables, integers_item, kind_item, net_item, texts_of, variable_in, variables_by, variables_for};
-ghost use Rattle.velab_expr.specs.Rules.{IsBroken};
-ghost use Rattle.velab_expr.specs.Scopes.{Scope as Known};
+ghost use Rattle.velab_expr.specs.Ranges.{lower_bounds};
+ghost use Rattle.velab_declaration.specs.Inner.{kind_item, variables_by};
 
 use crate::drivers::ScopeDrivers;
 use basis::{NoMemory, OrMemory};
 use std::alloc::Global;
-use vast::module::{DeclarationKind, Declared, ModuleItem, NetKind, SignAndRange};
+use vast::module::{DeclarationKind, Declared, ModuleItem, NetKind};
 use vbits::Bit4;
 use vdesign::design::{Kind, Variable};
 use vdesign::expression::Bounds;
@@ -119,26 +115,6 @@ fn put_all(
     Ok(())
 }
 
-// The variables of an `integer`.
-fn put_integers(
-    alloc: Global,
-    tokens: &Tokens<'_>,
-    drivers: &ScopeDrivers<'_, '_>,
-    list: &[Declared],
-    into: &mut Vec<Variable>,
-) -> Result<(), NoMemory>
-    ensures { (scope : Known) → OnOk result (into.new.items ≡ into.old.items
-        ++ map (variable_of drivers.now scope) (declarations_of
-        (integers_item (words_of tokens.now) list.now))) }
-{
-    let form = Form {
-        kind: Kind::Integer,
-        signed: true,
-        bounds: None,
-    };
-    put_all(alloc, tokens, drivers, form, list, into)
-}
-
 // What a word declares.
 fn kind_of(net: NetKind) -> Kind
     ensures { result ≡ variables.kind_of net }
@@ -149,38 +125,36 @@ fn kind_of(net: NetKind) -> Kind
     }
 }
 
-// The variables of a `reg` or of a `wire`. E303, E306 or E307 where its range is none.
-fn put_nets(
+// What a declaration says of each of its names. E303, E306 or E307 where its range is none.
+fn form_of(
     alloc: Global,
-    tokens: &Tokens<'_>,
-    drivers: &ScopeDrivers<'_, '_>,
     scope: &Scope<'_, '_>,
-    net: NetKind,
-    kind: &SignAndRange,
-    list: &[Declared],
-    into: &mut Vec<Variable>,
-) -> Result<(), OrMemory<ElabFault>>
-    ensures ok { OnOk result (into.new.items ≡ into.old.items
-        ++ map (variable_of drivers.now scope.now) (declarations_of
-        (net_item (words_of tokens.now) net kind.now list.now))) }
-    ensures right { OnOk result
-        (broken_declaration scope.now (net_item (words_of tokens.now) net kind.now list.now)
-        ≡ None) }
-    ensures err { IfFault result (IsBroken
-        (broken_declaration scope.now (net_item (words_of tokens.now) net kind.now list.now))) }
+    tokens: &Tokens<'_>,
+    kind: &DeclarationKind,
+) -> Result<Form, OrMemory<ElabFault>>
+    ensures gives { Gives result
+        (lower_kind scope.now (declaration_kind (words_of tokens.now) kind.now)) }
+    ensures few { IfOk result (λ form. IsNarrow form.bounds) }
 {
-    let bounds = range_bounds(alloc, scope, tokens, &kind.range)?;
-    let form = Form {
-        kind: kind_of(net),
-        signed: kind.signed,
-        bounds,
-    };
-    put_all(alloc, tokens, drivers, form, list, into)?;
-    Ok(())
+    match kind {
+        DeclarationKind::Variables { net, kind } => {
+            let bounds = range_bounds(alloc, scope, tokens, &kind.range)?;
+            Ok(Form {
+                kind: kind_of(*net),
+                signed: kind.signed,
+                bounds,
+            })
+        }
+        DeclarationKind::Integers => Ok(Form {
+            kind: Kind::Integer,
+            signed: true,
+            bounds: None,
+        }),
+    }
 }
 
 // The variables of a declaration.
-fn put_kind(
+fn put_names(
     alloc: Global,
     tokens: &Tokens<'_>,
     drivers: &ScopeDrivers<'_, '_>,
@@ -189,23 +163,12 @@ fn put_kind(
     list: &[Declared],
     into: &mut Vec<Variable>,
 ) -> Result<(), OrMemory<ElabFault>>
-    ensures ok { OnOk result (into.new.items ≡ into.old.items
-        ++ map (variable_of drivers.now scope.now) (declarations_of
-        (kind_item (words_of tokens.now) kind.now list.now))) }
-    ensures right { OnOk result
-        (broken_declaration scope.now (kind_item (words_of tokens.now) kind.now list.now) ≡ None) }
-    ensures err { IfFault result (IsBroken
-        (broken_declaration scope.now (kind_item (words_of tokens.now) kind.now list.now))) }
+    ensures { Makes result into.new.items (behind into.old.items
+        (lower_declaration drivers.now scope.now (kind_item (words_of tokens.now) kind.now list.now))) }
 {
-    match kind {
-        DeclarationKind::Variables { net, kind } => {
-            put_nets(alloc, tokens, drivers, scope, *net, kind, list, into)
-        }
-        DeclarationKind::Integers => {
-            put_integers(alloc, tokens, drivers, list, into)?;
-            Ok(())
-        }
-    }
+    let form = form_of(alloc, scope, tokens, kind)?;
+    put_all(alloc, tokens, drivers, form, list, into)?;
+    Ok(())
 }
 
 // The variables of one item.
@@ -217,16 +180,12 @@ fn put_item(
     item: &ModuleItem,
     into: &mut Vec<Variable>,
 ) -> Result<(), OrMemory<ElabFault>>
-    ensures ok { OnOk result (into.new.items ≡
-        into.old.items ++ variables_for (words_of tokens.now) drivers.now scope.now item.now) }
-    ensures right { OnOk result
-        (broken_declaration scope.now (item_tree (words_of tokens.now) item.now) ≡ None) }
-    ensures err { IfFault result
-        (IsBroken (broken_declaration scope.now (item_tree (words_of tokens.now) item.now))) }
+    ensures { Makes result into.new.items (behind into.old.items
+        (lower_declaration drivers.now scope.now (item_tree (words_of tokens.now) item.now))) }
 {
     match item {
         ModuleItem::Declaration { kind, declared, .. } => {
-            put_kind(alloc, tokens, drivers, scope, kind, declared, into)
+            put_names(alloc, tokens, drivers, scope, kind, declared, into)
         }
         ModuleItem::Parameters { .. } => Ok(()),
         ModuleItem::Events { .. } => Ok(()),
@@ -244,14 +203,9 @@ fn port_bounds(
     scope: &Scope<'_, '_>,
     port: &PortForm<'_>,
 ) -> Result<Option<Bounds>, OrMemory<ElabFault>>
-    ensures ok { IfOk result (λ bounds. bounds ≡
-        option_map (ranges.bounds_of scope.now) (port_form (words_of tokens.now)
-        port.now).type.range) }
+    ensures gives { Gives result
+        (lower_bounds scope.now (port_form (words_of tokens.now) port.now).type.range) }
     ensures few { IfOk result IsNarrow }
-    ensures right { OnOk result
-        (broken_range scope.now (port_form (words_of tokens.now) port.now).type.range ≡ None) }
-    ensures err { IfFault result
-        (IsBroken (broken_range scope.now (port_form (words_of tokens.now) port.now).type.range)) }
 {
     match port.kind {
         None => Ok(None),
@@ -278,12 +232,8 @@ fn put_port(
     port: &PortForm<'_>,
     into: &mut Vec<Variable>,
 ) -> Result<(), OrMemory<ElabFault>>
-    ensures ok { OnOk result (into.new.items ≡
-        into.old.items ++ port_variables (words_of tokens.now) drivers.now scope.now (port.now ∷ [])) }
-    ensures right { OnOk result
-        (broken_range scope.now (port_form (words_of tokens.now) port.now).type.range ≡ None) }
-    ensures err { IfFault result
-        (IsBroken (broken_range scope.now (port_form (words_of tokens.now) port.now).type.range)) }
+    ensures { Makes result into.new.items (behind into.old.items
+        (lower_ports drivers.now scope.now (port_form (words_of tokens.now) port.now ∷ []))) }
 {
     let bounds = port_bounds(alloc, tokens, scope, port)?;
     let form = Form {
@@ -296,7 +246,7 @@ fn put_port(
     Ok(())
 }
 
-/// The variables of ports, in their order. `scope` is that of the first item. Errors: E303, E306, E307, E901.
+/// The variables of ports, in their order. `scope` is that of the first item. Errors: E303, E306, E307, E310, E901.
 pub fn put_ports(
     alloc: Global,
     tokens: &Tokens<'_>,
@@ -305,12 +255,8 @@ pub fn put_ports(
     ports: &[PortForm<'_>],
     into: &mut Vec<Variable>,
 ) -> Result<(), OrMemory<ElabFault>>
-    ensures ok { OnOk result (into.new.items ≡
-        into.old.items ++ port_variables (words_of tokens.now) drivers.now scope.now ports.now) }
-    ensures right { OnOk result
-        (broken_ports scope.now (map (port_form (words_of tokens.now)) ports.now) ≡ None) }
-    ensures err { IfFault result
-        (IsBroken (broken_ports scope.now (map (port_form (words_of tokens.now)) ports.now))) }
+    ensures { Makes result into.new.items (behind into.old.items
+        (lower_ports drivers.now scope.now (map (port_form (words_of tokens.now)) ports.now))) }
 {
     for port in ports {
         put_port(alloc, tokens, drivers, scope, port, into)?;
@@ -318,7 +264,7 @@ pub fn put_ports(
     Ok(())
 }
 
-/// The variables that items declare, in the order of the text. `scope` is that of the first item. Errors: E303, E306, E307, E901.
+/// The variables that items declare, in the order of the text. `scope` is that of the first item. Errors: E303, E306, E307, E310, E901.
 pub fn put_variables(
     alloc: Global,
     tokens: &Tokens<'_>,
@@ -328,12 +274,8 @@ pub fn put_variables(
     into: &mut Vec<Variable>,
 ) -> Result<(), OrMemory<ElabFault>>
     requires small { scope.now.known + length (symbols_in (words_of tokens.now) items.now) < 2 ^ 64 }
-    ensures ok { OnOk result (into.new.items ≡ into.old.items
-        ++ variables_from drivers.now scope.now (map (item_tree (words_of tokens.now)) items.now)) }
-    ensures right { OnOk result
-        (broken_from scope.now (map (item_tree (words_of tokens.now)) items.now) ≡ None) }
-    ensures err { IfFault result
-        (IsBroken (broken_from scope.now (map (item_tree (words_of tokens.now)) items.now))) }
+    ensures { Makes result into.new.items (behind into.old.items
+        (lower_variables drivers.now scope.now (map (item_tree (words_of tokens.now)) items.now))) }
 {
     let mut known = scope.known;
     for item in items {

@@ -1,11 +1,11 @@
 -- Faults of the modules' names, of the top and of the whole, and what they say of a text.
-use Rattle.std.proofs.Common.{◌≡◌, ◌<◌, ℕ, ◌+◌, length, drop, get_or, List, [], ◌∷◌, ◌++◌, inl, Option, Some, None, true, Result, Ok, Err, IfOk, OnOk, IsErrAnd, refl, sym, ap, subst, ◌∙◌}
+use Rattle.std.proofs.Common.{◌≡◌, ◌<◌, ℕ, ◌+◌, length, drop, get_or, List, [], ◌++◌, Option, Some, None, true, Result, Ok, Err, IfOk, sym, ap, ◌∙◌}
 use Rattle.vast.specs.Words.{Text}
+use Rattle.vast.specs.NumberedWords.{Word}
 use Rattle.vast.specs.NumberedModules.{ModuleTree, SourceTree}
 use Rattle.basis.specs.declared.memory.OrMemory.{OrMemory}
 use Rattle.basis.specs.declared.memory.OrMemory.TheVariants.{Fault, Memory}
 use Rattle.basis.specs.declared.timescale.Timescale.{Timescale}
-use Rattle.std.specs.Option.{option_or}
 use Rattle.basis.specs.Reasons.{Because, IfFault}
 use Rattle.vdesign.specs.Design.{Design, Variable, Scope as Room}
 use Rattle.vmodules.specs.Names.{has_double, is_declared, first_again}
@@ -14,13 +14,13 @@ use Rattle.vmodules.proofs.NameLemmas.{doubles}
 use Rattle.vmodules.specs.Hierarchy.{top_of, module_names, rival_of}
 use Rattle.velab_expr.specs.declared.fault.Rule.TheVariants.{Doubled, Top}
 use Rattle.velab_expr.specs.declared.fault.ElabFault.{ElabFault}
+use Rattle.velab_expr.specs.Answers.{◌>>=◌, found, fault_of, Refuses, Gives}
 use Rattle.velab_expr.specs.Rules.{told, broken_at, IsBroken}
-use Rattle.velab_declaration.specs.Right.{kind_rule}
-use Rattle.velab_declaration.specs.ActionFlaws.{blank_environment, flaw_rule, table_fault}
 use Rattle.velab_expr.proofs.ListLemmas.{drop_at}
-use Rattle.velab_expr.proofs.FaultLemmas.{first_breaks, then_breaks, both_right, same_rule}
-use Rattle.vhierarchy.specs.Instances.{Part, Context, nothing, top_context, with_instances, broken_with_instances, broken_rule, broken_top, broken_whole, whole_of, design_by, Elaborates}
-use Rattle.vhierarchy.specs.Reasons.{IsDesignReason}
+use Rattle.velab_expr.proofs.AnswerLemmas.{still_refused}
+use Rattle.vhierarchy.proofs.StepLemmas.{barred, first_refused}
+use Rattle.vhierarchy.specs.Instances.{barring, faultless, Part, Context, nothing, top_context, elaborate_instance, elaborate_top, design_by, broken_design, Whole, checked, whole_of, elaborated_whole, as_design, elaborated, Elaborates}
+use Rattle.vhierarchy.specs.Reasons.{IsDesignReason, IsOnlyDesign, HasNoDesign}
 use Rattle.vhierarchy.specs.Inner.{variable_names, scope_names}
 
 -- a path that stands before stands twice among all
@@ -37,17 +37,9 @@ scopes_again list i s names all within at same =
 -- ---- the whole
 
 module _ (modules : SourceTree) (m : ModuleTree) (levels : ℕ) (part : Part) (context : Context) (deep : levels ≡ 16) (empty : part ≡ nothing) (is_top : context ≡ top_context m) where
-  pub whole_is : with_instances levels modules part context ≡ whole_of modules m
-  unfolding whole_of
-  whole_is = λ i. with_instances (deep i) modules (empty i) (is_top i)
-
-  pub broken_whole_is : broken_with_instances levels modules part context ≡ broken_whole modules m
-  unfolding broken_whole
-  broken_whole_is = λ i. broken_with_instances (deep i) modules (empty i) (is_top i)
-
-pub no_ok : {T : Type 0} (P : Type 0) (result : Result T (OrMemory ElabFault)) (e : OrMemory ElabFault) → IsErrAnd result (λ y. y ≡ e) → OnOk result P
-no_ok P (Ok x) e h = absurd h
-no_ok P (Err y) e h = tt
+  pub top_elaborated : elaborate_instance levels modules part context ≡ elaborate_top modules m
+  unfolding elaborate_top
+  top_elaborated = λ i. elaborate_instance (deep i) modules (empty i) (is_top i)
 
 -- the top, told of the program's values
 pub top_is : (m : ModuleTree) (name : Text) (names : List Text) (connections : List NamedConnection) → name ≡ m.name.letters → names ≡ [] → connections ≡ [] →
@@ -70,52 +62,76 @@ top_is m name names connections named none nothing_tied = λ i. record {
   connections = nothing_tied i;
 }
 
--- what is looked at behind the count of processes: what is written, and sizes
-abbrev pub broken_kinds : Part → Option ElabFault
-broken_kinds part = table_fault (kind_rule part.variables) part.table.actions part.table.words
+-- what is broken of it is told, and nothing where none is
+module _ (scale : Timescale) (m : ModuleTree) (part : Part) where
+  pub wrong : (e : OrMemory ElabFault) → Because (IsBroken (broken_design m.name part)) e → Refuses e (as_design scale (checked m part))
+  wrong (Fault fault) h = ap (λ (b : Option ElabFault). as_design scale (faultless b (record { unit = m; part = part }))) h
+  wrong (Memory memory) h = tt
 
-abbrev pub broken_sizes : Part → Option ElabFault
-broken_sizes part = table_fault (flaw_rule (blank_environment part.variables)) part.table.actions part.table.words
+  -- of the top
+  module _ (modules : SourceTree) where
+    pub top_wrong : (e : OrMemory ElabFault) → Refuses e (elaborate_top modules m) → Refuses e (as_design scale (whole_of modules m))
+    top_wrong = still_refused (elaborate_top modules m) (as_design scale (whole_of modules m)) (λ fault is. ap (λ (r : Result Part ElabFault). as_design scale (r >>= λ p. checked m p)) is)
 
-abbrev pub behind_counts : Part → Option ElabFault
-behind_counts part = option_or (broken_kinds part) (broken_sizes part)
+    pub top_sound : elaborate_top modules m ≡ Ok part → as_design scale (whole_of modules m) ≡ as_design scale (checked m part)
+    top_sound is = ap (λ (r : Result Part ElabFault). as_design scale (r >>= λ p. checked m p)) is
 
 -- ---- the text
 
-same_top : (m n : ModuleTree) → Some m ≡ Some n → m ≡ n
-same_top m n e = cc
+-- where no two modules have one name
+module _ (tree : SourceTree) (top : Option Text) (scale : Timescale) where
+  pub modules_doubled : (e : OrMemory ElabFault) → Because (IsBroken (broken_at Doubled (first_again (module_names tree)))) e → Refuses e (elaborated tree top scale)
+  modules_doubled e h = first_refused (elaborated_whole tree top) (λ whole. Ok (design_by scale whole.unit whole.part)) e (barred Doubled (first_again (module_names tree)) _ e h)
+
+  module _ (differ : first_again (module_names tree) ≡ None) where
+    abbrev with_top : Option ModuleTree → Result Design ElabFault
+    with_top unit = as_design scale (found unit Top (rival_of tree top) >>= λ m. whole_of tree m)
+
+    topped : (unit : Option ModuleTree) → top_of tree top ≡ unit → elaborated tree top scale ≡ with_top unit
+    topped unit is =
+        ap (λ (w : Option Word). as_design scale (barring w Doubled (found (top_of tree top) Top (rival_of tree top) >>= λ m. whole_of tree m))) differ
+        ∙ ap (λ (u : Option ModuleTree). with_top u) is
+
+    pub top_missing : top_of tree top ≡ None → elaborated tree top scale ≡ Err (told Top (rival_of tree top))
+    top_missing is = topped None is
+
+    pub top_found : (m : ModuleTree) → top_of tree top ≡ Some m → elaborated tree top scale ≡ as_design scale (whole_of tree m)
+    top_found m is = topped (Some m) is
+
+-- ---- what an answer says
 
 pub one_design : (tree : SourceTree) (top : Option Text) (scale : Timescale) (design other : Design) →
     Elaborates tree top scale design → Elaborates tree top scale other → design ≡ other
-one_design tree top scale design other d e =
-    d.describes ∙ ap (λ (m : ModuleTree). design_by scale m (whole_of tree m)) (same_top d.unit e.unit (sym d.is_top ∙ e.is_top)) ∙ sym e.describes
+one_design tree top scale design other d e = given_once (elaborated tree top scale) design other d e
+  where
+    given_once : (answer : Result Design ElabFault) (x y : Design) → answer ≡ Ok x → answer ≡ Ok y → x ≡ y
+    given_once (Ok z) x y first second = cc
+    given_once (Err fault) x y first second = absurd cc
 
--- a rule that the names of modules break is the first that the text breaks
-pub names_reason : (tree : SourceTree) (top : Option Text) (e : OrMemory ElabFault) → Because (IsBroken (broken_at Doubled (first_again (module_names tree)))) e →
-    Because (IsDesignReason tree top) e
-names_reason tree top = first_breaks (broken_at Doubled (first_again (module_names tree))) (broken_top tree top (top_of tree top))
+module _ (scale : Timescale) where
+  told_fault : (answer : Result Whole ElabFault) (fault : ElabFault) → as_design scale answer ≡ Err fault → fault_of answer ≡ Some fault
+  told_fault (Ok whole) fault is = absurd cc
+  told_fault (Err other) fault is = let same : other ≡ fault = cc in ap Some same
 
--- where those differ
-module _ (tree : SourceTree) (top : Option Text) (differ : first_again (module_names tree) ≡ None) where
-  names_right : broken_at Doubled (first_again (module_names tree)) ≡ None
-  names_right = ap (broken_at Doubled) differ
+  no_other : (answer : Result Whole ElabFault) (fault : ElabFault) → as_design scale answer ≡ Err fault → (other : Timescale) (design : Design) → as_design other answer ≡ Ok design → ⊥
+  no_other (Ok whole) fault is other design also = cc
+  no_other (Err f) fault is other design also = cc
 
-  pub missing : top_of tree top ≡ None → broken_rule tree top ≡ Some (told Top (rival_of tree top))
-  missing is = ap (λ o. option_or o (broken_top tree top (top_of tree top))) names_right ∙ ap (broken_top tree top) is
+module _ (tree : SourceTree) (top : Option Text) (scale : Timescale) where
+  pub says_design : (result : Result Design (OrMemory ElabFault)) → Gives result (elaborated tree top scale) → IfOk result (Elaborates tree top scale)
+  says_design (Ok design) h = h
+  says_design (Err e) h = tt
 
-  module _ (m : ModuleTree) (is : top_of tree top ≡ Some m) where
-    -- the first rule that the top breaks is the first that the text breaks
-    pub top_reason : {T : Type 0} (result : Result T (OrMemory ElabFault)) → IfFault result (IsBroken (broken_top tree top (Some m))) → IfFault result (IsDesignReason tree top)
-    top_reason (Ok x) h = tt
-    top_reason (Err e) h =
-        then_breaks (broken_at Doubled (first_again (module_names tree))) (broken_top tree top (top_of tree top)) names_right e (same_rule _ _ (ap (broken_top tree top) (sym is)) e h)
+  pub says_only : (result : Result Design (OrMemory ElabFault)) → Gives result (elaborated tree top scale) → IfOk result (IsOnlyDesign tree top scale)
+  says_only (Ok design) h = λ other also. one_design tree top scale other design also h
+  says_only (Err e) h = tt
 
-    -- nothing is broken where the top is right
-    nothing_broken : broken_top tree top (Some m) ≡ None → broken_rule tree top ≡ None
-    nothing_broken right =
-        both_right (broken_at Doubled (first_again (module_names tree))) (broken_top tree top (top_of tree top)) names_right (ap (broken_top tree top) is ∙ right)
+  pub says_reason : (result : Result Design (OrMemory ElabFault)) → Gives result (elaborated tree top scale) → IfFault result (IsDesignReason tree top)
+  says_reason (Ok design) h = tt
+  says_reason (Err (Fault fault)) h = told_fault scale (elaborated_whole tree top) fault h
+  says_reason (Err (Memory m)) h = tt
 
-    pub top_elaborates : (result : Result Design (OrMemory ElabFault)) (scale : Timescale) → IfOk result (λ design. design ≡ design_by scale m (whole_of tree m)) →
-        OnOk result (broken_top tree top (Some m) ≡ None) → IfOk result (Elaborates tree top scale)
-    top_elaborates (Ok design) scale describes right = record { right = nothing_broken right; unit = m; is_top = is; describes = describes }
-    top_elaborates (Err e) scale describes right = tt
+  pub says_none : (result : Result Design (OrMemory ElabFault)) → Gives result (elaborated tree top scale) → IfFault result (λ fault. HasNoDesign tree top)
+  says_none (Ok design) h = tt
+  says_none (Err (Fault fault)) h = no_other scale (elaborated_whole tree top) fault h
+  says_none (Err (Memory m)) h = tt

@@ -1,5 +1,5 @@
+pub mod StepLemmas
 pub mod GrowLemmas
-pub mod BrokenLemmas
 pub mod DesignLemmas
 pub mod OwnLemmas
 pub mod DriverLemmas

@@ -1,7 +1,7 @@
 -- The names of a design are names where those of its text are: paths of the grammar's names, one for each variable.
-use Rattle.std.proofs.Common.{◌≡◌, ◌≢◌, ℕ, zero, suc, ◌<◌, ◌+◌, Bool, true, false, ◌&&◌, ◌||◌, ◌==◌, not, List, [], ◌∷◌, ◌++◌, map, length, Option, Some, None, refl, sym, ap, subst, ◌∙◌, true≢false, arith}
+use Rattle.std.proofs.Common.{◌≡◌, ◌≢◌, ℕ, zero, suc, ◌<◌, ◌+◌, Bool, true, false, ◌&&◌, ◌||◌, ◌==◌, not, List, [], ◌∷◌, ◌++◌, map, length, Option, Some, None, Result, Ok, Err, refl, sym, ap, subst, ◌∙◌, true≢false, arith}
 use Rattle.std.specs.Prelude.{slice_get, cond, nat_le, filter, option_map}
-use Rattle.std.specs.List.{fold, list_all, find}
+use Rattle.std.specs.List.{list_all, find}
 use Rattle.std.specs.Option.{option_or}
 use Rattle.std.specs.Str.{bytes_eq}
 use Rattle.std.proofs.lemmas.List.Folds.{list_all-append}
@@ -12,22 +12,30 @@ use Rattle.vast.specs.Words.{Text, begins_name, is_in_name, is_name, is_reserved
 use Rattle.vast.specs.Names.{has_letters_of_name, is_path_from, is_path}
 use Rattle.vast.specs.Modules.{DerivesText, SourceTree as PlainTree, fits, fits_module, fits_item, fits_declared, fits_optional, fits_optional_parameters, fits_optional_ports, fits_port, fits_direction, fits_declaration_kind, fits_overrides, fits_instance, fits_connections, is_directed, are_some}
 use Rattle.vast.specs.NumberedWords.{Word}
-use Rattle.vast.specs.NumberedModules.{ConnectionsTree, InstanceTree, ItemTree, parameters, declaration, variables, integers, events, assignments, initial, always, instances, DeclarationKind, DirectionTree, input, output, PortTree, ModuleTree, SourceTree, DeclaredTree}
+use Rattle.vast.specs.NumberedModules.{ConnectionsTree, InstanceTree, ItemTree, parameters, declaration, variables, integers, events, assignments, initial, always, instances, DeclarationKind, DirectionTree, input, output, PortTree, ModuleTree, SourceTree, RangeTree, DeclaredTree}
 use Rattle.vast.specs.NumberedTexts.{IsNumbered}
 use Rattle.vast.specs.TreeWords.{declared_with, instance_with, item_with, declaration_kind_with, connections_with, port_with, module_with, source_with}
-use Rattle.vmodules.specs.Names.{has_double, is_declared, first_again}
-use Rattle.vmodules.specs.Hierarchy.{instantiated_names, module_names, module_of, roots, only_of, top_of}
+use Rattle.vmodules.specs.Names.{has_double, is_declared, letters_of, first_again}
+use Rattle.vmodules.specs.Connected.{open_names, misfit, misfit_if}
+use Rattle.vmodules.specs.Hierarchy.{instantiated_names, module_names, module_of, rival_of, roots, only_of, top_of}
 use Rattle.vmodules.specs.Ports.{Port, port_by, ports_behind, ports_listed, ports_of}
 use Rattle.vdesign.specs.Named.{AreNamed}
 use Rattle.vdesign.specs.Design.{Variable, Design}
+use Rattle.vdesign.specs.declared.design.Kind.{Kind}
 use Rattle.vdesign.specs.declared.design.Kind.TheVariants.{Integer}
 use Rattle.velab_expr.specs.Scopes.{Scope}
 use Rattle.velab_expr.specs.Symbols.{behind_item, symbols_by}
-use Rattle.velab_declaration.specs.Variables.{ScopeDrivers, Declaration, all_declared, kind_of, declared_as, declarations_of, port_declaration, variable_of, variables_from}
-use Rattle.velab_expr.specs.declared.fault.Rule.TheVariants.{Doubled}
-use Rattle.velab_expr.specs.Rules.{broken_if, broken_at}
-use Rattle.velab_expr.proofs.FaultLemmas.{first_right, then_right}
-use Rattle.vhierarchy.specs.Instances.{Instantiation, instantiation_by, instantiations_of, instantiations_by, instantiations_from, instantiations_in, Part, Context, own_by, scope_drivers_by, with_own, inside_scope, child_context, with_instances, nothing, top_context, whole_of, variable_paths, design_by, broken_paths, broken_table, broken_design, broken_whole, broken_top, broken_rule, Elaborates}
+use Rattle.velab_declaration.specs.Variables.{port_names, ScopeDrivers, Declaration, all_declared, kind_of, declared_as, declarations_of, port_declaration, variable_in, form_of, variables_in, lower_kind, lower_declaration, lower_variables, lower_ports}
+use Rattle.velab_declaration.specs.declared.variable.Form.{Form}
+use Rattle.velab_expr.specs.Answers.{◌>>=◌, provided, required, found}
+use Rattle.velab_expr.specs.Ranges.{lower_bounds}
+use Rattle.velab_expr.specs.declared.fault.ElabFault.{ElabFault}
+use Rattle.vdesign.specs.declared.expression.Bounds.{Bounds}
+use Rattle.velab_expr.specs.declared.fault.Rule.{Rule}
+use Rattle.velab_expr.specs.declared.fault.Rule.TheVariants.{Doubled, Drivers, Ports, TooMany, Top}
+use Rattle.velab_expr.specs.Rules.{broken_if}
+use Rattle.velab_expr.proofs.FaultLemmas.{first_right}
+use Rattle.vhierarchy.specs.Instances.{barring, faultless, Instantiation, instantiation_by, lower_instance, lower_list, named_again, lower_instances_of, lower_instances_by, lower_instances, Part, Context, lower_names, driven_by, scope_drivers_by, lower_own_variables, lower_own_processes, with_own, few_enough, lower_own, child_context, each, elaborate_instance, nothing, top_context, elaborate_top, variable_paths, design_by, broken_paths, broken_table, broken_design, Whole, checked, whole_of, elaborated_whole, as_design, Elaborates}
 
 -- ---- letters and paths
 
@@ -219,100 +227,202 @@ top_named tree None m all is =
 
 -- ---- the instances of a module are named
 
-each_named : (child : ModuleTree) (known : ℕ) (overrides : Option ConnectionsTree) (list : List InstanceTree) → is_named child ≡ true →
-    list_all is_name (map (λ (one : InstanceTree). one.name.letters) list) ≡ true → list_all wanted_is_named (map (instantiation_by child known overrides) list) ≡ true
-each_named child known overrides [] e all = refl
-each_named child known overrides (one ∷ more) e all =
-    and_both (wanted_is_named (instantiation_by child known overrides one)) (list_all wanted_is_named (map (instantiation_by child known overrides) more))
-    (and_both (is_name one.name.letters) (is_named child) (and_left (is_name one.name.letters) (list_all is_name (map (λ (x : InstanceTree). x.name.letters) more)) all) e)
-    (each_named child known overrides more e (and_right (is_name one.name.letters) (list_all is_name (map (λ (x : InstanceTree). x.name.letters) more)) all))
+-- each that an answer lists passes, and the one that an answer gives
+abbrev all_pass : {A : Type 0} → (A → Bool) → Result (List A) ElabFault → Bool
+all_pass p (Ok list) = list_all p list
+all_pass p (Err fault) = true
 
-of_named : (child : Option ModuleTree) (known : ℕ) (overrides : Option ConnectionsTree) (list : List InstanceTree) →
+abbrev passes_one : {A : Type 0} → (A → Bool) → Result A ElabFault → Bool
+passes_one p (Ok x) = p x
+passes_one p (Err fault) = true
+
+all_told : {A : Type 0} (p : A → Bool) (a : Result (List A) ElabFault) (list : List A) → all_pass p a ≡ true → a ≡ Ok list → list_all p list ≡ true
+all_told p a list all is = sym (ap (all_pass p) is) ∙ all
+
+barred_pass : {A : Type 0} (p : A → Bool) (word : Option Word) (rule : Rule) (a : Result (List A) ElabFault) → all_pass p a ≡ true → all_pass p (barring word rule a) ≡ true
+barred_pass p None rule a all = all
+barred_pass p (Some word) rule a all = refl
+
+barred_one : {A : Type 0} (p : A → Bool) (word : Option Word) (rule : Rule) (a : Result A ElabFault) → passes_one p a ≡ true → passes_one p (barring word rule a) ≡ true
+barred_one p None rule a all = all
+barred_one p (Some word) rule a all = refl
+
+provided_pass : {A : Type 0} (p : A → Bool) (holds : Bool) (rule : Rule) (word : Option Word) (a : Result (List A) ElabFault) → all_pass p a ≡ true → all_pass p (provided holds rule word a) ≡ true
+provided_pass p true rule word a all = all
+provided_pass p false rule word a all = refl
+
+one_passes : {A : Type 0} (p : A → Bool) (a : Result A ElabFault) (b : Result (List A) ElabFault) → passes_one p a ≡ true → all_pass p b ≡ true → all_pass p (a >>= λ x. b >>= λ others. Ok (x ∷ others)) ≡ true
+one_passes p (Ok x) (Ok others) first second = and_both (p x) (list_all p others) first second
+one_passes p (Ok x) (Err fault) first second = refl
+one_passes p (Err fault) b first second = refl
+
+both_pass : {A : Type 0} (p : A → Bool) (a : Result (List A) ElabFault) (b : List A → Result (List A) ElabFault) → all_pass p a ≡ true → ((front : List A) → all_pass p (b front) ≡ true) →
+    all_pass p (a >>= λ front. b front >>= λ others. Ok (front ++ others)) ≡ true
+both_pass {A} p (Ok front) b first second = by (b front) (second front)
+  where
+    by : (r : Result (List A) ElabFault) → all_pass p r ≡ true → all_pass p (r >>= λ others. Ok (front ++ others)) ≡ true
+    by (Ok others) h = list_all-append p front others ∙ and_both (list_all p front) (list_all p others) first h
+    by (Err fault) h = refl
+both_pass p (Err fault) b first second = refl
+
+list_named : (child : ModuleTree) (known : ℕ) (overrides : Option ConnectionsTree) (list : List InstanceTree) → is_named child ≡ true →
+    list_all is_name (map (λ (one : InstanceTree). one.name.letters) list) ≡ true → all_pass wanted_is_named (lower_list child known overrides list) ≡ true
+list_named child known overrides [] e all = refl
+list_named child known overrides (one ∷ more) e all =
+    let fits : Option Word = misfit one.name (letters_of (port_names child)) one.connections in
+    let given : Result Instantiation ElabFault = Ok (instantiation_by child known overrides one) in
+    one_passes wanted_is_named (lower_instance child known overrides one) (lower_list child known overrides more)
+    (barred_one wanted_is_named (misfit_if one.name (letters_of (open_names child)) overrides) Ports (barring fits Ports given)
+    (barred_one wanted_is_named fits Ports given
+    (and_both (is_name one.name.letters) (is_named child) (and_left (is_name one.name.letters) (list_all is_name (map (λ (x : InstanceTree). x.name.letters) more)) all) e)))
+    (list_named child known overrides more e (and_right (is_name one.name.letters) (list_all is_name (map (λ (x : InstanceTree). x.name.letters) more)) all))
+
+of_named : (name : Word) (before known : ℕ) (child : Option ModuleTree) (overrides : Option ConnectionsTree) (list : List InstanceTree) →
     ((m : ModuleTree) → child ≡ Some m → is_named m ≡ true) → list_all is_name (map (λ (one : InstanceTree). one.name.letters) list) ≡ true →
-    list_all wanted_is_named (instantiations_of child known overrides list) ≡ true
-of_named None known overrides list e all = refl
-of_named (Some child) known overrides list e all = each_named child known overrides list (e child refl) all
+    all_pass wanted_is_named (lower_instances_of name before known child overrides list) ≡ true
+of_named name before known None overrides list e all = refl
+of_named name before known (Some child) overrides list e all =
+    provided_pass wanted_is_named (nat_le (before + length list) 1024) TooMany (Some name) (barring (named_again child) Doubled (lower_list child known overrides list))
+    (barred_pass wanted_is_named (named_again child) Doubled (lower_list child known overrides list) (list_named child known overrides list (e child refl) all))
 
 module _ (modules : SourceTree) (named : list_all is_named modules ≡ true) where
-  by_named : (known : ℕ) (item : ItemTree) → item_is_named item ≡ true → list_all wanted_is_named (instantiations_by modules known item) ≡ true
-  by_named known (parameters local type settings) e = refl
-  by_named known (declaration kind list) e = refl
-  by_named known (events list) e = refl
-  by_named known (assignments settings) e = refl
-  by_named known (initial statement) e = refl
-  by_named known (always statement) e = refl
-  by_named known (instances text overrides list) e =
-      of_named (module_of modules text.letters) known overrides list (λ m is. found_passes (λ x. bytes_eq x.name.letters text.letters) is_named modules m named is) e
+  by_named : (before known : ℕ) (item : ItemTree) → item_is_named item ≡ true → all_pass wanted_is_named (lower_instances_by modules before known item) ≡ true
+  by_named before known (parameters local type settings) e = refl
+  by_named before known (declaration kind list) e = refl
+  by_named before known (events list) e = refl
+  by_named before known (assignments settings) e = refl
+  by_named before known (initial statement) e = refl
+  by_named before known (always statement) e = refl
+  by_named before known (instances text overrides list) e =
+      of_named text before known (module_of modules text.letters) overrides list (λ m is. found_passes (λ x. bytes_eq x.name.letters text.letters) is_named modules m named is) e
 
-  from_named : (known : ℕ) (items : List ItemTree) → list_all item_is_named items ≡ true → list_all wanted_is_named (instantiations_from modules known items) ≡ true
-  from_named known [] e = refl
-  from_named known (item ∷ more) e =
-      list_all-append wanted_is_named (instantiations_by modules known item) (instantiations_from modules (known + length (symbols_by item)) more)
-      ∙ and_both (list_all wanted_is_named (instantiations_by modules known item)) (list_all wanted_is_named (instantiations_from modules (known + length (symbols_by item)) more))
-      (by_named known item (and_left (item_is_named item) (list_all item_is_named more) e))
-      (from_named (known + length (symbols_by item)) more (and_right (item_is_named item) (list_all item_is_named more) e))
+  from_named : (before known : ℕ) (items : List ItemTree) → list_all item_is_named items ≡ true → all_pass wanted_is_named (lower_instances modules before known items) ≡ true
+  from_named before known [] e = refl
+  from_named before known (item ∷ more) e =
+      both_pass wanted_is_named (lower_instances_by modules before known item) (λ front. lower_instances modules (before + length front) (known + length (symbols_by item)) more)
+      (by_named before known item (and_left (item_is_named item) (list_all item_is_named more) e))
+      (λ front. from_named (before + length front) (known + length (symbols_by item)) more (and_right (item_is_named item) (list_all item_is_named more) e))
 
 -- ---- the variables have paths
 
 abbrev all_paths : List Variable → Bool
 all_paths = list_all (λ v. is_path v.name)
 
-module _ (drivers : ScopeDrivers) (e : is_path drivers.name ≡ true) where
-  paths_of : (scope : Scope) (ds : List Declaration) → list_all is_name (names ds) ≡ true → all_paths (map (variable_of drivers scope) ds) ≡ true
-  paths_of scope [] all = refl
-  paths_of scope (d ∷ ds) all =
-      and_both (is_path (drivers.name ++ 46 ∷ d.name.letters)) (all_paths (map (variable_of drivers scope) ds))
-      (dotted_is_path drivers.name d.name.letters e (and_left (is_name d.name.letters) (list_all is_name (names ds)) all))
-      (paths_of scope ds (and_right (is_name d.name.letters) (list_all is_name (names ds)) all))
+-- where there are variables, they have paths
+abbrev have_paths : Result (List Variable) ElabFault → Bool
+have_paths = all_pass (λ v. is_path v.name)
 
-  paths_from : (scope : Scope) (items : List ItemTree) → list_all item_is_named items ≡ true → all_paths (variables_from drivers scope items) ≡ true
+module _ (drivers : ScopeDrivers) (e : is_path drivers.name ≡ true) where
+  declared_paths : (form : Form) (kind : Kind) (signed : Bool) (range : Option RangeTree) (list : List DeclaredTree) →
+      list_all is_name (names (all_declared kind signed range list)) ≡ true → all_paths (variables_in drivers form list) ≡ true
+  declared_paths form kind signed range [] all = refl
+  declared_paths form kind signed range (one ∷ more) all =
+      and_both (is_path (drivers.name ++ 46 ∷ one.name.letters)) (all_paths (variables_in drivers form more))
+      (dotted_is_path drivers.name one.name.letters e (and_left (is_name one.name.letters) (list_all is_name (names (all_declared kind signed range more))) all))
+      (declared_paths form kind signed range more (and_right (is_name one.name.letters) (list_all is_name (names (all_declared kind signed range more))) all))
+
+  kind_paths : (form : Form) (kind : DeclarationKind) (list : List DeclaredTree) → list_all is_name (names (declared_as kind list)) ≡ true → all_paths (variables_in drivers form list) ≡ true
+  kind_paths form (variables word type) list all = declared_paths form (kind_of word) type.signed type.range list all
+  kind_paths form integers list all = declared_paths form Integer true None list all
+
+  item_paths : (scope : Scope) (item : ItemTree) → list_all is_name (names (declarations_of item)) ≡ true → have_paths (lower_declaration drivers scope item) ≡ true
+  item_paths scope (parameters local type settings) all = refl
+  item_paths scope (declaration kind list) all = by (lower_kind scope kind)
+    where
+      by : (a : Result Form ElabFault) → have_paths (a >>= λ form. Ok (variables_in drivers form list)) ≡ true
+      by (Ok form) = kind_paths form kind list all
+      by (Err fault) = refl
+  item_paths scope (events list) all = refl
+  item_paths scope (assignments settings) all = refl
+  item_paths scope (initial statement) all = refl
+  item_paths scope (always statement) all = refl
+  item_paths scope (instances text overrides list) all = refl
+
+  paths_from : (scope : Scope) (items : List ItemTree) → list_all item_is_named items ≡ true → have_paths (lower_variables drivers scope items) ≡ true
   paths_from scope [] all = refl
   paths_from scope (item ∷ more) all =
-      list_all-append (λ (v : Variable). is_path v.name) (map (variable_of drivers scope) (declarations_of item)) (variables_from drivers (behind_item scope item) more)
-      ∙ and_both (all_paths (map (variable_of drivers scope) (declarations_of item))) (all_paths (variables_from drivers (behind_item scope item) more))
-      (paths_of scope (declarations_of item)
+      both_pass (λ (v : Variable). is_path v.name) (lower_declaration drivers scope item) (λ front. lower_variables drivers (behind_item scope item) more)
+      (item_paths scope item
       (and_left (list_all is_name (names (declarations_of item))) (list_all is_name (instance_names item)) (and_left (item_is_named item) (list_all item_is_named more) all)))
-      (paths_from (behind_item scope item) more (and_right (item_is_named item) (list_all item_is_named more) all))
+      (λ front. paths_from (behind_item scope item) more (and_right (item_is_named item) (list_all item_is_named more) all))
 
-own_paths : (context : Context) (ports : List Port) (instantiation : List Instantiation) (scope : Scope) (part : Part) → is_path context.path ≡ true →
+  port_paths : (scope : Scope) (ports : List Port) → list_all is_name (names (map port_declaration ports)) ≡ true → have_paths (lower_ports drivers scope ports) ≡ true
+  port_paths scope [] all = refl
+  port_paths scope (p ∷ ps) all =
+      by (lower_bounds scope p.type.range) (lower_ports drivers scope ps)
+      (port_paths scope ps (and_right (is_name p.name.letters) (list_all is_name (names (map port_declaration ps))) all))
+    where
+      by : (a : Result (Option Bounds) ElabFault) (b : Result (List Variable) ElabFault) → have_paths b ≡ true →
+          have_paths ((a >>= λ bounds. Ok (variable_in drivers (form_of p.net p.type.signed bounds) p.name.letters)) >>= λ one. b >>= λ others. Ok (one ∷ others)) ≡ true
+      by (Ok bounds) (Ok others) rest =
+          and_both (is_path (drivers.name ++ 46 ∷ p.name.letters)) (all_paths others)
+          (dotted_is_path drivers.name p.name.letters e (and_left (is_name p.name.letters) (list_all is_name (names (map port_declaration ps))) all)) rest
+      by (Ok bounds) (Err fault) rest = refl
+      by (Err fault) b rest = refl
+
+-- where there is a part, its variables have paths
+abbrev part_paths : Result Part ElabFault → Bool
+part_paths (Ok part) = all_paths part.variables
+part_paths (Err fault) = true
+
+then_paths : {A : Type 0} (a : Result A ElabFault) (rest : A → Result Part ElabFault) → ((x : A) → a ≡ Ok x → part_paths (rest x) ≡ true) → part_paths (a >>= rest) ≡ true
+then_paths (Ok x) rest h = h x refl
+then_paths (Err fault) rest h = refl
+
+few_paths : (name : Word) (part : Part) → all_paths part.variables ≡ true → part_paths (few_enough name part) ≡ true
+few_paths name part all = by (nat_le (length part.begins) 256) (nat_le (length part.scopes) 1025)
+  where
+    by : (a b : Bool) → part_paths (provided a TooMany (Some name) (required b TooMany (Some name) part)) ≡ true
+    by true true = all
+    by true false = refl
+    by false b = refl
+
+own_paths : (context : Context) (ports : List Port) (children : List Instantiation) (scope : Scope) (part : Part) → is_path context.path ≡ true →
     list_all is_name (names (map port_declaration ports)) ≡ true → list_all item_is_named context.unit.items ≡ true →
-    all_paths part.variables ≡ true → all_paths (own_by context ports instantiation scope part).variables ≡ true
-own_paths context ports instantiation scope part e ports_named items_named before =
-    let drivers : ScopeDrivers = scope_drivers_by context ports instantiation scope in
-    let first : List Variable = map (variable_of drivers scope) (map port_declaration ports) in
-    let rest : List Variable = variables_from drivers scope context.unit.items in
-    list_all-append (λ (v : Variable). is_path v.name) part.variables (first ++ rest)
-    ∙ and_both (all_paths part.variables) (all_paths (first ++ rest)) before
-    (list_all-append (λ (v : Variable). is_path v.name) first rest
-    ∙ and_both (all_paths first) (all_paths rest) (paths_of drivers e scope (map port_declaration ports) ports_named) (paths_from drivers e scope context.unit.items items_named))
+    all_paths part.variables ≡ true → part_paths (lower_own context ports children scope part) ≡ true
+own_paths context ports children scope part e ports_named items_named before =
+    let drivers : ScopeDrivers = scope_drivers_by context ports children scope in
+    let own : have_paths (lower_own_variables context ports children scope) ≡ true =
+    barred_pass (λ (v : Variable). is_path v.name) (first_again (driven_by context ports children scope)) Drivers (lower_ports drivers scope ports >>= λ front. lower_variables drivers scope context.unit.items >>= λ others. Ok (front ++ others))
+    (both_pass (λ (v : Variable). is_path v.name) (lower_ports drivers scope ports) (λ front. lower_variables drivers scope context.unit.items) (port_paths drivers e scope ports ports_named)
+    (λ front. paths_from drivers e scope context.unit.items items_named)) in
+    then_paths (lower_own_variables context ports children scope) _
+    (λ variables is. then_paths (lower_own_processes context ports scope part.table) _
+    (λ processes given. few_paths context.name (with_own context scope part variables processes)
+    (list_all-append (λ (v : Variable). is_path v.name) part.variables variables
+    ∙ and_both (all_paths part.variables) (all_paths variables) before (all_told (λ (v : Variable). is_path v.name) (lower_own_variables context ports children scope) variables own is))))
 
-fold_keeps : {A : Type 0} (f : Part → A → Part) (good : A → Bool) →
-    ((part : Part) (one : A) → good one ≡ true → all_paths part.variables ≡ true → all_paths (f part one).variables ≡ true) →
-    (list : List A) (part : Part) → list_all good list ≡ true → all_paths part.variables ≡ true → all_paths (fold f part list).variables ≡ true
-fold_keeps f good step [] part all before = before
-fold_keeps f good step (one ∷ more) part all before =
-    fold_keeps f good step more (f part one) (and_right (good one) (list_all good more) all)
-    (step part one (and_left (good one) (list_all good more) all) before)
+each_keeps : (step : Part → Instantiation → Result Part ElabFault) (good : Instantiation → Bool) →
+    ((part : Part) (one : Instantiation) → good one ≡ true → all_paths part.variables ≡ true → part_paths (step part one) ≡ true) →
+    (list : List Instantiation) (part : Part) → list_all good list ≡ true → all_paths part.variables ≡ true → part_paths (each step part list) ≡ true
+each_keeps step good keeps [] part all before = before
+each_keeps step good keeps (one ∷ more) part all before =
+    then_paths (step part one) (λ next. each step next more)
+    (λ next is. each_keeps step good keeps more next (and_right (good one) (list_all good more) all)
+    (sym (ap part_paths is) ∙ keeps part one (and_left (good one) (list_all good more) all) before))
 
 module _ (modules : SourceTree) (named : list_all is_named modules ≡ true) where
   grown_paths : (levels : ℕ) (part : Part) (context : Context) → is_path context.path ≡ true → is_named context.unit ≡ true →
-      all_paths part.variables ≡ true → all_paths (with_instances levels modules part context).variables ≡ true
-  grown_paths zero part context e unit before = before
+      all_paths part.variables ≡ true → part_paths (elaborate_instance levels modules part context) ≡ true
+  grown_paths zero part context e unit before = refl
   grown_paths (suc levels) part context e unit before =
-      let scope : Scope = inside_scope part context in
       let inner = and_right (is_name context.unit.name.letters) (ports_are_named context.unit && list_all item_is_named context.unit.items) unit in
       let ports = and_left (ports_are_named context.unit) (list_all item_is_named context.unit.items) inner in
       let items = and_right (ports_are_named context.unit) (list_all item_is_named context.unit.items) inner in
-      fold_keeps (λ (so_far : Part) (one : Instantiation). with_instances levels modules so_far (child_context scope context one)) wanted_is_named
+      then_paths (lower_names part context) _
+      (λ scope scope_is. then_paths (lower_instances modules 0 scope.known context.unit.items) _
+      (λ children children_are. then_paths (lower_own context (ports_of context.unit) children scope part) _
+      (λ own own_is.
+      each_keeps (λ so_far child. elaborate_instance levels modules so_far (child_context scope context child)) wanted_is_named
       (λ so_far one good. grown_paths levels so_far (child_context scope context one) (dotted_is_path context.path one.name.letters e (and_left (is_name one.name.letters) (is_named one.child) good))
       (and_right (is_name one.name.letters) (is_named one.child) good))
-      (instantiations_in modules context.unit) (with_own modules part context) (from_named modules named _ context.unit.items items)
-      (own_paths context (ports_of context.unit) (instantiations_in modules context.unit) scope part e ports items before)
+      children own (all_told wanted_is_named (lower_instances modules 0 scope.known context.unit.items) children (from_named modules named 0 scope.known context.unit.items items) children_are)
+      (sym (ap part_paths own_is) ∙ own_paths context (ports_of context.unit) children scope part e ports items before))))
 
-whole_paths : (modules : SourceTree) → list_all is_named modules ≡ true → (m : ModuleTree) → is_path m.name.letters ≡ true → is_named m ≡ true →
-    all_paths (whole_of modules m).variables ≡ true
-unfolding whole_of
-whole_paths modules named m e unit = grown_paths modules named 16 nothing (top_context m) e unit refl
+top_paths : (modules : SourceTree) → list_all is_named modules ≡ true → (m : ModuleTree) → is_path m.name.letters ≡ true → is_named m ≡ true →
+    part_paths (elaborate_top modules m) ≡ true
+unfolding elaborate_top
+top_paths modules named m e unit = grown_paths modules named 16 nothing (top_context m) e unit refl
 
 -- ---- one by one
 
@@ -359,19 +469,44 @@ none_doubled : (b : Bool) (top : Option Word) → broken_if b Doubled top ≡ No
 none_doubled true top e = cc
 none_doubled false top e = refl
 
-design_right : (tree : SourceTree) (top : Option Text) (m : ModuleTree) → top_of tree top ≡ Some m → broken_rule tree top ≡ None → broken_design m.name (whole_of tree m) ≡ None
-design_right tree top m is e =
-    then_right (broken_whole tree m) (broken_design m.name (whole_of tree m))
-    (sym (ap (broken_top tree top) is) ∙ then_right (broken_at Doubled (first_again (module_names tree))) (broken_top tree top (top_of tree top)) e)
+-- what is checked is named
+module _ (scale : Timescale) (m : ModuleTree) (unit : is_named m ≡ true) (whole : Whole) where
+  checked_named : (part : Part) → all_paths part.variables ≡ true → checked m part ≡ Ok whole → AreNamed (design_by scale whole.unit whole.part)
+  checked_named part paths = by (broken_design m.name part) refl
+    where
+      by : (broken : Option ElabFault) → broken_design m.name part ≡ broken → faultless broken (record { unit = m; part = part }) ≡ Ok whole → AreNamed (design_by scale whole.unit whole.part)
+      by None right is =
+          let same : record { unit = m; part = part } ≡ whole = cc in
+          subst (λ (w : Whole). AreNamed (design_by scale w.unit w.part)) same
+          (design_named scale m part unit paths (none_doubled (has_double (variable_paths part)) _ (first_right _ _ (first_right (broken_paths m.name part) (broken_table m.name part) right))))
+      by (Some fault) right is = absurd cc
+
+  whole_named : (part : Result Part ElabFault) → part_paths part ≡ true → (part >>= λ p. checked m p) ≡ Ok whole → AreNamed (design_by scale whole.unit whole.part)
+  whole_named (Ok part) paths is = checked_named part paths is
+  whole_named (Err fault) paths is = absurd cc
+
+not_barred_is : {A : Type 0} (rule : Rule) (word : Option Word) (answer : Result A ElabFault) (x : A) → barring word rule answer ≡ Ok x → answer ≡ Ok x
+not_barred_is rule None answer x is = is
+not_barred_is rule (Some word) answer x is = absurd cc
+
+module _ (tree : SourceTree) (all : list_all is_named tree ≡ true) (top : Option Text) (scale : Timescale) where
+  found_named : (whole : Whole) (rival : Option Word) (unit : Option ModuleTree) → top_of tree top ≡ unit → (found unit Top rival >>= λ m. whole_of tree m) ≡ Ok whole →
+      AreNamed (design_by scale whole.unit whole.part)
+  found_named whole rival None is_top is = absurd cc
+  found_named whole rival (Some m) is_top is =
+      let unit = top_named tree top m all is_top in
+      whole_named scale m unit whole (elaborate_top tree m)
+      (top_paths tree all m (name_is_path m.name.letters (letters m.name.letters (and_left (is_name m.name.letters) (ports_are_named m && list_all item_is_named m.items) unit))) unit) is
+
+  design_is_named : (answer : Result Whole ElabFault) (design : Design) → ((whole : Whole) → answer ≡ Ok whole → AreNamed (design_by scale whole.unit whole.part)) → as_design scale answer ≡ Ok design → AreNamed design
+  design_is_named (Ok whole) design named is =
+      let same : design_by scale whole.unit whole.part ≡ design = cc in
+      subst AreNamed same (named whole refl)
+  design_is_named (Err fault) design named is = absurd cc
 
 pub named_by : (words : List Text) (plain : PlainTree) (tree : SourceTree) (top : Option Text) (scale : Timescale) (design : Design) →
     DerivesText words plain → IsNumbered words plain tree → Elaborates tree top scale design → AreNamed design
 named_by words plain tree top scale design derives numbered elaborates =
-    let m : ModuleTree = elaborates.unit in
     let all = all_named tree (ap (fits 64) numbered.is_tree ∙ derives.fitting) in
-    let unit = top_named tree top m all elaborates.is_top in
-    let part : Part = whole_of tree m in
-    subst AreNamed (sym elaborates.describes)
-    (design_named scale m part unit
-    (whole_paths tree all m (name_is_path m.name.letters (letters m.name.letters (and_left (is_name m.name.letters) (ports_are_named m && list_all item_is_named m.items) unit))) unit)
-    (none_doubled (has_double (variable_paths part)) _ (first_right _ _ (first_right (broken_paths m.name part) (broken_table m.name part) (design_right tree top m elaborates.is_top elaborates.right)))))
+    design_is_named tree all top scale (elaborated_whole tree top) design
+    (λ whole is. found_named tree all top scale whole (rival_of tree top) (top_of tree top) refl (not_barred_is Doubled (first_again (module_names tree)) _ whole is)) elaborates

@@ -1,94 +1,149 @@
--- What an instance adds of its own, in two steps, and where its rules stand.
-use Rattle.std.proofs.Common.{◌≡◌, ℕ, Option, None, List, [], ◌∷◌, ◌++◌, length, map, refl, sym, ap, ◌∙◌, append_assoc}
-use Rattle.std.specs.Option.{option_or}
+-- What an instance adds of its own: its names, its variables, its processes.
+use Rattle.std.proofs.Common.{◌≡◌, ◌<◌, ℕ, ◌+◌, Bool, true, false, Option, Some, None, List, [], ◌∷◌, ◌++◌, length, map, Result, Ok, Err, refl, sym, ap, subst, ◌∙◌, arith}
+use Rattle.std.specs.Prelude.{not}
 use Rattle.basis.specs.Reasons.{Because}
 use Rattle.basis.specs.declared.memory.OrMemory.{OrMemory}
 use Rattle.vast.specs.Words.{Text}
-use Rattle.vast.specs.NumberedModules.{ItemTree}
+use Rattle.vast.specs.NumberedWords.{Word}
 use Rattle.vast.specs.NumberedTrees.{item_tree}
 use Rattle.vast.specs.declared.module.ModuleItem.{ModuleItem}
-use Rattle.vdesign.specs.Design.{Scope as Room, Variable}
-use Rattle.velab_expr.specs.declared.fault.ElabFault.{ElabFault}
-use Rattle.velab_expr.specs.Rules.{IsBroken}
-use Rattle.velab_expr.specs.Scopes.{Scope}
-use Rattle.velab_process.specs.Processes.{Processes, lowered_items}
-use Rattle.velab_process.specs.Statements.{Table}
-use Rattle.velab_declaration.specs.Variables.{variables_from}
-use Rattle.vmodules.specs.Names.{letters_of}
-use Rattle.vmodules.specs.Ports.{Port}
+use Rattle.vdesign.specs.Design.{Variable}
+use Rattle.vmodules.specs.Names.{letters_of, first_again, is_declared}
 use Rattle.vmodules.specs.declared.ports.PortForm.{PortForm}
-use Rattle.velab_process.specs.Inner.{AreLowered}
-use Rattle.velab_declaration.specs.Inner.{port_variables}
+use Rattle.vmodules.specs.Inner.{port_form}
+use Rattle.velab_expr.specs.declared.fault.ElabFault.{ElabFault}
+use Rattle.velab_expr.specs.declared.fault.Rule.TheVariants.{Doubled, Drivers}
+use Rattle.velab_expr.specs.declared.scope.Meaning.{Meaning}
+use Rattle.velab_expr.specs.Answers.{◌>>=◌, behind, required, Refuses}
+use Rattle.velab_expr.specs.Rules.{broken_at, IsBroken}
+use Rattle.velab_expr.specs.Scopes.{Scope}
+use Rattle.velab_expr.specs.Symbols.{Symbol, name_in}
+use Rattle.velab_expr.proofs.AnswerLemmas.{goes_behind, still_refused}
+use Rattle.velab_process.specs.Processes.{Processes, with_begins_before}
+use Rattle.velab_declaration.specs.Parameters.{Overrides, lower_meaning, with_meaning, add_symbol, add_symbols}
+use Rattle.velab_declaration.specs.Variables.{ScopeDrivers, lower_ports, lower_variables}
+use Rattle.vhierarchy.specs.Instances.{barring, Part, Context, scope_of, few_enough, with_own}
 use Rattle.vhierarchy.specs.Inner.{nets_driven, own_variables}
 use Rattle.vhierarchy.specs.declared.context.Context.{Context as ProgramContext}
 use Rattle.vhierarchy.specs.declared.instantiation.Instantiation.{Instantiation as ProgramInstantiation}
-use Rattle.velab_expr.proofs.FaultLemmas.{first_breaks, then_breaks, both_right, same_rule}
-use Rattle.vhierarchy.specs.Instances.{Instantiation, Part, Context, scope_of, broken_counts, own_by, broken_own_by, variables_by, broken_variables, processes_by, broken_processes}
+use Rattle.vhierarchy.proofs.StepLemmas.{barred, first_refused, first_fault}
 
--- the processes of port connections, and those of items behind them
-pub both_lowered : (scope : Scope) (items : List ItemTree) (joins : Processes) (before b1 b2 : List (List ℕ)) (t1 t2 : Table) →
-    AreLowered joins before t1 b1 → AreLowered (lowered_items scope t1 items) b1 t2 b2 →
-    AreLowered (record { table = (lowered_items scope joins.table items).table; begins = joins.begins ++ (lowered_items scope joins.table items).begins }) before t2 b2
-both_lowered scope items joins before b1 b2 t1 t2 first second = record {
-  table = second.table ∙ ap (λ (t : Table). (lowered_items scope t items).table) first.table;
-  begins = second.begins
-      ∙ (λ i. first.begins i ++ (lowered_items scope (first.table i) items).begins)
-      ∙ append_assoc before joins.begins (lowered_items scope joins.table items).begins;
-}
+-- ---- names
 
--- where the port connections are right, the items come next, on the table that those leave
-pub items_told : (before : List (List ℕ)) (joins : Processes) (broken : Option ElabFault) (rest : Table → Option ElabFault) (b1 : List (List ℕ)) (t1 : Table) → AreLowered joins before t1 b1 → broken ≡ None →
-    rest t1 ≡ option_or broken (rest joins.table)
-items_told before joins broken rest b1 t1 first right = ap rest first.table ∙ sym (ap (λ b. option_or b (rest joins.table)) right)
+symbol_known : (scope next : Scope) (one : Symbol) (meaning : Result Meaning ElabFault) (new : Bool) (word : Option Word) →
+    (meaning >>= λ m. required new Doubled word (with_meaning scope one m)) ≡ Ok next → next.known ≡ scope.known + 1
+symbol_known scope next one (Ok m) true word is = let same : with_meaning scope one m ≡ next = cc in sym (ap (λ (s : Scope). s.known) same)
+symbol_known scope next one (Ok m) false word is = absurd cc
+symbol_known scope next one (Err fault) new word is = absurd cc
 
--- the variables of ports, and those of items behind them
-pub own_variables_are : (words : List Text) (told : ProgramContext) (ports : List PortForm) (instantiation : List ProgramInstantiation) (scope : Scope) (before middle after : List Variable) (driven : List Text)
-    (one two : List ModuleItem) → one ≡ told.unit.now.items.items → two ≡ told.unit.now.items.items → driven ≡ letters_of (nets_driven words told.connections.now ports one instantiation) →
-    middle ≡ before ++ port_variables words (record { name = told.path.now; driven = driven }) scope ports →
-    after ≡ middle ++ variables_from (record { name = told.path.now; driven = driven }) scope (map (item_tree words) two) →
-    after ≡ before ++ own_variables words told ports instantiation scope
-own_variables_are words told ports instantiation scope before middle after driven one two one_is two_is driven_is first second =
-    let items : List ModuleItem = told.unit.now.items.items in
-    let exact : driven ≡ letters_of (nets_driven words told.connections.now ports items instantiation) =
-    driven_is ∙ ap (λ (list : List ModuleItem). letters_of (nets_driven words told.connections.now ports list instantiation)) one_is in
-    second
-    ∙ (λ i. first i ++ variables_from (record { name = told.path.now; driven = driven }) scope (map (item_tree words) (two_is i)))
-    ∙ append_assoc before (port_variables words (record { name = told.path.now; driven = driven }) scope ports)
-    (variables_from (record { name = told.path.now; driven = driven }) scope (map (item_tree words) items))
-    ∙ (λ i. before ++ (port_variables words (record { name = told.path.now; driven = exact i }) scope ports
-    ++ variables_from (record { name = told.path.now; driven = exact i }) scope (map (item_tree words) items)))
+known_step : (first : Result Scope ElabFault) (rest : Scope → Result Scope ElabFault) (next : Scope) (known count : ℕ) → ((s : Scope) → first ≡ Ok s → s.known ≡ known + 1) →
+    ((s : Scope) → rest s ≡ Ok next → next.known ≡ s.known + count) → (first >>= rest) ≡ Ok next → next.known ≡ (known + 1) + count
+known_step (Ok s) rest next known count here there is = there s is ∙ ap (λ (n : ℕ). n + count) (here s refl)
+known_step (Err fault) rest next known count here there is = absurd cc
 
--- what an instance adds of its own, field by field, and its rules
-module _ (context : Context) (ports : List Port) (instantiation : List Instantiation) (scope : Scope) (part : Part) where
-  pub own_is : (after : Part) → after.variables ≡ part.variables ++ variables_by context ports instantiation scope →
-      after.scopes ≡ part.scopes ++ scope_of context scope.variables ∷ [] → after.table ≡ (processes_by context ports instantiation scope part.table).table →
-      after.begins ≡ part.begins ++ (processes_by context ports instantiation scope part.table).begins → after.events ≡ scope.events →
-      after ≡ own_by context ports instantiation scope part
-  own_is after variables scopes table begins events =
-      λ i. record { variables = variables i; scopes = scopes i; table = table i; begins = begins i; events = events i }
+-- so many more are known
+known_all : (overrides : Overrides) (scope next : Scope) (list : List Symbol) → add_symbols overrides scope list ≡ Ok next → next.known ≡ scope.known + length list
+known_all overrides scope next [] is =
+    let same : scope ≡ next = cc in
+    let known = ap (λ (s : Scope). s.known) same in
+    omega (arith, known)
+known_all overrides scope next (one ∷ more) is =
+    let both =
+    known_step (add_symbol overrides scope one) (λ s. add_symbols overrides s more) next scope.known (length more)
+    (λ s added. symbol_known scope s one (lower_meaning overrides scope one) (not (is_declared scope.names (name_in one).letters)) (Some (name_in one)) added)
+    (λ s added. known_all overrides s next more added) is in
+    omega (arith, both)
 
-  abbrev counts : Option ElabFault
-  counts = broken_counts context.name (length (own_by context ports instantiation scope part).begins) (length (own_by context ports instantiation scope part).scopes)
+-- all that is given fits where all that is known does
+pub few_known : (overrides : Overrides) (scope next : Scope) (list given : List Symbol) (head whole bound : ℕ) → add_symbols overrides scope list ≡ Ok next →
+    head ≡ scope.known → whole ≡ next.known → whole < bound → given ≡ list → head + length given < bound
+few_known overrides scope next list given head whole bound added head_is whole_is fits same =
+    let all = known_all overrides scope next list added in
+    let count : length given ≡ length list = ap (λ (l : List Symbol). length l) same in
+    omega (arith, all, count, head_is, whole_is, fits)
 
-  module _ (variables : broken_variables context ports instantiation scope ≡ None) where
-    pub processes_err : (e : OrMemory ElabFault) → Because (IsBroken (broken_processes context ports instantiation scope part.table)) e →
-        Because (IsBroken (broken_own_by context ports instantiation scope part)) e
-    processes_err e h =
-        then_breaks (broken_variables context ports instantiation scope) (option_or (broken_processes context ports instantiation scope part.table) counts) variables e
-        (first_breaks (broken_processes context ports instantiation scope part.table) counts e h)
+-- ---- variables
 
-    module _ (processes : broken_processes context ports instantiation scope part.table ≡ None) (begins : List (List ℕ)) (scopes : List Room)
-        (begins_are : begins ≡ part.begins ++ (processes_by context ports instantiation scope part.table).begins)
-        (scopes_are : scopes ≡ part.scopes ++ scope_of context scope.variables ∷ []) where
-      counts_are : broken_counts context.name (length begins) (length scopes) ≡ counts
-      counts_are = λ i. broken_counts context.name (length (begins_are i)) (length (scopes_are i))
+-- where no net has two drivers, the variables of its ports come first, and then those of its items
+module _ (words : List Text) (told : ProgramContext) (ports : List PortForm) (instantiation : List ProgramInstantiation) (scope : Scope) (one : List ModuleItem)
+    (one_is : one ≡ told.unit.now.items.items) (before : List Variable) where
+  abbrev items : List ModuleItem
+  items = told.unit.now.items.items
 
-      pub counts_err : (e : OrMemory ElabFault) → Because (IsBroken (broken_counts context.name (length begins) (length scopes))) e → Because (IsBroken (broken_own_by context ports instantiation scope part)) e
-      counts_err e h =
-          then_breaks (broken_variables context ports instantiation scope) (option_or (broken_processes context ports instantiation scope part.table) counts) variables e
-          (then_breaks (broken_processes context ports instantiation scope part.table) counts processes e (same_rule _ _ counts_are e h))
+  abbrev nets : List ModuleItem → List Word
+  nets list = nets_driven words told.connections.now ports list instantiation
 
-      pub own_right : broken_counts context.name (length begins) (length scopes) ≡ None → broken_own_by context ports instantiation scope part ≡ None
-      own_right few =
-          both_right (broken_variables context ports instantiation scope) (option_or (broken_processes context ports instantiation scope part.table) counts) variables
-          (both_right (broken_processes context ports instantiation scope part.table) counts processes (sym counts_are ∙ few))
+  abbrev drivers : List Text → ScopeDrivers
+  drivers list = record { name = told.path.now; driven = list }
+
+  abbrev both : List Text → List ModuleItem → Result (List Variable) ElabFault
+  both list of_items =
+      lower_ports (drivers list) scope (map (port_form words) ports) >>= λ front.
+      lower_variables (drivers list) scope (map (item_tree words) of_items) >>= λ others. Ok (front ++ others)
+
+  abbrev all : Result (List Variable) ElabFault
+  all = own_variables words told ports instantiation scope
+
+  pub drivers_refused : (e : OrMemory ElabFault) → Because (IsBroken (broken_at Drivers (first_again (nets one)))) e → Refuses e (behind before all)
+  drivers_refused e h =
+      first_refused all (λ more. Ok (before ++ more)) e
+      (barred Drivers (first_again (nets items)) (both (letters_of (nets items)) items) e
+      (subst (λ (l : List ModuleItem). Because (IsBroken (broken_at Drivers (first_again (nets l)))) e) one_is h))
+
+  module _ (once : first_again (nets one) ≡ None) (driven : List Text) (driven_is : driven ≡ letters_of (nets one)) (two : List ModuleItem) (two_is : two ≡ told.unit.now.items.items) where
+    all_is : all ≡ both driven two
+    all_is =
+        ap (λ (w : Option Word). barring w Drivers (both (letters_of (nets items)) items)) (ap (λ (l : List ModuleItem). first_again (nets l)) (sym one_is) ∙ once)
+        ∙ (λ i. both (sym (driven_is ∙ ap (λ (l : List ModuleItem). letters_of (nets l)) one_is) i) (sym two_is i))
+
+    abbrev of_ports : Result (List Variable) ElabFault
+    of_ports = lower_ports (drivers driven) scope (map (port_form words) ports)
+
+    abbrev of_items : Result (List Variable) ElabFault
+    of_items = lower_variables (drivers driven) scope (map (item_tree words) two)
+
+    pub ports_refused : (e : OrMemory ElabFault) → Refuses e (behind before of_ports) → Refuses e (behind before all)
+    ports_refused = still_refused (behind before of_ports) (behind before all) (λ fault is. ap (behind before) all_is ∙ first_fault before of_ports of_items fault is)
+
+    pub variables_are : (middle : List Variable) → behind before of_ports ≡ Ok middle → behind middle of_items ≡ behind before all
+    variables_are middle put = goes_behind before of_ports of_items middle put ∙ ap (behind before) (sym all_is)
+
+-- ---- the part with what is its own
+
+module _ (part : Part) (name : Word) (context : Context) (scope : Scope) (variables : Result (List Variable) ElabFault) where
+  pub variables_fault : (rest : List Variable → Result Part ElabFault) (fault : ElabFault) → behind part.variables variables ≡ Err fault → (variables >>= rest) ≡ Err fault
+  variables_fault rest fault = by variables
+    where
+      by : (a : Result (List Variable) ElabFault) → behind part.variables a ≡ Err fault → (a >>= rest) ≡ Err fault
+      by (Ok x) is = absurd cc
+      by (Err other) is = let same : other ≡ fault = cc in ap Err same
+
+  module _ (processes : Result Processes ElabFault) where
+    abbrev own : Result Part ElabFault
+    own = variables >>= λ v. processes >>= λ p. few_enough name (with_own context scope part v p)
+
+    pub processes_fault : (after : List Variable) (fault : ElabFault) → behind part.variables variables ≡ Ok after → with_begins_before part.begins processes ≡ Err fault → own ≡ Err fault
+    processes_fault after fault = by variables processes
+      where
+        by : (a : Result (List Variable) ElabFault) (b : Result Processes ElabFault) → behind part.variables a ≡ Ok after → with_begins_before part.begins b ≡ Err fault →
+            (a >>= λ v. b >>= λ p. few_enough name (with_own context scope part v p)) ≡ Err fault
+        by (Ok v) (Ok p) first then = absurd cc
+        by (Ok v) (Err other) first then = let same : other ≡ fault = cc in ap Err same
+        by (Err other) b first then = absurd cc
+
+    pub own_is : (after : Part) → behind part.variables variables ≡ Ok after.variables → with_begins_before part.begins processes ≡ Ok (record { table = after.table; begins = after.begins }) →
+        after.scopes ≡ part.scopes ++ scope_of context scope.variables ∷ [] → after.events ≡ scope.events → few_enough name after ≡ own
+    own_is after = by variables processes
+      where
+        by : (a : Result (List Variable) ElabFault) (b : Result Processes ElabFault) → behind part.variables a ≡ Ok after.variables →
+            with_begins_before part.begins b ≡ Ok (record { table = after.table; begins = after.begins }) →
+            after.scopes ≡ part.scopes ++ scope_of context scope.variables ∷ [] → after.events ≡ scope.events →
+            few_enough name after ≡ (a >>= λ v. b >>= λ p. few_enough name (with_own context scope part v p))
+        by (Ok v) (Ok p) first then scopes events =
+            let variables_are : after.variables ≡ part.variables ++ v = cc in
+            let put : Processes = record { table = after.table; begins = after.begins } in
+            let given : Processes = record { table = p.table; begins = part.begins ++ p.begins } in
+            let processes_are : put ≡ given = cc in
+            λ i. few_enough name (record { variables = variables_are i; scopes = scopes i; table = (processes_are i).table; begins = (processes_are i).begins; events = events i })
+        by (Ok v) (Err other) first then scopes events = absurd cc
+        by (Err other) b first then scopes events = absurd cc

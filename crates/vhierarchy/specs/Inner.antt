@@ -1,6 +1,7 @@
 -- What the steps of elaboration over instances are told by and answer; nothing here has to be believed.
-use Rattle.std.specs.Prelude.{◌≡◌, ℕ, List, ◌++◌, map, Option, option_map}
-use Rattle.std.specs.List.{fold, filter, flat_map}
+use Rattle.std.specs.Prelude.{◌≡◌, ℕ, nat_le, List, ◌++◌, map, Option, Some, option_map, Result, Ok, Err}
+use Rattle.std.specs.List.{filter, flat_map}
+use Rattle.basis.specs.declared.memory.OrMemory.{OrMemory}
 use Rattle.vast.specs.Words.{Text}
 use Rattle.vast.specs.NumberedWords.{Word, numbered}
 use Rattle.vast.specs.NumberedTrees.{module_tree, item_tree, instance_tree, connections_tree}
@@ -13,17 +14,20 @@ use Rattle.vmodules.specs.Connected.{open_names}
 use Rattle.vmodules.specs.Inner.{ConnectionEntry, Units, entries_tree, units_tree, port_form}
 use Rattle.vmodules.specs.declared.ports.PortForm.{PortForm}
 use Rattle.velab_expr.specs.declared.fault.ElabFault.{ElabFault}
-use Rattle.velab_expr.specs.Scopes.{Scope}
+use Rattle.velab_expr.specs.declared.fault.Rule.TheVariants.{TooMany}
+use Rattle.velab_expr.specs.Answers.{provided, required, Refuses}
+use Rattle.velab_expr.specs.Scopes.{Scope, at}
 use Rattle.basis.specs.declared.timescale.Timescale.{Timescale}
 use Rattle.vdesign.specs.Design.{Variable, Scope as Room, Design}
 use Rattle.velab_process.specs.Processes.{Processes}
 use Rattle.velab_process.specs.Statements.{Table}
 use Rattle.velab_declaration.specs.Variables.{port_names, nets_of}
 use Rattle.velab_declaration.specs.Inner.{overrides_tree, item_drivers}
-use Rattle.vhierarchy.specs.Instances.{Instantiation, instantiation_by, broken_instances, instantiations_from, broken_among, Part, Context, child_context, with_instances, broken_with_instances, broken_each, own_by, broken_own_by, variables_by, broken_variables, processes_by, broken_processes, driven_inside, driven_outputs, driven_outside}
+use Rattle.vhierarchy.specs.Instances.{Instantiation, Part, Context, child_context, lower_instances, lower_list, driven_inside, driven_outputs, driven_outside, lower_own_variables, lower_own_processes, lower_own, each, elaborate_instance}
 use Rattle.vhierarchy.specs.declared.instantiation.Instantiation.{Instantiation as ProgramInstantiation}
 use Rattle.vhierarchy.specs.declared.instantiation.Open.{Open}
 use Rattle.vhierarchy.specs.declared.context.Context.{Context as ProgramContext}
+use Rattle.vhierarchy.specs.declared.own.Known.{Known}
 
 -- an instance that was found, told of the program's values
 abbrev pub instantiation_tree : List Text → ProgramInstantiation → Instantiation
@@ -70,13 +74,20 @@ nets_driven words connections ports items instantiation =
     filter (λ net. is_declared (nets_of (map (port_form words) ports) (map (item_tree words) items)) net.letters)
     (words_driven words connections ports items instantiation)
 
--- the instances of items
-abbrev pub program_instantiations_in : Units → ℕ → List ModuleItem → List Instantiation
-program_instantiations_in units known items = instantiations_from (units_tree units) known (map (item_tree units.words) items)
+-- ---- answers, told of the program's values
 
--- what they break, where so many instances stand before
-abbrev pub broken_in : Units → ℕ → List ModuleItem → Option ElabFault
-broken_in units before items = broken_among (units_tree units) before (map (item_tree units.words) items)
+-- it gives what these values say
+abbrev pub GivesAs : {A B F : Type 0} → (A → B) → Result A (OrMemory F) → Result B F → Type 0
+GivesAs told (Ok x) answer = answer ≡ Ok (told x)
+GivesAs told (Err e) answer = Refuses e answer
+
+-- the names of an instance, as they are known at its first item
+abbrev pub scope_at_head : Known → Scope
+scope_at_head known = at known.growing known.head
+
+-- the instances of items, where so many instances and so many names stand before
+abbrev pub instances_in : Units → ℕ → ℕ → List ModuleItem → Result (List Instantiation) ElabFault
+instances_in units before known items = lower_instances (units_tree units) before known (map (item_tree units.words) items)
 
 -- what may be spoken of from outside is that of this module
 pub record IsOpen (words : List Text) (child : Parsed) (open_of : Open) : Type 0 where
@@ -84,60 +95,33 @@ pub record IsOpen (words : List Text) (child : Parsed) (open_of : Open) : Type 0
   pub values_are : open_of.values ≡ letters_of (open_names (module_tree words child))
   pub ports_are : open_of.ports ≡ letters_of (port_names (module_tree words child))
 
--- the instances of one item
-abbrev pub each_instantiation : List Text → Parsed → ℕ → Option Connections → List Instance → List Instantiation
-each_instantiation words child known overrides list =
-    map (instantiation_by (module_tree words child) known (option_map (connections_tree words) overrides)) (map (instance_tree words) list)
+-- the instances of a list
+abbrev pub instances_listed : List Text → Parsed → ℕ → Option Connections → List Instance → Result (List Instantiation) ElabFault
+instances_listed words child known overrides list =
+    lower_list (module_tree words child) known (option_map (connections_tree words) overrides) (map (instance_tree words) list)
 
-abbrev pub each_broken : List Text → Parsed → Option Connections → List Instance → Option ElabFault
-each_broken words child overrides list =
-    broken_instances (module_tree words child) (option_map (connections_tree words) overrides) (map (instance_tree words) list)
-
--- what an instance adds of its own, told of the program's values
-abbrev pub own_part : List Text → ProgramContext → List PortForm → List ProgramInstantiation → Scope → Part → Part
-own_part words context ports instantiation scope part =
-    own_by (context_tree words context) (map (port_form words) ports) (instantiation_trees words instantiation) scope part
-
-abbrev pub broken_own_part : List Text → ProgramContext → List PortForm → List ProgramInstantiation → Scope → Part → Option ElabFault
-broken_own_part words context ports instantiation scope part =
-    broken_own_by (context_tree words context) (map (port_form words) ports) (instantiation_trees words instantiation) scope part
-
-abbrev pub own_variables : List Text → ProgramContext → List PortForm → List ProgramInstantiation → Scope → List Variable
+-- what an instance adds of its own
+abbrev pub own_variables : List Text → ProgramContext → List PortForm → List ProgramInstantiation → Scope → Result (List Variable) ElabFault
 own_variables words context ports instantiation scope =
-    variables_by (context_tree words context) (map (port_form words) ports) (instantiation_trees words instantiation) scope
+    lower_own_variables (context_tree words context) (map (port_form words) ports) (instantiation_trees words instantiation) scope
 
-abbrev pub broken_own_variables : List Text → ProgramContext → List PortForm → List ProgramInstantiation → Scope → Option ElabFault
-broken_own_variables words context ports instantiation scope =
-    broken_variables (context_tree words context) (map (port_form words) ports) (instantiation_trees words instantiation) scope
+abbrev pub own_processes : List Text → ProgramContext → List PortForm → Scope → Table → Result Processes ElabFault
+own_processes words context ports scope table = lower_own_processes (context_tree words context) (map (port_form words) ports) scope table
 
-abbrev pub own_processes : List Text → ProgramContext → List PortForm → List ProgramInstantiation → Scope → Table → Processes
-own_processes words context ports instantiation scope table =
-    processes_by (context_tree words context) (map (port_form words) ports) (instantiation_trees words instantiation) scope table
+-- this part, where it has so few processes and scopes
+abbrev pub few : Word → ℕ → ℕ → Part → Result Part ElabFault
+few name processes scopes part = provided (nat_le processes 256) TooMany (Some name) (required (nat_le scopes 1025) TooMany (Some name) part)
 
-abbrev pub broken_own_processes : List Text → ProgramContext → List PortForm → List ProgramInstantiation → Scope → Table → Option ElabFault
-broken_own_processes words context ports instantiation scope table =
-    broken_processes (context_tree words context) (map (port_form words) ports) (instantiation_trees words instantiation) scope table
+abbrev pub own_part : List Text → ProgramContext → List PortForm → List ProgramInstantiation → Scope → Part → Result Part ElabFault
+own_part words context ports instantiation scope part =
+    lower_own (context_tree words context) (map (port_form words) ports) (instantiation_trees words instantiation) scope part
 
--- the instances of a list, one after another
-abbrev pub with_each_instance : Units → ℕ → ProgramContext → Scope → Part → List ProgramInstantiation → Part
-with_each_instance units levels context scope part list =
-    fold (λ (so_far : Part) (one : Instantiation). with_instances levels (units_tree units) so_far (child_context scope (context_tree units.words context) one))
-    part (instantiation_trees units.words list)
+-- an instance that is asked for and all below it, and those of a list, one after another
+abbrev pub instance_below : Units → ℕ → ProgramContext → Scope → Part → Instantiation → Result Part ElabFault
+instance_below units levels context scope part one = elaborate_instance levels (units_tree units) part (child_context scope (context_tree units.words context) one)
 
-abbrev pub each_broken_with_instances : Units → ℕ → ProgramContext → Scope → Part → List ProgramInstantiation → Option ElabFault
-each_broken_with_instances units levels context scope part list =
-    broken_each (λ (so_far : Part) (one : Instantiation). with_instances levels (units_tree units) so_far (child_context scope (context_tree units.words context) one))
-    (λ (so_far : Part) (one : Instantiation). broken_with_instances levels (units_tree units) so_far (child_context scope (context_tree units.words context) one))
-    part (instantiation_trees units.words list)
-
--- an instance that is asked for, and all below it
-abbrev pub with_instance : Units → ℕ → ProgramContext → Scope → Part → ProgramInstantiation → Part
-with_instance units levels context scope part one =
-    with_instances levels (units_tree units) part (child_context scope (context_tree units.words context) (instantiation_tree units.words one))
-
-abbrev pub one_broken : Units → ℕ → ProgramContext → Scope → Part → ProgramInstantiation → Option ElabFault
-one_broken units levels context scope part one =
-    broken_with_instances levels (units_tree units) part (child_context scope (context_tree units.words context) (instantiation_tree units.words one))
+abbrev pub instances_below : Units → ℕ → ProgramContext → Scope → Part → List ProgramInstantiation → Result Part ElabFault
+instances_below units levels context scope part list = each (instance_below units levels context scope) part (instantiation_trees units.words list)
 
 -- the paths of variables
 abbrev pub variable_names : List Variable → List Text

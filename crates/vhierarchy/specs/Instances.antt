@@ -1,6 +1,6 @@
 -- `Elaborates modules top scale design`: the design that a text stands for, by recursion over instances (IEEE 1364-2005, clause 12).
-use Rattle.std.specs.Prelude.{◌≡◌, ℕ, zero, suc, ◌+◌, nat_le, if◌then◌else◌, List, [], ◌∷◌, ◌++◌, map, length, Option, None, Some}
-use Rattle.std.specs.List.{fold, flat_map, filter, filter_map}
+use Rattle.std.specs.Prelude.{◌≡◌, ℕ, zero, suc, ◌+◌, nat_le, if◌then◌else◌, List, [], ◌∷◌, ◌++◌, map, length, Option, None, Some, Result, Ok, Err}
+use Rattle.std.specs.List.{flat_map, filter, filter_map}
 use Rattle.std.specs.Option.{option_or}
 use Rattle.basis.specs.declared.timescale.Timescale.{Timescale}
 use Rattle.vast.specs.Words.{Text}
@@ -18,16 +18,31 @@ use Rattle.vdesign.specs.declared.dump.Chosen.{Chosen}
 use Rattle.velab_expr.specs.declared.fault.Rule.{Rule}
 use Rattle.velab_expr.specs.declared.fault.Rule.TheVariants as rule
 use Rattle.velab_expr.specs.declared.fault.ElabFault.{ElabFault}
-use Rattle.velab_expr.specs.Rules.{told, unless, broken_if, broken_at}
+use Rattle.velab_expr.specs.Answers.{◌>>=◌, refused, required, provided, found, fault_of}
+use Rattle.velab_expr.specs.Rules.{unless, broken_if}
 use Rattle.velab_declaration.specs.Right.{kind_rule}
 use Rattle.velab_declaration.specs.ActionFlaws.{blank_environment, flaw_rule, table_fault}
 use Rattle.velab_expr.specs.Scopes.{Scope, at}
-use Rattle.velab_expr.specs.Symbols.{symbols_by, valueless_by, symbols_in_head}
-use Rattle.velab_process.specs.Connections.{only_name, lowered_joins, broken_joins}
-use Rattle.velab_process.specs.Processes.{Processes, lowered_items, broken_items_from}
+use Rattle.velab_expr.specs.Symbols.{symbols_by}
+use Rattle.velab_process.specs.Connections.{only_name, lower_joins}
+use Rattle.velab_process.specs.Processes.{Processes, with_begins_before, lower_items}
 use Rattle.velab_process.specs.Statements.{Table}
-use Rattle.velab_declaration.specs.Parameters.{Overrides, Base, first_scope, valueless_scope, head_scope, item_scope, broken_all}
-use Rattle.velab_declaration.specs.Variables.{port_names, declared_names, ScopeDrivers, variable_of, port_declaration, variables_from, broken_ports, broken_from, drivers_by, nets_of}
+use Rattle.velab_declaration.specs.Parameters.{Overrides, Base, item_scope}
+use Rattle.velab_declaration.specs.Variables.{port_names, declared_names, ScopeDrivers, lower_ports, lower_variables, drivers_by, nets_of}
+
+-- this answer, barring a word at which the rule is broken
+abbrev pub barring : {A : Type 0} → Option Word → Rule → Result A ElabFault → Result A ElabFault
+barring None rule answer = answer
+barring (Some word) rule answer = refused rule (Some word)
+
+-- this answer, where none of these words stands again
+abbrev pub none_again : {A : Type 0} → Rule → List Word → Result A ElabFault → Result A ElabFault
+none_again rule words answer = barring (first_again words) rule answer
+
+-- this, where no fault was found in it
+abbrev pub faultless : {A : Type 0} → Option ElabFault → A → Result A ElabFault
+faultless None x = Ok x
+faultless (Some fault) x = Err fault
 
 -- ---- the instances that a module has (12.1.2)
 
@@ -49,64 +64,46 @@ instantiation_by child known overrides one = record {
   connections = named_connections (letters_of (port_names child)) one.connections;
 }
 
-abbrev pub instantiations_of : Option ModuleTree → ℕ → Option ConnectionsTree → List InstanceTree → List Instantiation
-instantiations_of None known overrides list = []
-instantiations_of (Some child) known overrides list = map (instantiation_by child known overrides) list
-
-abbrev pub instantiations_by : SourceTree → ℕ → ItemTree → List Instantiation
-instantiations_by modules known (parameters local type settings) = []
-instantiations_by modules known (declaration kind list) = []
-instantiations_by modules known (events names) = []
-instantiations_by modules known (assignments settings) = []
-instantiations_by modules known (initial statement) = []
-instantiations_by modules known (always statement) = []
-instantiations_by modules known (instances name overrides list) = instantiations_of (module_of modules name.letters) known overrides list
-
-abbrev pub instantiations_from : SourceTree → ℕ → List ItemTree → List Instantiation
-instantiations_from modules known [] = []
-instantiations_from modules known (item ∷ more) =
-    instantiations_by modules known item ++ instantiations_from modules (known + length (symbols_by item)) more
-
--- in the order of the text; named events, instances and the parameters of the head are known before all items
-abbrev pub instantiations_in : SourceTree → ModuleTree → List Instantiation
-instantiations_in modules m = instantiations_from modules (length (flat_map valueless_by m.items) + length (symbols_in_head m.parameters)) m.items
-
 -- what is said of parameters and what is connected to ports fits those that there are
-abbrev pub broken_instance : ModuleTree → Option ConnectionsTree → InstanceTree → Option ElabFault
-broken_instance child overrides one =
-    option_or (broken_at rule.Ports (misfit_if one.name (letters_of (open_names child)) overrides))
-    (broken_at rule.Ports (misfit one.name (letters_of (port_names child)) one.connections))
+abbrev pub lower_instance : ModuleTree → ℕ → Option ConnectionsTree → InstanceTree → Result Instantiation ElabFault
+lower_instance child known overrides one =
+    barring (misfit_if one.name (letters_of (open_names child)) overrides) rule.Ports
+    (barring (misfit one.name (letters_of (port_names child)) one.connections) rule.Ports
+    (Ok (instantiation_by child known overrides one)))
 
-abbrev pub broken_instances : ModuleTree → Option ConnectionsTree → List InstanceTree → Option ElabFault
-broken_instances child overrides [] = None
-broken_instances child overrides (one ∷ more) =
-    option_or (broken_instance child overrides one) (broken_instances child overrides more)
+abbrev pub lower_list : ModuleTree → ℕ → Option ConnectionsTree → List InstanceTree → Result (List Instantiation) ElabFault
+lower_list child known overrides [] = Ok []
+lower_list child known overrides (one ∷ more) =
+    lower_instance child known overrides one >>= λ front. lower_list child known overrides more >>= λ others. Ok (front ∷ others)
 
--- no two parameters have the same name, and no two ports
-abbrev pub broken_child : ModuleTree → Option ElabFault
-broken_child child =
-    option_or (broken_at rule.Doubled (first_again (open_names child))) (broken_at rule.Doubled (first_again (port_names child)))
+-- the first name of a parameter that stands again, or else that of a port
+abbrev pub named_again : ModuleTree → Option Word
+named_again child = option_or (first_again (open_names child)) (first_again (port_names child))
 
--- the module is there; a design has at most 1,024 instances below the top, and so has a module, of which so many stand before
-abbrev pub broken_of : Word → ℕ → Option ModuleTree → Option ConnectionsTree → List InstanceTree → Option ElabFault
-broken_of name before None overrides list = Some (told rule.Top (Some name))
-broken_of name before (Some child) overrides list =
-    option_or (unless (nat_le (before + length list) 1024) rule.TooMany (Some name))
-    (option_or (broken_child child) (broken_instances child overrides list))
+-- The module is there; a design has at most 1,024 instances below the top, and so has a module, of which so many stand before. No two
+-- parameters of it have the same name, and no two ports.
+abbrev pub lower_instances_of : Word → ℕ → ℕ → Option ModuleTree → Option ConnectionsTree → List InstanceTree → Result (List Instantiation) ElabFault
+lower_instances_of name before known None overrides list = refused rule.Top (Some name)
+lower_instances_of name before known (Some child) overrides list =
+    provided (nat_le (before + length list) 1024) rule.TooMany (Some name)
+    (barring (named_again child) rule.Doubled (lower_list child known overrides list))
 
-abbrev pub broken_instantiation : SourceTree → ℕ → ItemTree → Option ElabFault
-broken_instantiation modules before (parameters local type settings) = None
-broken_instantiation modules before (declaration kind list) = None
-broken_instantiation modules before (events names) = None
-broken_instantiation modules before (assignments settings) = None
-broken_instantiation modules before (initial statement) = None
-broken_instantiation modules before (always statement) = None
-broken_instantiation modules before (instances name overrides list) = broken_of name before (module_of modules name.letters) overrides list
+abbrev pub lower_instances_by : SourceTree → ℕ → ℕ → ItemTree → Result (List Instantiation) ElabFault
+lower_instances_by modules before known (parameters local type settings) = Ok []
+lower_instances_by modules before known (declaration kind list) = Ok []
+lower_instances_by modules before known (events names) = Ok []
+lower_instances_by modules before known (assignments settings) = Ok []
+lower_instances_by modules before known (initial statement) = Ok []
+lower_instances_by modules before known (always statement) = Ok []
+lower_instances_by modules before known (instances name overrides list) =
+    lower_instances_of name before known (module_of modules name.letters) overrides list
 
-abbrev pub broken_among : SourceTree → ℕ → List ItemTree → Option ElabFault
-broken_among modules before [] = None
-broken_among modules before (item ∷ more) =
-    option_or (broken_instantiation modules before item) (broken_among modules (before + length (instantiations_by modules 0 item)) more)
+-- in the order of the text, where so many instances and so many names that are no variables stand before
+abbrev pub lower_instances : SourceTree → ℕ → ℕ → List ItemTree → Result (List Instantiation) ElabFault
+lower_instances modules before known [] = Ok []
+lower_instances modules before known (item ∷ more) =
+    lower_instances_by modules before known item >>= λ front.
+    lower_instances modules (before + length front) (known + length (symbols_by item)) more >>= λ others. Ok (front ++ others)
 
 -- ---- names that are driven (6.1, 12.3.9.2)
 
@@ -157,93 +154,62 @@ pub record Context : Type 0 where
 abbrev pub base_of : Part → Context → Base
 base_of part context = record { top = context.top; first = length part.variables; events = part.events; overrides = context.overrides }
 
--- its names, as they are known at its first item
-abbrev pub inside_scope : Part → Context → Scope
-inside_scope part context = item_scope (base_of part context) context.unit
-
 abbrev pub scope_of : Context → ℕ → design.Scope
 scope_of context count = record { name = context.name.letters; path = context.path; depth = context.depth; variables = count }
 
--- Each of these tells the first rule that is broken, in the order in which they are looked at here.
+-- its names, as they are known at its first item; a design has at most 1,024 variables
+abbrev pub lower_names : Part → Context → Result Scope ElabFault
+lower_names part context =
+    none_again rule.Doubled (declared_names context.unit)
+    (provided (nat_le (length part.variables + length (declared_names context.unit)) 1024) rule.TooMany (Some context.name)
+    (provided (nat_le part.events 4294967295) rule.TooMany (Some context.name)
+    (item_scope (base_of part context) context.unit)))
 
--- what its names break
-abbrev pub broken_names : Part → Context → Option ElabFault
-broken_names part context =
-    option_or (broken_at rule.Doubled (first_again (declared_names context.unit)))
-    (option_or (unless (nat_le (length part.variables + length (declared_names context.unit)) 1024) rule.TooMany (Some context.name))
-    (option_or (unless (nat_le part.events 4294967295) rule.TooMany (Some context.name))
-    (option_or (broken_all context.overrides (first_scope (base_of part context) context.unit) (flat_map valueless_by context.unit.items))
-    (option_or (broken_all context.overrides (valueless_scope (base_of part context) context.unit) (symbols_in_head context.unit.parameters))
-    (broken_all context.overrides (head_scope (base_of part context) context.unit) (flat_map symbols_by context.unit.items))))))
+-- the processes of its port connections, and then its own
+abbrev pub lower_own_processes : Context → List Port → Scope → Table → Result Processes ElabFault
+lower_own_processes context ports scope table =
+    lower_joins context.name context.overrides.scope scope context.connections table ports >>= λ joins.
+    with_begins_before joins.begins (lower_items scope joins.table context.unit.items)
+
+abbrev pub with_own : Context → Scope → Part → List design.Variable → Processes → Part
+with_own context scope part variables processes = record {
+  variables = part.variables ++ variables;
+  scopes = part.scopes ++ scope_of context scope.variables ∷ [];
+  table = processes.table;
+  begins = part.begins ++ processes.begins;
+  events = scope.events;
+}
 
 -- a design has at most 256 processes, and 1,024 instances below the top
-abbrev pub broken_counts : Word → ℕ → ℕ → Option ElabFault
-broken_counts name processes scopes =
-    option_or (unless (nat_le processes 256) rule.TooMany (Some name)) (unless (nat_le scopes 1025) rule.TooMany (Some name))
+abbrev pub few_enough : Word → Part → Result Part ElabFault
+few_enough name part =
+    provided (nat_le (length part.begins) 256) rule.TooMany (Some name)
+    (required (nat_le (length part.scopes) 1025) rule.TooMany (Some name) part)
 
 -- what is its own, by its ports, the instances in it and its names
-module _ (context : Context) (ports : List Port) (instantiation : List Instantiation) (scope : Scope) where
+module _ (context : Context) (ports : List Port) (children : List Instantiation) (scope : Scope) where
   -- the nets in it that something drives, as often as it does
   abbrev pub driven_by : List Word
   driven_by =
       filter (λ net. is_declared (nets_of ports context.unit.items) net.letters)
-      (driven_names context.connections ports instantiation context.unit.items)
+      (driven_names context.connections ports children context.unit.items)
 
   -- where its variables stand
   abbrev pub scope_drivers_by : ScopeDrivers
   scope_drivers_by = record { name = context.path; driven = letters_of driven_by }
 
-  -- its ports, and what its items declare
-  abbrev pub variables_by : List design.Variable
-  variables_by =
-      map (variable_of scope_drivers_by scope) (map port_declaration ports) ++ variables_from scope_drivers_by scope context.unit.items
-
-  -- no net has two drivers, and each variable has bounds
-  abbrev pub broken_variables : Option ElabFault
-  broken_variables =
-      option_or (broken_at rule.Drivers (first_again driven_by))
-      (option_or (broken_ports scope ports) (broken_from scope context.unit.items))
-
-  abbrev pub joins_by : Table → Processes
-  joins_by table = lowered_joins context.name context.overrides.scope scope context.connections table ports
-
-  -- the processes of its port connections, and then its own
-  abbrev pub processes_by : Table → Processes
-  processes_by table =
-      let joins = joins_by table in
-      let own = lowered_items scope joins.table context.unit.items in
-      record { table = own.table; begins = joins.begins ++ own.begins }
-
-  abbrev pub broken_processes : Table → Option ElabFault
-  broken_processes table =
-      option_or (broken_joins context.name context.overrides.scope scope context.connections table ports)
-      (broken_items_from scope (joins_by table).table context.unit.items)
+  -- its ports, and what its items declare; no net has two drivers
+  abbrev pub lower_own_variables : Result (List design.Variable) ElabFault
+  lower_own_variables =
+      none_again rule.Drivers driven_by
+      (lower_ports scope_drivers_by scope ports >>= λ front. lower_variables scope_drivers_by scope context.unit.items >>= λ others. Ok (front ++ others))
 
   -- with its own variables, its scope and its own processes
-  abbrev pub own_by : Part → Part
-  own_by part = record {
-    variables = part.variables ++ variables_by;
-    scopes = part.scopes ++ scope_of context scope.variables ∷ [];
-    table = (processes_by part.table).table;
-    begins = part.begins ++ (processes_by part.table).begins;
-    events = scope.events;
-  }
-
-  abbrev pub broken_own_by : Part → Option ElabFault
-  broken_own_by part =
-      option_or broken_variables
-      (option_or (broken_processes part.table) (broken_counts context.name (length (own_by part).begins) (length (own_by part).scopes)))
-
-abbrev pub with_own : SourceTree → Part → Context → Part
-with_own modules part context =
-    own_by context (ports_of context.unit) (instantiations_in modules context.unit) (inside_scope part context) part
-
--- what it breaks of its own: by its names, by the instances that it has, and by variables and processes
-abbrev pub broken_own : SourceTree → Part → Context → Option ElabFault
-broken_own modules part context =
-    option_or (broken_names part context)
-    (option_or (broken_among modules 0 context.unit.items)
-    (broken_own_by context (ports_of context.unit) (instantiations_in modules context.unit) (inside_scope part context) part))
+  abbrev pub lower_own : Part → Result Part ElabFault
+  lower_own part =
+      lower_own_variables >>= λ variables.
+      lower_own_processes context ports scope part.table >>= λ processes.
+      few_enough context.name (with_own context scope part variables processes)
 
 -- ---- and the instances in it
 
@@ -259,26 +225,20 @@ child_context scope context instantiation = record {
   connections = instantiation.connections;
 }
 
--- an instance and all below it, so many levels deep: its own first, then those in it, in the order of the text
-abbrev pub with_instances : ℕ → SourceTree → Part → Context → Part
-with_instances zero modules part context = part
-with_instances (suc levels) modules part context =
-    fold (λ (so_far : Part) (one : Instantiation). with_instances levels modules so_far (child_context (inside_scope part context) context one))
-    (with_own modules part context) (instantiations_in modules context.unit)
+-- one after another, each by what stands before
+abbrev pub each : (Part → Instantiation → Result Part ElabFault) → Part → List Instantiation → Result Part ElabFault
+each step part [] = Ok part
+each step part (one ∷ more) = step part one >>= λ next. each step next more
 
--- what instances break one after another, each by what stands before
-abbrev pub broken_each : (Part → Instantiation → Part) → (Part → Instantiation → Option ElabFault) → Part → List Instantiation → Option ElabFault
-broken_each step rule part [] = None
-broken_each step rule part (one ∷ more) = option_or (rule part one) (broken_each step rule (step part one) more)
-
--- what an instance and all below it break: there are no more levels than these
-abbrev pub broken_with_instances : ℕ → SourceTree → Part → Context → Option ElabFault
-broken_with_instances zero modules part context = Some (told rule.Depth (Some context.name))
-broken_with_instances (suc levels) modules part context =
-    option_or (broken_own modules part context)
-    (broken_each (λ (so_far : Part) (one : Instantiation). with_instances levels modules so_far (child_context (inside_scope part context) context one))
-    (λ (so_far : Part) (one : Instantiation). broken_with_instances levels modules so_far (child_context (inside_scope part context) context one))
-    (with_own modules part context) (instantiations_in modules context.unit))
+-- An instance and all below it, so many levels deep: its own first, then the instances in it, in the order of the text. There are no more
+-- levels than these.
+abbrev pub elaborate_instance : ℕ → SourceTree → Part → Context → Result Part ElabFault
+elaborate_instance zero modules part context = refused rule.Depth (Some context.name)
+elaborate_instance (suc levels) modules part context =
+    lower_names part context >>= λ scope.
+    lower_instances modules 0 scope.known context.unit.items >>= λ children.
+    lower_own context (ports_of context.unit) children scope part >>= λ own.
+    each (λ so_far child. elaborate_instance levels modules so_far (child_context scope context child)) own children
 
 -- ---- the design (12.1)
 
@@ -300,12 +260,9 @@ top_context m = record {
   connections = [];
 }
 
--- 16 levels, the top among them, and what they break
-unfoldable pub whole_of : SourceTree → ModuleTree → Part
-whole_of modules m = with_instances 16 modules nothing (top_context m)
-
-unfoldable pub broken_whole : SourceTree → ModuleTree → Option ElabFault
-broken_whole modules m = broken_with_instances 16 modules nothing (top_context m)
+-- 16 levels, the top among them
+unfoldable pub elaborate_top : SourceTree → ModuleTree → Result Part ElabFault
+elaborate_top modules m = elaborate_instance 16 modules nothing (top_context m)
 
 -- under the timescale of the text (19.8)
 abbrev pub design_by : Timescale → ModuleTree → Part → design.Design
@@ -375,19 +332,34 @@ broken_table top part =
 abbrev pub broken_design : Word → Part → Option ElabFault
 broken_design top part = option_or (broken_paths top part) (broken_table top part)
 
--- where there is no top, a second module that could be it is told
-abbrev pub broken_top : SourceTree → Option Text → Option ModuleTree → Option ElabFault
-broken_top modules top None = Some (told rule.Top (rival_of modules top))
-broken_top modules top (Some m) = option_or (broken_whole modules m) (broken_design m.name (whole_of modules m))
-
--- what a text breaks first: the rule, and the word where, if there is one
-abbrev pub broken_rule : SourceTree → Option Text → Option ElabFault
-broken_rule modules top =
-    option_or (broken_at rule.Doubled (first_again (module_names modules))) (broken_top modules top (top_of modules top))
-
--- No rule is broken, so that the text has a top, and the design is the one that it describes.
-pub record Elaborates (modules : SourceTree) (top : Option Text) (scale : Timescale) (design : design.Design) : Type 0 where
-  pub right : broken_rule modules top ≡ None
+-- a text's top, and what it is elaborated to
+pub record Whole : Type 0 where
   pub unit : ModuleTree
-  pub is_top : top_of modules top ≡ Some unit
-  pub describes : design ≡ design_by scale unit (whole_of modules unit)
+  pub part : Part
+
+abbrev pub checked : ModuleTree → Part → Result Whole ElabFault
+checked m part = faultless (broken_design m.name part) (record { unit = m; part = part })
+
+abbrev pub whole_of : SourceTree → ModuleTree → Result Whole ElabFault
+whole_of modules m = elaborate_top modules m >>= λ part. checked m part
+
+-- where there is no top, a second module that could be it is told
+abbrev pub elaborated_whole : SourceTree → Option Text → Result Whole ElabFault
+elaborated_whole modules top =
+    none_again rule.Doubled (module_names modules)
+    (found (top_of modules top) rule.Top (rival_of modules top) >>= λ m. whole_of modules m)
+
+abbrev pub as_design : Timescale → Result Whole ElabFault → Result design.Design ElabFault
+as_design scale answer = answer >>= λ whole. Ok (design_by scale whole.unit whole.part)
+
+-- the design that a text stands for, or the first rule that it breaks, and the word where, if there is one
+abbrev pub elaborated : SourceTree → Option Text → Timescale → Result design.Design ElabFault
+elaborated modules top scale = as_design scale (elaborated_whole modules top)
+
+-- the design is the one that the text describes
+abbrev pub Elaborates : SourceTree → Option Text → Timescale → design.Design → Type 0
+Elaborates modules top scale design = elaborated modules top scale ≡ Ok design
+
+-- what a text breaks first, under any timescale
+abbrev pub broken_rule : SourceTree → Option Text → Option ElabFault
+broken_rule modules top = fault_of (elaborated_whole modules top)

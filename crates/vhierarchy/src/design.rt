@@ -11,8 +11,9 @@ ghost use Rattle.vmodules.specs.Names.{first_again, has_double};
 ghost use Rattle.vmodules.specs.Inner.{unit_names, units_tree, named_text};
 ghost use Rattle.velab_declaration.specs.Inner.{DoublesIn};
 ghost use Rattle.velab_expr.specs.Rules.{broken_if, IsBroken};
+ghost use Rattle.velab_expr.specs.Answers.{Gives};
 ghost use Rattle.vhierarchy.specs.Instances as spec;
-ghost use Rattle.vhierarchy.specs.Instances.{Elaborates, broken_paths, broken_table, broken_whole, whole_of};
+ghost use Rattle.vhierarchy.specs.Instances.{Elaborates, as_design, broken_paths, broken_table, checked, elaborate_top, whole_of};
 ghost use Rattle.vhierarchy.specs.Reasons.{IsDesignReason, IsOnlyDesign, HasNoDesign};
 ghost use Rattle.vhierarchy.specs.Inner.{named_design, scope_names, variable_names};
 
@@ -28,6 +29,7 @@ use vast::token::Token;
 use vdesign::design::{Design, Scope as Room, Variable};
 use velab_declaration::names::note;
 use velab_declaration::parameter::Overrides;
+use velab_declaration::refusal::refused;
 use velab_declaration::right::check_kinds;
 use velab_declaration::width::check_flaws;
 use velab_expr::fault::{ElabFault, Rule};
@@ -52,12 +54,8 @@ fn whole_part<'t, 'u>(
     modules: &Modules<'t, 'u>,
     unit: &'u ModuleTree,
 ) -> Result<Part, OrMemory<ElabFault>>
-    ensures ok { IfOk result (λ part.
-        part ≡ whole_of (units_tree modules.now) (module_tree modules.now.words unit.now)) }
-    ensures right { OnOk result (broken_whole (units_tree modules.now)
-        (module_tree modules.now.words unit.now) ≡ None) }
-    ensures err { IfFault result (IsBroken (broken_whole (units_tree modules.now)
-        (module_tree modules.now.words unit.now))) }
+    ensures { Gives result (elaborate_top (units_tree modules.now)
+        (module_tree modules.now.words unit.now)) }
 {
     let name = letters(modules.tokens(), unit.name);
     let names = Names::new(alloc);
@@ -147,10 +145,7 @@ fn check_table(alloc: Global, part: &Part, top: Token) -> Result<(), OrMemory<El
         IfFault result (IsBroken (broken_table (numbered words top) part.now)) }
 {
     if part.begins.len() > MOST_PROCESSES {
-        return Err(OrMemory::Fault(ElabFault {
-            rule: Rule::TooMany,
-            at: Some(top.number),
-        }));
+        return Err(refused(Rule::TooMany, Some(top.number)));
     }
     let table = &part.table;
     check_kinds(&part.variables, &table.actions, &table.words)?;
@@ -193,12 +188,8 @@ fn checked_design(
     scale: Timescale,
     part: Part,
 ) -> Result<Design, OrMemory<ElabFault>>
-    ensures ok { IfOk result (λ design.
-        design ≡ spec.design_by scale (module_tree (words_of tokens.now) unit.now) part) }
-    ensures right { OnOk result
-        (spec.broken_design (numbered (words_of tokens.now) unit.now.name) part ≡ None) }
-    ensures err { IfFault result
-        (IsBroken (spec.broken_design (numbered (words_of tokens.now) unit.now.name) part)) }
+    ensures { Gives result
+        (as_design scale (checked (module_tree (words_of tokens.now) unit.now) part)) }
 {
     check_paths(alloc, &part, unit.name)?;
     check_table(alloc, &part, unit.name)?;
@@ -213,13 +204,8 @@ fn design_of<'t, 'u>(
     unit: &'u ModuleTree,
     scale: Timescale,
 ) -> Result<Design, OrMemory<ElabFault>>
-    ensures ok { IfOk result (λ design. design ≡ spec.design_by scale
-        (module_tree modules.now.words unit.now)
+    ensures { Gives result (as_design scale
         (whole_of (units_tree modules.now) (module_tree modules.now.words unit.now))) }
-    ensures right { (top : Option Text) → OnOk result (spec.broken_top (units_tree modules.now) top
-        (Some (module_tree modules.now.words unit.now)) ≡ None) }
-    ensures err { (top : Option Text) → IfFault result (IsBroken (spec.broken_top
-        (units_tree modules.now) top (Some (module_tree modules.now.words unit.now)))) }
 {
     let part = whole_part(alloc, modules, unit)?;
     checked_design(alloc, modules.tokens(), unit, scale, part)
@@ -239,10 +225,28 @@ fn modules_by<'t, 'u>(
     match modules_of(alloc, tokens, list) {
         Ok(modules) => Ok(modules),
         Err(OrMemory::Memory(none)) => Err(OrMemory::Memory(none)),
-        Err(OrMemory::Fault(doubled)) => Err(OrMemory::Fault(ElabFault {
-            rule: Rule::Doubled,
-            at: Some(doubled.at),
-        })),
+        Err(OrMemory::Fault(doubled)) => Err(refused(Rule::Doubled, Some(doubled.at))),
+    }
+}
+
+// What the text is elaborated to.
+fn elaborated(
+    alloc: Global,
+    tokens: &Tokens<'_>,
+    text: &TextTree,
+    top: Option<&[u8]>,
+    scale: Timescale,
+) -> Result<Design, OrMemory<ElabFault>>
+    ensures { Gives result (spec.elaborated (source_tree (words_of tokens.now) text.now)
+        (named_text top.entry) scale) }
+{
+    let modules = modules_by(alloc, tokens, &text.modules)?;
+    match top_of(alloc, &modules, top)? {
+        Some(unit) => design_of(alloc, &modules, unit, scale),
+        None => {
+            let at = rival_of(alloc, &modules, top)?;
+            Err(refused(Rule::Top, at))
+        }
     }
 }
 
@@ -266,15 +270,5 @@ pub fn elaborate(
     ensures none { IfFault result (λ _. HasNoDesign (source_tree (words_of tokens.now) text.now)
         (named_text top.entry)) }
 {
-    let modules = modules_by(alloc, tokens, &text.modules)?;
-    match top_of(alloc, &modules, top)? {
-        Some(unit) => design_of(alloc, &modules, unit, scale),
-        None => {
-            let at = rival_of(alloc, &modules, top)?;
-            Err(OrMemory::Fault(ElabFault {
-                rule: Rule::Top,
-                at,
-            }))
-        }
-    }
+    elaborated(alloc, tokens, text, top, scale)
 }

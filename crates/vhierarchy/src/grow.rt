@@ -1,11 +1,10 @@
 // Instances and all below them, one after another (IEEE 1364-2005, 12.1).
 
-ghost use Rattle.std.specs.Prelude.{◌≡◌, ◌<◌, ◌≤◌, ◌+◌, None, OnOk};
-ghost use Rattle.basis.specs.Reasons.{IfFault};
+ghost use Rattle.std.specs.Prelude.{◌<◌, ◌≤◌, ◌+◌};
 ghost use Rattle.vmodules.specs.Inner.{units_tree};
-ghost use Rattle.vhierarchy.specs.Instances as spec;
-ghost use Rattle.velab_expr.specs.Rules.{IsBroken};
-ghost use Rattle.vhierarchy.specs.Inner.{context_tree, with_each_instance, each_broken_with_instances, with_instance, one_broken};
+ghost use Rattle.velab_expr.specs.Answers.{Makes};
+ghost use Rattle.vhierarchy.specs.Instances.{elaborate_instance};
+ghost use Rattle.vhierarchy.specs.Inner.{context_tree, instance_below, instances_below, instantiation_tree};
 
 use crate::context::Context;
 use crate::instantiation::{Instantiation, instantiations_in};
@@ -14,6 +13,7 @@ use crate::part::Part;
 use basis::OrMemory;
 use std::alloc::Global;
 use velab_declaration::parameter::Overrides;
+use velab_declaration::refusal::refused;
 use velab_declaration::variable::dotted_path;
 use velab_expr::fault::{ElabFault, Rule};
 use velab_expr::scope::Scope;
@@ -31,19 +31,11 @@ pub fn put_unit<'t, 'u>(
     part: &mut Part,
 ) -> Result<(), OrMemory<ElabFault>>
     requires { context.now.depth + levels ≤ 16 }
-    ensures ok { OnOk result (part.new ≡ spec.with_instances levels (units_tree modules.now) part.old
+    ensures { Makes result part.new (elaborate_instance levels (units_tree modules.now) part.old
         (context_tree modules.now.words context.now)) }
-    ensures right { OnOk result (spec.broken_with_instances levels (units_tree modules.now) part.old
-        (context_tree modules.now.words context.now) ≡ None) }
-    ensures err { IfFault result (IsBroken (spec.broken_with_instances levels (units_tree modules.now)
-        part.old
-        (context_tree modules.now.words context.now))) }
 {
     if levels == 0 {
-        return Err(OrMemory::Fault(ElabFault {
-            rule: Rule::Depth,
-            at: Some(context.name.number),
-        }));
+        return Err(refused(Rule::Depth, Some(context.name.number)));
     }
     let tokens = modules.tokens();
     let ports = ports_of(alloc, context.unit)?;
@@ -74,12 +66,8 @@ fn put_each<'t, 'u>(
     part: &mut Part,
 ) -> Result<(), OrMemory<ElabFault>>
     requires { context.now.depth + levels < 16 }
-    ensures ok { OnOk result (part.new ≡
-        with_each_instance modules.now levels context.now scope.now part.old list.now) }
-    ensures right { OnOk result
-        (each_broken_with_instances modules.now levels context.now scope.now part.old list.now ≡ None) }
-    ensures err { IfFault result
-        (IsBroken (each_broken_with_instances modules.now levels context.now scope.now part.old list.now)) }
+    ensures { Makes result part.new
+        (instances_below modules.now levels context.now scope.now part.old list.now) }
 {
     for one in list {
         put_child(alloc, modules, levels, context, scope, one, part)?;
@@ -99,12 +87,8 @@ fn put_child<'t, 'u>(
     part: &mut Part,
 ) -> Result<(), OrMemory<ElabFault>>
     requires { context.now.depth + levels < 16 }
-    ensures ok { OnOk result (part.new ≡
-        with_instance modules.now levels context.now scope.now part.old one.now) }
-    ensures right { OnOk result
-        (one_broken modules.now levels context.now scope.now part.old one.now ≡ None) }
-    ensures err { IfFault result
-        (IsBroken (one_broken modules.now levels context.now scope.now part.old one.now)) }
+    ensures { Makes result part.new (instance_below modules.now levels context.now scope.now part.old
+        (instantiation_tree modules.now.words one.now)) }
 {
     let path = dotted_path(alloc, context.path, letters(modules.tokens(), one.name))?;
     let overrides = Overrides {

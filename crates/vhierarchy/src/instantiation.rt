@@ -1,7 +1,7 @@
 // The instances that a module has, with what is said of their parameters and connected to their ports (IEEE 1364-2005, 12.1.2, 12.2.2,
 // 12.3).
 
-ghost use Rattle.std.specs.Prelude.{◌≡◌, ◌<◌, ◌+◌, ◌^◌, ◌++◌, [], None, length, map, option_map, IfOk, OnOk};
+ghost use Rattle.std.specs.Prelude.{◌≡◌, ◌<◌, ◌+◌, ◌^◌, [], None, length, map, option_map, IfOk, OnOk};
 ghost use Rattle.basis.specs.Reasons.{IfFault};
 ghost use Rattle.vast.specs.NumberedTrees.{connections_tree, instance_tree, item_tree, module_tree};
 ghost use Rattle.vast.specs.NumberedWords.{numbered};
@@ -13,14 +13,16 @@ ghost use Rattle.velab_declaration.specs.Variables.{port_names as spec_port_name
 ghost use Rattle.velab_expr.specs.Inner.{symbols_in};
 ghost use Rattle.velab_declaration.specs.Inner.{DoublesIn};
 ghost use Rattle.velab_expr.specs.Rules.{IsBroken, broken_at};
+ghost use Rattle.velab_expr.specs.Answers.{Makes, behind};
 ghost use Rattle.vhierarchy.specs.Instances as spec;
-ghost use Rattle.vhierarchy.specs.Inner.{IsOpen, each_instantiation, each_broken, instantiation_tree, instantiation_trees, program_instantiations_in, broken_in};
+ghost use Rattle.vhierarchy.specs.Inner.{GivesAs, IsOpen, instances_in, instances_listed, instantiation_tree, instantiation_trees};
 
 use basis::OrMemory;
 use std::alloc::Global;
 use vast::module::{Connections, Instance, ModuleItem, ModuleTree};
 use vast::token::Token;
 use velab_declaration::declared::port_names;
+use velab_declaration::refusal::refused;
 use velab_expr::fault::{ElabFault, Rule};
 use velab_expr::symbol::symbol_count;
 use vlex::Tokens;
@@ -69,10 +71,7 @@ fn values_of<'t>(
     match open_names(alloc, tokens, child) {
         Ok(names) => Ok(names),
         Err(OrMemory::Memory(none)) => Err(OrMemory::Memory(none)),
-        Err(OrMemory::Fault(doubled)) => Err(OrMemory::Fault(ElabFault {
-            rule: Rule::Doubled,
-            at: Some(doubled.at),
-        })),
+        Err(OrMemory::Fault(doubled)) => Err(refused(Rule::Doubled, Some(doubled.at))),
     }
 }
 
@@ -100,10 +99,9 @@ fn open_of<'t, 'u>(
     child: &'u ModuleTree,
 ) -> Result<Open<'t, 'u>, OrMemory<ElabFault>>
     ensures ok { IfOk result (IsOpen (words_of tokens.now) child.now) }
-    ensures right { OnOk result
-        (spec.broken_child (module_tree (words_of tokens.now) child.now) ≡ None) }
-    ensures err { IfFault result
-        (IsBroken (spec.broken_child (module_tree (words_of tokens.now) child.now))) }
+    ensures right { OnOk result (spec.named_again (module_tree (words_of tokens.now) child.now) ≡ None) }
+    ensures err { IfFault result (IsBroken (broken_at Rule.Doubled
+        (spec.named_again (module_tree (words_of tokens.now) child.now)))) }
 {
     let values = values_of(alloc, tokens, child)?;
     let ports = ports_for(alloc, tokens, child)?;
@@ -134,10 +132,7 @@ fn values_by<'t, 'u>(
     match named_connections_if(alloc, tokens, whose, names, overrides) {
         Ok(connections) => Ok(connections),
         Err(OrMemory::Memory(none)) => Err(OrMemory::Memory(none)),
-        Err(OrMemory::Fault(misfit)) => Err(OrMemory::Fault(ElabFault {
-            rule: Rule::Ports,
-            at: Some(misfit.at),
-        })),
+        Err(OrMemory::Fault(misfit)) => Err(refused(Rule::Ports, Some(misfit.at))),
     }
 }
 
@@ -160,10 +155,7 @@ fn connections_by<'t, 'u>(
     match named_connections(alloc, tokens, whose, names, connections) {
         Ok(connections) => Ok(connections),
         Err(OrMemory::Memory(none)) => Err(OrMemory::Memory(none)),
-        Err(OrMemory::Fault(misfit)) => Err(OrMemory::Fault(ElabFault {
-            rule: Rule::Ports,
-            at: Some(misfit.at),
-        })),
+        Err(OrMemory::Fault(misfit)) => Err(refused(Rule::Ports, Some(misfit.at))),
     }
 }
 
@@ -177,18 +169,10 @@ fn instantiation_by<'t, 'u>(
     one: &'u Instance,
 ) -> Result<Instantiation<'t, 'u>, OrMemory<ElabFault>>
     requires { IsOpen (words_of tokens.now) offered.now.child.now offered.now }
-    ensures ok { IfOk result (λ instantiation. instantiation_tree (words_of tokens.now) instantiation ≡
-        spec.instantiation_by (module_tree (words_of tokens.now) offered.now.child.now) known
+    ensures { GivesAs (instantiation_tree (words_of tokens.now)) result (spec.lower_instance
+        (module_tree (words_of tokens.now) offered.now.child.now) known
         (option_map (connections_tree (words_of tokens.now)) overrides.now)
         (instance_tree (words_of tokens.now) one.now)) }
-    ensures right { OnOk result (spec.broken_instance
-        (module_tree (words_of tokens.now) offered.now.child.now)
-        (option_map (connections_tree (words_of tokens.now)) overrides.now)
-        (instance_tree (words_of tokens.now) one.now) ≡ None) }
-    ensures err { IfFault result (IsBroken (spec.broken_instance
-        (module_tree (words_of tokens.now) offered.now.child.now)
-        (option_map (connections_tree (words_of tokens.now)) overrides.now)
-        (instance_tree (words_of tokens.now) one.now))) }
 {
     let values = values_by(alloc, tokens, one.name, &offered.values, overrides)?;
     let connections = connections_by(alloc, tokens, one.name, &offered.ports, &one.connections)?;
@@ -212,13 +196,9 @@ fn put_each<'t, 'u>(
     into: &mut Vec<Instantiation<'t, 'u>>,
 ) -> Result<(), OrMemory<ElabFault>>
     requires { IsOpen (words_of tokens.now) offered.now.child.now offered.now }
-    ensures ok { OnOk result (instantiation_trees (words_of tokens.now) into.new.items ≡
-        instantiation_trees (words_of tokens.now) into.old.items ++ each_instantiation (words_of tokens.now)
-        offered.now.child.now known overrides.now list.now) }
-    ensures right { OnOk result (each_broken (words_of tokens.now) offered.now.child.now
-        overrides.now list.now ≡ None) }
-    ensures err { IfFault result (IsBroken (each_broken (words_of tokens.now) offered.now.child.now
-        overrides.now list.now)) }
+    ensures { Makes result (instantiation_trees (words_of tokens.now) into.new.items)
+        (behind (instantiation_trees (words_of tokens.now) into.old.items)
+        (instances_listed (words_of tokens.now) offered.now.child.now known overrides.now list.now)) }
 {
     for one in list {
         let instantiation = instantiation_by(alloc, tokens, offered, known, overrides, one)?;
@@ -239,33 +219,18 @@ fn put_instances<'t, 'u>(
     list: &'u [Instance],
     into: &mut Vec<Instantiation<'t, 'u>>,
 ) -> Result<(), OrMemory<ElabFault>>
-    ensures ok { OnOk result (instantiation_trees (words_of tokens.now) into.new.items ≡
-        instantiation_trees (words_of tokens.now) into.old.items
-        ++ spec.instantiations_of (unit_tree (words_of tokens.now) child.entry) known
-        (option_map (connections_tree (words_of tokens.now)) overrides.now)
-        (map (instance_tree (words_of tokens.now)) list.now)) }
-    ensures right { OnOk result (spec.broken_of (numbered (words_of tokens.now) name)
-        (length into.old.items)
-        (unit_tree (words_of tokens.now) child.entry)
-        (option_map (connections_tree (words_of tokens.now)) overrides.now)
-        (map (instance_tree (words_of tokens.now)) list.now) ≡ None) }
-    ensures err { IfFault result (IsBroken (spec.broken_of (numbered (words_of tokens.now) name)
-        (length into.old.items)
+    ensures { Makes result (instantiation_trees (words_of tokens.now) into.new.items)
+        (behind (instantiation_trees (words_of tokens.now) into.old.items)
+        (spec.lower_instances_of (numbered (words_of tokens.now) name) (length into.old.items) known
         (unit_tree (words_of tokens.now) child.entry)
         (option_map (connections_tree (words_of tokens.now)) overrides.now)
         (map (instance_tree (words_of tokens.now)) list.now))) }
 {
     match child {
-        None => Err(OrMemory::Fault(ElabFault {
-            rule: Rule::Top,
-            at: Some(name.number),
-        })),
+        None => Err(refused(Rule::Top, Some(name.number))),
         Some(child) => {
             if into.len() + list.len() > MOST_INSTANCES {
-                return Err(OrMemory::Fault(ElabFault {
-                    rule: Rule::TooMany,
-                    at: Some(name.number),
-                }));
+                return Err(refused(Rule::TooMany, Some(name.number)));
             }
             let offered = open_of(alloc, tokens, child)?;
             put_each(alloc, tokens, &offered, known, overrides, list, into)
@@ -281,13 +246,10 @@ fn put_item<'t, 'u>(
     item: &'u ModuleItem,
     into: &mut Vec<Instantiation<'t, 'u>>,
 ) -> Result<(), OrMemory<ElabFault>>
-    ensures ok { OnOk result (instantiation_trees modules.now.words into.new.items ≡
-        instantiation_trees modules.now.words into.old.items
-        ++ spec.instantiations_by (units_tree modules.now) known (item_tree modules.now.words item.now)) }
-    ensures right { OnOk result (spec.broken_instantiation (units_tree modules.now)
-        (length into.old.items) (item_tree modules.now.words item.now) ≡ None) }
-    ensures err { IfFault result (IsBroken (spec.broken_instantiation (units_tree modules.now)
-        (length into.old.items) (item_tree modules.now.words item.now))) }
+    ensures { Makes result (instantiation_trees modules.now.words into.new.items)
+        (behind (instantiation_trees modules.now.words into.old.items)
+        (spec.lower_instances_by (units_tree modules.now) (length into.old.items) known
+        (item_tree modules.now.words item.now))) }
 {
     match item {
         ModuleItem::Parameters { .. } => Ok(()),
@@ -319,10 +281,8 @@ pub fn instantiations_in<'t, 'u>(
     items: &'u [ModuleItem],
 ) -> Result<Vec<Instantiation<'t, 'u>>, OrMemory<ElabFault>>
     requires small { known + length (symbols_in modules.now.words items.now) < 2 ^ 64 }
-    ensures ok { IfOk result (λ list.
-        instantiation_trees modules.now.words list.items ≡ program_instantiations_in modules.now known items.now) }
-    ensures right { OnOk result (broken_in modules.now 0 items.now ≡ None) }
-    ensures err { IfFault result (IsBroken (broken_in modules.now 0 items.now)) }
+    ensures { GivesAs (λ list. instantiation_trees modules.now.words list.items) result
+        (instances_in modules.now 0 known items.now) }
 {
     let mut list = Vec::new(alloc);
     let mut before = known;

@@ -8,13 +8,12 @@ ghost use Rattle.vast.specs.Words.{Text};
 ghost use Rattle.vexpr_parse.specs.Texts.{words_of};
 ghost use Rattle.vmodules.specs.Ports.{ports_of};
 ghost use Rattle.vmodules.specs.Inner.{port_form};
-ghost use Rattle.velab_declaration.specs.Parameters.{head_scope, whole_scope};
 ghost use Rattle.velab_expr.specs.Inner.{symbols_in};
-ghost use Rattle.velab_process.specs.Inner.{AreLowered};
-ghost use Rattle.velab_expr.specs.Rules.{IsBroken};
-ghost use Rattle.vhierarchy.specs.Instances.{base_of, broken_counts, broken_names};
-ghost use Rattle.vhierarchy.specs.declared.instantiation.Instantiation.{Instantiation as ProgramInstantiation};
-ghost use Rattle.vhierarchy.specs.Inner.{broken_own_part, broken_own_processes, broken_own_variables, own_part, own_processes, own_variables, context_tree};
+ghost use Rattle.velab_process.specs.Processes.{with_begins_before};
+ghost use Rattle.velab_expr.specs.Answers.{Makes, behind};
+ghost use Rattle.vhierarchy.specs.Instances as spec;
+ghost use Rattle.vhierarchy.specs.Instances.{lower_names};
+ghost use Rattle.vhierarchy.specs.Inner.{GivesAs, few, own_part, own_processes, own_variables, context_tree, scope_at_head};
 
 use crate::context::Context;
 use crate::drivers::driven_names;
@@ -28,6 +27,7 @@ use vdesign::design::{Scope as Room, Variable};
 use velab_declaration::declared::declared;
 use velab_declaration::drivers::ScopeDrivers;
 use velab_declaration::parameter::{Growing, MOST_EVENTS, add_head, add_items, add_valueless};
+use velab_declaration::refusal::refused;
 use velab_declaration::variable::{put_ports, put_variables};
 use velab_expr::fault::{ElabFault, Rule};
 use velab_expr::scope::Scope;
@@ -61,31 +61,19 @@ pub fn known_names<'t>(
 ) -> Result<Known<'t>, OrMemory<ElabFault>>
     requires { map (port_form (words_of tokens.now)) ports.now ≡
         ports_of (module_tree (words_of tokens.now) context.now.unit.now) }
-    ensures whole { IfOk result (λ known. known.growing ≡ whole_scope
-        (base_of part.now (context_tree (words_of tokens.now) context.now))
-        (module_tree (words_of tokens.now) context.now.unit.now)) }
-    ensures head { IfOk result (λ known. known.head ≡ (head_scope
-        (base_of part.now (context_tree (words_of tokens.now) context.now))
-        (module_tree (words_of tokens.now) context.now.unit.now)).known) }
-    ensures right { OnOk result
-        (broken_names part.now (context_tree (words_of tokens.now) context.now) ≡ None) }
-    ensures err { IfFault result
-        (IsBroken (broken_names part.now (context_tree (words_of tokens.now) context.now))) }
+    ensures gives { GivesAs scope_at_head result
+        (lower_names part.now (context_tree (words_of tokens.now) context.now)) }
+    ensures small { IfOk result (λ known. known.head
+        + length (symbols_in (words_of tokens.now) context.now.unit.now.items.items) < 2 ^ 64) }
 {
     let first = part.variables.len();
     let names = declared(alloc, tokens, ports, &context.unit.items)?;
     let variables = names.len();
     if first > MOST_VARIABLES || variables > MOST_VARIABLES - first {
-        return Err(OrMemory::Fault(ElabFault {
-            rule: Rule::TooMany,
-            at: Some(context.name.number),
-        }));
+        return Err(refused(Rule::TooMany, Some(context.name.number)));
     }
     if part.events > MOST_EVENTS {
-        return Err(OrMemory::Fault(ElabFault {
-            rule: Rule::TooMany,
-            at: Some(context.name.number),
-        }));
+        return Err(refused(Rule::TooMany, Some(context.name.number)));
     }
     let mut growing = Growing {
         top: context.top,
@@ -106,10 +94,11 @@ pub fn known_names<'t>(
     )?;
     let head = growing.others.len();
     add_items(alloc, tokens, context.overrides, items, &mut growing)?;
+    let _whole = growing.others.len();
     Ok(Known { growing, head })
 }
 
-// The variables of an instance. Errors: E303, E304, E306, E307, E901.
+// The variables of an instance. Errors: E303, E304, E306, E307, E310, E901.
 fn put_own_variables(
     alloc: Global,
     tokens: &Tokens<'_>,
@@ -121,12 +110,8 @@ fn put_own_variables(
 ) -> Result<(), OrMemory<ElabFault>>
     requires small { scope.now.known
         + length (symbols_in (words_of tokens.now) context.now.unit.now.items.items) < 2 ^ 64 }
-    ensures ok { OnOk result (into.new.items ≡ into.old.items
-        ++ own_variables (words_of tokens.now) context.now ports.now instantiation.now scope.now) }
-    ensures right { OnOk result (broken_own_variables (words_of tokens.now) context.now ports.now
-        instantiation.now scope.now ≡ None) }
-    ensures err { IfFault result (IsBroken (broken_own_variables (words_of tokens.now) context.now
-        ports.now instantiation.now scope.now)) }
+    ensures { Makes result into.new.items (behind into.old.items
+        (own_variables (words_of tokens.now) context.now ports.now instantiation.now scope.now)) }
 {
     let driven = driven_names(
         alloc,
@@ -156,12 +141,9 @@ fn put_own_processes(
 ) -> Result<(), OrMemory<ElabFault>>
     requires small { scope.now.known
         + length (symbols_in (words_of tokens.now) context.now.unit.now.items.items) < 2 ^ 64 }
-    ensures ok { (instantiation : List ProgramInstantiation) → OnOk result (AreLowered (own_processes (words_of tokens.now)
-        context.now ports.now instantiation scope.now table.old) into.old.items table.new into.new.items) }
-    ensures right { (instantiation : List ProgramInstantiation) → OnOk result (broken_own_processes
-        (words_of tokens.now) context.now ports.now instantiation scope.now table.old ≡ None) }
-    ensures err { (instantiation : List ProgramInstantiation) → IfFault result (IsBroken (broken_own_processes
-        (words_of tokens.now) context.now ports.now instantiation scope.now table.old)) }
+    ensures { Makes result (record { table = table.new; begins = into.new.items })
+        (with_begins_before into.old.items
+        (own_processes (words_of tokens.now) context.now ports.now scope.now table.old)) }
 {
     let overrides = context.overrides;
     put_joins(
@@ -209,16 +191,11 @@ fn put_scope(
 
 // E309, where there are too many processes or scopes.
 fn check_counts(begins: &[Places], scopes: &[Room], name: Token) -> Result<(), OrMemory<ElabFault>>
-    ensures right { (words : List Text) → OnOk result
-        (broken_counts (numbered words name) (length begins.now) (length scopes.now) ≡ None) }
-    ensures err { (words : List Text) → IfFault result (IsBroken
-        (broken_counts (numbered words name) (length begins.now) (length scopes.now))) }
+    ensures { (words : List Text) (part : spec.Part) → Makes result part
+        (few (numbered words name) (length begins.now) (length scopes.now) part) }
 {
     if begins.len() > MOST_PROCESSES || scopes.len() > MOST_SCOPES {
-        return Err(OrMemory::Fault(ElabFault {
-            rule: Rule::TooMany,
-            at: Some(name.number),
-        }));
+        return Err(refused(Rule::TooMany, Some(name.number)));
     }
     Ok(())
 }
@@ -235,12 +212,8 @@ pub fn put_own(
 ) -> Result<(), OrMemory<ElabFault>>
     requires small { scope.now.known
         + length (symbols_in (words_of tokens.now) context.now.unit.now.items.items) < 2 ^ 64 }
-    ensures ok { OnOk result (part.new ≡
-        own_part (words_of tokens.now) context.now ports.now instantiation.now scope.now part.old) }
-    ensures right { OnOk result (broken_own_part (words_of tokens.now) context.now ports.now
-        instantiation.now scope.now part.old ≡ None) }
-    ensures err { IfFault result (IsBroken (broken_own_part (words_of tokens.now) context.now
-        ports.now instantiation.now scope.now part.old)) }
+    ensures { Makes result part.new
+        (own_part (words_of tokens.now) context.now ports.now instantiation.now scope.now part.old) }
 {
     put_own_variables(
         alloc,

@@ -1,29 +1,28 @@
-use Rattle.std.proofs.Common.{arith, ◌∙◌, ◌+◌, drop}
+use Rattle.std.proofs.Common.{◌∙◌, ◌+◌, drop}
 use Rattle.vast.specs.NumberedTrees.{item_tree}
 use Rattle.vexpr_parse.specs.Texts.{words_of}
 use Rattle.velab_expr.specs.Symbols.{symbols_by}
 use Rattle.velab_expr.specs.Inner.{symbols_in}
 use Rattle.velab_declaration.specs.Inner.{overrides_tree}
-use Rattle.velab_expr.proofs.FaultLemmas.{handed_on}
-use Rattle.velab_declaration.proofs.ParameterLemmas.{given_open, more_step, more_right, more_err}
+use Rattle.velab_expr.proofs.AnswerLemmas.{hands_on, still_refused}
+use Rattle.velab_declaration.proofs.ParameterLemmas.{given_open, more_step, more_refused}
 use Rattle.velab_declaration.proofs.parameter.add_items.Goals as goal
 
-pub returns-in_err-add_item-clause-err : goal.returns-in_err-add_item-clause-err
-returns-in_err-add_item-clause-err c =
+pub returns-in_err-add_item-clause-makes : goal.returns-in_err-add_item-clause-makes
+returns-in_err-add_item-clause-makes c =
     let words = words_of c.args.tokens.now in
-    handed_on _ c.from_residual.result c.in_err-add_item.field-0.0 c.from_residual.ensures.1
-    (more_err (overrides_tree words c.args.overrides.now) c.loop-item.into (symbols_by (item_tree words c.item-item.result)) (symbols_in words (drop (c.loop-item.item-index + 1) c.args.items.now)) _
-    (given_open words c.args.items.now c.loop-item.item-index c.item-item.result (omega arith) c.item-item.is) _
-    c.loop-item.invariant.right c.in_err-add_item.field-0.0 c.in_err-add_item.ensures.err)
+    hands_on c.from_residual.result c.in_err-add_item.field-0.0 c.add_item.new.into _ c.from_residual.ensures.1
+    (still_refused _ _
+    (more_refused (overrides_tree words c.args.overrides.now) c.loop-item.into (symbols_by (item_tree words c.item-item.result)) (symbols_in words (drop (c.loop-item.item-index + 1) c.args.items.now)) _
+    (given_open words c.args.items.now c.loop-item.item-index c.item-item.result c.loop-item-test.true c.item-item.is) _ c.loop-item.invariant.same)
+    c.in_err-add_item.field-0.0 c.in_err-add_item.ensures.makes)
 
 pub loop-item-preserved : goal.loop-item-preserved
 loop-item-preserved c =
     let words = words_of c.args.tokens.now in
-    let opens = given_open words c.args.items.now c.loop-item.item-index c.item-item.result c.loop-item-test.true c.item-item.is in
     record {
-      ok = more_step (overrides_tree words c.args.overrides.now) c.loop-item.into (symbols_by (item_tree words c.item-item.result)) (symbols_in words (drop (c.loop-item.item-index + 1) c.args.items.now)) _ opens
-          c.add_item.new.into _ c.in_ok-add_item.ensures.ok c.loop-item.invariant.ok;
-      right = more_right (overrides_tree words c.args.overrides.now) c.loop-item.into (symbols_by (item_tree words c.item-item.result)) (symbols_in words (drop (c.loop-item.item-index + 1) c.args.items.now)) _ opens
-          c.add_item.new.into _ c.in_ok-add_item.ensures.ok c.in_ok-add_item.ensures.right c.loop-item.invariant.right;
+      same = more_step (overrides_tree words c.args.overrides.now) c.loop-item.into (symbols_by (item_tree words c.item-item.result)) (symbols_in words (drop (c.loop-item.item-index + 1) c.args.items.now)) _
+          (given_open words c.args.items.now c.loop-item.item-index c.item-item.result c.loop-item-test.true c.item-item.is) _ c.loop-item.invariant.same
+          c.add_item.new.into c.in_ok-add_item.ensures.makes;
       variables = c.add_item.ensures.variables ∙ c.loop-item.invariant.variables;
     }

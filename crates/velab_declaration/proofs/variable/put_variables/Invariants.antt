@@ -1,17 +1,16 @@
-use Rattle.std.proofs.Common.{◌≡◌, ◌<◌, ◌+◌, ◌^◌, ◌++◌, drop, length, map}
+use Rattle.std.proofs.Common.{◌≡◌, ◌<◌, ◌+◌, ◌^◌, drop, length, map}
 use Rattle.std.specs.List.{flat_map}
 use Rattle.vast.specs.NumberedTrees.{item_tree}
 use Rattle.vexpr_parse.specs.Texts.{words_of}
+use Rattle.velab_expr.specs.Answers.{behind}
 use Rattle.velab_expr.specs.Scopes.{at}
 use Rattle.velab_expr.specs.Symbols.{symbols_by}
-use Rattle.velab_declaration.specs.Variables.{variables_from, broken_from}
+use Rattle.velab_declaration.specs.Variables.{lower_variables}
 use Rattle.velab_declaration.proofs.variable.put_variables.Given as goal
 
 abbrev pub invariant-loop-item : goal.invariant-loop-item
 invariant-loop-item l = record {
-  ok : l.into.items ++ variables_from l.drivers (at l.scope l.known) (map (item_tree (words_of l.tokens)) (drop l.item-index l.items))
-      ≡ l.initial.into.items ++ variables_from l.drivers l.scope (map (item_tree (words_of l.tokens)) l.items);
-  right : broken_from (at l.scope l.known) (map (item_tree (words_of l.tokens)) (drop l.item-index l.items))
-      ≡ broken_from l.scope (map (item_tree (words_of l.tokens)) l.items);
+  same : behind l.into.items (lower_variables l.drivers (at l.scope l.known) (map (item_tree (words_of l.tokens)) (drop l.item-index l.items)))
+      ≡ behind l.initial.into.items (lower_variables l.drivers l.scope (map (item_tree (words_of l.tokens)) l.items));
   small : l.known + length (flat_map symbols_by (map (item_tree (words_of l.tokens)) (drop l.item-index l.items))) < 2 ^ 64;
 }

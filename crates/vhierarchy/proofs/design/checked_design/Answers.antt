@@ -1,12 +1,24 @@
-use Rattle.vast.specs.NumberedWords.{Word, numbered}
+use Rattle.vast.specs.NumberedModules.{ModuleTree}
+use Rattle.vast.specs.NumberedTrees.{module_tree}
 use Rattle.vexpr_parse.specs.Texts.{words_of}
-use Rattle.velab_expr.proofs.FaultLemmas.{handed_on, first_breaks, then_breaks, both_right}
+use Rattle.velab_expr.proofs.FaultLemmas.{first_breaks, then_breaks}
 use Rattle.vhierarchy.specs.Instances.{broken_paths, broken_table}
+use Rattle.vhierarchy.proofs.StepLemmas.{hands_over}
+use Rattle.vhierarchy.proofs.DesignLemmas.{wrong}
 use Rattle.vhierarchy.proofs.design.checked_design.Goals as goal
 
-pub returns-in_err-check_paths-clause-err : goal.returns-in_err-check_paths-clause-err
-returns-in_err-check_paths-clause-err c =
+pub returns-in_err-check_paths : goal.returns-in_err-check_paths
+returns-in_err-check_paths c =
     let words = words_of c.args.tokens.now in
-    let top : Word = numbered words c.args.unit.now.name in
-    handed_on _ c.from_residual.result c.in_err-check_paths.field-0.0 c.from_residual.ensures.1
-    (first_breaks (broken_paths top c.args.part) (broken_table top c.args.part) c.in_err-check_paths.field-0.0 (c.in_err-check_paths.ensures.err words))
+    let m : ModuleTree = module_tree words c.args.unit.now in
+    hands_over c.from_residual.result c.in_err-check_paths.field-0.0 _ c.from_residual.ensures.1
+    (wrong c.args.scale m c.args.part c.in_err-check_paths.field-0.0
+    (first_breaks (broken_paths m.name c.args.part) (broken_table m.name c.args.part) c.in_err-check_paths.field-0.0 (c.in_err-check_paths.ensures.err words)))
+
+pub returns-in_err-check_table : goal.returns-in_err-check_table
+returns-in_err-check_table c =
+    let words = words_of c.args.tokens.now in
+    let m : ModuleTree = module_tree words c.args.unit.now in
+    hands_over c.from_residual-in_err-check_table.result c.in_err-check_table.field-0.0 _ c.from_residual-in_err-check_table.ensures.1
+    (wrong c.args.scale m c.args.part c.in_err-check_table.field-0.0
+    (then_breaks (broken_paths m.name c.args.part) (broken_table m.name c.args.part) (c.in_ok-check_paths.ensures.right words) c.in_err-check_table.field-0.0 (c.in_err-check_table.ensures.err words)))

@@ -1,4 +1,4 @@
-use Rattle.std.proofs.Common.{◌≡◌, true, Some, List, ℕ, ap, sym, ◌∙◌, arith}
+use Rattle.std.proofs.Common.{◌≡◌, true, Some, ap, sym, ◌∙◌, arith}
 use Rattle.vast.specs.NumberedWords.{numbered}
 use Rattle.vmodules.specs.Names.{has_double, is_declared}
 use Rattle.vmodules.proofs.ListLemmas.{handed_on}

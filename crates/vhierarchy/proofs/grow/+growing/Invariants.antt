@@ -1,5 +1,5 @@
 use Rattle.std.proofs.Common.{◌≡◌, ◌+◌, ◌*◌, drop}
-use Rattle.vhierarchy.specs.Inner.{with_each_instance, each_broken_with_instances}
+use Rattle.vhierarchy.specs.Inner.{instances_below}
 use Rattle.vhierarchy.proofs.grow.+growing.Given as goal
 
 abbrev pub decreases-put_unit : goal.decreases-put_unit
@@ -12,9 +12,5 @@ abbrev pub decreases-put_child : goal.decreases-put_child
 decreases-put_child l = 3 * l.levels + 1
 
 abbrev pub invariant-put_each-loop-one : goal.invariant-put_each-loop-one
-invariant-put_each-loop-one l = record {
-  ok : with_each_instance l.modules l.levels l.context l.scope l.part (drop l.one-index l.list)
-      ≡ with_each_instance l.modules l.levels l.context l.scope l.initial.part l.list;
-  right : each_broken_with_instances l.modules l.levels l.context l.scope l.part (drop l.one-index l.list)
-      ≡ each_broken_with_instances l.modules l.levels l.context l.scope l.initial.part l.list;
-}
+invariant-put_each-loop-one l =
+    instances_below l.modules l.levels l.context l.scope l.part (drop l.one-index l.list) ≡ instances_below l.modules l.levels l.context l.scope l.initial.part l.list

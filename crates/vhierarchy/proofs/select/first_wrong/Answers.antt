@@ -1,4 +1,4 @@
-use Rattle.std.proofs.Common.{◌≡◌, Some, ap, sym, ◌∙◌, arith}
+use Rattle.std.proofs.Common.{Some, ap, sym, ◌∙◌, arith}
 use Rattle.vhierarchy.specs.Instances.{broken_selection}
 use Rattle.velab_declaration.proofs.TableLemmas.{breaks_at, breaks_later}
 use Rattle.vhierarchy.proofs.select.first_wrong.Goals as goal
