@@ -10,6 +10,7 @@ use vast::statement::{Delay, Statement};
 use vast::token::Token;
 use vast::{fits, spell};
 use vbits::Vec4;
+use vcd_text::{DumpSink, HeldText};
 use vdesign::design::Design;
 use vhierarchy::elaborate;
 use vlex::{TokenKind, Tokens, tokens};
@@ -230,6 +231,10 @@ fn history_of_a_run(rt: HostRuntime) -> Result<(), Fail> {
     assert!(rt; history.values.as_slice() == [Vec4::from_u64(1, 0)].as_slice());
     let short = machine.history(&Log::new(alloc), 4);
     assert!(rt; matches!(&short, Err(OrMemory::Fault(ReplayFault::TooManySteps))));
+    let mut text = HeldText::new(alloc, 100);
+    let mut sink = DumpSink::new(alloc, machine.design(), &mut text);
+    let handed = machine.run_into(&Log::new(alloc), 5, &mut sink);
+    assert!(rt; matches!(&handed, Ok(end) if end.time == 5 && end.cause == Cause::Finish));
     Ok(())
 }
 

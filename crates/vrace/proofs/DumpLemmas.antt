@@ -6,14 +6,17 @@ use Rattle.sched_core.specs.declared.run.ReplayFault.TheVariants as replay
 use Rattle.vmodel.specs.declared.history.End.{End}
 use Rattle.vmodel.specs.Run.{Setting, rules_of, history_after}
 use Rattle.vmodel.specs.RunProgress.{Finishes}
+use Rattle.basis.specs.Reasons.{Because}
 use Rattle.basis.specs.declared.memory.OrMemory.{OrMemory}
+use Rattle.basis.specs.declared.memory.OrMemory.TheVariants as or
 use Rattle.vcd_text.specs.DumpText.{vcd}
 use Rattle.vcd_text.specs.Metered.{Written, Broken}
 use Rattle.vcd_text.specs.MeteredLaws.{stops_of}
 use Rattle.vcd_text.specs.declared.metered.Metered.{Metered}
 use Rattle.vcd_text.specs.declared.fault.WriteFault.{WriteFault}
-use Rattle.vreport.specs.Dumps.{IsRunDump, StopsDump as StopsByteSink}
-use Rattle.vrace.specs.RunDumps.{IsRunFault, StopsText, fault_of, replay_fault_of}
+use Rattle.vreport.specs.Dumps.{IsDumpFront, IsRunDump, StopsDump as StopsByteSink}
+use Rattle.vreport.specs.declared.dump.DumpFront.{DumpFront}
+use Rattle.vrace.specs.RunDumps.{IsRunFault, StopsText, fault_of, replay_fault_of, seeing_fault_of}
 use Rattle.vrace.specs.declared.fault.Fault.{Fault}
 
 pub on_ok : {T E : Type 0} (r : Result T E) {P Q : Type 0} → (P → Q) → OnOk r P → OnOk r Q
@@ -47,3 +50,13 @@ pub run_fault : (setting : Setting) (log : List (ℕ × ℕ)) (limit : ℕ) (why
     IsRunFault setting log limit (replay_fault_of why)
 run_fault setting log limit replay.NoSuchChoice missing = missing
 run_fault setting log limit replay.TooManySteps more = more
+
+-- why there is no such run, where memory may be refused, too
+pub seeing_fault : (setting : Setting) (log : List (ℕ × ℕ)) (limit : ℕ) (e : OrMemory ReplayFault) → Because (IsReplayReason (rules_of setting) log limit) e →
+    IsRunFault setting log limit (seeing_fault_of e)
+seeing_fault setting log limit (or.Fault why) because = run_fault setting log limit why because
+seeing_fault setting log limit (or.Memory m) because = tt
+
+-- a front is that of its own log
+pub own_front : (setting : Setting) (log : List (ℕ × ℕ)) (limit : ℕ) (front : DumpFront) → IsDumpFront setting log limit front → IsDumpFront setting front.run.log.now limit front
+own_front setting log limit front is = subst (λ (l : List (ℕ × ℕ)). IsDumpFront setting l limit front) (sym is.log_is) is

@@ -12,14 +12,18 @@ use Rattle.vmachine.proofs.GivenLemmas.{given_nothing}
 use Rattle.vcd_text.specs.ByteSinks.{IsByteSink, Stopped}
 use Rattle.vcd_text.specs.ByteSinkLaws.{stopped_before}
 use Rattle.lines_text.specs.LinesText.{lines, lines_from}
-use Rattle.lines_text.specs.Sinks.{Takes, in_force_over}
+use Rattle.lines_text.specs.Sinks.{Fails, IsSameSink, Takes, in_force_over}
+use Rattle.vmachine.specs.Handed.{LeavesSink}
+use Rattle.vmachine.specs.declared.run.RunFault.{RunFault}
+use Rattle.vmachine.specs.declared.run.RunFault.TheVariants.{Replay, Sink}
+use Rattle.vcd_text.specs.Held.{Appended}
 use Rattle.lines_text.specs.SinkLaws.{takes_none, text_joins}
 use Rattle.lines_text.specs.declared.in_force.InForce.{InForce}
 use Rattle.lines_text.specs.declared.in_force.InForce.TheVariants.{Nobody}
 use Rattle.lines_text.specs.declared.sink.LinesSink.{LinesSink}
 use Rattle.vreport.specs.RunLaws.{not_behind, given_front}
 use Rattle.vrace.specs.declared.lines.LinesFront.{LinesFront}
-use Rattle.vrace.specs.RunLines.{HasEnd, IsLinesFront, IsFrontOf, IsRunLines, StopsLines}
+use Rattle.vrace.specs.RunLines.{HasEnd, IsLinesFront, IsFrontOf, StopsLines}
 use Rattle.vrace.proofs.LinesLemmas.{the_lines}
 
 module _ {O F : Type 0} (takes : O → List ℕ → O → Type 0) (fails : O → List ℕ → F → O → Type 0) (laws : IsByteSink takes fails) (setting : Setting) where
@@ -83,3 +87,47 @@ module _ {O F : Type 0} (takes : O → List ℕ → O → Type 0) (fails : O →
               (stopped_before takes fails laws old new (lines setting.design gave) more fault
               (subst (λ (text : List ℕ). Stopped takes fails old text fault new) is.text_is stops)),
         )
+
+-- lines in front are those of their own log
+pub own_front : (setting : Setting) (log : List (ℕ × ℕ)) (limit : ℕ) (front : LinesFront) → IsLinesFront setting log limit front → IsLinesFront setting front.run.log.now limit front
+own_front setting log limit front is = subst (λ (l : List (ℕ × ℕ)). IsLinesFront setting l limit front) (sym is.log_is) is
+
+-- what is held where the run paused are the lines in front
+pub held_front : (setting : Setting) (log : List (ℕ × ℕ)) (limit : ℕ) (front : LinesFront) (s t : LinesSink (List ℕ)) →
+    front.run.log.now ≡ log → IsRunAt setting limit front.run → IsHandedSo (Takes Appended) setting front.run s t → front.run.pending.items ≡ [] →
+    s.in_force ≡ Nobody → s.design.now ≡ setting.design → s.byte_sink.now ≡ [] → front.text ≡ t.byte_sink.now → front.in_force ≡ t.in_force →
+    IsLinesFront setting log limit front
+held_front setting log limit front s t log_is here given none fresh design empty text in_force =
+    let gave : List Item = items_after setting log front.run.n in
+    let all : given.handed ≡ gave =
+    sym (append-nil given.handed) ∙ ap (λ (xs : List Item). given.handed ++ xs) (sym none) ∙ given.is
+    ∙ ap (λ (l : List (ℕ × ℕ)). items_after setting l front.run.n) log_is in
+    record {
+      log_is = log_is;
+      here = here;
+      none_wait = none;
+      text_is =
+          text
+          ∙ given.taken.2
+          ∙ ap (λ (old : List ℕ). old ++ lines_from s.design.now s.in_force given.handed) empty
+          ∙ ap (λ (d : Design). lines_from d s.in_force given.handed) design
+          ∙ ap (λ (m : InForce). lines_from setting.design m given.handed) fresh
+          ∙ ap (lines_from setting.design Nobody) all;
+      in_force_is =
+          in_force
+          ∙ given.taken.1
+          ∙ ap (λ (d : Design). in_force_over d s.in_force given.handed) design
+          ∙ ap (λ (m : InForce). in_force_over setting.design m given.handed) fresh
+          ∙ ap (in_force_over setting.design Nobody) all;
+    }
+
+-- two sinks that are that of a third are the same one
+pub same_between : {O : Type 0} (first s t : LinesSink O) → IsSameSink first s → IsSameSink first t → IsSameSink s t
+same_between first s t p q = (q.0 ∙ sym p.0, q.1 ∙ sym p.1)
+
+-- the sink that a fault leaves is the same one
+pub same_left : {O F : Type 0} (takes : O → List ℕ → O → Type 0) (fails : O → List ℕ → F → O → Type 0) (setting : Setting) (log : List (ℕ × ℕ)) (limit : ℕ) (first t : LinesSink O)
+    (e : OrMemory (RunFault (OrMemory F))) (left : LeavesSink (Takes takes) (Fails takes fails) setting log limit first e t) → IsSameSink first t
+same_left takes fails setting log limit first t (or.Fault (Replay fault)) (n, k, way, taken) = taken.0
+same_left takes fails setting log limit first t (or.Fault (Sink fault)) (n, way, failed) = failed.0
+same_left takes fails setting log limit first t (or.Memory m) (n, k, way, taken) = taken.0

@@ -1,15 +1,16 @@
 -- A replay on a machine tells of the runs of its setting.
 use Rattle.std.proofs.Common.{◌≡◌, ℕ, ◌≤◌, ◌<◌, List, refl, inl, inr, sym, ◌∙◌, subst}
-use Rattle.sched_core.specs.Rules.{IsRun, stands, choice_at}
-use Rattle.sched_core.specs.Replay.{EndsAfter, EndsTooEarly, HasNoChoice, TakesMore, IsReplayReason}
+use Rattle.sched_core.specs.Rules.{stands, choice_at}
+use Rattle.sched_core.specs.Replay.{EndsAfter, EndsTooEarly, HasNoChoice, IsReplayReason}
 use Rattle.sched_core.specs.declared.run.ReplayFault.{ReplayFault}
 use Rattle.sched_core.specs.declared.run.ReplayFault.TheVariants as replay
-use Rattle.vmodel.specs.declared.history.End.{End}
 use Rattle.vmodel.specs.Run.{Setting, rules_of, state_after, end_of}
-use Rattle.vmodel.specs.RunProgress.{Finishes}
 use Rattle.vmachine.specs.Machines.{machine_rules}
 use Rattle.vmachine.specs.MachineLaws.{HasSameWidth, RunsAsSetting, StandsThroughout}
-use Rattle.vrace.specs.RunDumps.{IsRunFault, replay_fault_of}
+use Rattle.basis.specs.Reasons.{Because}
+use Rattle.basis.specs.declared.memory.OrMemory.{OrMemory}
+use Rattle.basis.specs.declared.memory.OrMemory.TheVariants as or
+use Rattle.vrace.specs.RunDumps.{IsRunFault, replay_fault_of, seeing_fault_of}
 use Rattle.vrace.specs.RunLines.{HasEnd}
 
 module _ (width : HasSameWidth) (there : RunsAsSetting) (all : StandsThroughout) (setting : Setting) (log : List (ℕ × ℕ)) (limit : ℕ) where
@@ -44,3 +45,8 @@ module _ (width : HasSameWidth) (there : RunsAsSetting) (all : StandsThroughout)
     run = there setting log limit more.run;
     goes_on = subst (λ (w : ℕ). 0 < w) (width_at limit) more.goes_on;
   }
+
+  -- the same where memory may be refused
+  pub seen_fault : (e : OrMemory ReplayFault) → Because (IsReplayReason (machine_rules setting) log limit) e → IsRunFault setting log limit (seeing_fault_of e)
+  seen_fault (or.Fault why) because = run_fault why because
+  seen_fault (or.Memory m) because = tt

@@ -173,6 +173,28 @@ fn print_run<W: Write>(
     write_run_lines(alloc, machine, log, steps, writer)
 }
 
+// Writes the dump, of which the front is held, of a run that ends.
+fn write_run_from<W: Write>(
+    alloc: Global,
+    machine: &Machine,
+    steps: u32,
+    front: DumpFront<'_>,
+    writer: &mut Metered<W>,
+) -> Result<(), Fault>
+    requires front { IsDumpFront machine.now front.run.log.now steps front }
+    requires ends { HasDump machine.now front.run.log.now steps }
+    ensures ok { OnOk result ((dump : List ℕ) × IsRunDump machine.now front.entry.run.log.now steps dump ×
+        Grows W.contents writer.old writer.new dump) }
+    ensures err { IfErr result (λ fault.
+        StopsText W.contents (IsRunDump machine.now front.entry.run.log.now steps) writer.old writer.new
+        fault) }
+{
+    match write_from(alloc, machine, steps, front, writer) {
+        Ok(()) => Ok(()),
+        Err(fault) => Err(of_writing(fault)),
+    }
+}
+
 // Writes the dump of a run of which the front is held, once the run is seen to end.
 fn dump_on<W: Write>(
     alloc: Global,
@@ -192,7 +214,26 @@ fn dump_on<W: Write>(
         Ok(_) => {}
         Err(fault) => return Err(of_seeing(fault)),
     }
-    match write_from(alloc, machine, steps, front, writer) {
+    write_run_from(alloc, machine, steps, front, writer)
+}
+
+// Writes the lines, of which those in front are held, of a run that ends.
+fn write_run_lines_from<W: Write>(
+    alloc: Global,
+    machine: &Machine,
+    steps: u32,
+    front: LinesFront<'_>,
+    writer: &mut Metered<W>,
+) -> Result<(), Fault>
+    requires front { IsLinesFront machine.now front.run.log.now steps front }
+    requires ends { HasEnd machine.now front.run.log.now steps }
+    ensures ok { OnOk result ((text : List ℕ) × IsRunLines machine.now front.entry.run.log.now steps text ×
+        Grows W.contents writer.old writer.new text) }
+    ensures err { IfErr result (λ fault.
+        StopsText W.contents (IsRunLines machine.now front.entry.run.log.now steps) writer.old writer.new
+        fault) }
+{
+    match write_lines_from(alloc, machine, steps, front, writer) {
         Ok(()) => Ok(()),
         Err(fault) => Err(of_writing(fault)),
     }
@@ -217,10 +258,7 @@ fn print_on<W: Write>(
         Ok(_) => {}
         Err(fault) => return Err(of_seeing(fault)),
     }
-    match write_lines_from(alloc, machine, steps, front, writer) {
-        Ok(()) => Ok(()),
-        Err(fault) => Err(of_writing(fault)),
-    }
+    write_run_lines_from(alloc, machine, steps, front, writer)
 }
 
 // Writes a text that is held.

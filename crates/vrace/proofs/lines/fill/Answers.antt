@@ -1,4 +1,4 @@
-use Rattle.std.proofs.Common.{ℕ, List, IfErr, OnOk, sym, subst}
+use Rattle.std.proofs.Common.{ℕ, List, IfErr, OnOk, refl, sym, subst}
 use Rattle.basis.specs.declared.memory.OrMemory.TheVariants.{Memory}
 use Rattle.vreport.proofs.FrontLemmas.{of_fault}
 use Rattle.vrace.specs.RunLines.{HasEnd, StopsLines, TakesLines}
@@ -26,3 +26,10 @@ pub returns-clause-err : goal.returns-clause-err
 returns-clause-err g c =
     subst (λ (log : List (ℕ × ℕ)). IfErr c.fill_on.result (λ fault. StopsLines g.O.ByteSink.takes g.O.ByteSink.fails c.args.machine.now log c.args.steps c.args.sink.now.byte_sink.now fault c.fill_on.new.sink.byte_sink.now)) c.in_ok-run.ensures.log
     (c.fill_on.ensures.err c.args.sink.now (fresh_front g.O.ByteSink.takes g.O.ByteSink.fails g.met.O.ByteSink.lawful c.args.machine.now c.in_ok-run.run' c.args.sink.now c.requires.fresh c.requires.design c.in_ok-run.ensures.waits))
+
+pub returns-in_err-run-clause-same : goal.returns-in_err-run-clause-same
+returns-in_err-run-clause-same g c = (refl, refl)
+
+pub returns-clause-same : goal.returns-clause-same
+returns-clause-same g c =
+    c.fill_on.ensures.same c.args.sink.now (fresh_front g.O.ByteSink.takes g.O.ByteSink.fails g.met.O.ByteSink.lawful c.args.machine.now c.in_ok-run.run' c.args.sink.now c.requires.fresh c.requires.design c.in_ok-run.ensures.waits)

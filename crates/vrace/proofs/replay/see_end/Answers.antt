@@ -1,10 +1,8 @@
 use Rattle.std.proofs.Common.{sym, subst}
-use Rattle.sched_core.specs.Replay.{IsReplayReason}
-use Rattle.vmachine.specs.Machines.{machine_rules}
 use Rattle.vrace.specs.RunDumps.{IsRunFault}
-use Rattle.vrace.proofs.SeenLemmas.{has_end, run_fault}
+use Rattle.vrace.proofs.SeenLemmas.{has_end, seen_fault}
 use Rattle.vrace.proofs.replay.see_end.Goals as goal
-use Rattle.vrace.proofs.replay.see_end.Goals.{in-Ok, in-Err-Fault, in-Err-Memory}
+use Rattle.vrace.proofs.replay.see_end.Goals.{in-Ok, in-Err}
 
 pub returns-clause-ends : goal.returns-clause-ends
 returns-clause-ends c =
@@ -12,8 +10,7 @@ returns-clause-ends c =
     let setting = c.args.machine.now in
     elim c.match-replay.branch [
       | in-Ok w ↦ rw w.result-is (has_end law.width law.runs law.stands setting c.args.log.now c.args.steps w.in-Ok.field-0.steps w.in-Ok.ensures.ends w.in-Ok.ensures.within)
-      | in-Err-Fault w ↦ rw w.result-is tt
-      | in-Err-Memory w ↦ rw w.result-is tt
+      | in-Err w ↦ rw w.result-is tt
     ]
 
 pub returns-clause-reason : goal.returns-clause-reason
@@ -22,10 +19,8 @@ returns-clause-reason c =
     let setting = c.args.machine.now in
     elim c.match-replay.branch [
       | in-Ok w ↦ rw w.result-is tt
-      | in-Err-Fault w ↦ (
-          let why : IsReplayReason (machine_rules setting) c.args.log.now c.args.steps w.in-Err-Fault.fault = rw w.in-Err-Fault.field-0-is at w.in-Err-Fault.ensures.reason in
+      | in-Err w ↦ (
           rw w.result-is
-          (subst (IsRunFault setting c.args.log.now c.args.steps) (sym w.of_replay.ensures)
-          (run_fault law.width law.runs law.stands setting c.args.log.now c.args.steps w.in-Err-Fault.fault why)))
-      | in-Err-Memory w ↦ rw w.result-is tt
+          (subst (IsRunFault setting c.args.log.now c.args.steps) (sym w.of_seeing.ensures)
+          (seen_fault law.width law.runs law.stands setting c.args.log.now c.args.steps w.in-Err.fault w.in-Err.ensures.reason)))
     ]

@@ -1,0 +1,53 @@
+use Rattle.std.proofs.Common.{ℕ, List, Option, OnOk, IfErr, inl, inr, refl, subst, sym}
+use Rattle.std.specs.Prelude.{IfSome}
+use Rattle.vcd_text.specs.Metered.{Grows}
+use Rattle.vrace.specs.RunLines.{IsHeldLines, IsRunLines}
+use Rattle.vrace.specs.declared.lines.HeldLines.{HeldLines}
+use Rattle.vrace.specs.RunDumps.{Ends, IsRunFault}
+use Rattle.vrace.proofs.DumpLemmas.{if_err, on_ok, run_fault, stops_with}
+use Rattle.vrace.proofs.LinesFrontLemmas.{own_front}
+use Rattle.vrace.proofs.replay.show_lines.Goals as goal
+
+pub returns-in-Ok-Some-Whole-clause-ok : goal.returns-in-Ok-Some-Whole-clause-ok
+returns-in-Ok-Some-Whole-clause-ok g c =
+    let held = subst (λ (held : Option HeldLines). IfSome held (IsHeldLines c.args.machine.now c.args.log.now c.args.steps)) c.in-Ok-Some-Whole.field-0-is c.in-Ok-Some-Whole.ensures.held in
+    let shown : IsRunLines c.args.machine.now c.args.log.now c.args.steps c.in-Ok-Some-Whole.text = subst (IsHeldLines c.args.machine.now c.args.log.now c.args.steps) c.in-Ok-Some-Whole.field-0-0-is held in
+    on_ok c.write_held.result (λ grown. (c.in-Ok-Some-Whole.text, shown, grown)) c.write_held.ensures.ok
+
+pub returns-in-Ok-Some-Whole-clause-err : goal.returns-in-Ok-Some-Whole-clause-err
+returns-in-Ok-Some-Whole-clause-err g c =
+    let held = subst (λ (held : Option HeldLines). IfSome held (IsHeldLines c.args.machine.now c.args.log.now c.args.steps)) c.in-Ok-Some-Whole.field-0-is c.in-Ok-Some-Whole.ensures.held in
+    let shown : IsRunLines c.args.machine.now c.args.log.now c.args.steps c.in-Ok-Some-Whole.text = subst (IsHeldLines c.args.machine.now c.args.log.now c.args.steps) c.in-Ok-Some-Whole.field-0-0-is held in
+    if_err c.write_held.result
+    (λ fault stops. inr (stops_with g.W.Write.contents (IsRunLines c.args.machine.now c.args.log.now c.args.steps) c.in-Ok-Some-Whole.text c.args.writer.now c.write_held.new.writer fault shown stops))
+    c.write_held.ensures.err
+
+pub print_on-requires : goal.print_on-requires
+print_on-requires g c =
+    let held = subst (λ (held : Option HeldLines). IfSome held (IsHeldLines c.args.machine.now c.args.log.now c.args.steps)) c.in-Ok-Some-Front.field-0-is c.in-Ok-Some-Front.ensures.held in
+    record {
+      front = own_front c.args.machine.now c.args.log.now c.args.steps c.in-Ok-Some-Front.front
+          (subst (IsHeldLines c.args.machine.now c.args.log.now c.args.steps) c.in-Ok-Some-Front.field-0-0-is held);
+    }
+
+pub returns-in-Ok-Some-Front-clause-ok : goal.returns-in-Ok-Some-Front-clause-ok
+returns-in-Ok-Some-Front-clause-ok g c =
+    let held = subst (λ (held : Option HeldLines). IfSome held (IsHeldLines c.args.machine.now c.args.log.now c.args.steps)) c.in-Ok-Some-Front.field-0-is c.in-Ok-Some-Front.ensures.held in
+    let front = subst (IsHeldLines c.args.machine.now c.args.log.now c.args.steps) c.in-Ok-Some-Front.field-0-0-is held in
+    subst (λ (log : List (ℕ × ℕ)). OnOk c.print_on.result ((text : List ℕ) × IsRunLines c.args.machine.now log c.args.steps text × Grows g.W.Write.contents c.args.writer.now c.print_on.new.writer text)) front.log_is
+    c.print_on.ensures.ok
+
+pub returns-in-Ok-Some-Front-clause-err : goal.returns-in-Ok-Some-Front-clause-err
+returns-in-Ok-Some-Front-clause-err g c =
+    let held = subst (λ (held : Option HeldLines). IfSome held (IsHeldLines c.args.machine.now c.args.log.now c.args.steps)) c.in-Ok-Some-Front.field-0-is c.in-Ok-Some-Front.ensures.held in
+    let front = subst (IsHeldLines c.args.machine.now c.args.log.now c.args.steps) c.in-Ok-Some-Front.field-0-0-is held in
+    subst (λ (log : List (ℕ × ℕ)). IfErr c.print_on.result (λ fault. Ends g.W.Write.contents (IsRunLines c.args.machine.now log c.args.steps) c.args.machine.now log c.args.steps c.args.writer.now c.print_on.new.writer fault)) front.log_is
+    c.print_on.ensures.err
+
+pub returns-in-Err-clause-err : goal.returns-in-Err-clause-err
+returns-in-Err-clause-err g c =
+    inl (
+      subst (IsRunFault c.args.machine.now c.args.log.now c.args.steps) (sym c.of_replay.ensures)
+          (run_fault c.args.machine.now c.args.log.now c.args.steps c.in-Err.fault c.in-Err.ensures.reason),
+      refl,
+    )
