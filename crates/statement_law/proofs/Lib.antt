@@ -1,0 +1,6 @@
+pub mod AnswerLemmas
+pub mod GrowthLemmas
+pub mod LayoutLemmas
+pub mod StandingLemmas
+pub mod CaseLemmas
+pub mod StepLemmas

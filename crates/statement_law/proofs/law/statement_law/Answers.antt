@@ -1,0 +1,11 @@
+use Rattle.statement_law.proofs.StepLemmas.{begins_before, follows_trees, follows_places}
+use Rattle.statement_law.proofs.law.statement_law.Goals as goal
+
+pub returns-clause-begins : goal.returns-clause-begins
+returns-clause-begins c = begins_before
+
+pub returns-clause-trees : goal.returns-clause-trees
+returns-clause-trees c = follows_trees
+
+pub returns-clause-places : goal.returns-clause-places
+returns-clause-places c = follows_places

@@ -1,0 +1,3 @@
+pub mod TreeSteps
+pub mod Standing
+pub mod Laws
