@@ -4,3 +4,4 @@ pub mod LayoutLemmas
 pub mod StandingLemmas
 pub mod CaseLemmas
 pub mod StepLemmas
+pub mod ProcessLemmas

@@ -1,5 +1,5 @@
 -- What the action of a statement does is what its tree says.
-use Rattle.std.proofs.Common.{◌≡◌, ℕ, zero, suc, ◌-◌, Bool, true, false, if◌then◌else◌, List, [], ◌∷◌, slice_get, Option, None, Some, refl, ap, subst}
+use Rattle.std.proofs.Common.{◌≡◌, ℕ, zero, suc, ◌-◌, Bool, true, false, if◌then◌else◌, List, [], ◌∷◌, slice_get, Option, None, Some, refl, sym, ap, subst}
 use Rattle.vbits.specs.Vectors.{Vector}
 use Rattle.vast.specs.NumberedExpressions as text
 use Rattle.vast.specs.NumberedStatements.{TaskTree, print, dump_file, dump_vars, dump, end_run, StatementTree, empty, block, assign, nonblocking, trigger, if_true, if_else, case_of, while_true, repeat_times, forever, for_loop, wait_for, delay, event, task}
@@ -8,20 +8,23 @@ use Rattle.vast.specs.declared.statement.Dumping.TheVariants as dumps
 use Rattle.vast.specs.declared.statement.Printing.{Printing}
 use Rattle.vast.specs.declared.statement.Printing.TheVariants as printing
 use Rattle.vdesign.specs.declared.action.Action.{Action}
-use Rattle.vdesign.specs.declared.action.Action.TheVariants.{Assign, Nonblocking, AssignDelayed, NonblockingDelayed, Trigger, Test, Case, While, Repeat, Forever, Delay, EventControl, Wait, Print}
+use Rattle.vdesign.specs.declared.action.Action.TheVariants.{ContinuousAssign, Assign, Nonblocking, AssignDelayed, NonblockingDelayed, Trigger, Test, Case, While, Repeat, Forever, Delay, EventControl, Wait, Print}
+use Rattle.vdesign.specs.declared.action.Target.TheVariants.{Whole as WholeTarget}
 use Rattle.vdesign.specs.declared.print.Piece.{Piece}
 use Rattle.vvalue.specs.Value.{Environment, holds}
 use Rattle.vvalue.specs.Cases.{turns_of}
+use Rattle.velab_expr.specs.Answers.{value_or}
 use Rattle.velab_expr.specs.Scopes.{Scope, event_of}
-use Rattle.velab_expr.specs.Resolved.{resolved}
+use Rattle.velab_expr.specs.Resolved.{no_parts, resolved}
 use Rattle.velab_expr.specs.Written.{row_of}
 use Rattle.velab_process.specs.Prints.{when_of}
 use Rattle.velab_process.specs.Waits.{any_of, names_in}
 use Rattle.velab_process.specs.Statements.{dump_action}
+use Rattle.vmodel.specs.Value.{assigned_parts}
 use Rattle.vmodel.specs.declared.process.Frame.{Frame}
 use Rattle.vmodel.specs.declared.process.Frame.TheVariants.{Executing, Repeating, Writing}
 use Rattle.vmodel.specs.Step.{StepResult, frames, turns_left, execute, execute_at, place_of, pieces_of}
-use Rattle.statement_law.specs.TreeSteps.{takes_step, Pending, executing, repeating, writing, waits, line, monitor, selection, nothing, TreeStep, before, turns_before, amount_of, terms_of, line_for, does, calls, prints, dumps_by, IsStep, GoesOn}
+use Rattle.statement_law.specs.TreeSteps.{takes_step, Pending, executing, repeating, writing, driving, waits, line, monitor, selection, nothing, TreeStep, before, turns_before, amount_of, terms_of, line_for, does, calls, prints, dumps_by, IsStep, GoesOn}
 use Rattle.statement_law.specs.Standing.{Stands, StandsAt, StandAt, terms_in, selection_in}
 use Rattle.statement_law.specs.Laws.{Tells, HasTreeStep, HasPlaceStep}
 use Rattle.statement_law.proofs.LayoutLemmas.{HasBody, Laid, task_action}
@@ -202,6 +205,7 @@ module _ (scope : Scope) (now : Environment) (held : Option Vector) (actions : L
     is_step (executing statement) (Writing place) here = absurd here
     is_step (repeating n count body) frame here = tt
     is_step (writing target amount value) frame here = tt
+    is_step (driving outside name inside value) frame here = tt
 
     does_first : (first : Pending) (frame : Frame) → StandsAt scope actions first frame → Does first rest frame after
     does_first (executing statement) (Executing place) here = does_statement place statement here.0 here.1 (laid_there scope actions statement place here.0 here.1)
@@ -219,6 +223,19 @@ module _ (scope : Scope) (now : Environment) (held : Option Vector) (actions : L
       there = laid_there scope actions (assign target (Some amount) value) place refl here;
       tells = record { deed = refl; stands = stand };
     }
+    does_first (driving outside name inside value) (Executing place) here = record {
+      action = ContinuousAssign here.net here.e (any_of inside (names_in value));
+      there = here.there;
+      tells = record {
+        deed = λ i. record nothing {
+          wrote = assigned_parts now (WholeTarget (sym (ap (value_or 0) here.named) i) ∷ []) (sym (ap (value_or no_parts) here.lowered) i);
+          suspension = waits (terms_in (here.there i));
+        };
+        stands = (here, stand);
+      };
+    }
+    does_first (driving outside name inside value) (Repeating place m) here = absurd here
+    does_first (driving outside name inside value) (Writing place) here = absurd here
 
   -- ---- the laws
 

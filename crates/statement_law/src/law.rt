@@ -1,12 +1,13 @@
 // A law above the layout of statements.
 
-ghost use Rattle.statement_law.specs.Laws.{BeginsBefore, FollowsPlaces, FollowsTrees};
+ghost use Rattle.statement_law.specs.Laws.{BeginsBefore, FollowsPlaces, FollowsTrees, ItemsBegin};
 
 /// A process that begins at the places of a statement stands before that statement. Where it stands before statements, what it does
 /// by the action at its first place is what clause 9 says of these trees, and no other step of theirs there is; then it stands
 /// before what the trees say that it has left. It does nothing.
 pub fn statement_law()
     ensures begins { BeginsBefore }
+    ensures items { ItemsBegin }
     ensures trees { FollowsTrees }
     ensures places { FollowsPlaces }
 {}

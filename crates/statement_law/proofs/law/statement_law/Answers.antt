@@ -1,4 +1,5 @@
 use Rattle.statement_law.proofs.StepLemmas.{begins_before, follows_trees, follows_places}
+use Rattle.statement_law.proofs.ProcessLemmas.{items_stand}
 use Rattle.statement_law.proofs.law.statement_law.Goals as goal
 
 pub returns-clause-begins : goal.returns-clause-begins
@@ -9,3 +10,6 @@ returns-clause-trees c = follows_trees
 
 pub returns-clause-places : goal.returns-clause-places
 returns-clause-places c = follows_places
+
+pub returns-clause-items : goal.returns-clause-items
+returns-clause-items c = items_stand
