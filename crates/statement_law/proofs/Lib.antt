@@ -5,3 +5,4 @@ pub mod StandingLemmas
 pub mod CaseLemmas
 pub mod StepLemmas
 pub mod ProcessLemmas
+pub mod RunLemmas

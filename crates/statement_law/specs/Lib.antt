@@ -1,3 +1,4 @@
 pub mod TreeSteps
 pub mod Standing
 pub mod Laws
+pub mod RunLaws

@@ -1,5 +1,6 @@
 use Rattle.statement_law.proofs.StepLemmas.{begins_before, follows_trees, follows_places}
 use Rattle.statement_law.proofs.ProcessLemmas.{items_stand}
+use Rattle.statement_law.proofs.RunLemmas.{steps_by_trees, stays_else, stands_throughout}
 use Rattle.statement_law.proofs.law.statement_law.Goals as goal
 
 pub returns-clause-begins : goal.returns-clause-begins
@@ -13,3 +14,12 @@ returns-clause-places c = follows_places
 
 pub returns-clause-items : goal.returns-clause-items
 returns-clause-items c = items_stand
+
+pub returns-clause-steps : goal.returns-clause-steps
+returns-clause-steps c = steps_by_trees
+
+pub returns-clause-stays : goal.returns-clause-stays
+returns-clause-stays c = stays_else
+
+pub returns-clause-runs : goal.returns-clause-runs
+returns-clause-runs c = stands_throughout
