@@ -6,3 +6,4 @@ pub mod CaseLemmas
 pub mod StepLemmas
 pub mod ProcessLemmas
 pub mod RunLemmas
+pub mod DesignLemmas

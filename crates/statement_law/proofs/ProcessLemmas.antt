@@ -53,7 +53,7 @@ grown_items scope table (item ∷ more) =
 -- ---- where they stand
 
 module _ (actions : List Action) where
-  both_stand : (ones others : List Begin) (ps qs : List (List ℕ)) → AllStand actions ones ps → AllStand actions others qs → AllStand actions (ones ++ others) (ps ++ qs)
+  pub both_stand : (ones others : List Begin) (ps qs : List (List ℕ)) → AllStand actions ones ps → AllStand actions others qs → AllStand actions (ones ++ others) (ps ++ qs)
   both_stand [] others [] qs first second = second
   both_stand [] others (p ∷ ps) qs first second = absurd first
   both_stand (b ∷ bs) others [] qs first second = absurd first

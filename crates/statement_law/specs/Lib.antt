@@ -2,3 +2,4 @@ pub mod TreeSteps
 pub mod Standing
 pub mod Laws
 pub mod RunLaws
+pub mod DesignLaws

@@ -1,5 +1,6 @@
 // A law above the layout of statements.
 
+ghost use Rattle.statement_law.specs.DesignLaws.{DesignBegins, StandsByText};
 ghost use Rattle.statement_law.specs.RunLaws.{StandsThroughout, StaysElse, StepsByTrees};
 ghost use Rattle.statement_law.specs.Laws.{BeginsBefore, FollowsPlaces, FollowsTrees, ItemsBegin};
 
@@ -10,9 +11,11 @@ ghost use Rattle.statement_law.specs.Laws.{BeginsBefore, FollowsPlaces, FollowsT
 pub fn statement_law()
     ensures begins { BeginsBefore }
     ensures items { ItemsBegin }
+    ensures design { DesignBegins }
     ensures trees { FollowsTrees }
     ensures places { FollowsPlaces }
     ensures steps { StepsByTrees }
     ensures stays { StaysElse }
     ensures runs { StandsThroughout }
+    ensures text { StandsByText }
 {}

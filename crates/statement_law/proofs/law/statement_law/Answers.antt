@@ -1,6 +1,7 @@
 use Rattle.statement_law.proofs.StepLemmas.{begins_before, follows_trees, follows_places}
 use Rattle.statement_law.proofs.ProcessLemmas.{items_stand}
 use Rattle.statement_law.proofs.RunLemmas.{steps_by_trees, stays_else, stands_throughout}
+use Rattle.statement_law.proofs.DesignLemmas.{design_begins, stands_by_text}
 use Rattle.statement_law.proofs.law.statement_law.Goals as goal
 
 pub returns-clause-begins : goal.returns-clause-begins
@@ -23,3 +24,9 @@ returns-clause-stays c = stays_else
 
 pub returns-clause-runs : goal.returns-clause-runs
 returns-clause-runs c = stands_throughout
+
+pub returns-clause-design : goal.returns-clause-design
+returns-clause-design c = design_begins
+
+pub returns-clause-text : goal.returns-clause-text
+returns-clause-text c = stands_by_text
