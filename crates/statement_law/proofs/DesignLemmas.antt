@@ -219,26 +219,26 @@ design_begins modules top scale design is =
 
 -- ---- runs
 
-record IsAt (actions : List Action) (processes : List (List ℕ)) (p : ℕ) (begin : Begin) : Type 0 where
+record IsBegun (actions : List Action) (processes : List (List ℕ)) (p : ℕ) (begin : Begin) : Type 0 where
   places : List ℕ
   there : slice_get processes p ≡ Some places
   stands : StandAt begin.scope actions begin.pending (frames places [])
 
 stands_there : (actions : List Action) (begins : List Begin) (processes : List (List ℕ)) (p : ℕ) (begin : Begin) → AllStand actions begins processes → slice_get begins p ≡ Some begin →
-    IsAt actions processes p begin
+    IsBegun actions processes p begin
 stands_there actions [] processes p begin stand is = absurd cc
 stands_there actions (b ∷ bs) [] p begin stand is = absurd stand
 stands_there actions (b ∷ bs) (x ∷ xs) zero begin stand is =
     let same : b ≡ begin = cc in
     record { places = x; there = refl; stands = subst (λ one. StandAt one.scope actions one.pending (frames x [])) same stand.0 }
 stands_there actions (b ∷ bs) (x ∷ xs) (suc p) begin stand is =
-    let made : IsAt actions xs p begin = stands_there actions bs xs p begin stand.1 is in
+    let made : IsBegun actions xs p begin = stands_there actions bs xs p begin stand.1 is in
     record { places = made.places; there = made.there; stands = made.stands }
 
 pub stands_by_text : (modules : SourceTree) (top : Option Text) (scale : Timescale) (setting : Setting) (p : ℕ) (begin : Begin) (log : List (ℕ × ℕ)) (n : ℕ) →
     Elaborates modules top scale setting.design → slice_get (begins_of_top modules (top_of modules top)) p ≡ Some begin →
     IsSomewhere setting.design (state_after setting log n) p begin.scope
 stands_by_text modules top scale setting p begin log n is listed =
-    let made : IsAt setting.design.actions setting.design.processes p begin =
+    let made : IsBegun setting.design.actions setting.design.processes p begin =
     stands_there setting.design.actions (begins_of_top modules (top_of modules top)) setting.design.processes p begin (design_begins modules top scale setting.design is) listed in
     stands_throughout setting p begin.scope begin.pending made.places log n made.there made.stands
