@@ -1,5 +1,6 @@
 -- A step of a run is that of one process, and the others stay.
-use Rattle.std.proofs.Common.{nat_lt, not, ◌||◌, ◌≡◌, ◌≢◌, ℕ, ◌<◌, zero, suc, Bool, true, false, if◌then◌else◌, List, [], ◌∷◌, map, slice_get, Option, None, Some, option_map, length, refl, sym, ap, ◌⊎◌, inl, inr, subst, ◌∙◌, arith}
+use Rattle.std.proofs.Common.{nat_lt, ◌==◌, not, ◌||◌, ◌≡◌, ◌≢◌, ℕ, ◌<◌, zero, suc, Bool, true, false, if◌then◌else◌, List, [], ◌∷◌, map, slice_get, Option, None, Some, option_map, length, refl, sym, ap, subst, ◌∙◌, arith}
+use Rattle.std.proofs.lemmas.Bool.Decides.{nat_tests}
 use Rattle.std.specs.Prelude.{slice_set}
 use Rattle.vbits.specs.Vectors.{Vector}
 use Rattle.vbits.specs.declared.bit4.Bit4.{Bit4}
@@ -36,54 +37,45 @@ use Rattle.statement_law.proofs.StepLemmas.{follows_trees}
 
 -- ---- lists of processes
 
-get_set : (processes : List Process) (p : ℕ) (process : Process) → p < length processes → slice_get (slice_set processes p process) p ≡ Some process
-get_set [] p process lt = absurd (omega arith)
-get_set (r ∷ rs) zero process lt = refl
-get_set (r ∷ rs) (suc p) process lt = get_set rs p process (omega arith)
+get_set : {X : Type 0} (xs : List X) (i : ℕ) (x : X) → i < length xs → slice_get (slice_set xs i x) i ≡ Some x
+get_set [] i x lt = absurd (omega arith)
+get_set (y ∷ ys) zero x lt = refl
+get_set (y ∷ ys) (suc i) x lt = get_set ys i x (omega arith)
 
-get_other : (processes : List Process) (p r : ℕ) (process : Process) → r ≢ p → slice_get (slice_set processes p process) r ≡ slice_get processes r
-get_other [] p r process ne = refl
-get_other (x ∷ xs) zero zero process ne = absurd (ne refl)
-get_other (x ∷ xs) zero (suc r) process ne = refl
-get_other (x ∷ xs) (suc p) zero process ne = refl
-get_other (x ∷ xs) (suc p) (suc r) process ne = get_other xs p r process (λ e. ne (ap suc e))
+get_other : {X : Type 0} (xs : List X) (i j : ℕ) (x : X) → j ≢ i → slice_get (slice_set xs i x) j ≡ slice_get xs j
+get_other [] i j x ne = refl
+get_other (y ∷ ys) zero zero x ne = absurd (ne refl)
+get_other (y ∷ ys) zero (suc j) x ne = refl
+get_other (y ∷ ys) (suc i) zero x ne = refl
+get_other (y ∷ ys) (suc i) (suc j) x ne = get_other ys i j x (λ e. ne (ap suc e))
 
 there : (processes : List Process) (p : ℕ) (frame : Frame) (rest : List Frame) → continuation_of (slice_get processes p) ≡ frame ∷ rest → p < length processes
 there [] p frame rest e = absurd cc
 there (r ∷ rs) zero frame rest e = omega arith
 there (r ∷ rs) (suc p) frame rest e = let h : p < length rs = there rs p frame rest e in omega (arith, h)
 
-alike_or_not : (p q : ℕ) → (p ≡ q) ⊎ (p ≢ q)
-alike_or_not zero zero = inl refl
-alike_or_not zero (suc q) = inr (λ e. absurd (omega (arith, e)))
-alike_or_not (suc p) zero = inr (λ e. absurd (omega (arith, e)))
-alike_or_not (suc p) (suc q) = elim (alike_or_not p q) [
-  | inl e ↦ inl (ap suc e)
-  | inr ne ↦ inr (λ e. ne (omega (arith, e)))
-]
-
 -- ---- waking
 
-silent_rank : (bit : Bit4) → nat_lt (rank bit) (rank bit) ≡ false
-silent_rank Zero = refl
-silent_rank One = refl
-silent_rank X = refl
-silent_rank Z = refl
-
 -- where nothing changed and nothing is triggered, nothing is heard
-silent_term : (values : List Vector) (term : Term) → hears values values None term ≡ false
-silent_term values (Change Any variable) = ap not ((vectors_tell (value_in values variable) (value_in values variable)).1 refl)
-silent_term values (Change Rise variable) = silent_rank (last_bit (value_in values variable))
-silent_term values (Change Fall variable) = silent_rank (last_bit (value_in values variable))
-silent_term values (Event event) = refl
-
-silent : (values : List Vector) (terms : List Term) → any_hears values values None terms ≡ false
-silent values [] = refl
-silent values (term ∷ terms) = ap (λ b. b || any_hears values values None terms) (silent_term values term) ∙ silent values terms
-
 still_there : (values : List Vector) (waiting : Option (List Term)) → waiting ≡ still_waiting values values None waiting
 still_there values None = refl
-still_there values (Some terms) = ap (λ b. if b then None else Some terms) (sym (silent values terms))
+still_there values (Some list) = ap (λ b. if b then None else Some list) (sym (all list))
+  where
+    rank_is : (bit : Bit4) → nat_lt (rank bit) (rank bit) ≡ false
+    rank_is Zero = refl
+    rank_is One = refl
+    rank_is X = refl
+    rank_is Z = refl
+
+    one : (term : Term) → hears values values None term ≡ false
+    one (Change Any variable) = ap not ((vectors_tell (value_in values variable) (value_in values variable)).1 refl)
+    one (Change Rise variable) = rank_is (last_bit (value_in values variable))
+    one (Change Fall variable) = rank_is (last_bit (value_in values variable))
+    one (Event event) = refl
+
+    all : (terms : List Term) → any_hears values values None terms ≡ false
+    all [] = refl
+    all (term ∷ terms) = ap (λ b. b || any_hears values values None terms) (one term) ∙ all terms
 
 module _ (old new : List Vector) (triggered : Option ℕ) where
   come_is : (action : Option Action) → has_come action old new triggered ≡ any_hears old new triggered (terms_in action)
@@ -268,15 +260,17 @@ module _ (design : Design) (s : State) where
       stays : slice_get (choices s) i ≢ Some (Run p) → IsSomewhere design (next design s i).state p scope
       stays other = record { at = unmoved s.values (next design s i).state.values (next design s i).effect.triggered here.at; there = stays_else i p scope here.at other here.there }
 
-      run : (q : ℕ) → slice_get (choices s) i ≡ Some (Run q) → (q ≡ p) ⊎ (q ≢ p) → IsSomewhere design (next design s i).state p scope
-      run q e (inl n) = own (e ∙ ap (λ number. Some (Run number)) n) here.at.pending refl
-      run q e (inr ne) = stays (λ same. ne cc)
+      run : (q : ℕ) → slice_get (choices s) i ≡ Some (Run q) → (test : Bool) → (q == p) ≡ test → IsSomewhere design (next design s i).state p scope
+      run q e true is =
+          let n : q ≡ p = grind (arith, nat_tests, is) in
+          own (e ∙ ap (λ number. Some (Run number)) n) here.at.pending refl
+      run q e false is = stays (λ same. absurd (let n : q ≡ p = cc in grind (arith, nat_tests, is, n)))
 
       by : (c : Option Choice) → slice_get (choices s) i ≡ c → IsSomewhere design (next design s i).state p scope
       by None e = stays (λ same. absurd cc)
       by (Some Update) e = stays (λ same. absurd cc)
       by (Some Advance) e = stays (λ same. absurd cc)
-      by (Some (Run q)) e = run q e (alike_or_not q p)
+      by (Some (Run q)) e = run q e (q == p) refl
 
 starts : (processes : List (List ℕ)) (p : ℕ) (places : List ℕ) → slice_get processes p ≡ Some places → slice_get (map opening_process processes) p ≡ Some (opening_process places)
 starts [] p places is = absurd cc
