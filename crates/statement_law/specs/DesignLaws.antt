@@ -36,13 +36,15 @@ join_begins outer inner p (Some value) = if p.output then output_begins outer in
 
 abbrev pub joins_begin : Scope → Scope → List NamedConnection → List Port → List Begin
 joins_begin outer inner connections [] = []
-joins_begin outer inner connections (p ∷ more) = join_begins outer inner p (value_for connections p.name.letters) ++ joins_begin outer inner connections more
+joins_begin outer inner connections (p ∷ more) =
+    join_begins outer inner p (value_for connections p.name.letters) ++ joins_begin outer inner connections more
 
 -- ---- instances (12.1)
 
 -- those of its port connections, and those of its items
 abbrev pub own_begins : Context → Scope → List Begin
-own_begins context scope = joins_begin context.overrides.scope scope context.connections (ports_of context.unit) ++ begins_in scope context.unit.items
+own_begins context scope =
+    joins_begin context.overrides.scope scope context.connections (ports_of context.unit) ++ begins_in scope context.unit.items
 
 -- of one instance after another, each behind what stands before
 abbrev pub begins_each : (Part → Instantiation → Result Part ElabFault) → (Part → Instantiation → List Begin) → Part → List Instantiation → List Begin

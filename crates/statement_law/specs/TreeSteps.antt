@@ -218,7 +218,10 @@ does scope now held (executing (nonblocking target None value)) rest =
     posts (post_after 0 (assigned_parts now (row_of scope target) (resolved scope value))) rest
 -- 9.7.7: it takes the value, sleeps, and then writes it
 does scope now held (executing (assign target (Some amount) value)) rest = record {
-  deed = record nothing { held = Some (held_value now (row_of scope target) (resolved scope value)); suspension = sleeps (delay_of now (amount_of scope amount)) };
+  deed = record nothing {
+    held = Some (held_value now (row_of scope target) (resolved scope value));
+    suspension = sleeps (delay_of now (amount_of scope amount));
+  };
   next = writing target amount value ∷ rest;
 }
 does scope now held (writing target amount value) rest = writes (resumed_parts now (row_of scope target) held) rest
@@ -249,7 +252,10 @@ does scope now held (executing (wait_for condition body)) rest =
     else suspends (waits (any_of scope (names_in condition))) (executing (wait_for condition body) ∷ rest)
 -- 6.1: it writes, waits for a change of what is read, and writes again
 does scope now held (driving outside name inside value) rest = record {
-  deed = record nothing { wrote = assigned_parts now (Whole (number_of outside name) ∷ []) (resolved inside value); suspension = waits (any_of inside (names_in value)) };
+  deed = record nothing {
+    wrote = assigned_parts now (Whole (number_of outside name) ∷ []) (resolved inside value);
+    suspension = waits (any_of inside (names_in value));
+  };
   next = driving outside name inside value ∷ rest;
 }
 -- clauses 17 and 18
