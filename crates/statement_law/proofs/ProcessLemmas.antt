@@ -6,15 +6,15 @@ use Rattle.velab_expr.specs.declared.fault.ElabFault.{ElabFault}
 use Rattle.velab_expr.specs.Symbols.{behind_item}
 use Rattle.velab_expr.specs.Scopes.{Scope, lower_variable}
 use Rattle.velab_expr.specs.Resolved.{lower_expression}
-use Rattle.velab_process.specs.Statements.{Table, Lowered, lower_statement}
+use Rattle.velab_process.specs.Statements.{Table, Lowered}
 use Rattle.velab_process.specs.Processes.{Processes, ProcessTree, procedural, continuous, with_begins_before, process_trees_by, lower_process, lower_processes, lower_items}
 use Rattle.vmodel.specs.Step.{frames}
-use Rattle.statement_law.specs.TreeSteps.{driving, before, begin_of}
+use Rattle.statement_law.specs.TreeSteps.{driving, begin_of}
 use Rattle.statement_law.specs.Standing.{IsFront, StandAt}
 use Rattle.statement_law.specs.Laws.{Begin, begins_of, begins_in, AllStand}
 use Rattle.statement_law.proofs.AnswerLemmas.{Told, told_of, told_next, told_then, told_by}
 use Rattle.statement_law.proofs.GrowthLemmas.{front_of_itself, front_of_front, front_of_more, last_stands, Grown, grown}
-use Rattle.statement_law.proofs.StandingLemmas.{stands_at_places}
+use Rattle.statement_law.proofs.StandingLemmas.{stands_before}
 
 abbrev pub GrownProcesses : Table → Processes → Type 0
 GrownProcesses table processes = IsFront table.actions processes.table.actions
@@ -64,14 +64,7 @@ module _ (actions : List Action) where
 
   process_begins : (scope : Scope) (table : Table) (process : ProcessTree) →
       Told (λ l. IsFront l.table.actions actions → StandAt scope actions (begin_of scope process) (frames l.places [])) (lower_process scope table process)
-  process_begins scope table (procedural statement) =
-      let P : Lowered → Type 0 = λ l. IsFront l.table.actions actions → StandAt scope actions (before statement []) (frames l.places []) in
-      told_by (λ l. Unit {0}) P (lower_statement scope table statement) (always (lower_statement scope table statement)) (λ l is known front.
-      stands_at_places scope actions statement l.places [] [] (record { start = table; table = l.table; lowered = is; front = front }) tt)
-    where
-      always : (answer : Result Lowered ElabFault) → Told (λ l. Unit {0}) answer
-      always (Ok l) = tt
-      always (Err fault) = tt
+  process_begins scope table (procedural statement) = stands_before scope actions table statement [] [] tt
   process_begins scope table (continuous name value) =
       let P : Lowered → Type 0 = λ l. IsFront l.table.actions actions → StandAt scope actions (driving scope name scope value ∷ []) (frames l.places []) in
       told_next P (lower_variable scope name) _ (λ net is.

@@ -86,11 +86,6 @@ module _ (scope : Scope) (now : Environment) (held : Option Vector) (actions : L
     -- statements
 
     module _ (place : ℕ) where
-      -- a body that comes next, before what is left
-      body_stands : (body : StatementTree) (action : List ℕ → Action) (next : List Pending) (left : List Frame) (laid : HasBody scope actions body action place) →
-          StandAt scope actions next left → StandAt scope actions (before body next) (frames laid.places left)
-      body_stands body action next left laid standing = stands_at_places scope actions body laid.places next left laid.stands standing
-
       does_statement : (statement : StatementTree) → takes_step statement ≡ true → Stands scope actions statement (place ∷ []) → Laid scope actions statement place →
           Does (executing statement) rest (Executing place) after
       does_statement empty step here laid = absurd cc
