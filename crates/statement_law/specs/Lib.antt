@@ -1,0 +1,5 @@
+pub mod TreeSteps
+pub mod Standing
+pub mod Laws
+pub mod RunLaws
+pub mod DesignLaws
