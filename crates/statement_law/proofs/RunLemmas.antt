@@ -30,7 +30,7 @@ use Rattle.vmodel.specs.Step.{Transition, waits_by, StepResult, frames, execute_
 use Rattle.vmodel.specs.Run.{Setting, opening_process, opening_of, state_after}
 use Rattle.vmodel.specs.RunProgress.{opening_is, after_is}
 use Rattle.statement_law.specs.TreeSteps.{Pending, TreeStep}
-use Rattle.statement_law.specs.Standing.{StandAt, terms_in, suspension_by, deed_of}
+use Rattle.statement_law.specs.Standing.{StandAt, terms_in, suspension_by, tree_effect_of}
 use Rattle.statement_law.specs.Laws.{Tells, HasTreeStep}
 use Rattle.statement_law.specs.RunLaws.{Standpoint, is_heard, still_waiting, waits_behind, waited_at, IsAt, behind, unmoved, IsTreeStep, IsSomewhere}
 use Rattle.statement_law.proofs.StepLemmas.{follows_trees}
@@ -166,10 +166,10 @@ module _ (design : Design) (s : State) where
       woken_by s.values new result.effect.triggered design.actions _ _ _ (stepped p p result) (get_set s.processes p (process_by result) within) in
       record {
         stands = subst (StandAt scope design.actions step.next) (sym like.continuation) tells.stands;
-        holds = like.held ∙ ap (λ d. d.held) tells.deed;
+        holds = like.held ∙ ap (λ d. d.held) tells.effect;
         waits =
             like.waits ∙ ap (λ waiting. still_waiting s.values new result.effect.triggered waiting) (waits_is scope result.effect.disposition result.continuation step.next tells.stands)
-            ∙ ap (λ d. still_waiting s.values new d.triggered (waits_behind d.suspension step.next)) tells.deed;
+            ∙ ap (λ d. still_waiting s.values new d.triggered (waits_behind d.suspension step.next)) tells.effect;
       }
 
   pub steps_by_trees : (i p : ℕ) (scope : Scope) (at : Standpoint) → slice_get (choices s) i ≡ Some (Run p) → at.pending ≢ [] → IsAt design s p scope at → IsTreeStep design s i p scope at
@@ -190,7 +190,7 @@ module _ (design : Design) (s : State) where
           record {
             step = made.step;
             goes_on = made.goes_on;
-            deed = ap (λ t. deed_of design.actions t.effect) is ∙ made.tells.deed;
+            effect = ap (λ t. tree_effect_of design.actions t.effect) is ∙ made.tells.effect;
             there =
                 subst (λ t. IsAt design t.state p scope (behind s.values t.state.values made.step)) (sym is)
                 (placed p scope made.step result made.tells (there s.processes p frame after e));

@@ -64,24 +64,24 @@ module _ (scope : Scope) (now : Environment) (held : Option Vector) (actions : L
 
     does_print : (kind : Printing) (pieces : List Piece) (place : ℕ) → slice_get actions place ≡ Some (Print (when_of kind) pieces) →
         Tells scope actions (prints kind pieces rest) (execute place (Print (when_of kind) pieces) after now)
-    does_print printing.Display pieces place there = record { deed = ap (λ a. record nothing { shown = Some (line (pieces_of a)) }) there; stands = stand }
-    does_print printing.Strobe pieces place there = record { deed = ap (λ a. record nothing { strobed = Some (pieces_of a) }) there; stands = stand }
-    does_print printing.Monitor pieces place there = record { deed = ap (λ a. record nothing { shown = Some (monitor (pieces_of a)) }) there; stands = stand }
+    does_print printing.Display pieces place there = record { effect = ap (λ a. record nothing { shown = Some (line (pieces_of a)) }) there; stands = stand }
+    does_print printing.Strobe pieces place there = record { effect = ap (λ a. record nothing { strobed = Some (pieces_of a) }) there; stands = stand }
+    does_print printing.Monitor pieces place there = record { effect = ap (λ a. record nothing { shown = Some (monitor (pieces_of a)) }) there; stands = stand }
 
     does_dump : (kind : Dumping) (place : ℕ) → Tells scope actions (dumps_by kind rest) (execute place (dump_action kind) after now)
-    does_dump dumps.On place = record { deed = refl; stands = stand }
-    does_dump dumps.Off place = record { deed = refl; stands = stand }
-    does_dump dumps.All place = record { deed = refl; stands = stand }
-    does_dump dumps.Flush place = record { deed = refl; stands = stand }
+    does_dump dumps.On place = record { effect = refl; stands = stand }
+    does_dump dumps.Off place = record { effect = refl; stands = stand }
+    does_dump dumps.All place = record { effect = refl; stands = stand }
+    does_dump dumps.Flush place = record { effect = refl; stands = stand }
 
     does_task : (call : TaskTree) (place : ℕ) → slice_get actions place ≡ Some (task_action scope call) →
         Tells scope actions (calls scope call rest) (execute place (task_action scope call) after now)
     does_task (print kind arguments) place there = does_print kind (line_for scope arguments) place there
-    does_task (dump_file letters) place there = record { deed = refl; stands = stand }
-    does_task (dump_vars selected) place there = record { deed = ap (λ a. record nothing { shown = Some (selection (selection_in a)) }) there; stands = stand }
+    does_task (dump_file letters) place there = record { effect = refl; stands = stand }
+    does_task (dump_vars selected) place there = record { effect = ap (λ a. record nothing { shown = Some (selection (selection_in a)) }) there; stands = stand }
     does_task (dump kind) place there = does_dump kind place
-    does_task (end_run true digits) place there = record { deed = refl; stands = stand }
-    does_task (end_run false digits) place there = record { deed = refl; stands = stand }
+    does_task (end_run true digits) place there = record { effect = refl; stands = stand }
+    does_task (end_run false digits) place there = record { effect = refl; stands = stand }
 
     -- statements
 
@@ -92,25 +92,25 @@ module _ (scope : Scope) (now : Environment) (held : Option Vector) (actions : L
       does_statement (block statements) step here laid = absurd cc
       does_statement (for_loop target value condition next_target next_value body) step here laid = absurd cc
       does_statement (assign target None value) step here laid =
-          record { action = Assign (row_of scope target) (resolved scope value); there = laid; tells = record { deed = refl; stands = stand } }
+          record { action = Assign (row_of scope target) (resolved scope value); there = laid; tells = record { effect = refl; stands = stand } }
       does_statement (assign target (Some amount) value) step here laid = record {
         action = AssignDelayed (amount_of scope amount) (row_of scope target) (resolved scope value);
         there = laid;
-        tells = record { deed = refl; stands = (here, stand) };
+        tells = record { effect = refl; stands = (here, stand) };
       }
       does_statement (nonblocking target None value) step here laid =
-          record { action = Nonblocking (row_of scope target) (resolved scope value); there = laid; tells = record { deed = refl; stands = stand } }
+          record { action = Nonblocking (row_of scope target) (resolved scope value); there = laid; tells = record { effect = refl; stands = stand } }
       does_statement (nonblocking target (Some amount) value) step here laid = record {
         action = NonblockingDelayed (amount_of scope amount) (row_of scope target) (resolved scope value);
         there = laid;
-        tells = record { deed = refl; stands = stand };
+        tells = record { effect = refl; stands = stand };
       }
-      does_statement (trigger letters) step here laid = record { action = Trigger (event_of scope letters); there = laid; tells = record { deed = refl; stands = stand } }
+      does_statement (trigger letters) step here laid = record { action = Trigger (event_of scope letters); there = laid; tells = record { effect = refl; stands = stand } }
       does_statement (if_true condition body) step here laid = record {
         action = Test (resolved scope condition) laid.places [];
         there = laid.there;
         tells = record {
-          deed = refl;
+          effect = refl;
           stands = chosen_places (holds now (resolved scope condition)) (before body rest) rest laid.places [] after (stands_at_places scope actions body laid.places rest after laid.stands stand) stand;
         };
       }
@@ -118,7 +118,7 @@ module _ (scope : Scope) (now : Environment) (held : Option Vector) (actions : L
         action = Test (resolved scope condition) laid.places laid.other_places;
         there = laid.there;
         tells = record {
-          deed = refl;
+          effect = refl;
           stands =
               chosen_places (holds now (resolved scope condition)) (before body rest) (before other rest) laid.places laid.other_places after
               (stands_at_places scope actions body laid.places rest after laid.stands stand) (stands_at_places scope actions other laid.other_places rest after laid.other_stands stand);
@@ -128,7 +128,7 @@ module _ (scope : Scope) (now : Environment) (held : Option Vector) (actions : L
         action = Case kind (resolved scope value) laid.list laid.otherwise;
         there = laid.there;
         tells = record {
-          deed = refl;
+          effect = refl;
           stands =
               chosen_stands scope actions now kind (resolved scope value) branches laid.start (record { table = laid.table; branches = laid.list; otherwise = laid.otherwise }) rest after
               laid.lowered laid.front stand;
@@ -138,7 +138,7 @@ module _ (scope : Scope) (now : Environment) (held : Option Vector) (actions : L
         action = While (resolved scope condition) laid.places;
         there = laid.there;
         tells = record {
-          deed = refl;
+          effect = refl;
           stands =
               chosen (holds now (resolved scope condition)) (before body (executing (while_true condition body) ∷ rest)) rest (frames laid.places (Executing place ∷ after)) after
               (stands_at_places scope actions body laid.places (executing (while_true condition body) ∷ rest) (Executing place ∷ after) laid.stands ((step, here), stand)) stand;
@@ -147,13 +147,13 @@ module _ (scope : Scope) (now : Environment) (held : Option Vector) (actions : L
       does_statement (repeat_times count body) step here laid = record {
         action = Repeat (resolved scope count) laid.places;
         there = laid.there;
-        tells = record { deed = refl; stands = turns_stand (turns_of now (resolved scope count)) place count body here };
+        tells = record { effect = refl; stands = turns_stand (turns_of now (resolved scope count)) place count body here };
       }
       does_statement (forever body) step here laid = record {
         action = Forever laid.places;
         there = laid.there;
         tells = record {
-          deed = refl;
+          effect = refl;
           stands = stands_at_places scope actions body laid.places (executing (forever body) ∷ rest) (Executing place ∷ after) laid.stands ((step, here), stand);
         };
       }
@@ -161,19 +161,19 @@ module _ (scope : Scope) (now : Environment) (held : Option Vector) (actions : L
         action = Wait (resolved scope condition) (any_of scope (names_in condition)) laid.places;
         there = laid.there;
         tells = chosen_step (holds now (resolved scope condition)) _ _ _ _
-            (record { deed = refl; stands = stands_at_places scope actions body laid.places rest after laid.stands stand })
-            (record { deed = ap (λ a. record nothing { suspension = waits (terms_in a) }) laid.there; stands = ((step, here), stand) });
+            (record { effect = refl; stands = stands_at_places scope actions body laid.places rest after laid.stands stand })
+            (record { effect = ap (λ a. record nothing { suspension = waits (terms_in a) }) laid.there; stands = ((step, here), stand) });
       }
       does_statement (delay amount body) step here laid = record {
         action = Delay (amount_of scope amount) laid.places;
         there = laid.there;
-        tells = record { deed = refl; stands = stands_at_places scope actions body laid.places rest after laid.stands stand };
+        tells = record { effect = refl; stands = stands_at_places scope actions body laid.places rest after laid.stands stand };
       }
       does_statement (event control body) step here laid = record {
         action = EventControl (terms_of scope control body) laid.places;
         there = laid.there;
         tells = record {
-          deed = ap (λ a. record nothing { suspension = waits (terms_in a) }) laid.there;
+          effect = ap (λ a. record nothing { suspension = waits (terms_in a) }) laid.there;
           stands = stands_at_places scope actions body laid.places rest after laid.stands stand;
         };
       }
@@ -187,7 +187,7 @@ module _ (scope : Scope) (now : Environment) (held : Option Vector) (actions : L
         action = Repeat (resolved scope count) laid.places;
         there = laid.there;
         tells = record {
-          deed = refl;
+          effect = refl;
           stands =
               stands_at_places scope actions body laid.places (turns_before (n - 1) count body rest) (turns_left place (n - 1) after) laid.stands
               (turns_stand (n - 1) place count body here);
@@ -216,13 +216,13 @@ module _ (scope : Scope) (now : Environment) (held : Option Vector) (actions : L
     does_first (writing target amount value) (Writing place) here = record {
       action = AssignDelayed (amount_of scope amount) (row_of scope target) (resolved scope value);
       there = laid_there scope actions (assign target (Some amount) value) place refl here;
-      tells = record { deed = refl; stands = stand };
+      tells = record { effect = refl; stands = stand };
     }
     does_first (driving outside name inside value) (Executing place) here = record {
       action = ContinuousAssign here.net here.e (any_of inside (names_in value));
       there = here.there;
       tells = record {
-        deed = λ i. record nothing {
+        effect = λ i. record nothing {
           wrote = assigned_parts now (WholeTarget (sym (ap (value_or 0) here.named) i) ∷ []) (sym (ap (value_or no_parts) here.lowered) i);
           suspension = waits (terms_in (here.there i));
         };

@@ -12,7 +12,7 @@ use Rattle.velab_process.specs.Processes.{ProcessTree, Processes, process_trees_
 use Rattle.vmodel.specs.declared.process.Frame.{Frame}
 use Rattle.vmodel.specs.Step.{StepResult, frames, execute_at, place_of}
 use Rattle.statement_law.specs.TreeSteps.{Pending, TreeStep, before, begin_of, GoesOn}
-use Rattle.statement_law.specs.Standing.{IsFront, Stands, StandAt, deed_of}
+use Rattle.statement_law.specs.Standing.{IsFront, Stands, StandAt, tree_effect_of}
 
 -- a process that begins at the places of a statement stands before it
 abbrev pub BeginsBefore : Type 0
@@ -49,7 +49,7 @@ ItemsBegin = (actions : List Action) (scope : Scope) (table : Table) (items : Li
 
 -- a step of a process that stands before statements, by the action at the place of its first frame
 pub record Tells (scope : Scope) (actions : List Action) (step : TreeStep) (result : StepResult) : Type 0 where
-  pub deed : deed_of actions result.effect ≡ step.deed
+  pub effect : tree_effect_of actions result.effect ≡ step.effect
   pub stands : StandAt scope actions step.next result.continuation
 
 -- there is an action, and what it does is a step of the trees, behind which the process stands again before what is left

@@ -13,7 +13,7 @@ use Rattle.vmodel.specs.Kept.{waits_of}
 use Rattle.vmodel.specs.Step.{frames, continuation_of, held_of, environment_of, next}
 use Rattle.vmodel.specs.Run.{Setting, state_after}
 use Rattle.statement_law.specs.TreeSteps.{Pending, Suspension, waits, TreeStep, GoesOn}
-use Rattle.statement_law.specs.Standing.{StandAt, terms_in, deed_of}
+use Rattle.statement_law.specs.Standing.{StandAt, terms_in, tree_effect_of}
 
 -- what a process stands at, on trees: before this, with this value held, and waiting for one of these terms, or for none
 pub record Standpoint : Type 0 where
@@ -49,8 +49,8 @@ pub record IsAt (design : Design) (s : State) (p : ℕ) (scope : Scope) (at : St
 abbrev pub behind : List Vector → List Vector → TreeStep → Standpoint
 behind old new step = record {
   pending = step.next;
-  held = step.deed.held;
-  waiting = still_waiting old new step.deed.triggered (waits_behind step.deed.suspension step.next);
+  held = step.effect.held;
+  waiting = still_waiting old new step.effect.triggered (waits_behind step.effect.suspension step.next);
 }
 
 -- behind a step of something else
@@ -61,7 +61,7 @@ unmoved old new triggered at = record { pending = at.pending; held = at.held; wa
 pub record IsTreeStep (design : Design) (s : State) (i p : ℕ) (scope : Scope) (at : Standpoint) : Type 0 where
   pub step : TreeStep
   pub goes_on : GoesOn scope (environment_of design s) at.held at.pending step
-  pub deed : deed_of design.actions (next design s i).effect ≡ step.deed
+  pub effect : tree_effect_of design.actions (next design s i).effect ≡ step.effect
   pub there : IsAt design (next design s i).state p scope (behind s.values (next design s i).state.values step)
 
 -- where it is the process that steps, and something is left

@@ -23,7 +23,7 @@ use Rattle.vmodel.specs.declared.effect.Effect.{Effect}
 use Rattle.vmodel.specs.declared.effect.Shown.{Shown}
 use Rattle.vmodel.specs.declared.effect.Shown.TheVariants.{Commands, Prints, Watches}
 use Rattle.vmodel.specs.Step.{pieces_of}
-use Rattle.statement_law.specs.TreeSteps.{Pending, executing, repeating, writing, driving, takes_step, Suspension, none, sleeps, waits, Showing, line, monitor, selection, command, Deed}
+use Rattle.statement_law.specs.TreeSteps.{Pending, executing, repeating, writing, driving, takes_step, Suspension, none, sleeps, waits, Showing, line, monitor, selection, command, TreeEffect}
 
 -- ---- where statements stand
 
@@ -89,8 +89,8 @@ showing_by actions (Commands asked) = dump_by actions asked
 showing_by actions (Prints place) = line (pieces_of (slice_get actions place))
 showing_by actions (Watches place) = monitor (pieces_of (slice_get actions place))
 
-abbrev pub deed_of : List Action → Effect → Deed
-deed_of actions effect = record {
+abbrev pub tree_effect_of : List Action → Effect → TreeEffect
+tree_effect_of actions effect = record {
   held = effect.held;
   suspension = suspension_by actions effect.disposition;
   wrote = effect.wrote;

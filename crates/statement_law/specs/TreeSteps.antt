@@ -88,7 +88,7 @@ pub data Showing : Type 0 where
   selection : List Chosen → Showing
   command : DumpSwitch → Showing
 
-pub record Deed : Type 0 where
+pub record TreeEffect : Type 0 where
   pub held : Option Vector  -- the value that it holds during the delay of an assignment (9.7.7)
   pub suspension : Suspension
   pub wrote : List Part
@@ -98,32 +98,32 @@ pub record Deed : Type 0 where
   pub strobed : Option (List Piece)  -- a line for the end of the slot (17.1.2)
   pub cause : Option Cause  -- why the run ends
 
-abbrev pub nothing : Deed
+abbrev pub nothing : TreeEffect
 nothing = record { held = None; suspension = none; wrote = []; posted = None; triggered = None; shown = None; strobed = None; cause = None }
 
 -- what it does, and what it has left then
 pub record TreeStep : Type 0 where
-  pub deed : Deed
+  pub effect : TreeEffect
   pub next : List Pending
 
 -- it does nothing but go on
 abbrev pub moves : List Pending → TreeStep
-moves next = record { deed = nothing; next = next }
+moves next = record { effect = nothing; next = next }
 
 abbrev pub suspends : Suspension → List Pending → TreeStep
-suspends suspension next = record { deed = record nothing { suspension = suspension }; next = next }
+suspends suspension next = record { effect = record nothing { suspension = suspension }; next = next }
 
 abbrev pub writes : List Part → List Pending → TreeStep
-writes parts next = record { deed = record nothing { wrote = parts }; next = next }
+writes parts next = record { effect = record nothing { wrote = parts }; next = next }
 
 abbrev pub posts : Post → List Pending → TreeStep
-posts post next = record { deed = record nothing { posted = Some post }; next = next }
+posts post next = record { effect = record nothing { posted = Some post }; next = next }
 
 abbrev pub shows : Showing → List Pending → TreeStep
-shows showing next = record { deed = record nothing { shown = Some showing }; next = next }
+shows showing next = record { effect = record nothing { shown = Some showing }; next = next }
 
 abbrev pub ends : Cause → List Pending → TreeStep
-ends cause next = record { deed = record nothing { cause = Some cause }; next = next }
+ends cause next = record { effect = record nothing { cause = Some cause }; next = next }
 
 -- ---- the parts of a statement in a scope
 
@@ -192,7 +192,7 @@ turns_before (suc n) count body rest = repeating (suc n) count body ∷ rest
 -- 17.1
 abbrev pub prints : Printing → List Piece → List Pending → TreeStep
 prints printing.Display pieces rest = shows (line pieces) rest
-prints printing.Strobe pieces rest = record { deed = record nothing { strobed = Some pieces }; next = rest }
+prints printing.Strobe pieces rest = record { effect = record nothing { strobed = Some pieces }; next = rest }
 prints printing.Monitor pieces rest = shows (monitor pieces) rest
 
 -- 18.1
@@ -218,7 +218,7 @@ does scope now held (executing (nonblocking target None value)) rest =
     posts (post_after 0 (assigned_parts now (row_of scope target) (resolved scope value))) rest
 -- 9.7.7: it takes the value, sleeps, and then writes it
 does scope now held (executing (assign target (Some amount) value)) rest = record {
-  deed = record nothing {
+  effect = record nothing {
     held = Some (held_value now (row_of scope target) (resolved scope value));
     suspension = sleeps (delay_of now (amount_of scope amount));
   };
@@ -228,7 +228,7 @@ does scope now held (writing target amount value) rest = writes (resumed_parts n
 does scope now held (executing (nonblocking target (Some amount) value)) rest =
     posts (post_after (delay_of now (amount_of scope amount)) (assigned_parts now (row_of scope target) (resolved scope value))) rest
 -- 9.7.3
-does scope now held (executing (trigger letters)) rest = record { deed = record nothing { triggered = Some (event_of scope letters) }; next = rest }
+does scope now held (executing (trigger letters)) rest = record { effect = record nothing { triggered = Some (event_of scope letters) }; next = rest }
 -- 9.4
 does scope now held (executing (if_true condition body)) rest = moves (if holds now (resolved scope condition) then before body rest else rest)
 does scope now held (executing (if_else condition body other)) rest =
@@ -252,7 +252,7 @@ does scope now held (executing (wait_for condition body)) rest =
     else suspends (waits (any_of scope (names_in condition))) (executing (wait_for condition body) ∷ rest)
 -- 6.1: it writes, waits for a change of what is read, and writes again
 does scope now held (driving outside name inside value) rest = record {
-  deed = record nothing {
+  effect = record nothing {
     wrote = assigned_parts now (Whole (number_of outside name) ∷ []) (resolved inside value);
     suspension = waits (any_of inside (names_in value));
   };
