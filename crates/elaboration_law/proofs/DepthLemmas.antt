@@ -13,8 +13,8 @@ use Rattle.vhierarchy.specs.Instances.{Part, Context, lower_names, lower_instanc
 use Rattle.elaboration_law.specs.Hierarchy.{Instance, StandsBelow, StandsAt, top_instance}
 use Rattle.elaboration_law.specs.Laws.{IsMeant}
 use Rattle.elaboration_law.specs.Depths.{IsTooDeep}
-use Rattle.elaboration_law.proofs.ToldLemmas.{Tells, TellsFault, is_local, wider, untold}
-use Rattle.elaboration_law.proofs.ModuleRules.{is_of_instances, names_instances, local_instances, names_tell, instances_tell, own_tells}
+use Rattle.elaboration_law.proofs.ToldLemmas.{untold, untold_fault}
+use Rattle.elaboration_law.proofs.ModuleRules.{is_of_names, local_names, is_of_instances, is_of_own, names_tell, instances_tell, own_tells}
 use Rattle.elaboration_law.proofs.DesignRules.{design_tells}
 use Rattle.elaboration_law.proofs.HierarchyLemmas.{OwnFault, in_names, in_instances, in_own, ToldBelow, too_deep, by_own, Elaborated, Told, in_modules, in_top, in_hierarchy, in_design, all_elaborated, fault_told, top_elaborated, top_told_below}
 
@@ -22,37 +22,25 @@ use Rattle.elaboration_law.proofs.HierarchyLemmas.{OwnFault, in_names, in_instan
 pub one_top : (modules : SourceTree) (top : Option Text) (m other : ModuleTree) → top_of modules top ≡ Some m → top_of modules top ≡ Some other → m ≡ other
 one_top modules top m other is also = cc
 
-told_by : {A : Type 0} (a : Result A ElabFault) (fault : ElabFault) → Tells is_of_instances a → a ≡ Err fault → is_of_instances fault.rule ≡ true
-told_by (Ok x) fault h is = absurd cc
-told_by (Err f) fault h is = let same : f ≡ fault = cc in ap (λ (e : ElabFault). is_of_instances e.rule) (sym same) ∙ h
-
 -- no step of an instance's own tells this rule
-own_is_no_depth : (modules : SourceTree) (part : Part) (context : Context) (fault : ElabFault) → OwnFault modules part context fault → is_of_instances fault.rule ≡ true
-own_is_no_depth modules part context fault (in_names err) =
-    told_by (lower_names part context) fault (wider _ is_of_instances names_instances (lower_names part context) (names_tell part context)) err
+own_is_no_depth : (modules : SourceTree) (part : Part) (context : Context) (fault : ElabFault) → OwnFault modules part context fault → fault.rule ≡ Depth → ⊥
+own_is_no_depth modules part context fault (in_names err) = untold is_of_names (lower_names part context) fault Depth (names_tell part context) refl err
 own_is_no_depth modules part context fault (in_instances scope names err) =
-    told_by (lower_instances modules 0 scope.known context.unit.items) fault (instances_tell modules 0 scope.known context.unit.items) err
+    untold is_of_instances (lower_instances modules 0 scope.known context.unit.items) fault Depth (instances_tell modules 0 scope.known context.unit.items) refl err
 own_is_no_depth modules part context fault (in_own scope children names wanted err) =
-    told_by (lower_own context (ports_of context.unit) children scope part) fault (own_tells context (ports_of context.unit) children scope part) err
-
-not_depth : (fault : ElabFault) → is_of_instances fault.rule ≡ true → fault.rule ≡ Depth → ⊥
-not_depth fault told rule = true≢false (sym told ∙ ap is_of_instances rule)
-
-design_is_no_depth : (broken : Option ElabFault) (fault : ElabFault) → TellsFault is_of_instances broken → broken ≡ Some fault → is_of_instances fault.rule ≡ true
-design_is_no_depth None fault h is = absurd cc
-design_is_no_depth (Some f) fault h is = let same : f ≡ fault = cc in ap (λ (e : ElabFault). is_of_instances e.rule) (sym same) ∙ h
+    untold is_of_own (lower_own context (ports_of context.unit) children scope part) fault Depth (own_tells context (ports_of context.unit) children scope part) refl err
 
 module _ (modules : SourceTree) (top : Option Text) where
   below_told : (fault : ElabFault) (unit : ModuleTree) → top_of modules top ≡ Some unit → fault.rule ≡ Depth → ToldBelow modules 16 (top_instance unit) fault → IsTooDeep modules top
   below_told fault unit is_top rule (too_deep one same stands) = (one, (unit, is_top, stands))
-  below_told fault unit is_top rule (by_own depth part context stands own) = absurd (not_depth fault (own_is_no_depth modules part context fault own) rule)
+  below_told fault unit is_top rule (by_own depth part context stands own) = absurd (own_is_no_depth modules part context fault own rule)
 
   depth_told : (fault : ElabFault) → fault.rule ≡ Depth → Told modules top fault → IsTooDeep modules top
   depth_told fault rule (in_modules w again other) = absurd cc
   depth_told fault rule (in_top missing other) = absurd cc
   depth_told fault rule (in_hierarchy unit is_top err) = below_told fault unit is_top rule (top_told_below modules unit fault err)
   depth_told fault rule (in_design unit part is_top ok broken) =
-      absurd (not_depth fault (design_is_no_depth (broken_design unit.name part) fault (design_tells is_of_instances local_instances unit.name part refl refl) broken) rule)
+      absurd (untold_fault is_of_names (broken_design unit.name part) fault Depth (design_tells is_of_names local_names unit.name part refl refl) refl broken rule)
 
   depth_never : (scale : Timescale) (design : Design) → elaborated modules top scale ≡ Ok design → ¬ IsTooDeep modules top
   depth_never scale design is (one, (m, is_top, stands)) =

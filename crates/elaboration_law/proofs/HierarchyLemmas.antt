@@ -25,50 +25,50 @@ use Rattle.elaboration_law.proofs.StepLemmas.{same_value, then_ok, then_err, pro
 
 -- ---- the instances in a module
 
-abbrev pub instance_of : Instantiation → Instance
-instance_of one = record { name = one.name; unit = one.child; connections = one.connections }
+abbrev pub instance_of : Text → Instantiation → Instance
+instance_of path one = record { path = path ++ 46 ∷ one.name.letters; unit = one.child; connections = one.connections }
 
 abbrev pub instance_at : Context → Instance
-instance_at context = record { name = context.name; unit = context.unit; connections = context.connections }
+instance_at context = record { path = context.path; unit = context.unit; connections = context.connections }
 
-list_is : (child : ModuleTree) (known : ℕ) (overrides : Option ConnectionsTree) (list : List InstanceTree) (children : List Instantiation) →
-    lower_list child known overrides list ≡ Ok children → map instance_of children ≡ map (instance_by child) list
-list_is child known overrides [] children is = sym (ap (map instance_of) (same_value [] children is))
-list_is child known overrides (one ∷ more) children is =
+list_is : (path : Text) (child : ModuleTree) (known : ℕ) (overrides : Option ConnectionsTree) (list : List InstanceTree) (children : List Instantiation) →
+    lower_list child known overrides list ≡ Ok children → map (instance_of path) children ≡ map (instance_by path child) list
+list_is path child known overrides [] children is = sym (ap (map (instance_of path)) (same_value [] children is))
+list_is path child known overrides (one ∷ more) children is =
     let front = then_ok (lower_instance child known overrides one) (λ front. lower_list child known overrides more >>= λ others. Ok (front ∷ others)) children is in
     let others = then_ok (lower_list child known overrides more) (λ others. Ok (front.0 ∷ others)) children front.2 in
     let fits = barring_ok (misfit_if one.name (letters_of (open_names child)) overrides) Ports _ front.0 front.1 in
     let joined = barring_ok (misfit one.name (letters_of (port_names child)) one.connections) Ports _ front.0 fits.1 in
     let same = same_value (instantiation_by child known overrides one) front.0 joined.1 in
-    sym (ap (map instance_of) (same_value (front.0 ∷ others.0) children others.2))
-    ∙ λ i. instance_of (sym same i) ∷ list_is child known overrides more others.0 others.1 i
+    sym (ap (map (instance_of path)) (same_value (front.0 ∷ others.0) children others.2))
+    ∙ λ i. instance_of path (sym same i) ∷ list_is path child known overrides more others.0 others.1 i
 
-of_is : (name : Word) (before known : ℕ) (child : Option ModuleTree) (overrides : Option ConnectionsTree) (list : List InstanceTree) (children : List Instantiation) →
-    lower_instances_of name before known child overrides list ≡ Ok children → map instance_of children ≡ instances_of child list
-of_is name before known None overrides list children is = absurd cc
-of_is name before known (Some child) overrides list children is =
-    list_is child known overrides list children (barring_ok (named_again child) Doubled _ children (provided_ok _ TooMany (Some name) _ children is).1).1
+of_is : (path : Text) (name : Word) (before known : ℕ) (child : Option ModuleTree) (overrides : Option ConnectionsTree) (list : List InstanceTree) (children : List Instantiation) →
+    lower_instances_of name before known child overrides list ≡ Ok children → map (instance_of path) children ≡ instances_of path child list
+of_is path name before known None overrides list children is = absurd cc
+of_is path name before known (Some child) overrides list children is =
+    list_is path child known overrides list children (barring_ok (named_again child) Doubled _ children (provided_ok _ TooMany (Some name) _ children is).1).1
 
-module _ (modules : SourceTree) where
+module _ (modules : SourceTree) (path : Text) where
   by_is : (before known : ℕ) (item : ItemTree) (children : List Instantiation) → lower_instances_by modules before known item ≡ Ok children →
-      map instance_of children ≡ instances_by modules item
-  by_is before known (parameters local type settings) children is = sym (ap (map instance_of) (same_value [] children is))
-  by_is before known (declaration kind list) children is = sym (ap (map instance_of) (same_value [] children is))
-  by_is before known (events names) children is = sym (ap (map instance_of) (same_value [] children is))
-  by_is before known (assignments settings) children is = sym (ap (map instance_of) (same_value [] children is))
-  by_is before known (initial statement) children is = sym (ap (map instance_of) (same_value [] children is))
-  by_is before known (always statement) children is = sym (ap (map instance_of) (same_value [] children is))
-  by_is before known (instances name overrides list) children is = of_is name before known (module_of modules name.letters) overrides list children is
+      map (instance_of path) children ≡ instances_by modules path item
+  by_is before known (parameters local type settings) children is = sym (ap (map (instance_of path)) (same_value [] children is))
+  by_is before known (declaration kind list) children is = sym (ap (map (instance_of path)) (same_value [] children is))
+  by_is before known (events names) children is = sym (ap (map (instance_of path)) (same_value [] children is))
+  by_is before known (assignments settings) children is = sym (ap (map (instance_of path)) (same_value [] children is))
+  by_is before known (initial statement) children is = sym (ap (map (instance_of path)) (same_value [] children is))
+  by_is before known (always statement) children is = sym (ap (map (instance_of path)) (same_value [] children is))
+  by_is before known (instances name overrides list) children is = of_is path name before known (module_of modules name.letters) overrides list children is
 
   pub children_are : (before known : ℕ) (items : List ItemTree) (children : List Instantiation) → lower_instances modules before known items ≡ Ok children →
-      map instance_of children ≡ flat_map (instances_by modules) items
-  children_are before known [] children is = sym (ap (map instance_of) (same_value [] children is))
+      map (instance_of path) children ≡ flat_map (instances_by modules path) items
+  children_are before known [] children is = sym (ap (map (instance_of path)) (same_value [] children is))
   children_are before known (item ∷ more) children is =
       let front = then_ok (lower_instances_by modules before known item)
           (λ front. lower_instances modules (before + length front) (known + length (symbols_by item)) more >>= λ others. Ok (front ++ others)) children is in
       let others = then_ok (lower_instances modules (before + length front.0) (known + length (symbols_by item)) more) (λ others. Ok (front.0 ++ others)) children front.2 in
-      sym (ap (map instance_of) (same_value (front.0 ++ others.0) children others.2))
-      ∙ map-append instance_of front.0 others.0
+      sym (ap (map (instance_of path)) (same_value (front.0 ++ others.0) children others.2))
+      ∙ map-append (instance_of path) front.0 others.0
       ∙ (λ i. by_is before known item front.0 front.1 i ++ children_are (before + length front.0) (known + length (symbols_by item)) more others.0 others.1 i)
 
 -- ---- one after another
@@ -175,8 +175,8 @@ module _ (modules : SourceTree) where
   elaborated_below (suc depth) (suc levels) part context all one is (child, inside, stands) =
       let opened = opened_ok modules levels part context all is in
       let own = opened.0 in
-      let listed = subst (λ (l : List Instance). Contains l child) (sym (children_are modules 0 own.scope.known context.unit.items own.children own.instances_are)) inside in
-      let it = mapped_contains instance_of child own.children listed in
+      let listed = subst (λ (l : List Instance). Contains l child) (sym (children_are modules context.path 0 own.scope.known context.unit.items own.children own.instances_are)) inside in
+      let it = mapped_contains (instance_of context.path) child own.children listed in
       let step = each_ok (λ so_far c. elaborate_instance levels modules so_far (child_context own.scope context c)) own.whole all own.children it.0 opened.1 it.1 in
       let found = elaborated_below depth levels step.0 (child_context own.scope context it.0) step.1 one step.2
           (subst (λ (i : Instance). StandsBelow modules depth i one) (sym it.2) stands) in
@@ -188,7 +188,7 @@ pub data ToldBelow (modules : SourceTree) (levels : ℕ) (top : Instance) (fault
   by_own : (depth : ℕ) (part : Part) (context : Context) → StandsBelow modules depth top (instance_at context) → OwnFault modules part context fault → ToldBelow modules levels top fault
 
 module _ (modules : SourceTree) (fault : ElabFault) where
-  one_deeper : (levels : ℕ) (top child : Instance) → Contains (instances_in modules top.unit) child → ToldBelow modules levels child fault → ToldBelow modules (suc levels) top fault
+  one_deeper : (levels : ℕ) (top child : Instance) → Contains (instances_in modules top) child → ToldBelow modules levels child fault → ToldBelow modules (suc levels) top fault
   one_deeper levels top child inside (too_deep one is stands) = too_deep one is (child, inside, stands)
   one_deeper levels top child inside (by_own depth part context stands own) = by_own (suc depth) part context (child, inside, stands) own
 
@@ -203,9 +203,9 @@ module _ (modules : SourceTree) (fault : ElabFault) where
       by (inl own) rest = by_own 0 part context refl own
       by (inr (own, err)) rest =
           let at = each_err (λ so_far c. elaborate_instance levels modules so_far (child_context own.scope context c)) own.whole own.children fault err in
-          let inside = subst (λ (l : List Instance). Contains l (instance_of at.1)) (children_are modules 0 own.scope.known context.unit.items own.children own.instances_are)
-              (contains_mapped instance_of at.1 own.children at.2) in
-          one_deeper levels (instance_at context) (instance_of at.1) inside (rest at.0 own.scope at.1 at.3)
+          let inside = subst (λ (l : List Instance). Contains l (instance_of context.path at.1)) (children_are modules context.path 0 own.scope.known context.unit.items own.children own.instances_are)
+              (contains_mapped (instance_of context.path) at.1 own.children at.2) in
+          one_deeper levels (instance_at context) (instance_of context.path at.1) inside (rest at.0 own.scope at.1 at.3)
 
 -- ---- a text
 

@@ -6,3 +6,5 @@ pub mod StepLemmas
 pub mod HierarchyLemmas
 pub mod DesignRules
 pub mod DepthLemmas
+pub mod DoubleLemmas
+pub mod DriverLemmas

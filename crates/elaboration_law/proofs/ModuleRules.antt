@@ -40,12 +40,12 @@ is_of_names Depth = false
 is_of_names TooMany = true
 is_of_names Kind = true
 
--- and those that an instance can break in a module
+-- and those that what is said of instances can
 abbrev pub is_of_instances : Rule → Bool
 is_of_instances Top = true
 is_of_instances Doubled = true
 is_of_instances Unknown = true
-is_of_instances Drivers = true
+is_of_instances Drivers = false
 is_of_instances Ports = true
 is_of_instances Width = true
 is_of_instances Constant = true
@@ -53,7 +53,32 @@ is_of_instances Depth = false
 is_of_instances TooMany = true
 is_of_instances Kind = true
 
-local_names : (rule : Rule) → is_local rule ≡ true → is_of_names rule ≡ true
+-- those that variables, processes and counts can break
+abbrev pub is_of_own : Rule → Bool
+is_of_own Top = false
+is_of_own Doubled = false
+is_of_own Unknown = true
+is_of_own Drivers = true
+is_of_own Ports = true
+is_of_own Width = true
+is_of_own Constant = true
+is_of_own Depth = false
+is_of_own TooMany = true
+is_of_own Kind = true
+
+pub local_own : (rule : Rule) → is_local rule ≡ true → is_of_own rule ≡ true
+local_own Top e = absurd cc
+local_own Doubled e = absurd cc
+local_own Unknown e = refl
+local_own Drivers e = refl
+local_own Ports e = refl
+local_own Width e = refl
+local_own Constant e = refl
+local_own Depth e = absurd cc
+local_own TooMany e = refl
+local_own Kind e = refl
+
+pub local_names : (rule : Rule) → is_local rule ≡ true → is_of_names rule ≡ true
 local_names Top e = absurd cc
 local_names Doubled e = refl
 local_names Unknown e = refl
@@ -69,7 +94,7 @@ pub names_instances : (rule : Rule) → is_of_names rule ≡ true → is_of_inst
 names_instances Top e = refl
 names_instances Doubled e = refl
 names_instances Unknown e = refl
-names_instances Drivers e = refl
+names_instances Drivers e = absurd cc
 names_instances Ports e = refl
 names_instances Width e = refl
 names_instances Constant e = refl
@@ -202,15 +227,15 @@ module _ (context : Context) (ports : List Port) (children : List Instantiation)
       (joins_tell context.name context.overrides.scope scope context.connections part.table ports) (λ joins.
       then_tells is_local (lower_items scope joins.table context.unit.items) _ (items_tell scope joins.table context.unit.items) (λ processes. tt))
 
-  few_tells : (part : Part) → Tells is_of_instances (few_enough context.name part)
+  pub few_tells : (part : Part) → Tells is_of_own (few_enough context.name part)
   few_tells part =
-      provided_tells is_of_instances (nat_le (length part.begins) 256) TooMany (Some context.name) (required (nat_le (length part.scopes) 1025) TooMany (Some context.name) part) refl
-      (required_tells is_of_instances (nat_le (length part.scopes) 1025) TooMany (Some context.name) part refl)
+      provided_tells is_of_own (nat_le (length part.begins) 256) TooMany (Some context.name) (required (nat_le (length part.scopes) 1025) TooMany (Some context.name) part) refl
+      (required_tells is_of_own (nat_le (length part.scopes) 1025) TooMany (Some context.name) part refl)
 
-  pub own_tells : (part : Part) → Tells is_of_instances (lower_own context ports children scope part)
+  pub own_tells : (part : Part) → Tells is_of_own (lower_own context ports children scope part)
   own_tells part =
-      then_tells is_of_instances (lower_own_variables context ports children scope) _
-      (barring_tells is_of_instances (first_again (driven_by context ports children scope)) Drivers _ refl (wider is_local is_of_instances local_instances _ undriven_tell)) (λ variables.
-      then_tells is_of_instances (lower_own_processes context ports scope part.table) _
-      (wider is_local is_of_instances local_instances (lower_own_processes context ports scope part.table) (own_processes_tell part)) (λ processes.
+      then_tells is_of_own (lower_own_variables context ports children scope) _
+      (barring_tells is_of_own (first_again (driven_by context ports children scope)) Drivers _ refl (wider is_local is_of_own local_own _ undriven_tell)) (λ variables.
+      then_tells is_of_own (lower_own_processes context ports scope part.table) _
+      (wider is_local is_of_own local_own (lower_own_processes context ports scope part.table) (own_processes_tell part)) (λ processes.
       few_tells (with_own context scope part variables processes)))

@@ -1,12 +1,13 @@
 -- What an answer says of the steps that it is made of; and elements of lists.
-use Rattle.std.proofs.Common.{◌≡◌, ℕ, zero, suc, ◌<◌, Bool, true, false, List, [], ◌∷◌, ◌++◌, map, length, Option, Some, None, Result, Ok, Err, refl, sym, ap, ◌∙◌, ◌⊎◌, inl, inr, arith}
+use Rattle.std.proofs.Common.{◌≡◌, ℕ, zero, suc, ◌<◌, nat_le, Bool, true, false, List, [], ◌∷◌, ◌++◌, map, length, Option, Some, None, Result, Ok, Err, refl, sym, ap, ◌∙◌, ◌⊎◌, inl, inr, arith}
 use Rattle.std.specs.List.{Contains}
 use Rattle.vast.specs.NumberedWords.{Word}
 use Rattle.velab_expr.specs.declared.fault.Rule.{Rule}
+use Rattle.velab_expr.specs.declared.fault.Rule.TheVariants.{Drivers, TooMany}
 use Rattle.velab_expr.specs.declared.fault.ElabFault.{ElabFault}
 use Rattle.velab_expr.specs.Rules.{told}
 use Rattle.velab_expr.specs.Answers.{◌>>=◌, provided, required, found}
-use Rattle.vhierarchy.specs.Instances.{barring}
+use Rattle.vhierarchy.specs.Instances.{barring, Part, few_enough}
 
 module _ {A : Type 0} where
   pub same_value : (x y : A) → (let one : Result A ElabFault = Ok x in one ≡ Ok y) → x ≡ y
@@ -87,3 +88,17 @@ module _ {A : Type 0} where
     mapped_contains y (x ∷ xs) (suc k, lt, is) =
         let rest = mapped_contains y xs (k, omega (arith, lt), is) in
         (rest.0, contains_more x rest.0 xs rest.1, rest.2)
+
+-- ---- counts
+
+-- too many processes, or too many instances
+pub few_err : (name : Word) (part : Part) (fault : ElabFault) → few_enough name part ≡ Err fault → ((nat_le (length part.begins) 256 ≡ false) ⊎ (nat_le (length part.scopes) 1025 ≡ false)) × (fault.rule ≡ TooMany)
+few_err name part fault is = by (provided_err (nat_le (length part.begins) 256) TooMany (Some name) (required (nat_le (length part.scopes) 1025) TooMany (Some name) part) fault is)
+  where
+    by : ((nat_le (length part.begins) 256 ≡ false) × (fault.rule ≡ TooMany)) ⊎ ((nat_le (length part.begins) 256 ≡ true) × (required (nat_le (length part.scopes) 1025) TooMany (Some name) part ≡ Err fault)) →
+        ((nat_le (length part.begins) 256 ≡ false) ⊎ (nat_le (length part.scopes) 1025 ≡ false)) × (fault.rule ≡ TooMany)
+    by (inl (many, rule)) = (inl many, rule)
+    by (inr (few, err)) = let h = required_err (nat_le (length part.scopes) 1025) TooMany (Some name) part fault err in (inr h.0, h.1)
+
+pub few_rule : (name : Word) (part : Part) (fault : ElabFault) → few_enough name part ≡ Err fault → fault.rule ≡ Drivers → ⊥
+few_rule name part fault is rule = let h = (few_err name part fault is).1 in cc

@@ -65,3 +65,9 @@ TellsFault rules (Some fault) = rules fault.rule ≡ true
 abbrev pub TellsRule : (Rule → Bool) → Option Rule → Type 0
 TellsRule rules None = Unit {0}
 TellsRule rules (Some rule) = rules rule ≡ true
+
+pub untold_fault : (rules : Rule → Bool) (broken : Option ElabFault) (fault : ElabFault) (rule : Rule) → TellsFault rules broken → rules rule ≡ false → broken ≡ Some fault → fault.rule ≡ rule → ⊥
+untold_fault rules None fault rule h not is same = cc
+untold_fault rules (Some f) fault rule h not is same =
+    let it : f ≡ fault = cc in
+    true≢false (sym h ∙ ap (λ (e : ElabFault). rules e.rule) it ∙ ap rules same ∙ not)

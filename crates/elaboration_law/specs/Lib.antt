@@ -1,3 +1,4 @@
 pub mod Hierarchy
 pub mod Laws
 pub mod Depths
+pub mod Drivers
