@@ -8,3 +8,6 @@ pub mod DesignRules
 pub mod DepthLemmas
 pub mod DoubleLemmas
 pub mod DriverLemmas
+pub mod GatherLemmas
+pub mod NameRules
+pub mod NameLemmas

@@ -27,7 +27,20 @@ use Rattle.elaboration_law.proofs.ToldLemmas.{Tells, is_local, wider, then_tells
 use Rattle.elaboration_law.proofs.ExpressionRules.{constant_tells, bounds_tell}
 use Rattle.elaboration_law.proofs.StatementRules.{items_tell, joins_tell}
 
--- those that a name can break, too
+-- and those that named events can
+abbrev pub is_of_meaning : Rule → Bool
+is_of_meaning Top = false
+is_of_meaning Doubled = false
+is_of_meaning Unknown = true
+is_of_meaning Drivers = false
+is_of_meaning Ports = true
+is_of_meaning Width = true
+is_of_meaning Constant = true
+is_of_meaning Depth = false
+is_of_meaning TooMany = true
+is_of_meaning Kind = true
+
+-- those that names can break, too
 abbrev pub is_of_names : Rule → Bool
 is_of_names Top = false
 is_of_names Doubled = true
@@ -78,6 +91,30 @@ local_own Depth e = absurd cc
 local_own TooMany e = refl
 local_own Kind e = refl
 
+local_meaning : (rule : Rule) → is_local rule ≡ true → is_of_meaning rule ≡ true
+local_meaning Top e = absurd cc
+local_meaning Doubled e = absurd cc
+local_meaning Unknown e = refl
+local_meaning Drivers e = absurd cc
+local_meaning Ports e = refl
+local_meaning Width e = refl
+local_meaning Constant e = refl
+local_meaning Depth e = absurd cc
+local_meaning TooMany e = refl
+local_meaning Kind e = refl
+
+meaning_names : (rule : Rule) → is_of_meaning rule ≡ true → is_of_names rule ≡ true
+meaning_names Top e = absurd cc
+meaning_names Doubled e = absurd cc
+meaning_names Unknown e = refl
+meaning_names Drivers e = absurd cc
+meaning_names Ports e = refl
+meaning_names Width e = refl
+meaning_names Constant e = refl
+meaning_names Depth e = absurd cc
+meaning_names TooMany e = refl
+meaning_names Kind e = refl
+
 pub local_names : (rule : Rule) → is_local rule ≡ true → is_of_names rule ≡ true
 local_names Top e = absurd cc
 local_names Doubled e = refl
@@ -113,19 +150,19 @@ parameter_tells : (outer scope : Scope) (value : text.ExpressionTree) (other : O
 parameter_tells outer scope value None = constant_tells scope value
 parameter_tells outer scope value (Some other) = then_tells is_local (lower_constant scope value) _ (constant_tells scope value) (λ own. constant_tells outer other)
 
-meaning_tells : (overrides : Overrides) (scope : Scope) (one : Symbol) → Tells is_of_names (lower_meaning overrides scope one)
+pub meaning_tells : (overrides : Overrides) (scope : Scope) (one : Symbol) → Tells is_of_meaning (lower_meaning overrides scope one)
 meaning_tells overrides scope (parameter_symbol type setting) =
-    wider is_local is_of_names local_names (lower_meaning overrides scope (parameter_symbol type setting))
+    wider is_local is_of_meaning local_meaning (lower_meaning overrides scope (parameter_symbol type setting))
     (then_tells is_local (lower_type scope type) _ (type_tells scope type) (λ bounds.
     then_tells is_local (lower_setting overrides scope setting) _ (parameter_tells overrides.scope scope setting.value (value_for overrides.values setting.name.letters)) (λ value. tt)))
-meaning_tells overrides scope (event_symbol name) = required_tells is_of_names (nat_lt scope.events 4294967295) TooMany (Some name) (Event scope.events) refl
+meaning_tells overrides scope (event_symbol name) = required_tells is_of_meaning (nat_lt scope.events 4294967295) TooMany (Some name) (Event scope.events) refl
 meaning_tells overrides scope (instance_symbol name) = tt
 
 symbols_tell : (overrides : Overrides) (scope : Scope) (list : List Symbol) → Tells is_of_names (add_symbols overrides scope list)
 symbols_tell overrides scope [] = tt
 symbols_tell overrides scope (one ∷ more) =
     then_tells is_of_names (add_symbol overrides scope one) _
-    (then_tells is_of_names (lower_meaning overrides scope one) _ (meaning_tells overrides scope one) (λ meaning.
+    (then_tells is_of_names (lower_meaning overrides scope one) _ (wider is_of_meaning is_of_names meaning_names (lower_meaning overrides scope one) (meaning_tells overrides scope one)) (λ meaning.
     required_tells is_of_names (not (is_declared scope.names (name_in one).letters)) Doubled (Some (name_in one)) (with_meaning scope one meaning) refl))
     (λ next. symbols_tell overrides next more)
 

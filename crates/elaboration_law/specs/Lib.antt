@@ -2,3 +2,4 @@ pub mod Hierarchy
 pub mod Laws
 pub mod Depths
 pub mod Drivers
+pub mod Doubles
