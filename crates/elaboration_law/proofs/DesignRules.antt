@@ -101,21 +101,27 @@ module _ (rules : Rule → Bool) (wide : (rule : Rule) → is_local rule ≡ tru
   widened None h = tt
   widened (Some rule) h = wide rule h
 
-  pub design_tells : (top : Word) (part : Part) → rules Doubled ≡ true → rules TooMany ≡ true → TellsFault rules (broken_design top part)
-  design_tells top part doubled many =
+  pub broken_table_tells : (top : Word) (part : Part) → rules TooMany ≡ true → TellsFault rules (broken_table top part)
+  broken_table_tells top part many =
+      let kinds = table_fault (kind_rule part.variables) part.table.actions part.table.words in
+      let flaws = table_fault (flaw_rule (blank_environment part.variables)) part.table.actions part.table.words in
+      let few = unless (nat_le (length part.begins) 256) TooMany (Some top) in
+      or_tells rules few (option_or kinds flaws) (unless_tells rules (nat_le (length part.begins) 256) TooMany (Some top) many)
+      (or_tells rules kinds flaws
+      (table_tells rules (kind_rule part.variables) (λ action. widened (kind_rule part.variables action) (kind_broken part.variables action)) part.table.actions part.table.words)
+      (table_tells rules (flaw_rule (blank_environment part.variables)) (λ action. widened (flaw_rule (blank_environment part.variables) action) (flaw_broken (blank_environment part.variables) action)) part.table.actions part.table.words))
+
+  pub broken_paths_tell : (top : Word) (part : Part) → rules Doubled ≡ true → TellsFault rules (broken_paths top part)
+  broken_paths_tell top part doubled =
       let scopes = scope_paths part in
       let paths = variable_paths part in
       let selections = table_fault (broken_selection scopes paths) part.table.actions part.table.words in
-      let kinds = table_fault (kind_rule part.variables) part.table.actions part.table.words in
-      let flaws = table_fault (flaw_rule (blank_environment part.variables)) part.table.actions part.table.words in
       let scoped = broken_if (has_double scopes) Doubled (Some top) in
       let named = broken_if (has_double paths) Doubled (Some top) in
-      let few = unless (nat_le (length part.begins) 256) TooMany (Some top) in
-      or_tells rules (option_or named (option_or scoped selections)) (option_or few (option_or kinds flaws))
-      (or_tells rules named (option_or scoped selections) (broken_tells rules (has_double paths) Doubled (Some top) doubled)
+      or_tells rules named (option_or scoped selections) (broken_tells rules (has_double paths) Doubled (Some top) doubled)
       (or_tells rules scoped selections (broken_tells rules (has_double scopes) Doubled (Some top) doubled)
-      (table_tells rules (broken_selection scopes paths) (λ action. widened (broken_selection scopes paths action) (selection_broken scopes paths action)) part.table.actions part.table.words)))
-      (or_tells rules few (option_or kinds flaws) (unless_tells rules (nat_le (length part.begins) 256) TooMany (Some top) many)
-      (or_tells rules kinds flaws
-      (table_tells rules (kind_rule part.variables) (λ action. widened (kind_rule part.variables action) (kind_broken part.variables action)) part.table.actions part.table.words)
-      (table_tells rules (flaw_rule (blank_environment part.variables)) (λ action. widened (flaw_rule (blank_environment part.variables) action) (flaw_broken (blank_environment part.variables) action)) part.table.actions part.table.words)))
+      (table_tells rules (broken_selection scopes paths) (λ action. widened (broken_selection scopes paths action) (selection_broken scopes paths action)) part.table.actions part.table.words))
+
+  pub design_tells : (top : Word) (part : Part) → rules Doubled ≡ true → rules TooMany ≡ true → TellsFault rules (broken_design top part)
+  design_tells top part doubled many =
+      or_tells rules (broken_paths top part) (broken_table top part) (broken_paths_tell top part doubled) (broken_table_tells top part many)

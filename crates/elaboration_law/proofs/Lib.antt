@@ -9,5 +9,6 @@ pub mod DepthLemmas
 pub mod DoubleLemmas
 pub mod DriverLemmas
 pub mod GatherLemmas
+pub mod OwnLemmas
 pub mod NameRules
 pub mod NameLemmas

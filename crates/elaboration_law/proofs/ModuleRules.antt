@@ -91,7 +91,7 @@ local_own Depth e = absurd cc
 local_own TooMany e = refl
 local_own Kind e = refl
 
-local_meaning : (rule : Rule) → is_local rule ≡ true → is_of_meaning rule ≡ true
+pub local_meaning : (rule : Rule) → is_local rule ≡ true → is_of_meaning rule ≡ true
 local_meaning Top e = absurd cc
 local_meaning Doubled e = absurd cc
 local_meaning Unknown e = refl
