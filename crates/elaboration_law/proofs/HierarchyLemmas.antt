@@ -50,7 +50,7 @@ of_is path name before known (Some child) overrides list children is =
     list_is path child known overrides list children (barring_ok (named_again child) Doubled _ children (provided_ok _ TooMany (Some name) _ children is).1).1
 
 module _ (modules : SourceTree) (path : Text) where
-  by_is : (before known : ℕ) (item : ItemTree) (children : List Instantiation) → lower_instances_by modules before known item ≡ Ok children →
+  pub by_is : (before known : ℕ) (item : ItemTree) (children : List Instantiation) → lower_instances_by modules before known item ≡ Ok children →
       map (instance_of path) children ≡ instances_by modules path item
   by_is before known (parameters local type settings) children is = sym (ap (map (instance_of path)) (same_value [] children is))
   by_is before known (declaration kind list) children is = sym (ap (map (instance_of path)) (same_value [] children is))

@@ -12,3 +12,5 @@ pub mod GatherLemmas
 pub mod OwnLemmas
 pub mod NameRules
 pub mod NameLemmas
+pub mod CountRules
+pub mod CountLemmas

@@ -3,7 +3,7 @@ use Rattle.std.proofs.Common.{◌≡◌, ℕ, ◌+◌, nat_le, nat_lt, Bool, tru
 use Rattle.std.specs.List.{flat_map}
 use Rattle.vast.specs.NumberedExpressions as text
 use Rattle.vast.specs.NumberedWords.{Word}
-use Rattle.vast.specs.NumberedModules.{ParameterType, integer, typed, DeclarationKind, variables, integers, DeclaredTree, ConnectionsTree, InstanceTree, ItemTree, parameters, declaration, events, assignments, initial, always, instances, ModuleTree, SourceTree}
+use Rattle.vast.specs.NumberedModules.{ParameterType, integer, typed, SettingTree, DeclarationKind, variables, integers, DeclaredTree, ConnectionsTree, InstanceTree, ItemTree, parameters, declaration, events, assignments, initial, always, instances, ModuleTree, SourceTree}
 use Rattle.vmodules.specs.Names.{is_declared, letters_of, first_again}
 use Rattle.vmodules.specs.Hierarchy.{module_of}
 use Rattle.vmodules.specs.Ports.{Port}
@@ -91,6 +91,31 @@ local_own Depth e = absurd cc
 local_own TooMany e = refl
 local_own Kind e = refl
 
+-- those of a local kind, and of names that stand twice
+abbrev pub is_of_paths : Rule → Bool
+is_of_paths Top = false
+is_of_paths Doubled = true
+is_of_paths Unknown = true
+is_of_paths Drivers = false
+is_of_paths Ports = true
+is_of_paths Width = true
+is_of_paths Constant = true
+is_of_paths Depth = false
+is_of_paths TooMany = false
+is_of_paths Kind = true
+
+pub local_paths : (rule : Rule) → is_local rule ≡ true → is_of_paths rule ≡ true
+local_paths Top e = absurd cc
+local_paths Doubled e = refl
+local_paths Unknown e = refl
+local_paths Drivers e = absurd cc
+local_paths Ports e = refl
+local_paths Width e = refl
+local_paths Constant e = refl
+local_paths Depth e = absurd cc
+local_paths TooMany e = absurd cc
+local_paths Kind e = refl
+
 pub local_meaning : (rule : Rule) → is_local rule ≡ true → is_of_meaning rule ≡ true
 local_meaning Top e = absurd cc
 local_meaning Doubled e = absurd cc
@@ -150,11 +175,14 @@ parameter_tells : (outer scope : Scope) (value : text.ExpressionTree) (other : O
 parameter_tells outer scope value None = constant_tells scope value
 parameter_tells outer scope value (Some other) = then_tells is_local (lower_constant scope value) _ (constant_tells scope value) (λ own. constant_tells outer other)
 
+pub lower_parameter_tells : (overrides : Overrides) (scope : Scope) (type : Option ParameterType) (setting : SettingTree) → Tells is_local (lower_meaning overrides scope (parameter_symbol type setting))
+lower_parameter_tells overrides scope type setting =
+    then_tells is_local (lower_type scope type) _ (type_tells scope type) (λ bounds.
+    then_tells is_local (lower_setting overrides scope setting) _ (parameter_tells overrides.scope scope setting.value (value_for overrides.values setting.name.letters)) (λ value. tt))
+
 pub meaning_tells : (overrides : Overrides) (scope : Scope) (one : Symbol) → Tells is_of_meaning (lower_meaning overrides scope one)
 meaning_tells overrides scope (parameter_symbol type setting) =
-    wider is_local is_of_meaning local_meaning (lower_meaning overrides scope (parameter_symbol type setting))
-    (then_tells is_local (lower_type scope type) _ (type_tells scope type) (λ bounds.
-    then_tells is_local (lower_setting overrides scope setting) _ (parameter_tells overrides.scope scope setting.value (value_for overrides.values setting.name.letters)) (λ value. tt)))
+    wider is_local is_of_meaning local_meaning (lower_meaning overrides scope (parameter_symbol type setting)) (lower_parameter_tells overrides scope type setting)
 meaning_tells overrides scope (event_symbol name) = required_tells is_of_meaning (nat_lt scope.events 4294967295) TooMany (Some name) (Event scope.events) refl
 meaning_tells overrides scope (instance_symbol name) = tt
 

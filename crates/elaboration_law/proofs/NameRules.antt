@@ -251,7 +251,7 @@ module _ (modules : SourceTree) where
         counted_again : ((nat_le (before + length list) 1024 ≡ false) × (fault.rule ≡ TooMany)) ⊎ ((nat_le (before + length list) 1024 ≡ true) × (barring (named_again m) Doubled (lower_list m known overrides list) ≡ Err fault)) →
             has_head_twice m ≡ true
         counted_again (inl (many, other)) = absurd cc
-        counted_again (inr (few, err)) = again (barring_err (named_again m) Doubled (lower_list m known overrides list) fault err)
+        counted_again (inr (holds, err)) = again (barring_err (named_again m) Doubled (lower_list m known overrides list) fault err)
 
     by_twice : (before known : ℕ) (item : ItemTree) (more : List ItemTree) → lower_instances_by modules before known item ≡ Err fault → HeadTwice (item ∷ more)
     by_twice before known (parameters local type settings) more is = absurd cc

@@ -3,3 +3,4 @@ pub mod Laws
 pub mod Depths
 pub mod Drivers
 pub mod Doubles
+pub mod Counts

@@ -5,6 +5,7 @@
 
 ghost use Rattle.elaboration_law.specs.Laws.{IsMeant};
 ghost use Rattle.elaboration_law.specs.Depths.{IsTooDeep};
+ghost use Rattle.elaboration_law.specs.Counts.{HasTooMany};
 ghost use Rattle.elaboration_law.specs.Doubles.{IsDeclaredTwice};
 ghost use Rattle.elaboration_law.specs.Drivers.{HasTwoDrivers};
 ghost use Rattle.velab_expr.specs.declared.fault.Rule.TheVariants as rule;
@@ -15,4 +16,5 @@ pub fn elaboration_rules()
     ensures names { IsMeant rule.Doubled IsDeclaredTwice }
     ensures drivers { IsMeant rule.Drivers HasTwoDrivers }
     ensures depth { IsMeant rule.Depth IsTooDeep }
+    ensures counts { IsMeant rule.TooMany HasTooMany }
 {}
