@@ -1,5 +1,5 @@
 -- E309: a text that has a design has nothing in too great a number, and one that is refused under the rule has.
-use Rattle.std.proofs.Common.{◌≡◌, ℕ, zero, suc, ◌+◌, ◌<◌, ◌≤◌, arith, nat_le, true, false, Bool, List, [], ◌∷◌, ◌++◌, map, length, Option, Some, None, Result, Ok, Err, refl, sym, ap, subst, ◌∙◌, ◌⊎◌, inl, inr, length-append}
+use Rattle.std.proofs.Common.{◌≡◌, ℕ, zero, suc, ◌+◌, ◌<◌, ◌≤◌, arith, nat_le, true, false, Bool, List, [], ◌∷◌, ◌++◌, map, length, Option, Some, None, Result, Ok, Err, refl, ap, subst, ◌⊎◌, inl, inr, length-append}
 use Rattle.std.specs.List.{flat_map, sum_by}
 use Rattle.std.specs.Option.{option_or}
 use Rattle.std.proofs.lemmas.List.{length-map}
@@ -8,7 +8,7 @@ use Rattle.basis.specs.declared.timescale.Timescale.{Timescale}
 use Rattle.vast.specs.Words.{Text}
 use Rattle.vast.specs.NumberedWords.{Word}
 use Rattle.vast.specs.NumberedModules.{ModuleTree, SourceTree}
-use Rattle.vdesign.specs.Design.{Design, Variable, Scope as Room}
+use Rattle.vdesign.specs.Design.{Design, Variable}
 use Rattle.vmodules.specs.Names.{first_again}
 use Rattle.vmodules.specs.Hierarchy.{top_of}
 use Rattle.vmodules.specs.Ports.{ports_of}
@@ -21,11 +21,11 @@ use Rattle.velab_expr.specs.Scopes.{Scope}
 use Rattle.velab_declaration.specs.Right.{kind_rule}
 use Rattle.velab_declaration.specs.ActionFlaws.{blank_environment, flaw_rule, table_fault}
 use Rattle.velab_declaration.specs.Variables.{declared_names, lower_ports, lower_variables}
-use Rattle.velab_process.specs.Processes.{Processes as Made, process_trees_by}
-use Rattle.vhierarchy.specs.Instances.{Instantiation, driven_by, scope_drivers_by, scope_of, lower_own_variables, lower_own_processes, with_own, few_enough, lower_own, lower_names, lower_instances, child_context, each, elaborate_instance, elaborate_top, nothing, top_context, Part, Context, broken_paths, broken_table, broken_design, elaborated}
-use Rattle.elaboration_law.specs.Hierarchy.{Instance, instances_by, instances_in, top_instance, listed}
+use Rattle.velab_process.specs.Processes.{Processes as Made}
+use Rattle.vhierarchy.specs.Instances.{Instantiation, driven_by, scope_drivers_by, scope_of, lower_own_variables, lower_own_processes, with_own, few_enough, child_context, each, elaborate_instance, elaborate_top, nothing, top_context, Part, Context, broken_paths, broken_table, elaborated}
+use Rattle.elaboration_law.specs.Hierarchy.{Instance, instances_in, top_instance, listed}
 use Rattle.elaboration_law.specs.Laws.{IsMeant}
-use Rattle.elaboration_law.specs.Counts.{Counted, Variables, Processes, Instances, NamedEvents, limit, connected, events_by, count_in, HasTooMany}
+use Rattle.elaboration_law.specs.Counts.{Counted, Variables, Processes, Instances, NamedEvents, limit, count_in, HasTooMany}
 use Rattle.elaboration_law.proofs.ToldLemmas.{is_local, untold, untold_fault}
 use Rattle.elaboration_law.proofs.ModuleRules.{is_of_paths, local_paths, undriven_tell, own_processes_tell}
 use Rattle.elaboration_law.proofs.DesignRules.{table_tells, kind_broken, flaw_broken, broken_paths_tell}
@@ -33,7 +33,7 @@ use Rattle.elaboration_law.proofs.StepLemmas.{same_value, then_ok, then_err, bar
 use Rattle.elaboration_law.proofs.HierarchyLemmas.{instance_of, instance_at, children_are, Own, OwnFault, in_names, in_instances, in_own, opened_ok, opened_err, below, Told, in_modules, in_top, in_hierarchy, in_design, all_elaborated, fault_told}
 use Rattle.elaboration_law.proofs.OwnLemmas.{dotted, own_steps, own_named}
 use Rattle.elaboration_law.proofs.GatherLemmas.{Gathers, gathered, top_gathered}
-use Rattle.elaboration_law.proofs.CountRules.{le_of, gt_of, own_processes_counted, NamesCounted, names_counted, ManyNames, many_names, many_instances}
+use Rattle.elaboration_law.proofs.CountRules.{le_of, gt_of, own_processes_counted, names_counted, ManyNames, many_names, many_instances}
 use Rattle.elaboration_law.proofs.NameLemmas.{or_some}
 use Rattle.elaboration_law.proofs.DepthLemmas.{one_top}
 

@@ -1,5 +1,5 @@
 -- How many variables, processes, instances and named events an instance adds, and what is told where they are too many.
-use Rattle.std.proofs.Common.{◌≡◌, ℕ, zero, suc, ◌+◌, ◌<◌, ◌≤◌, arith, nat_le, nat_lt, Bool, true, false, not, List, [], ◌∷◌, ◌++◌, map, length, Option, Some, None, Result, Ok, Err, refl, sym, ap, subst, ◌∙◌, ◌⊎◌, inl, inr, length-append}
+use Rattle.std.proofs.Common.{◌≡◌, ℕ, suc, ◌+◌, ◌<◌, ◌≤◌, arith, nat_le, nat_lt, Bool, true, false, not, List, [], ◌∷◌, ◌++◌, map, length, Option, Some, None, Result, Ok, Err, refl, sym, ap, ◌∙◌, ◌⊎◌, inl, inr, length-append}
 use Rattle.std.specs.List.{flat_map, filter_map, cons_option, sum_by}
 use Rattle.std.specs.Option.{option_or}
 use Rattle.std.proofs.lemmas.Bool.Decides.{nat_tests}
@@ -13,9 +13,7 @@ use Rattle.vmodules.specs.Names.{is_declared, first_again}
 use Rattle.vmodules.specs.Hierarchy.{module_of}
 use Rattle.vmodules.specs.Ports.{Port, ports_of}
 use Rattle.vmodules.specs.Connected.{NamedConnection, value_for}
-use Rattle.vdesign.specs.declared.action.Action.{Action}
-use Rattle.vdesign.specs.Design.{Variable}
-use Rattle.velab_expr.specs.declared.fault.Rule.TheVariants.{Top, Doubled, Drivers, TooMany}
+use Rattle.velab_expr.specs.declared.fault.Rule.TheVariants.{Top, Doubled, TooMany}
 use Rattle.velab_expr.specs.declared.fault.ElabFault.{ElabFault}
 use Rattle.velab_expr.specs.declared.scope.Meaning.{Meaning}
 use Rattle.velab_expr.specs.declared.scope.Meaning.TheVariants.{Event}
@@ -25,13 +23,13 @@ use Rattle.velab_expr.specs.Scopes.{Scope, at}
 use Rattle.velab_expr.specs.Symbols.{Symbol, parameter_symbol, event_symbol, instance_symbol, name_in, events_in, symbols_behind, symbols_in_head, symbols_by, valueless_by, behind_item}
 use Rattle.velab_declaration.specs.Parameters.{Overrides, Base, lower_meaning, with_meaning, add_symbol, add_symbols, first_scope, item_scope}
 use Rattle.velab_declaration.specs.Variables.{declared_names}
-use Rattle.velab_process.specs.Statements.{Table, Lowered}
+use Rattle.velab_process.specs.Statements.{Table}
 use Rattle.velab_process.specs.Processes.{ProcessTree, Processes as Made, with_begins_before, lower_process, lower_processes, process_trees_by, lower_items}
 use Rattle.velab_process.specs.Connections.{lower_connection, lower_join, lower_joins, one_process}
 use Rattle.vhierarchy.specs.Instances.{barring, Instantiation, lower_list, named_again, lower_instances_of, lower_instances_by, lower_instances, Part, Context, base_of, lower_names, lower_own_processes}
-use Rattle.elaboration_law.specs.Hierarchy.{Instance, instance_by, instances_of, instances_by}
+use Rattle.elaboration_law.specs.Hierarchy.{instance_by, instances_of, instances_by}
 use Rattle.elaboration_law.specs.Counts.{connected, events_by}
-use Rattle.elaboration_law.proofs.ToldLemmas.{Tells, is_local, untold}
+use Rattle.elaboration_law.proofs.ToldLemmas.{is_local, untold}
 use Rattle.elaboration_law.proofs.ModuleRules.{lower_parameter_tells, list_tells}
 use Rattle.elaboration_law.proofs.StepLemmas.{same_value, then_ok, then_err, provided_ok, provided_err, required_ok, required_err, barring_ok, barring_err}
 use Rattle.elaboration_law.proofs.HierarchyLemmas.{instance_of, instance_at, by_is}

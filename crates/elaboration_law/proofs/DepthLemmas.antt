@@ -1,22 +1,21 @@
 -- E308: a text that has a design isn't too deep, and one that is refused under the rule is.
-use Rattle.std.proofs.Common.{◌≡◌, ◌+◌, Bool, true, false, suc, ℕ, Option, Some, None, Result, Ok, Err, refl, sym, ap, subst, ◌∙◌, true≢false, arith}
+use Rattle.std.proofs.Common.{◌≡◌, Option, Some, Ok, refl, subst, arith}
 use Rattle.basis.specs.declared.timescale.Timescale.{Timescale}
 use Rattle.vast.specs.Words.{Text}
 use Rattle.vast.specs.NumberedModules.{ModuleTree, SourceTree}
 use Rattle.vdesign.specs.Design.{Design}
 use Rattle.vmodules.specs.Hierarchy.{top_of}
 use Rattle.vmodules.specs.Ports.{ports_of}
-use Rattle.velab_expr.specs.declared.fault.Rule.{Rule}
 use Rattle.velab_expr.specs.declared.fault.Rule.TheVariants.{Depth}
 use Rattle.velab_expr.specs.declared.fault.ElabFault.{ElabFault}
-use Rattle.vhierarchy.specs.Instances.{Part, Context, lower_names, lower_instances, lower_own, broken_design, elaborated, elaborate_top}
-use Rattle.elaboration_law.specs.Hierarchy.{Instance, StandsBelow, StandsAt, top_instance}
+use Rattle.vhierarchy.specs.Instances.{Part, Context, lower_names, lower_instances, lower_own, broken_design, elaborated}
+use Rattle.elaboration_law.specs.Hierarchy.{StandsBelow, top_instance}
 use Rattle.elaboration_law.specs.Laws.{IsMeant}
 use Rattle.elaboration_law.specs.Depths.{IsTooDeep}
 use Rattle.elaboration_law.proofs.ToldLemmas.{untold, untold_fault}
 use Rattle.elaboration_law.proofs.ModuleRules.{is_of_names, local_names, is_of_instances, is_of_own, names_tell, instances_tell, own_tells}
 use Rattle.elaboration_law.proofs.DesignRules.{design_tells}
-use Rattle.elaboration_law.proofs.HierarchyLemmas.{OwnFault, in_names, in_instances, in_own, ToldBelow, too_deep, by_own, Elaborated, Told, in_modules, in_top, in_hierarchy, in_design, all_elaborated, fault_told, top_elaborated, top_told_below}
+use Rattle.elaboration_law.proofs.HierarchyLemmas.{OwnFault, in_names, in_instances, in_own, ToldBelow, too_deep, by_own, Told, in_modules, in_top, in_hierarchy, in_design, all_elaborated, fault_told, top_elaborated, top_told_below}
 
 -- the top of a text is one module
 pub one_top : (modules : SourceTree) (top : Option Text) (m other : ModuleTree) → top_of modules top ≡ Some m → top_of modules top ≡ Some other → m ≡ other

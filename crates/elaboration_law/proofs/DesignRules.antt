@@ -18,7 +18,7 @@ use Rattle.velab_expr.specs.declared.fault.ElabFault.{ElabFault}
 use Rattle.velab_expr.specs.Rules.{rule_of, unless, broken_if}
 use Rattle.velab_declaration.specs.Right.{writes_rightly, kind_rule}
 use Rattle.velab_declaration.specs.ActionFlaws.{action_flaw, blank_environment, flaw_rule, table_fault}
-use Rattle.vhierarchy.specs.Instances.{Part, variable_paths, scope_paths, broken_path, broken_chosen, broken_selection, broken_paths, broken_table, broken_design}
+use Rattle.vhierarchy.specs.Instances.{Part, variable_paths, scope_paths, broken_chosen, broken_selection, broken_paths, broken_table, broken_design}
 use Rattle.elaboration_law.proofs.ToldLemmas.{is_local, TellsFault, TellsRule}
 
 module _ (rules : Rule → Bool) where

@@ -16,15 +16,15 @@ use Rattle.velab_expr.specs.Scopes.{Scope}
 use Rattle.velab_declaration.specs.Variables.{drivers_by, nets_of, lower_ports, lower_variables}
 use Rattle.velab_process.specs.Processes.{Processes}
 use Rattle.vhierarchy.specs.Instances.{Instantiation, driven_inside, driven_outside, driven_by, scope_drivers_by, lower_own_variables, lower_own_processes, with_own, few_enough, lower_own, lower_names, lower_instances, Part, Context, broken_design, elaborated}
-use Rattle.elaboration_law.specs.Hierarchy.{Instance, instances_in, StandsBelow, StandsAt, top_instance}
+use Rattle.elaboration_law.specs.Hierarchy.{Instance, StandsBelow, top_instance}
 use Rattle.elaboration_law.specs.Laws.{IsMeant}
-use Rattle.elaboration_law.specs.Drivers.{driven_by_outputs, driven_in, driven_nets, HasTwoDrivers}
+use Rattle.elaboration_law.specs.Drivers.{driven_by_outputs, driven_nets, HasTwoDrivers}
 use Rattle.elaboration_law.proofs.ToldLemmas.{is_local, untold, untold_fault}
 use Rattle.elaboration_law.proofs.ModuleRules.{is_of_names, local_names, is_of_instances, names_tell, instances_tell, undriven_tell, own_processes_tell}
 use Rattle.elaboration_law.proofs.DesignRules.{design_tells}
 use Rattle.elaboration_law.proofs.StepLemmas.{then_ok, then_err, barring_ok, barring_err, few_rule}
 use Rattle.elaboration_law.proofs.DoubleLemmas.{none_twice, one_twice}
-use Rattle.elaboration_law.proofs.HierarchyLemmas.{instance_of, instance_at, children_are, Own, OwnFault, in_names, in_instances, in_own, ToldBelow, too_deep, by_own, Elaborated, Told, in_modules, in_top, in_hierarchy, in_design, WasElaborated, all_elaborated, fault_told, top_elaborated, top_told_below}
+use Rattle.elaboration_law.proofs.HierarchyLemmas.{instance_of, instance_at, children_are, OwnFault, in_names, in_instances, in_own, ToldBelow, too_deep, by_own, Told, in_modules, in_top, in_hierarchy, in_design, all_elaborated, fault_told, top_elaborated, top_told_below}
 use Rattle.elaboration_law.proofs.DepthLemmas.{one_top}
 
 outputs_are : (path : Text) (children : List Instantiation) → flat_map driven_outside children ≡ flat_map driven_by_outputs (map (instance_of path) children)

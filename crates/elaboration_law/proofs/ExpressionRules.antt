@@ -1,6 +1,5 @@
 -- The rules that expressions, ranges, targets and selections tell.
-use Rattle.std.proofs.Common.{◌≡◌, ℕ, nat_le, nat_lt, Bool, true, false, not, Bor, ◌||◌, List, [], ◌∷◌, Option, Some, None, Result, Ok, Err, refl}
-use Rattle.vbits.specs.Vectors.{Vector}
+use Rattle.std.proofs.Common.{ℕ, nat_le, nat_lt, Bool, true, false, not, ◌||◌, Option, Some, None, Result, refl}
 use Rattle.vast.specs.NumberedWords.{Word}
 use Rattle.vast.specs.NumberedExpressions as text
 use Rattle.vast.specs.NumberedModules.{RangeTree}
@@ -21,8 +20,8 @@ use Rattle.velab_expr.specs.Answers.{◌>>=◌, unflawed}
 use Rattle.velab_expr.specs.FirstWords.{first_in, first_among}
 use Rattle.velab_expr.specs.Scopes.{Scope, bounds_for, operand_by, lower_name, variable_by, lower_variable, event_by, lower_event, meaning_of}
 use Rattle.velab_expr.specs.Constants.{nothing, worth, measured, bound_in, part_bounds}
-use Rattle.velab_expr.specs.Resolved.{plain, part_in, count_of, few, times, lower, lower_parts, lower_expression, lower_constant, lower_value}
-use Rattle.velab_expr.specs.Ranges.{span, narrow, lower_bound, lower_range, lower_bounds}
+use Rattle.velab_expr.specs.Resolved.{plain, part_in, count_of, few, lower, lower_parts, lower_expression, lower_constant, lower_value}
+use Rattle.velab_expr.specs.Ranges.{span, lower_bound, lower_range, lower_bounds}
 use Rattle.velab_expr.specs.Written as written
 use Rattle.velab_expr.specs.Written.{lower_target, lower_targets}
 use Rattle.velab_expr.specs.Selections.{levels_in, lower_selection}

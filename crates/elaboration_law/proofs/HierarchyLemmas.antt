@@ -1,5 +1,5 @@
 -- The instances of a hierarchy: each of a text that has a design was elaborated, and a fault is that of one of them.
-use Rattle.std.proofs.Common.{◌≡◌, ◌≢◌, ℕ, zero, suc, ◌+◌, ◌<◌, List, [], ◌∷◌, ◌++◌, map, length, Option, Some, None, Result, Ok, Err, refl, sym, ap, subst, ◌∙◌, ◌⊎◌, inl, inr, arith}
+use Rattle.std.proofs.Common.{◌≡◌, ℕ, zero, suc, ◌+◌, List, [], ◌∷◌, ◌++◌, map, length, Option, Some, None, Result, Ok, Err, refl, sym, ap, subst, ◌∙◌, ◌⊎◌, inl, inr, arith}
 use Rattle.std.specs.List.{Contains, flat_map}
 use Rattle.std.proofs.lemmas.List.{map-append}
 use Rattle.vast.specs.Words.{Text}
@@ -11,17 +11,16 @@ use Rattle.vmodules.specs.Names.{letters_of, first_again}
 use Rattle.vmodules.specs.Hierarchy.{module_names, module_of, top_of, rival_of}
 use Rattle.vmodules.specs.Ports.{ports_of}
 use Rattle.vmodules.specs.Connected.{open_names, misfit, misfit_if}
-use Rattle.velab_expr.specs.declared.fault.Rule.{Rule}
 use Rattle.velab_expr.specs.declared.fault.Rule.TheVariants.{Top, Doubled, Depth, TooMany, Ports}
 use Rattle.velab_expr.specs.declared.fault.ElabFault.{ElabFault}
 use Rattle.velab_expr.specs.Rules.{told}
-use Rattle.velab_expr.specs.Answers.{◌>>=◌, found, provided}
+use Rattle.velab_expr.specs.Answers.{◌>>=◌, found}
 use Rattle.velab_expr.specs.Scopes.{Scope}
 use Rattle.velab_expr.specs.Symbols.{symbols_by}
 use Rattle.velab_declaration.specs.Variables.{port_names}
-use Rattle.vhierarchy.specs.Instances.{barring, faultless, Instantiation, instantiation_by, lower_instance, lower_list, named_again, lower_instances_of, lower_instances_by, lower_instances, Part, Context, lower_names, lower_own, child_context, each, elaborate_instance, nothing, top_context, elaborate_top, design_by, broken_design, Whole, checked, whole_of, elaborated_whole, as_design, elaborated}
+use Rattle.vhierarchy.specs.Instances.{faultless, Instantiation, instantiation_by, lower_instance, lower_list, named_again, lower_instances_of, lower_instances_by, lower_instances, Part, Context, lower_names, lower_own, child_context, each, elaborate_instance, nothing, top_context, elaborate_top, design_by, broken_design, Whole, checked, whole_of, elaborated_whole, elaborated}
 use Rattle.elaboration_law.specs.Hierarchy.{Instance, instance_by, instances_of, instances_by, instances_in, StandsBelow, top_instance}
-use Rattle.elaboration_law.proofs.StepLemmas.{same_value, then_ok, then_err, provided_ok, barring_ok, barring_err, found_ok, found_err, contains_first, contains_more, contains_cases, contains_none, contains_mapped, mapped_contains}
+use Rattle.elaboration_law.proofs.StepLemmas.{same_value, then_ok, then_err, provided_ok, barring_ok, barring_err, found_ok, found_err, contains_first, contains_more, contains_none, contains_mapped, mapped_contains}
 
 -- ---- the instances in a module
 
@@ -226,6 +225,9 @@ pub data Told (modules : SourceTree) (top : Option Text) (fault : ElabFault) : T
   in_hierarchy : (unit : ModuleTree) → top_of modules top ≡ Some unit → elaborate_top modules unit ≡ Err fault → Told modules top fault
   in_design : (unit : ModuleTree) (part : Part) → top_of modules top ≡ Some unit → elaborate_top modules unit ≡ Ok part → broken_design unit.name part ≡ Some fault → Told modules top fault
 
+same_design : (scale : Timescale) (whole other : Whole) (design : Design) → other ≡ whole → (let made : Result Design ElabFault = Ok (design_by scale whole.unit whole.part) in made ≡ Ok design) → design_by scale other.unit other.part ≡ design
+same_design scale whole other design same is = ap (λ (w : Whole). design_by scale w.unit w.part) same ∙ same_value (design_by scale whole.unit whole.part) design is
+
 faultless_ok : {A : Type 0} (broken : Option ElabFault) (x y : A) → faultless broken x ≡ Ok y → (broken ≡ None) × (x ≡ y)
 faultless_ok None x y is = (refl, same_value x y is)
 faultless_ok (Some fault) x y is = absurd cc
@@ -252,7 +254,7 @@ module _ (modules : SourceTree) (top : Option Text) (scale : Timescale) where
         is_top = found_ok (top_of modules top) Top (rival_of modules top) unit.0 unit.1;
         is_part = part.1;
         is_right = right.0;
-        is_design = ap (λ (w : Whole). design_by scale w.unit w.part) right.1 ∙ same_value (design_by scale whole.0.unit whole.0.part) design whole.2;
+        is_design = same_design scale whole.0 (record { unit = unit.0; part = part.0 }) design right.1 whole.2;
       }
 
   module _ (fault : ElabFault) where

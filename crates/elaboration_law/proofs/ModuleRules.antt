@@ -1,9 +1,9 @@
 -- The rules that an instance's own names, parameters, variables and counts tell, and a finished design.
-use Rattle.std.proofs.Common.{◌≡◌, ℕ, ◌+◌, nat_le, nat_lt, Bool, true, false, not, List, [], ◌∷◌, ◌++◌, length, Option, Some, None, Result, Ok, Err, refl}
+use Rattle.std.proofs.Common.{◌≡◌, ℕ, ◌+◌, nat_le, nat_lt, Bool, true, false, not, List, [], ◌∷◌, ◌++◌, length, Option, Some, None, Result, Ok, refl}
 use Rattle.std.specs.List.{flat_map}
 use Rattle.vast.specs.NumberedExpressions as text
 use Rattle.vast.specs.NumberedWords.{Word}
-use Rattle.vast.specs.NumberedModules.{ParameterType, integer, typed, SettingTree, DeclarationKind, variables, integers, DeclaredTree, ConnectionsTree, InstanceTree, ItemTree, parameters, declaration, events, assignments, initial, always, instances, ModuleTree, SourceTree}
+use Rattle.vast.specs.NumberedModules.{ParameterType, integer, typed, SettingTree, DeclarationKind, variables, integers, ConnectionsTree, InstanceTree, ItemTree, parameters, declaration, events, assignments, initial, always, instances, ModuleTree, SourceTree}
 use Rattle.vmodules.specs.Names.{is_declared, letters_of, first_again}
 use Rattle.vmodules.specs.Hierarchy.{module_of}
 use Rattle.vmodules.specs.Ports.{Port}
@@ -11,7 +11,6 @@ use Rattle.vmodules.specs.Connected.{open_names, misfit, misfit_if, value_for}
 use Rattle.velab_expr.specs.declared.fault.Rule.{Rule}
 use Rattle.velab_expr.specs.declared.fault.Rule.TheVariants.{Top, Doubled, Unknown, Drivers, Ports, Width, Constant, Depth, TooMany, Kind}
 use Rattle.velab_expr.specs.declared.fault.ElabFault.{ElabFault}
-use Rattle.velab_expr.specs.declared.scope.Meaning.{Meaning}
 use Rattle.velab_expr.specs.declared.scope.Meaning.TheVariants.{Event}
 use Rattle.velab_expr.specs.Answers.{◌>>=◌, provided, required}
 use Rattle.velab_expr.specs.Scopes.{Scope}
@@ -19,9 +18,9 @@ use Rattle.velab_expr.specs.Resolved.{lower_constant}
 use Rattle.velab_expr.specs.Ranges.{lower_bounds}
 use Rattle.velab_expr.specs.Symbols.{Symbol, parameter_symbol, event_symbol, instance_symbol, name_in, symbols_in_head, symbols_by, valueless_by, behind_item}
 use Rattle.velab_declaration.specs.Parameters.{Overrides, Base, lower_type, lower_parameter_value, lower_setting, lower_meaning, with_meaning, add_symbol, add_symbols, first_scope, item_scope}
-use Rattle.velab_declaration.specs.Variables.{port_names, declared_names, ScopeDrivers, lower_kind, lower_names as lower_declared, lower_declaration, lower_variables, lower_port, lower_ports}
+use Rattle.velab_declaration.specs.Variables.{port_names, declared_names, ScopeDrivers, lower_kind, lower_declaration, lower_variables, lower_port, lower_ports}
 use Rattle.velab_process.specs.Connections.{lower_joins}
-use Rattle.velab_process.specs.Processes.{Processes, with_begins_before, lower_items}
+use Rattle.velab_process.specs.Processes.{lower_items}
 use Rattle.vhierarchy.specs.Instances.{barring, Instantiation, instantiation_by, lower_instance, lower_list, named_again, lower_instances_of, lower_instances_by, lower_instances, Part, Context, base_of, lower_names, lower_own_processes, with_own, few_enough, driven_by, scope_drivers_by, lower_own_variables, lower_own}
 use Rattle.elaboration_law.proofs.ToldLemmas.{Tells, is_local, wider, then_tells, required_tells, provided_tells, barring_tells}
 use Rattle.elaboration_law.proofs.ExpressionRules.{constant_tells, bounds_tell}

@@ -1,5 +1,5 @@
 -- E302: in a text that has a design no name is declared twice, and in one that is refused under the rule one is.
-use Rattle.std.proofs.Common.{◌≡◌, ℕ, true, false, Bool, List, [], ◌∷◌, ◌++◌, map, Option, Some, None, Result, Ok, Err, refl, sym, ap, subst, ◌∙◌, ◌⊎◌, inl, inr, true≢false, append_assoc}
+use Rattle.std.proofs.Common.{◌≡◌, ℕ, true, false, Bool, List, [], ◌∷◌, ◌++◌, Option, Some, None, Ok, refl, sym, ap, subst, ◌∙◌, ◌⊎◌, inl, inr, true≢false, append_assoc}
 use Rattle.std.specs.List.{Contains, flat_map}
 use Rattle.std.specs.Option.{option_or}
 use Rattle.std.proofs.lemmas.List.{map-append, append-nil}
@@ -7,9 +7,9 @@ use Rattle.std.proofs.lemmas.List.Concat.{flat_map-append}
 use Rattle.basis.specs.declared.timescale.Timescale.{Timescale}
 use Rattle.vast.specs.Words.{Text}
 use Rattle.vast.specs.NumberedWords.{Word}
-use Rattle.vast.specs.NumberedModules.{ItemTree, instances, ModuleTree, SourceTree}
+use Rattle.vast.specs.NumberedModules.{instances, ModuleTree, SourceTree}
 use Rattle.vdesign.specs.Design.{Design, Variable, Scope as Room}
-use Rattle.vmodules.specs.Names.{has_double, letters_of}
+use Rattle.vmodules.specs.Names.{has_double}
 use Rattle.vmodules.specs.Hierarchy.{module_names, top_of}
 use Rattle.vmodules.specs.Ports.{ports_of}
 use Rattle.velab_expr.specs.declared.fault.Rule.{Rule}
@@ -20,15 +20,15 @@ use Rattle.velab_declaration.specs.ActionFlaws.{table_fault}
 use Rattle.vhierarchy.specs.Instances.{lower_own, Part, Context, scope_of, variable_paths, scope_paths, broken_selection, broken_paths, broken_table, broken_design, elaborate_top, elaborated}
 use Rattle.elaboration_law.specs.Hierarchy.{Instance, StandsBelow, StandsAt, top_instance, listed}
 use Rattle.elaboration_law.specs.Laws.{IsMeant}
-use Rattle.elaboration_law.specs.Doubles.{names_in_module, has_head_twice, variable_paths_in, path_in, IsDeclaredTwice, module_twice, name_twice, head_twice, variable_twice, path_twice}
+use Rattle.elaboration_law.specs.Doubles.{names_in_module, variable_paths_in, path_in, IsDeclaredTwice, module_twice, name_twice, head_twice, variable_twice, path_twice}
 use Rattle.elaboration_law.proofs.ToldLemmas.{is_local, untold, untold_fault}
 use Rattle.elaboration_law.proofs.ModuleRules.{is_of_meaning, local_meaning, is_of_own, own_tells}
 use Rattle.elaboration_law.proofs.DesignRules.{table_tells, selection_broken, broken_table_tells}
 use Rattle.elaboration_law.proofs.DoubleLemmas.{none_twice, one_twice}
-use Rattle.elaboration_law.proofs.HierarchyLemmas.{instance_at, Own, OwnFault, in_names, in_instances, in_own, ToldBelow, too_deep, by_own, Told, in_modules, in_top, in_hierarchy, in_design, WasElaborated, all_elaborated, fault_told, top_elaborated, top_told_below}
+use Rattle.elaboration_law.proofs.HierarchyLemmas.{instance_at, OwnFault, in_names, in_instances, in_own, ToldBelow, too_deep, by_own, Told, in_modules, in_top, in_hierarchy, in_design, WasElaborated, all_elaborated, fault_told, top_elaborated, top_told_below}
 use Rattle.elaboration_law.proofs.OwnLemmas.{own_steps, own_named}
 use Rattle.elaboration_law.proofs.GatherLemmas.{Gathers, top_gathered}
-use Rattle.elaboration_law.proofs.NameRules.{names_once, names_twice, heads_once, HeadTwice, heads_twice}
+use Rattle.elaboration_law.proofs.NameRules.{names_once, names_twice, heads_once, heads_twice}
 use Rattle.elaboration_law.proofs.DepthLemmas.{one_top}
 
 -- ---- names in the hierarchy

@@ -1,13 +1,13 @@
 -- What an instance's own steps add to a design.
-use Rattle.std.proofs.Common.{◌≡◌, ◌+◌, nat_le, true, List, [], ◌∷◌, ◌++◌, map, length, Option, Some, None, Result, Ok, Err, refl, sym, ap, ◌∙◌}
+use Rattle.std.proofs.Common.{◌≡◌, nat_le, true, List, [], ◌∷◌, ◌++◌, map, length, Some, Result, Ok, refl, sym, ap, ◌∙◌}
 use Rattle.std.specs.List.{flat_map}
-use Rattle.std.proofs.lemmas.List.{map-append, append-nil}
+use Rattle.std.proofs.lemmas.List.{map-append}
 use Rattle.vast.specs.Words.{Text}
 use Rattle.vast.specs.NumberedWords.{Word}
 use Rattle.vast.specs.NumberedModules.{DeclarationKind, variables, integers, DeclaredTree, ItemTree, parameters, declaration, events, assignments, initial, always, instances, SourceTree}
 use Rattle.vmodules.specs.Names.{first_again}
 use Rattle.vmodules.specs.Ports.{Port, ports_of}
-use Rattle.vdesign.specs.Design.{Variable, Scope as Room}
+use Rattle.vdesign.specs.Design.{Variable}
 use Rattle.vdesign.specs.declared.design.Kind.{Kind}
 use Rattle.velab_expr.specs.declared.fault.Rule.TheVariants.{Drivers, TooMany}
 use Rattle.velab_expr.specs.declared.fault.ElabFault.{ElabFault}
@@ -18,10 +18,9 @@ use Rattle.velab_expr.specs.Symbols.{behind_item}
 use Rattle.velab_declaration.specs.declared.variable.Form.{Form}
 use Rattle.velab_declaration.specs.Variables.{Declaration, all_declared, declared_as, declarations_of, ScopeDrivers, variable_in, variables_in, form_of, lower_kind, lower_declaration, lower_variables, lower_port, lower_ports, declared_names, port_names, declarations}
 use Rattle.velab_process.specs.Processes.{Processes}
-use Rattle.vhierarchy.specs.Instances.{Instantiation, driven_by, scope_drivers_by, lower_own_variables, lower_own_processes, with_own, few_enough, lower_own, scope_of, Part, Context}
-use Rattle.elaboration_law.specs.Hierarchy.{Instance}
+use Rattle.vhierarchy.specs.Instances.{driven_by, scope_drivers_by, lower_own_variables, lower_own_processes, with_own, few_enough, scope_of, Part, Context}
 use Rattle.elaboration_law.proofs.StepLemmas.{same_value, then_ok, provided_ok, required_ok, barring_ok}
-use Rattle.elaboration_law.proofs.HierarchyLemmas.{Own, instance_at}
+use Rattle.elaboration_law.proofs.HierarchyLemmas.{Own}
 
 -- the steps behind the names and the instances
 pub record OwnSteps (modules : SourceTree) (part : Part) (context : Context) (own : Own modules part context) : Type 0 where

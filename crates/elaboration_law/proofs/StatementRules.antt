@@ -1,5 +1,5 @@
 -- The rules that statements and processes tell.
-use Rattle.std.proofs.Common.{◌≡◌, ℕ, Bool, true, false, if◌then◌else◌, List, [], ◌∷◌, Option, Some, None, Result, Ok, Err, refl}
+use Rattle.std.proofs.Common.{ℕ, Bool, true, false, if◌then◌else◌, List, [], ◌∷◌, Option, Some, None, Result, refl}
 use Rattle.vast.specs.NumberedWords.{Word}
 use Rattle.vast.specs.NumberedExpressions as text
 use Rattle.vast.specs.NumberedStatements.{TargetTree, ArgumentTree, quoted, printed, TaskTree, print, dump_file, dump_vars, dump, end_run, DelayTree, by_number, by_name, by_value, FurtherTerm, EventTree, by_event, by_any, by_any_enclosed, by_terms, StatementTree, StatementTrees, empty, block, assign, nonblocking, trigger, if_true, if_else, case_of, while_true, repeat_times, forever, for_loop, wait_for, delay, event, task, no_statement, first_statement, BranchTree, BranchTrees, labelled, default, no_branch, first_branch}
@@ -8,13 +8,11 @@ use Rattle.vmodules.specs.Ports.{Port}
 use Rattle.vmodules.specs.Connected.{NamedConnection, value_for}
 use Rattle.vdesign.specs.declared.action.Edge.{Edge}
 use Rattle.vdesign.specs.declared.action.Edge.TheVariants.{Any, Rise, Fall}
-use Rattle.vdesign.specs.declared.action.Branch.{Branch}
 use Rattle.format_text.specs.Pieces.{pieces_of}
 use Rattle.velab_expr.specs.declared.fault.Rule.TheVariants.{Kind}
 use Rattle.velab_expr.specs.declared.fault.ElabFault.{ElabFault}
 use Rattle.velab_expr.specs.declared.scope.Meaning.{Meaning}
 use Rattle.velab_expr.specs.declared.scope.Meaning.TheVariants.{Variable, Parameter, Event, Instance}
-use Rattle.velab_expr.specs.Answers.{◌>>=◌}
 use Rattle.velab_expr.specs.FirstWords.{first_argument}
 use Rattle.velab_expr.specs.Scopes.{Scope, meaning_of, lower_variable, lower_event}
 use Rattle.velab_expr.specs.Symbols.{behind_item}
@@ -23,8 +21,8 @@ use Rattle.velab_expr.specs.Written.{lower_target}
 use Rattle.velab_expr.specs.Selections.{lower_selection}
 use Rattle.velab_process.specs.Waits.{edge_of, term_by, lower_term, lower_further, lower_control}
 use Rattle.velab_process.specs.Prints.{lower_argument, lower_arguments, lower_line}
-use Rattle.velab_process.specs.Statements.{Table, Lowered, LoweredBranches, with_places_before, with_branches_before, lower_amount, lower_own_amount, lower_assignment, lower_task, lower_label, lower_labels, lower_statement, lower_all, lower_branch, lower_branches}
-use Rattle.velab_process.specs.Processes.{ProcessTree, procedural, continuous, Processes, with_begins_before, lower_drive, lower_process, lower_processes, process_trees_by, lower_items}
+use Rattle.velab_process.specs.Statements.{Table, Lowered, with_places_before, lower_amount, lower_own_amount, lower_assignment, lower_task, lower_label, lower_labels, lower_statement, lower_all, lower_branch, lower_branches}
+use Rattle.velab_process.specs.Processes.{ProcessTree, procedural, continuous, Processes, with_begins_before, lower_process, lower_processes, process_trees_by, lower_items}
 use Rattle.velab_process.specs.Connections.{only_name, lower_input, lower_output, lower_connection, lower_join, lower_joins}
 use Rattle.elaboration_law.proofs.ToldLemmas.{Tells, is_local, then_tells, found_tells}
 use Rattle.elaboration_law.proofs.ExpressionRules.{variable_tells, event_tells, expression_tells, target_tells, selection_tells}

@@ -4,7 +4,7 @@ use Rattle.vast.specs.NumberedWords.{Word}
 use Rattle.velab_expr.specs.declared.fault.Rule.{Rule}
 use Rattle.velab_expr.specs.declared.fault.Rule.TheVariants.{Top, Doubled, Unknown, Drivers, Ports, Width, Constant, Depth, TooMany, Kind}
 use Rattle.velab_expr.specs.declared.fault.ElabFault.{ElabFault}
-use Rattle.velab_expr.specs.Answers.{◌>>=◌, refused, required, provided, found}
+use Rattle.velab_expr.specs.Answers.{◌>>=◌, required, provided, found}
 use Rattle.vhierarchy.specs.Instances.{barring}
 
 -- a fault in it is of one of these rules
