@@ -47,7 +47,7 @@ count_in Processes one = length (connected one) + length (flat_map process_trees
 count_in Instances one = 1
 count_in NamedEvents one = length (flat_map events_by one.unit.items)
 
--- all instances together have too many
+-- The top and all instances below it have too many together. Down to 16 levels they are counted: deeper ones are E308.
 pub record HasTooMany (modules : SourceTree) (top : Option Text) : Type 0 where
   pub what : Counted
   pub unit : ModuleTree

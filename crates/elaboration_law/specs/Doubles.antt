@@ -30,16 +30,20 @@ variable_paths_in one = map (λ word. one.path ++ 46 ∷ word.letters) (declared
 abbrev pub path_in : Instance → List Text
 path_in one = one.path ∷ []
 
--- 4.11, 12.5, 12.7: a name stands for one thing
+-- 4.11, 12.7: a name is declared once. Twice are the names
 pub data IsDeclaredTwice (modules : SourceTree) (top : Option Text) : Type 0 where
-  -- two modules have one name
+  -- of two modules;
   module_twice : has_double (letters_of (module_names modules)) ≡ true → IsDeclaredTwice modules top
-  -- in a module of the hierarchy
-  name_twice : (levels : ℕ) (one : Instance) → StandsAt modules top levels one → has_double (names_in_module one.unit) ≡ true → IsDeclaredTwice modules top
-  -- in the head of a module that an item of the hierarchy has instances of
+  -- of two things in a module of the hierarchy;
+  name_twice : (levels : ℕ) (one : Instance) → StandsAt modules top levels one → has_double (names_in_module one.unit) ≡ true →
+      IsDeclaredTwice modules top
+  -- in the head of a module that an item of the hierarchy instantiates;
   head_twice : (levels : ℕ) (one : Instance) (name : Word) (overrides : Option ConnectionsTree) (list : List InstanceTree) (child : ModuleTree) →
-      StandsAt modules top levels one → Contains one.unit.items (instances name overrides list) → module_of modules name.letters ≡ Some child →
-      has_head_twice child ≡ true → IsDeclaredTwice modules top
-  -- of two variables, or of two instances, the names in the hierarchy are alike
-  variable_twice : (m : ModuleTree) → top_of modules top ≡ Some m → has_double (flat_map variable_paths_in (listed 16 modules (top_instance m))) ≡ true → IsDeclaredTwice modules top
-  path_twice : (m : ModuleTree) → top_of modules top ≡ Some m → has_double (flat_map path_in (listed 16 modules (top_instance m))) ≡ true → IsDeclaredTwice modules top
+      StandsAt modules top levels one → Contains one.unit.items (instances name overrides list) →
+      module_of modules name.letters ≡ Some child → has_head_twice child ≡ true → IsDeclaredTwice modules top
+  -- of two variables in the hierarchy (12.5);
+  variable_twice : (m : ModuleTree) → top_of modules top ≡ Some m →
+      has_double (flat_map variable_paths_in (listed 16 modules (top_instance m))) ≡ true → IsDeclaredTwice modules top
+  -- of two instances in it
+  path_twice : (m : ModuleTree) → top_of modules top ≡ Some m →
+      has_double (flat_map path_in (listed 16 modules (top_instance m))) ≡ true → IsDeclaredTwice modules top

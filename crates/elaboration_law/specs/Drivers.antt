@@ -18,7 +18,8 @@ driven_by_outputs one = driven_outputs one.connections (ports_of one.unit)
 -- drive (6.1), and what the outputs of the instances in it do.
 abbrev pub driven_in : SourceTree → Instance → List Word
 driven_in modules one =
-    (driven_inside one.connections (ports_of one.unit) ++ flat_map drivers_by one.unit.items) ++ flat_map driven_by_outputs (instances_in modules one)
+    (driven_inside one.connections (ports_of one.unit) ++ flat_map drivers_by one.unit.items)
+    ++ flat_map driven_by_outputs (instances_in modules one)
 
 -- the nets among them (4.2.1)
 abbrev pub driven_nets : SourceTree → Instance → List Word

@@ -43,7 +43,8 @@ instances_in modules one = flat_map (instances_by modules one.path) one.unit.ite
 -- the other instance stands so many levels below this one
 abbrev pub StandsBelow : SourceTree → ℕ → Instance → Instance → Type 0
 StandsBelow modules zero one other = one ≡ other
-StandsBelow modules (suc levels) one other = (child : Instance) × Contains (instances_in modules one) child × StandsBelow modules levels child other
+StandsBelow modules (suc levels) one other =
+    (child : Instance) × Contains (instances_in modules one) child × StandsBelow modules levels child other
 
 -- 12.1.1: the top goes by the name of its module, and nothing is connected to it
 abbrev pub top_instance : ModuleTree → Instance
