@@ -12,6 +12,7 @@ use Rattle.vdesign.specs.Design.{Design, Variable}
 use Rattle.vmodules.specs.Names.{first_again}
 use Rattle.vmodules.specs.Hierarchy.{top_of}
 use Rattle.vmodules.specs.Ports.{ports_of}
+use Rattle.vexpr_parse.proofs.Turning.{le_so}
 use Rattle.velab_expr.specs.declared.fault.Rule.{Rule}
 use Rattle.velab_expr.specs.declared.fault.Rule.TheVariants.{Drivers, Depth, TooMany}
 use Rattle.velab_expr.specs.declared.fault.ElabFault.{ElabFault}
@@ -33,7 +34,7 @@ use Rattle.elaboration_law.proofs.StepLemmas.{same_value, then_ok, then_err, bar
 use Rattle.elaboration_law.proofs.HierarchyLemmas.{instance_of, instance_at, children_are, Own, OwnFault, in_names, in_instances, in_own, opened_ok, opened_err, below, Told, in_modules, in_top, in_hierarchy, in_design, all_elaborated, fault_told}
 use Rattle.elaboration_law.proofs.OwnLemmas.{dotted, own_steps, own_named}
 use Rattle.elaboration_law.proofs.GatherLemmas.{Gathers, gathered, top_gathered}
-use Rattle.elaboration_law.proofs.CountRules.{le_of, gt_of, own_processes_counted, names_counted, ManyNames, many_names, many_instances}
+use Rattle.elaboration_law.proofs.CountRules.{gt_of, own_processes_counted, names_counted, ManyNames, many_names, many_instances}
 use Rattle.elaboration_law.proofs.NameLemmas.{or_some}
 use Rattle.elaboration_law.proofs.DepthLemmas.{one_top}
 
@@ -82,12 +83,12 @@ module _ (modules : SourceTree) (part : Part) (context : Context) (own : Own mod
   few_own Processes =
       let s = own_steps modules part context own in
       let whole = ap (held Processes) s.whole_is in
-      let few = le_of (length (part.begins ++ s.processes.begins)) 256 s.few_processes in
+      let few = le_so (length (part.begins ++ s.processes.begins)) 256 s.few_processes in
       omega (arith, whole, few)
   few_own Instances =
       let s = own_steps modules part context own in
       let whole = ap (held Instances) s.whole_is in
-      let few = le_of (length (part.scopes ++ scope_of context own.scope.variables ∷ [])) 1025 s.few_instances in
+      let few = le_so (length (part.scopes ++ scope_of context own.scope.variables ∷ [])) 1025 s.few_instances in
       omega (arith, whole, few)
   few_own NamedEvents =
       let s = own_steps modules part context own in

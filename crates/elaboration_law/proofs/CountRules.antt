@@ -13,6 +13,7 @@ use Rattle.vmodules.specs.Names.{is_declared, first_again}
 use Rattle.vmodules.specs.Hierarchy.{module_of}
 use Rattle.vmodules.specs.Ports.{Port, ports_of}
 use Rattle.vmodules.specs.Connected.{NamedConnection, value_for}
+use Rattle.vexpr_parse.proofs.Turning.{le_so}
 use Rattle.velab_expr.specs.declared.fault.Rule.TheVariants.{Top, Doubled, TooMany}
 use Rattle.velab_expr.specs.declared.fault.ElabFault.{ElabFault}
 use Rattle.velab_expr.specs.declared.scope.Meaning.{Meaning}
@@ -34,14 +35,8 @@ use Rattle.elaboration_law.proofs.ModuleRules.{lower_parameter_tells, list_tells
 use Rattle.elaboration_law.proofs.StepLemmas.{same_value, then_ok, then_err, provided_ok, provided_err, required_ok, required_err, barring_ok, barring_err}
 use Rattle.elaboration_law.proofs.HierarchyLemmas.{instance_of, instance_at, by_is}
 
-pub le_of : (a b : ℕ) → nat_le a b ≡ true → a ≤ b
-le_of a b e = grind (arith, nat_tests)
-
 pub gt_of : (a b : ℕ) → nat_le a b ≡ false → b < a
 gt_of a b e = grind (arith, nat_tests)
-
-lt_of : (a b : ℕ) → nat_lt a b ≡ true → a < b
-lt_of a b e = grind (arith, nat_tests)
 
 ge_of : (a b : ℕ) → nat_lt a b ≡ false → b ≤ a
 ge_of a b e = grind (arith, nat_tests)
@@ -126,7 +121,9 @@ module _ (overrides : Overrides) where
   few_meaning : (scope : Scope) (one : Symbol) (meaning : Meaning) → lower_meaning overrides scope one ≡ Ok meaning → scope.events ≤ 4294967295 → scope.events + events_in one ≤ 4294967295
   few_meaning scope (parameter_symbol type setting) meaning is few = omega (arith, few)
   few_meaning scope (event_symbol name) meaning is few =
-      let less = lt_of scope.events 4294967295 (required_ok (nat_lt scope.events 4294967295) TooMany (Some name) (Event scope.events) meaning is).0 in omega (arith, less)
+      let test = (required_ok (nat_lt scope.events 4294967295) TooMany (Some name) (Event scope.events) meaning is).0 in
+      let less : scope.events < 4294967295 = grind (arith, nat_tests) in
+      omega (arith, less)
   few_meaning scope (instance_symbol name) meaning is few = omega (arith, few)
 
   pub few_symbols : (scope next : Scope) (list : List Symbol) → add_symbols overrides scope list ≡ Ok next → scope.events ≤ 4294967295 → next.events ≤ 4294967295
@@ -313,8 +310,8 @@ module _ (part : Part) (context : Context) where
       let few = provided_ok fewer TooMany (Some context.name) counted scope again.1 in
       let inner = provided_ok (nat_le part.events 4294967295) TooMany (Some context.name) (item_scope (base_of part context) context.unit) scope few.1 in
       record {
-        few_variables = le_of (length part.variables + length (declared_names context.unit)) 1024 few.0;
-        few_events = scope_few (base_of part context) context.unit scope inner.1 (le_of part.events 4294967295 inner.0);
+        few_variables = le_so (length part.variables + length (declared_names context.unit)) 1024 few.0;
+        few_events = scope_few (base_of part context) context.unit scope inner.1 (le_so part.events 4294967295 inner.0);
         events_are = scope_counted (base_of part context) context.unit scope inner.1;
       }
 

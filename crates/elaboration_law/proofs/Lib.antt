@@ -14,3 +14,4 @@ pub mod NameRules
 pub mod NameLemmas
 pub mod CountRules
 pub mod CountLemmas
+pub mod TopLemmas

@@ -4,3 +4,4 @@ pub mod Depths
 pub mod Drivers
 pub mod Doubles
 pub mod Counts
+pub mod Tops

@@ -8,11 +8,13 @@ ghost use Rattle.elaboration_law.specs.Depths.{IsTooDeep};
 ghost use Rattle.elaboration_law.specs.Counts.{HasTooMany};
 ghost use Rattle.elaboration_law.specs.Doubles.{IsDeclaredTwice};
 ghost use Rattle.elaboration_law.specs.Drivers.{HasTwoDrivers};
+ghost use Rattle.elaboration_law.specs.Tops.{LacksModule};
 ghost use Rattle.velab_expr.specs.declared.fault.Rule.TheVariants as rule;
 
 /// The law of the rules of elaboration, which does nothing. Each clause is about one rule: a text that has a design doesn't break
 /// it, and one that is refused under it does.
 pub fn elaboration_rules()
+    ensures tops { IsMeant rule.Top LacksModule }
     ensures names { IsMeant rule.Doubled IsDeclaredTwice }
     ensures drivers { IsMeant rule.Drivers HasTwoDrivers }
     ensures depth { IsMeant rule.Depth IsTooDeep }
