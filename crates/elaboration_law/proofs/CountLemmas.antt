@@ -27,7 +27,7 @@ use Rattle.vhierarchy.specs.Instances.{Instantiation, driven_by, scope_drivers_b
 use Rattle.elaboration_law.specs.Hierarchy.{Instance, instances_in, top_instance, listed}
 use Rattle.elaboration_law.specs.Laws.{IsMeant}
 use Rattle.elaboration_law.specs.Counts.{Counted, Variables, Processes, Instances, NamedEvents, limit, count_in, HasTooMany}
-use Rattle.elaboration_law.proofs.ToldLemmas.{is_local, untold, untold_fault}
+use Rattle.elaboration_law.proofs.ToldLemmas.{is_local, is_of_connections, untold, untold_fault}
 use Rattle.elaboration_law.proofs.ModuleRules.{is_of_paths, local_paths, undriven_tell, own_processes_tell}
 use Rattle.elaboration_law.proofs.DesignRules.{table_tells, kind_broken, flaw_broken, broken_paths_tell}
 use Rattle.elaboration_law.proofs.StepLemmas.{same_value, then_ok, then_err, barring_err, few_err}
@@ -189,7 +189,7 @@ module _ (modules : SourceTree) (fault : ElabFault) (rule : fault.rule ≡ TooMa
           ⊎ ((processes : Made) × (lower_own_processes context (ports_of context.unit) scope part.table ≡ Ok processes) × (few_enough context.name (with_own context scope part variables processes) ≡ Err fault)) →
           Exceeds part (instance_at context ∷ list)
       behind_variables variables (inl err) =
-          absurd (untold is_local (lower_own_processes context (ports_of context.unit) scope part.table) fault TooMany (own_processes_tell context (ports_of context.unit) children scope part) refl err rule)
+          absurd (untold is_of_connections (lower_own_processes context (ports_of context.unit) scope part.table) fault TooMany (own_processes_tell context (ports_of context.unit) children scope part) refl err rule)
       behind_variables variables (inr (processes, ok, err)) = more_of variables processes ok (few_err context.name (with_own context scope part variables processes) fault err).0
 
       own_steps_exceed : (lower_own_variables context (ports_of context.unit) children scope ≡ Err fault)

@@ -30,7 +30,7 @@ use Rattle.velab_process.specs.Connections.{lower_connection, lower_join, lower_
 use Rattle.vhierarchy.specs.Instances.{barring, Instantiation, lower_list, named_again, lower_instances_of, lower_instances_by, lower_instances, Part, Context, base_of, lower_names, lower_own_processes}
 use Rattle.elaboration_law.specs.Hierarchy.{instance_by, instances_of, instances_by}
 use Rattle.elaboration_law.specs.Counts.{connected, events_by}
-use Rattle.elaboration_law.proofs.ToldLemmas.{is_local, untold}
+use Rattle.elaboration_law.proofs.ToldLemmas.{is_local, is_of_connections, untold}
 use Rattle.elaboration_law.proofs.ModuleRules.{lower_parameter_tells, list_tells}
 use Rattle.elaboration_law.proofs.StepLemmas.{same_value, then_ok, then_err, provided_ok, provided_err, required_ok, required_err, barring_ok, barring_err}
 use Rattle.elaboration_law.proofs.HierarchyLemmas.{instance_of, instance_at, by_is}
@@ -347,7 +347,7 @@ module _ (modules : SourceTree) (path : Text) (fault : ElabFault) (rule : fault.
     where
       again : ((w : Word) × (named_again m ≡ Some w) × (fault.rule ≡ Doubled)) ⊎ ((named_again m ≡ None) × (lower_list m known overrides list ≡ Err fault)) → ⊥
       again (inl (w, is, other)) = cc
-      again (inr (none, err)) = untold is_local (lower_list m known overrides list) fault TooMany (list_tells m known overrides list) refl err rule
+      again (inr (none, err)) = untold is_of_connections (lower_list m known overrides list) fault TooMany (list_tells m known overrides list) refl err rule
 
       by : ((nat_le (before + length list) 1024 ≡ false) × (fault.rule ≡ TooMany)) ⊎ ((nat_le (before + length list) 1024 ≡ true) × (barring (named_again m) Doubled (lower_list m known overrides list) ≡ Err fault)) →
           1024 < before + length (instances_of path (Some m) list)

@@ -19,7 +19,7 @@ use Rattle.vhierarchy.specs.Instances.{Instantiation, driven_inside, driven_outs
 use Rattle.elaboration_law.specs.Hierarchy.{Instance, StandsBelow, top_instance}
 use Rattle.elaboration_law.specs.Laws.{IsMeant}
 use Rattle.elaboration_law.specs.Drivers.{driven_by_outputs, driven_nets, HasTwoDrivers}
-use Rattle.elaboration_law.proofs.ToldLemmas.{is_local, untold, untold_fault}
+use Rattle.elaboration_law.proofs.ToldLemmas.{is_local, is_of_connections, untold, untold_fault}
 use Rattle.elaboration_law.proofs.ModuleRules.{is_of_names, local_names, is_of_instances, names_tell, instances_tell, undriven_tell, own_processes_tell}
 use Rattle.elaboration_law.proofs.DesignRules.{design_tells}
 use Rattle.elaboration_law.proofs.StepLemmas.{then_ok, then_err, barring_ok, barring_err, few_rule}
@@ -59,7 +59,7 @@ module _ (modules : SourceTree) (context : Context) (scope : Scope) (children : 
         (lower_own_processes context (ports_of context.unit) scope part.table ≡ Err fault)
         ⊎ ((processes : Processes) × (lower_own_processes context (ports_of context.unit) scope part.table ≡ Ok processes) × (few_enough context.name (with_own context scope part variables processes) ≡ Err fault)) → ⊥
     behind_variables variables (inl err) =
-        untold is_local (lower_own_processes context (ports_of context.unit) scope part.table) fault Drivers (own_processes_tell context (ports_of context.unit) children scope part) refl err rule
+        untold is_of_connections (lower_own_processes context (ports_of context.unit) scope part.table) fault Drivers (own_processes_tell context (ports_of context.unit) children scope part) refl err rule
     behind_variables variables (inr (processes, ok, err)) = absurd (few_rule context.name (with_own context scope part variables processes) fault err rule)
 
     driven_again : (lower_own_variables context (ports_of context.unit) children scope ≡ Err fault)

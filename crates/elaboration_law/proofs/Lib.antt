@@ -15,3 +15,4 @@ pub mod NameLemmas
 pub mod CountRules
 pub mod CountLemmas
 pub mod TopLemmas
+pub mod MisfitLemmas

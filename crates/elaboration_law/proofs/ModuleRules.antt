@@ -22,7 +22,7 @@ use Rattle.velab_declaration.specs.Variables.{port_names, declared_names, ScopeD
 use Rattle.velab_process.specs.Connections.{lower_joins}
 use Rattle.velab_process.specs.Processes.{lower_items}
 use Rattle.vhierarchy.specs.Instances.{barring, Instantiation, instantiation_by, lower_instance, lower_list, named_again, lower_instances_of, lower_instances_by, lower_instances, Part, Context, base_of, lower_names, lower_own_processes, with_own, few_enough, driven_by, scope_drivers_by, lower_own_variables, lower_own}
-use Rattle.elaboration_law.proofs.ToldLemmas.{Tells, is_local, wider, then_tells, required_tells, provided_tells, barring_tells}
+use Rattle.elaboration_law.proofs.ToldLemmas.{Tells, is_local, is_of_connections, local_connections, wider, then_tells, required_tells, provided_tells, barring_tells}
 use Rattle.elaboration_law.proofs.ExpressionRules.{constant_tells, bounds_tell}
 use Rattle.elaboration_law.proofs.StatementRules.{items_tell, joins_tell}
 
@@ -32,7 +32,7 @@ is_of_meaning Top = false
 is_of_meaning Doubled = false
 is_of_meaning Unknown = true
 is_of_meaning Drivers = false
-is_of_meaning Ports = true
+is_of_meaning Ports = false
 is_of_meaning Width = true
 is_of_meaning Constant = true
 is_of_meaning Depth = false
@@ -45,7 +45,7 @@ is_of_names Top = false
 is_of_names Doubled = true
 is_of_names Unknown = true
 is_of_names Drivers = false
-is_of_names Ports = true
+is_of_names Ports = false
 is_of_names Width = true
 is_of_names Constant = true
 is_of_names Depth = false
@@ -83,7 +83,7 @@ local_own Top e = absurd cc
 local_own Doubled e = absurd cc
 local_own Unknown e = refl
 local_own Drivers e = refl
-local_own Ports e = refl
+local_own Ports e = absurd cc
 local_own Width e = refl
 local_own Constant e = refl
 local_own Depth e = absurd cc
@@ -96,7 +96,7 @@ is_of_paths Top = false
 is_of_paths Doubled = true
 is_of_paths Unknown = true
 is_of_paths Drivers = false
-is_of_paths Ports = true
+is_of_paths Ports = false
 is_of_paths Width = true
 is_of_paths Constant = true
 is_of_paths Depth = false
@@ -108,7 +108,7 @@ local_paths Top e = absurd cc
 local_paths Doubled e = refl
 local_paths Unknown e = refl
 local_paths Drivers e = absurd cc
-local_paths Ports e = refl
+local_paths Ports e = absurd cc
 local_paths Width e = refl
 local_paths Constant e = refl
 local_paths Depth e = absurd cc
@@ -120,7 +120,7 @@ local_meaning Top e = absurd cc
 local_meaning Doubled e = absurd cc
 local_meaning Unknown e = refl
 local_meaning Drivers e = absurd cc
-local_meaning Ports e = refl
+local_meaning Ports e = absurd cc
 local_meaning Width e = refl
 local_meaning Constant e = refl
 local_meaning Depth e = absurd cc
@@ -132,7 +132,7 @@ meaning_names Top e = absurd cc
 meaning_names Doubled e = absurd cc
 meaning_names Unknown e = refl
 meaning_names Drivers e = absurd cc
-meaning_names Ports e = refl
+meaning_names Ports e = absurd cc
 meaning_names Width e = refl
 meaning_names Constant e = refl
 meaning_names Depth e = absurd cc
@@ -144,7 +144,7 @@ local_names Top e = absurd cc
 local_names Doubled e = refl
 local_names Unknown e = refl
 local_names Drivers e = absurd cc
-local_names Ports e = refl
+local_names Ports e = absurd cc
 local_names Width e = refl
 local_names Constant e = refl
 local_names Depth e = absurd cc
@@ -156,12 +156,36 @@ names_instances Top e = refl
 names_instances Doubled e = refl
 names_instances Unknown e = refl
 names_instances Drivers e = absurd cc
-names_instances Ports e = refl
+names_instances Ports e = absurd cc
 names_instances Width e = refl
 names_instances Constant e = refl
 names_instances Depth e = absurd cc
 names_instances TooMany e = refl
 names_instances Kind e = refl
+
+pub connections_instances : (rule : Rule) → is_of_connections rule ≡ true → is_of_instances rule ≡ true
+connections_instances Top e = refl
+connections_instances Doubled e = refl
+connections_instances Unknown e = refl
+connections_instances Drivers e = absurd cc
+connections_instances Ports e = refl
+connections_instances Width e = refl
+connections_instances Constant e = refl
+connections_instances Depth e = absurd cc
+connections_instances TooMany e = refl
+connections_instances Kind e = refl
+
+connections_own : (rule : Rule) → is_of_connections rule ≡ true → is_of_own rule ≡ true
+connections_own Top e = absurd cc
+connections_own Doubled e = absurd cc
+connections_own Unknown e = refl
+connections_own Drivers e = refl
+connections_own Ports e = refl
+connections_own Width e = refl
+connections_own Constant e = refl
+connections_own Depth e = absurd cc
+connections_own TooMany e = refl
+connections_own Kind e = refl
 
 -- ---- parameters
 
@@ -209,20 +233,17 @@ names_tell part context =
 
 -- ---- instances
 
-instance_tells : (child : ModuleTree) (known : ℕ) (overrides : Option ConnectionsTree) (one : InstanceTree) → Tells is_local (lower_instance child known overrides one)
+instance_tells : (child : ModuleTree) (known : ℕ) (overrides : Option ConnectionsTree) (one : InstanceTree) → Tells is_of_connections (lower_instance child known overrides one)
 instance_tells child known overrides one =
     let word = misfit one.name (letters_of (port_names child)) one.connections in
     let made : Result Instantiation ElabFault = Ok (instantiation_by child known overrides one) in
-    barring_tells is_local (misfit_if one.name (letters_of (open_names child)) overrides) Ports (barring word Ports made) refl (barring_tells is_local word Ports made refl tt)
+    barring_tells is_of_connections (misfit_if one.name (letters_of (open_names child)) overrides) Ports (barring word Ports made) refl (barring_tells is_of_connections word Ports made refl tt)
 
-pub list_tells : (child : ModuleTree) (known : ℕ) (overrides : Option ConnectionsTree) (list : List InstanceTree) → Tells is_local (lower_list child known overrides list)
+pub list_tells : (child : ModuleTree) (known : ℕ) (overrides : Option ConnectionsTree) (list : List InstanceTree) → Tells is_of_connections (lower_list child known overrides list)
 list_tells child known overrides [] = tt
 list_tells child known overrides (one ∷ more) =
-    then_tells is_local (lower_instance child known overrides one) _ (instance_tells child known overrides one) (λ front.
-    then_tells is_local (lower_list child known overrides more) _ (list_tells child known overrides more) (λ others. tt))
-
-pub local_instances : (rule : Rule) → is_local rule ≡ true → is_of_instances rule ≡ true
-local_instances rule e = names_instances rule (local_names rule e)
+    then_tells is_of_connections (lower_instance child known overrides one) _ (instance_tells child known overrides one) (λ front.
+    then_tells is_of_connections (lower_list child known overrides more) _ (list_tells child known overrides more) (λ others. tt))
 
 of_tells : (name : Word) (before known : ℕ) (child : Option ModuleTree) (overrides : Option ConnectionsTree) (list : List InstanceTree) →
     Tells is_of_instances (lower_instances_of name before known child overrides list)
@@ -230,7 +251,7 @@ of_tells name before known None overrides list = refl
 of_tells name before known (Some child) overrides list =
     let all = lower_list child known overrides list in
     provided_tells is_of_instances (nat_le (before + length list) 1024) TooMany (Some name) (barring (named_again child) Doubled all) refl
-    (barring_tells is_of_instances (named_again child) Doubled all refl (wider is_local is_of_instances local_instances all (list_tells child known overrides list)))
+    (barring_tells is_of_instances (named_again child) Doubled all refl (wider is_of_connections is_of_instances connections_instances all (list_tells child known overrides list)))
 
 by_tells : (modules : SourceTree) (before known : ℕ) (item : ItemTree) → Tells is_of_instances (lower_instances_by modules before known item)
 by_tells modules before known (parameters local type settings) = tt
@@ -285,11 +306,11 @@ module _ (context : Context) (ports : List Port) (children : List Instantiation)
       then_tells is_local (lower_ports drivers scope ports) _ (ports_tell drivers scope ports) (λ front.
       then_tells is_local (lower_variables drivers scope context.unit.items) _ (variables_tell drivers scope context.unit.items) (λ others. tt))
 
-  pub own_processes_tell : (part : Part) → Tells is_local (lower_own_processes context ports scope part.table)
+  pub own_processes_tell : (part : Part) → Tells is_of_connections (lower_own_processes context ports scope part.table)
   own_processes_tell part =
-      then_tells is_local (lower_joins context.name context.overrides.scope scope context.connections part.table ports) _
+      then_tells is_of_connections (lower_joins context.name context.overrides.scope scope context.connections part.table ports) _
       (joins_tell context.name context.overrides.scope scope context.connections part.table ports) (λ joins.
-      then_tells is_local (lower_items scope joins.table context.unit.items) _ (items_tell scope joins.table context.unit.items) (λ processes. tt))
+      then_tells is_of_connections (lower_items scope joins.table context.unit.items) _ (wider is_local is_of_connections local_connections (lower_items scope joins.table context.unit.items) (items_tell scope joins.table context.unit.items)) (λ processes. tt))
 
   pub few_tells : (part : Part) → Tells is_of_own (few_enough context.name part)
   few_tells part =
@@ -301,5 +322,5 @@ module _ (context : Context) (ports : List Port) (children : List Instantiation)
       then_tells is_of_own (lower_own_variables context ports children scope) _
       (barring_tells is_of_own (first_again (driven_by context ports children scope)) Drivers _ refl (wider is_local is_of_own local_own _ undriven_tell)) (λ variables.
       then_tells is_of_own (lower_own_processes context ports scope part.table) _
-      (wider is_local is_of_own local_own (lower_own_processes context ports scope part.table) (own_processes_tell part)) (λ processes.
+      (wider is_of_connections is_of_own connections_own (lower_own_processes context ports scope part.table) (own_processes_tell part)) (λ processes.
       few_tells (with_own context scope part variables processes)))

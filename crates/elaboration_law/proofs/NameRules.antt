@@ -21,7 +21,7 @@ use Rattle.velab_declaration.specs.Parameters.{Overrides, Base, lower_meaning, w
 use Rattle.velab_declaration.specs.Variables.{port_names, declared_names}
 use Rattle.vhierarchy.specs.Instances.{barring, Instantiation, lower_list, named_again, lower_instances_of, lower_instances_by, lower_instances, Part, Context, base_of, lower_names}
 use Rattle.elaboration_law.specs.Doubles.{other_names, names_in_module, has_head_twice}
-use Rattle.elaboration_law.proofs.ToldLemmas.{is_local, untold}
+use Rattle.elaboration_law.proofs.ToldLemmas.{is_local, is_of_connections, untold}
 use Rattle.elaboration_law.proofs.ModuleRules.{is_of_meaning, meaning_tells, list_tells}
 use Rattle.elaboration_law.proofs.StepLemmas.{same_value, then_ok, then_err, provided_ok, provided_err, required_ok, required_err, barring_ok, barring_err, contains_first, contains_more, contains_none}
 use Rattle.elaboration_law.proofs.DoubleLemmas.{none_twice, one_twice, twice_among}
@@ -246,7 +246,7 @@ module _ (modules : SourceTree) where
       where
         again : ((w : Word) × (named_again m ≡ Some w) × (fault.rule ≡ Doubled)) ⊎ ((named_again m ≡ None) × (lower_list m known overrides list ≡ Err fault)) → has_head_twice m ≡ true
         again (inl (w, is, same)) = head_again m w is
-        again (inr (none, err)) = absurd (untold is_local (lower_list m known overrides list) fault Doubled (list_tells m known overrides list) refl err rule)
+        again (inr (none, err)) = absurd (untold is_of_connections (lower_list m known overrides list) fault Doubled (list_tells m known overrides list) refl err rule)
 
         counted_again : ((nat_le (before + length list) 1024 ≡ false) × (fault.rule ≡ TooMany)) ⊎ ((nat_le (before + length list) 1024 ≡ true) × (barring (named_again m) Doubled (lower_list m known overrides list) ≡ Err fault)) →
             has_head_twice m ≡ true

@@ -9,6 +9,7 @@ use Rattle.vmodules.specs.Connected.{NamedConnection, value_for}
 use Rattle.vdesign.specs.declared.action.Edge.{Edge}
 use Rattle.vdesign.specs.declared.action.Edge.TheVariants.{Any, Rise, Fall}
 use Rattle.format_text.specs.Pieces.{pieces_of}
+use Rattle.velab_expr.specs.declared.fault.Rule.{Rule}
 use Rattle.velab_expr.specs.declared.fault.Rule.TheVariants.{Kind}
 use Rattle.velab_expr.specs.declared.fault.ElabFault.{ElabFault}
 use Rattle.velab_expr.specs.declared.scope.Meaning.{Meaning}
@@ -24,7 +25,7 @@ use Rattle.velab_process.specs.Prints.{lower_argument, lower_arguments, lower_li
 use Rattle.velab_process.specs.Statements.{Table, Lowered, with_places_before, lower_amount, lower_own_amount, lower_assignment, lower_task, lower_label, lower_labels, lower_statement, lower_all, lower_branch, lower_branches}
 use Rattle.velab_process.specs.Processes.{ProcessTree, procedural, continuous, Processes, with_begins_before, lower_process, lower_processes, process_trees_by, lower_items}
 use Rattle.velab_process.specs.Connections.{only_name, lower_input, lower_output, lower_connection, lower_join, lower_joins}
-use Rattle.elaboration_law.proofs.ToldLemmas.{Tells, is_local, then_tells, found_tells}
+use Rattle.elaboration_law.proofs.ToldLemmas.{Tells, is_local, is_of_connections, local_connections, wider, then_tells, found_tells}
 use Rattle.elaboration_law.proofs.ExpressionRules.{variable_tells, event_tells, expression_tells, target_tells, selection_tells}
 
 -- ---- waits
@@ -174,50 +175,51 @@ process_tells scope table (continuous name value) =
     then_tells is_local (lower_variable scope name) _ (variable_tells scope name) (λ net.
     then_tells is_local (lower_expression scope value) _ (expression_tells scope value) (λ e. tt))
 
-begun_tells : (before : List (List ℕ)) (a : Result Processes ElabFault) → Tells is_local a → Tells is_local (with_begins_before before a)
-begun_tells before a h = then_tells is_local a _ h (λ processes. tt)
+begun_tells : (rules : Rule → Bool) (before : List (List ℕ)) (a : Result Processes ElabFault) → Tells rules a → Tells rules (with_begins_before before a)
+begun_tells rules before a h = then_tells rules a _ h (λ processes. tt)
 
 processes_tell : (scope : Scope) (table : Table) (list : List ProcessTree) → Tells is_local (lower_processes scope table list)
 processes_tell scope table [] = tt
 processes_tell scope table (process ∷ rest) =
     then_tells is_local (lower_process scope table process) _ (process_tells scope table process) (λ front.
-    begun_tells (front.places ∷ []) (lower_processes scope front.table rest) (processes_tell scope front.table rest))
+    begun_tells is_local (front.places ∷ []) (lower_processes scope front.table rest) (processes_tell scope front.table rest))
 
 pub items_tell : (scope : Scope) (table : Table) (items : List ItemTree) → Tells is_local (lower_items scope table items)
 items_tell scope table [] = tt
 items_tell scope table (item ∷ more) =
     then_tells is_local (lower_processes scope table (process_trees_by item)) _ (processes_tell scope table (process_trees_by item)) (λ front.
-    begun_tells front.begins (lower_items (behind_item scope item) front.table more) (items_tell (behind_item scope item) front.table more))
+    begun_tells is_local front.begins (lower_items (behind_item scope item) front.table more) (items_tell (behind_item scope item) front.table more))
 
 -- ---- connections
 
-output_tells : (whose : Word) (outer inner : Scope) (port : Word) (name : Option Word) → Tells is_local (lower_output whose outer inner port name)
+output_tells : (whose : Word) (outer inner : Scope) (port : Word) (name : Option Word) → Tells is_of_connections (lower_output whose outer inner port name)
 output_tells whose outer inner port None = refl
 output_tells whose outer inner port (Some name) =
-    then_tells is_local (lower_variable outer name) _ (variable_tells outer name) (λ net.
-    then_tells is_local (lower_expression inner (text.name port)) _ (expression_tells inner (text.name port)) (λ e. tt))
+    then_tells is_of_connections (lower_variable outer name) _ (wider is_local is_of_connections local_connections (lower_variable outer name) (variable_tells outer name)) (λ net.
+    then_tells is_of_connections (lower_expression inner (text.name port)) _
+    (wider is_local is_of_connections local_connections (lower_expression inner (text.name port)) (expression_tells inner (text.name port))) (λ e. tt))
 
-input_tells : (outer inner : Scope) (port : Word) (value : text.ExpressionTree) → Tells is_local (lower_input outer inner port value)
+pub input_tells : (outer inner : Scope) (port : Word) (value : text.ExpressionTree) → Tells is_local (lower_input outer inner port value)
 input_tells outer inner port value =
     then_tells is_local (lower_variable inner port) _ (variable_tells inner port) (λ net.
     then_tells is_local (lower_expression outer value) _ (expression_tells outer value) (λ e. tt))
 
-connection_tells : (whose : Word) (outer inner : Scope) (p : Port) (value : text.ExpressionTree) → Tells is_local (lower_connection whose outer inner p value)
+connection_tells : (whose : Word) (outer inner : Scope) (p : Port) (value : text.ExpressionTree) → Tells is_of_connections (lower_connection whose outer inner p value)
 connection_tells whose outer inner p value = by p.output
   where
-    by : (out : Bool) → Tells is_local (if out then lower_output whose outer inner p.name (only_name value) else lower_input outer inner p.name value)
+    by : (out : Bool) → Tells is_of_connections (if out then lower_output whose outer inner p.name (only_name value) else lower_input outer inner p.name value)
     by true = output_tells whose outer inner p.name (only_name value)
-    by false = input_tells outer inner p.name value
+    by false = wider is_local is_of_connections local_connections (lower_input outer inner p.name value) (input_tells outer inner p.name value)
 
-join_tells : (whose : Word) (outer inner : Scope) (table : Table) (p : Port) (value : Option text.ExpressionTree) → Tells is_local (lower_join whose outer inner table p value)
+join_tells : (whose : Word) (outer inner : Scope) (table : Table) (p : Port) (value : Option text.ExpressionTree) → Tells is_of_connections (lower_join whose outer inner table p value)
 join_tells whose outer inner table p None = tt
 join_tells whose outer inner table p (Some value) =
-    then_tells is_local (lower_connection whose outer inner p value) _ (connection_tells whose outer inner p value) (λ action. tt)
+    then_tells is_of_connections (lower_connection whose outer inner p value) _ (connection_tells whose outer inner p value) (λ action. tt)
 
 pub joins_tell : (whose : Word) (outer inner : Scope) (connections : List NamedConnection) (table : Table) (ports : List Port) →
-    Tells is_local (lower_joins whose outer inner connections table ports)
+    Tells is_of_connections (lower_joins whose outer inner connections table ports)
 joins_tell whose outer inner connections table [] = tt
 joins_tell whose outer inner connections table (p ∷ more) =
     let value = value_for connections p.name.letters in
-    then_tells is_local (lower_join whose outer inner table p value) _ (join_tells whose outer inner table p value) (λ front.
-    begun_tells front.begins (lower_joins whose outer inner connections front.table more) (joins_tell whose outer inner connections front.table more))
+    then_tells is_of_connections (lower_join whose outer inner table p value) _ (join_tells whose outer inner table p value) (λ front.
+    begun_tells is_of_connections front.begins (lower_joins whose outer inner connections front.table more) (joins_tell whose outer inner connections front.table more))

@@ -1,5 +1,5 @@
 -- Which rules an answer can tell.
-use Rattle.std.proofs.Common.{◌≡◌, Bool, true, false, Option, Some, None, Result, Ok, Err, sym, ap, ◌∙◌, true≢false}
+use Rattle.std.proofs.Common.{◌≡◌, Bool, true, false, Option, Some, None, Result, Ok, Err, refl, sym, ap, ◌∙◌, true≢false}
 use Rattle.vast.specs.NumberedWords.{Word}
 use Rattle.velab_expr.specs.declared.fault.Rule.{Rule}
 use Rattle.velab_expr.specs.declared.fault.Rule.TheVariants.{Top, Doubled, Unknown, Drivers, Ports, Width, Constant, Depth, TooMany, Kind}
@@ -18,12 +18,37 @@ is_local Top = false
 is_local Doubled = false
 is_local Unknown = true
 is_local Drivers = false
-is_local Ports = true
+is_local Ports = false
 is_local Width = true
 is_local Constant = true
 is_local Depth = false
 is_local TooMany = false
 is_local Kind = true
+
+-- and those that connections can
+abbrev pub is_of_connections : Rule → Bool
+is_of_connections Top = false
+is_of_connections Doubled = false
+is_of_connections Unknown = true
+is_of_connections Drivers = false
+is_of_connections Ports = true
+is_of_connections Width = true
+is_of_connections Constant = true
+is_of_connections Depth = false
+is_of_connections TooMany = false
+is_of_connections Kind = true
+
+pub local_connections : (rule : Rule) → is_local rule ≡ true → is_of_connections rule ≡ true
+local_connections Top e = absurd cc
+local_connections Doubled e = absurd cc
+local_connections Unknown e = refl
+local_connections Drivers e = absurd cc
+local_connections Ports e = absurd cc
+local_connections Width e = refl
+local_connections Constant e = refl
+local_connections Depth e = absurd cc
+local_connections TooMany e = absurd cc
+local_connections Kind e = refl
 
 -- a rule that isn't one of them isn't told
 pub untold : {A : Type 0} (rules : Rule → Bool) (a : Result A ElabFault) (fault : ElabFault) (rule : Rule) → Tells rules a → rules rule ≡ false → a ≡ Err fault → fault.rule ≡ rule → ⊥

@@ -16,7 +16,7 @@ use Rattle.vhierarchy.specs.Instances.{barring, Instantiation, lower_list, named
 use Rattle.elaboration_law.specs.Hierarchy.{Instance, StandsBelow, top_instance}
 use Rattle.elaboration_law.specs.Laws.{IsMeant}
 use Rattle.elaboration_law.specs.Tops.{LacksModule, no_top, no_module}
-use Rattle.elaboration_law.proofs.ToldLemmas.{is_local, untold, untold_fault}
+use Rattle.elaboration_law.proofs.ToldLemmas.{is_local, is_of_connections, untold, untold_fault}
 use Rattle.elaboration_law.proofs.ModuleRules.{is_of_names, local_names, is_of_own, names_tell, list_tells, own_tells}
 use Rattle.elaboration_law.proofs.DesignRules.{design_tells}
 use Rattle.elaboration_law.proofs.StepLemmas.{then_ok, then_err, provided_err, barring_err, contains_first, contains_more, contains_none}
@@ -59,7 +59,7 @@ module _ (modules : SourceTree) where
       where
         again : ((w : Word) × (named_again m ≡ Some w) × (fault.rule ≡ Doubled)) ⊎ ((named_again m ≡ None) × (lower_list m known overrides list ≡ Err fault)) → ⊥
         again (inl (w, is, other)) = cc
-        again (inr (none, err)) = untold is_local (lower_list m known overrides list) fault Top (list_tells m known overrides list) refl err rule
+        again (inr (none, err)) = untold is_of_connections (lower_list m known overrides list) fault Top (list_tells m known overrides list) refl err rule
 
         by : ((nat_le (before + length list) 1024 ≡ false) × (fault.rule ≡ TooMany)) ⊎ ((nat_le (before + length list) 1024 ≡ true) × (barring (named_again m) Doubled (lower_list m known overrides list) ≡ Err fault)) → ⊥
         by (inl (many, other)) = cc

@@ -5,3 +5,4 @@ pub mod Drivers
 pub mod Doubles
 pub mod Counts
 pub mod Tops
+pub mod Misfits
