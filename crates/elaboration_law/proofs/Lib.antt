@@ -4,6 +4,7 @@ pub mod StatementRules
 pub mod ModuleRules
 pub mod StepLemmas
 pub mod HierarchyLemmas
+pub mod ItemLemmas
 pub mod DesignRules
 pub mod DepthLemmas
 pub mod DoubleLemmas

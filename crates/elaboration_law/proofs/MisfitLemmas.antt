@@ -5,7 +5,7 @@ use Rattle.basis.specs.declared.timescale.Timescale.{Timescale}
 use Rattle.vast.specs.Words.{Text}
 use Rattle.vast.specs.NumberedWords.{Word}
 use Rattle.vast.specs.NumberedExpressions as text
-use Rattle.vast.specs.NumberedModules.{ConnectionsTree, InstanceTree, ItemTree, parameters, declaration, events, assignments, initial, always, instances, ModuleTree, SourceTree}
+use Rattle.vast.specs.NumberedModules.{ConnectionsTree, InstanceTree, ItemTree, instances, ModuleTree, SourceTree}
 use Rattle.vdesign.specs.Design.{Design, Variable}
 use Rattle.vdesign.specs.declared.action.Action.{Action}
 use Rattle.vmodules.specs.Names.{letters_of, first_again}
@@ -18,13 +18,12 @@ use Rattle.velab_expr.specs.Rules.{told}
 use Rattle.velab_expr.specs.Answers.{◌>>=◌}
 use Rattle.velab_expr.specs.Scopes.{Scope, lower_variable}
 use Rattle.velab_expr.specs.Resolved.{lower_expression}
-use Rattle.velab_expr.specs.Symbols.{symbols_by}
 use Rattle.velab_declaration.specs.Variables.{port_names, lower_ports, lower_variables}
 use Rattle.velab_process.specs.Statements.{Table}
 use Rattle.velab_process.specs.Processes.{Processes as Made, with_begins_before, lower_items}
 use Rattle.velab_process.specs.Connections.{only_name, lower_input, lower_output, lower_connection, lower_join, lower_joins, one_process}
-use Rattle.vhierarchy.specs.Instances.{barring, Instantiation, instantiation_by, lower_instance, lower_list, named_again, lower_instances_of, lower_instances_by, lower_instances, driven_by, scope_drivers_by, lower_own_variables, lower_own_processes, with_own, few_enough, lower_own, lower_names, Part, Context, broken_design, elaborated}
-use Rattle.elaboration_law.specs.Hierarchy.{Instance, StandsBelow, StandsAt, top_instance}
+use Rattle.vhierarchy.specs.Instances.{barring, Instantiation, instantiation_by, lower_instance, lower_list, named_again, lower_instances_of, lower_instances, driven_by, scope_drivers_by, lower_own_variables, lower_own_processes, with_own, few_enough, lower_names, Part, Context, broken_design, elaborated}
+use Rattle.elaboration_law.specs.Hierarchy.{Instance, StandsBelow, top_instance}
 use Rattle.elaboration_law.specs.Laws.{IsMeant}
 use Rattle.elaboration_law.specs.Misfits.{Misfits, HasMisfit, of_instance, of_output}
 use Rattle.elaboration_law.proofs.ToldLemmas.{is_local, then_tells, untold, untold_fault}
@@ -33,7 +32,8 @@ use Rattle.elaboration_law.proofs.StatementRules.{items_tell, input_tells}
 use Rattle.elaboration_law.proofs.ModuleRules.{is_of_names, local_names, names_tell, undriven_tell}
 use Rattle.elaboration_law.proofs.DesignRules.{design_tells}
 use Rattle.elaboration_law.proofs.StepLemmas.{then_ok, then_err, provided_ok, provided_err, barring_ok, barring_err, few_err, contains_first, contains_more, contains_none}
-use Rattle.elaboration_law.proofs.HierarchyLemmas.{instance_at, OwnFault, in_names, in_instances, in_own, ToldBelow, too_deep, by_own, Told, in_modules, in_top, in_hierarchy, in_design, all_elaborated, fault_told, top_told_below}
+use Rattle.elaboration_law.proofs.ItemLemmas.{item_answered, item_told}
+use Rattle.elaboration_law.proofs.HierarchyLemmas.{instance_at, OwnFault, in_names, in_instances, in_own, ToldBelow, too_deep, by_own, Told, in_modules, in_top, in_hierarchy, in_design, fault_told, top_told_below}
 use Rattle.elaboration_law.proofs.OwnLemmas.{own_steps}
 use Rattle.elaboration_law.proofs.NameLemmas.{was_elaborated}
 
@@ -118,29 +118,9 @@ module _ (modules : SourceTree) where
   all_fit : (before known : ℕ) (items : List ItemTree) (children : List Instantiation) (name : Word) (overrides : Option ConnectionsTree) (list : List InstanceTree) (child : ModuleTree) (made : InstanceTree) (word : Word) →
       lower_instances modules before known items ≡ Ok children → Contains items (instances name overrides list) → module_of modules name.letters ≡ Some child → Contains list made →
       Misfits child overrides made word → ⊥
-  all_fit before known [] children name overrides list child made word is inside there listed m = contains_none (instances name overrides list) inside
-  all_fit before known (item ∷ more) children name overrides list child made word is (zero, lt, same) there listed m =
-      let front = then_ok (lower_instances_by modules before known item)
-          (λ front. lower_instances modules (before + length front) (known + length (symbols_by item)) more >>= λ others. Ok (front ++ others)) children is in
-      of_fits name before known (module_of modules name.letters) overrides list front.0 child made word (sym (ap (λ (t : ItemTree). lower_instances_by modules before known t) same) ∙ front.1) there listed m
-  all_fit before known (item ∷ more) children name overrides list child made word is (suc k, lt, same) there listed m =
-      let front = then_ok (lower_instances_by modules before known item)
-          (λ front. lower_instances modules (before + length front) (known + length (symbols_by item)) more >>= λ others. Ok (front ++ others)) children is in
-      let others = then_ok (lower_instances modules (before + length front.0) (known + length (symbols_by item)) more) (λ others. Ok (front.0 ++ others)) children front.2 in
-      all_fit (before + length front.0) (known + length (symbols_by item)) more others.0 name overrides list child made word others.1 (k, omega (arith, lt), same) there listed m
-
-  -- an item with an instance that doesn't fit
-  record MisfitItem (items : List ItemTree) : Type 0 where
-    pub name : Word
-    pub overrides : Option ConnectionsTree
-    pub list : List InstanceTree
-    pub child : ModuleTree
-    pub made : InstanceTree
-    pub word : Word
-    pub inside : Contains items (instances name overrides list)
-    pub there : module_of modules name.letters ≡ Some child
-    pub listed : Contains list made
-    pub misfits : Misfits child overrides made word
+  all_fit before known items children name overrides list child made word is inside there listed m =
+      let it = item_answered modules before known items children name overrides list is inside in
+      of_fits name it.before it.known (module_of modules name.letters) overrides list it.children child made word it.is there listed m
 
   module _ (fault : ElabFault) (rule : fault.rule ≡ Ports) where
     of_misfit : (name : Word) (before known : ℕ) (found : Option ModuleTree) (overrides : Option ConnectionsTree) (list : List InstanceTree) →
@@ -158,65 +138,6 @@ module _ (modules : SourceTree) where
             MisfitIn m known overrides list
         by (inl (many, other)) = absurd cc
         by (inr (few, err)) = again (barring_err (named_again m) Doubled (lower_list m known overrides list) fault err)
-
-    by_misfit : (before known : ℕ) (item : ItemTree) (more : List ItemTree) → lower_instances_by modules before known item ≡ Err fault → MisfitItem (item ∷ more)
-    by_misfit before known (parameters local type settings) more is = absurd cc
-    by_misfit before known (declaration kind list) more is = absurd cc
-    by_misfit before known (events names) more is = absurd cc
-    by_misfit before known (assignments settings) more is = absurd cc
-    by_misfit before known (initial statement) more is = absurd cc
-    by_misfit before known (always statement) more is = absurd cc
-    by_misfit before known (instances name overrides list) more is =
-        let h = of_misfit name before known (module_of modules name.letters) overrides list is in
-        let m = h.2 in
-        record {
-          name = name;
-          overrides = overrides;
-          list = list;
-          child = h.0;
-          made = m.made;
-          word = m.word;
-          inside = contains_first (instances name overrides list) more;
-          there = h.1;
-          listed = m.inside;
-          misfits = m.misfits;
-        }
-
-    further : (item : ItemTree) (more : List ItemTree) → MisfitItem more → MisfitItem (item ∷ more)
-    further item more h = record {
-      name = h.name;
-      overrides = h.overrides;
-      list = h.list;
-      child = h.child;
-      made = h.made;
-      word = h.word;
-      inside = contains_more item (instances h.name h.overrides h.list) more h.inside;
-      there = h.there;
-      listed = h.listed;
-      misfits = h.misfits;
-    }
-
-    misfit_item : (before known : ℕ) (items : List ItemTree) → lower_instances modules before known items ≡ Err fault → MisfitItem items
-    misfit_item before known [] is = absurd cc
-    misfit_item before known (item ∷ more) is =
-        by (then_err (lower_instances_by modules before known item) (λ front. lower_instances modules (before + length front) (known + length (symbols_by item)) more >>= λ others. Ok (front ++ others)) fault is)
-        (λ front. misfit_item (before + length front) (known + length (symbols_by item)) more)
-      where
-        second : (front : List Instantiation) → (lower_instances modules (before + length front) (known + length (symbols_by item)) more ≡ Err fault → MisfitItem more) →
-            (lower_instances modules (before + length front) (known + length (symbols_by item)) more ≡ Err fault)
-            ⊎ ((others : List Instantiation) × (lower_instances modules (before + length front) (known + length (symbols_by item)) more ≡ Ok others) × (Ok (front ++ others) ≡ Err fault)) →
-            MisfitItem (item ∷ more)
-        second front rest (inl err) = further item more (rest err)
-        second front rest (inr (others, ok, err)) = absurd cc
-
-        by : (lower_instances_by modules before known item ≡ Err fault)
-            ⊎ ((front : List Instantiation) × (lower_instances_by modules before known item ≡ Ok front)
-            × ((lower_instances modules (before + length front) (known + length (symbols_by item)) more >>= λ others. Ok (front ++ others)) ≡ Err fault)) →
-            ((front : List Instantiation) → lower_instances modules (before + length front) (known + length (symbols_by item)) more ≡ Err fault → MisfitItem more) →
-            MisfitItem (item ∷ more)
-        by (inl err) rest = by_misfit before known item more err
-        by (inr (front, ok, err)) rest =
-            second front (rest front) (then_err (lower_instances modules (before + length front) (known + length (symbols_by item)) more) (λ others. Ok (front ++ others)) fault err)
 
 -- ---- outputs
 
@@ -362,8 +283,10 @@ module _ (modules : SourceTree) (top : Option Text) where
       OwnFault modules part context fault → HasMisfit modules top
   own_told fault unit depth part context is_top rule stands (in_names err) = absurd (untold is_of_names (lower_names part context) fault Ports (names_tell part context) refl err rule)
   own_told fault unit depth part context is_top rule stands (in_instances scope names err) =
-      let h = misfit_item modules fault rule 0 scope.known context.unit.items err in
-      of_instance depth (instance_at context) h.name h.overrides h.list h.child h.made h.word (unit, is_top, stands) h.inside h.there h.listed h.misfits
+      let it = item_told modules fault 0 scope.known context.unit.items err in
+      let found = of_misfit modules fault rule it.name it.before it.known (module_of modules it.name.letters) it.overrides it.list it.is in
+      let m = found.2 in
+      of_instance depth (instance_at context) it.name it.overrides it.list found.0 m.made m.word (unit, is_top, stands) it.inside found.1 m.inside m.misfits
   own_told fault unit depth part context is_top rule stands (in_own scope children names wanted err) =
       let u = own_unnamed context children scope part fault rule (then_err (lower_own_variables context (ports_of context.unit) children scope)
           (λ variables. lower_own_processes context (ports_of context.unit) scope part.table >>= λ processes. few_enough context.name (with_own context scope part variables processes)) fault err) in

@@ -1,11 +1,11 @@
 -- The names of a module: where all are known no two are alike, and where one stands again two are.
-use Rattle.std.proofs.Common.{◌≡◌, ℕ, zero, suc, ◌+◌, arith, nat_le, Bool, true, false, not, ◌||◌, List, [], ◌∷◌, ◌++◌, map, length, Option, Some, None, Result, Ok, Err, refl, sym, ap, ◌∙◌, ◌⊎◌, inl, inr, append_assoc}
+use Rattle.std.proofs.Common.{◌≡◌, ℕ, ◌+◌, nat_le, Bool, true, false, not, ◌||◌, List, [], ◌∷◌, ◌++◌, map, length, Option, Some, None, Result, Ok, Err, refl, sym, ap, ◌∙◌, ◌⊎◌, inl, inr, append_assoc}
 use Rattle.std.specs.List.{Contains, flat_map}
 use Rattle.std.specs.Option.{option_or}
 use Rattle.std.proofs.lemmas.List.{map-append, append-nil}
 use Rattle.vast.specs.Words.{Text}
 use Rattle.vast.specs.NumberedWords.{Word}
-use Rattle.vast.specs.NumberedModules.{ConnectionsTree, InstanceTree, ItemTree, parameters, declaration, events, assignments, initial, always, instances, ModuleTree, SourceTree}
+use Rattle.vast.specs.NumberedModules.{ConnectionsTree, InstanceTree, ItemTree, instances, ModuleTree, SourceTree}
 use Rattle.vmodules.specs.Names.{is_declared, has_double, letters_of, first_again}
 use Rattle.vmodules.specs.Hierarchy.{module_of}
 use Rattle.vmodules.specs.Connected.{open_names}
@@ -19,11 +19,12 @@ use Rattle.velab_expr.specs.Scopes.{Scope, at}
 use Rattle.velab_expr.specs.Symbols.{Symbol, name_in, symbols_in_head, symbols_by, valueless_by}
 use Rattle.velab_declaration.specs.Parameters.{Overrides, Base, lower_meaning, with_meaning, add_symbol, add_symbols, first_scope, item_scope}
 use Rattle.velab_declaration.specs.Variables.{port_names, declared_names}
-use Rattle.vhierarchy.specs.Instances.{barring, Instantiation, lower_list, named_again, lower_instances_of, lower_instances_by, lower_instances, Part, Context, base_of, lower_names}
+use Rattle.vhierarchy.specs.Instances.{barring, Instantiation, lower_list, named_again, lower_instances_of, lower_instances, Part, Context, base_of, lower_names}
 use Rattle.elaboration_law.specs.Doubles.{other_names, names_in_module, has_head_twice}
-use Rattle.elaboration_law.proofs.ToldLemmas.{is_local, is_of_connections, untold}
+use Rattle.elaboration_law.proofs.ToldLemmas.{is_of_connections, untold}
 use Rattle.elaboration_law.proofs.ModuleRules.{is_of_meaning, meaning_tells, list_tells}
-use Rattle.elaboration_law.proofs.StepLemmas.{same_value, then_ok, then_err, provided_ok, provided_err, required_ok, required_err, barring_ok, barring_err, contains_first, contains_more, contains_none}
+use Rattle.elaboration_law.proofs.StepLemmas.{same_value, then_ok, then_err, provided_ok, provided_err, required_ok, required_err, barring_ok, barring_err}
+use Rattle.elaboration_law.proofs.ItemLemmas.{item_answered, item_told}
 use Rattle.elaboration_law.proofs.DoubleLemmas.{none_twice, one_twice, twice_among}
 
 -- ---- names that are added
@@ -216,16 +217,9 @@ module _ (modules : SourceTree) where
 
   pub heads_once : (before known : ℕ) (items : List ItemTree) (children : List Instantiation) (name : Word) (overrides : Option ConnectionsTree) (list : List InstanceTree) (child : ModuleTree) →
       lower_instances modules before known items ≡ Ok children → Contains items (instances name overrides list) → module_of modules name.letters ≡ Some child → has_head_twice child ≡ false
-  heads_once before known [] children name overrides list child is inside there = absurd (contains_none (instances name overrides list) inside)
-  heads_once before known (item ∷ more) children name overrides list child is (zero, lt, same) there =
-      let front = then_ok (lower_instances_by modules before known item)
-          (λ front. lower_instances modules (before + length front) (known + length (symbols_by item)) more >>= λ others. Ok (front ++ others)) children is in
-      of_once name before known (module_of modules name.letters) overrides list front.0 child (sym (ap (λ (t : ItemTree). lower_instances_by modules before known t) same) ∙ front.1) there
-  heads_once before known (item ∷ more) children name overrides list child is (suc k, lt, same) there =
-      let front = then_ok (lower_instances_by modules before known item)
-          (λ front. lower_instances modules (before + length front) (known + length (symbols_by item)) more >>= λ others. Ok (front ++ others)) children is in
-      let others = then_ok (lower_instances modules (before + length front.0) (known + length (symbols_by item)) more) (λ others. Ok (front.0 ++ others)) children front.2 in
-      heads_once (before + length front.0) (known + length (symbols_by item)) more others.0 name overrides list child others.1 (k, omega (arith, lt), same) there
+  heads_once before known items children name overrides list child is inside there =
+      let it = item_answered modules before known items children name overrides list is inside in
+      of_once name it.before it.known (module_of modules name.letters) overrides list it.children child it.is there
 
   -- an item that has instances of a module with a head in which a name stands twice
   pub record HeadTwice (items : List ItemTree) : Type 0 where
@@ -253,39 +247,8 @@ module _ (modules : SourceTree) where
         counted_again (inl (many, other)) = absurd cc
         counted_again (inr (holds, err)) = again (barring_err (named_again m) Doubled (lower_list m known overrides list) fault err)
 
-    by_twice : (before known : ℕ) (item : ItemTree) (more : List ItemTree) → lower_instances_by modules before known item ≡ Err fault → HeadTwice (item ∷ more)
-    by_twice before known (parameters local type settings) more is = absurd cc
-    by_twice before known (declaration kind list) more is = absurd cc
-    by_twice before known (events names) more is = absurd cc
-    by_twice before known (assignments settings) more is = absurd cc
-    by_twice before known (initial statement) more is = absurd cc
-    by_twice before known (always statement) more is = absurd cc
-    by_twice before known (instances name overrides list) more is =
-        let h = of_twice name before known (module_of modules name.letters) overrides list is in
-        record { name = name; overrides = overrides; list = list; child = h.0; inside = contains_first (instances name overrides list) more; there = h.1; twice = h.2 }
-
-    further : (item : ItemTree) (more : List ItemTree) → HeadTwice more → HeadTwice (item ∷ more)
-    further item more h = record { name = h.name; overrides = h.overrides; list = h.list; child = h.child;
-        inside = contains_more item (instances h.name h.overrides h.list) more h.inside; there = h.there; twice = h.twice }
-
     pub heads_twice : (before known : ℕ) (items : List ItemTree) → lower_instances modules before known items ≡ Err fault → HeadTwice items
-    heads_twice before known [] is = absurd cc
-    heads_twice before known (item ∷ more) is =
-        by (then_err (lower_instances_by modules before known item) (λ front. lower_instances modules (before + length front) (known + length (symbols_by item)) more >>= λ others. Ok (front ++ others)) fault is)
-        (λ front. heads_twice (before + length front) (known + length (symbols_by item)) more)
-      where
-        second : (front : List Instantiation) → (lower_instances modules (before + length front) (known + length (symbols_by item)) more ≡ Err fault → HeadTwice more) →
-            (lower_instances modules (before + length front) (known + length (symbols_by item)) more ≡ Err fault)
-            ⊎ ((others : List Instantiation) × (lower_instances modules (before + length front) (known + length (symbols_by item)) more ≡ Ok others) × (Ok (front ++ others) ≡ Err fault)) →
-            HeadTwice (item ∷ more)
-        second front rest (inl err) = further item more (rest err)
-        second front rest (inr (others, ok, err)) = absurd cc
-
-        by : (lower_instances_by modules before known item ≡ Err fault)
-            ⊎ ((front : List Instantiation) × (lower_instances_by modules before known item ≡ Ok front)
-            × ((lower_instances modules (before + length front) (known + length (symbols_by item)) more >>= λ others. Ok (front ++ others)) ≡ Err fault)) →
-            ((front : List Instantiation) → lower_instances modules (before + length front) (known + length (symbols_by item)) more ≡ Err fault → HeadTwice more) →
-            HeadTwice (item ∷ more)
-        by (inl err) rest = by_twice before known item more err
-        by (inr (front, ok, err)) rest =
-            second front (rest front) (then_err (lower_instances modules (before + length front) (known + length (symbols_by item)) more) (λ others. Ok (front ++ others)) fault err)
+    heads_twice before known items is =
+        let it = item_told modules fault before known items is in
+        let h = of_twice it.name it.before it.known (module_of modules it.name.letters) it.overrides it.list it.is in
+        record { name = it.name; overrides = it.overrides; list = it.list; child = h.0; inside = it.inside; there = h.1; twice = h.2 }
