@@ -1,5 +1,5 @@
 -- E309: a text that has a design has nothing in too great a number, and one that is refused under the rule has.
-use Rattle.std.proofs.Common.{◌≡◌, ℕ, zero, suc, ◌+◌, ◌<◌, ◌≤◌, arith, nat_le, true, false, Bool, List, [], ◌∷◌, ◌++◌, map, length, Option, Some, None, Result, Ok, Err, refl, ap, subst, ◌⊎◌, inl, inr, length-append}
+use Rattle.std.proofs.Common.{◌≡◌, ℕ, zero, suc, ◌+◌, ◌<◌, ◌≤◌, arith, nat_le, true, false, Bool, List, [], ◌∷◌, ◌++◌, map, length, Option, Some, Result, Ok, Err, refl, ap, subst, ◌⊎◌, inl, inr, length-append}
 use Rattle.std.specs.List.{flat_map, sum_by}
 use Rattle.std.specs.Option.{option_or}
 use Rattle.std.proofs.lemmas.List.{length-map}
@@ -9,30 +9,28 @@ use Rattle.vast.specs.Words.{Text}
 use Rattle.vast.specs.NumberedWords.{Word}
 use Rattle.vast.specs.NumberedModules.{ModuleTree, SourceTree}
 use Rattle.vdesign.specs.Design.{Design, Variable}
-use Rattle.vmodules.specs.Names.{first_again}
 use Rattle.vmodules.specs.Hierarchy.{top_of}
 use Rattle.vmodules.specs.Ports.{ports_of}
 use Rattle.vexpr_parse.proofs.Turning.{le_so}
 use Rattle.velab_expr.specs.declared.fault.Rule.{Rule}
-use Rattle.velab_expr.specs.declared.fault.Rule.TheVariants.{Drivers, Depth, TooMany}
+use Rattle.velab_expr.specs.declared.fault.Rule.TheVariants.{Depth, TooMany}
 use Rattle.velab_expr.specs.declared.fault.ElabFault.{ElabFault}
 use Rattle.velab_expr.specs.Rules.{told, unless}
-use Rattle.velab_expr.specs.Answers.{◌>>=◌}
 use Rattle.velab_expr.specs.Scopes.{Scope}
 use Rattle.velab_declaration.specs.Right.{kind_rule}
 use Rattle.velab_declaration.specs.ActionFlaws.{blank_environment, flaw_rule, table_fault}
-use Rattle.velab_declaration.specs.Variables.{declared_names, lower_ports, lower_variables}
+use Rattle.velab_declaration.specs.Variables.{declared_names}
 use Rattle.velab_process.specs.Processes.{Processes as Made}
-use Rattle.vhierarchy.specs.Instances.{Instantiation, driven_by, scope_drivers_by, scope_of, lower_own_variables, lower_own_processes, with_own, few_enough, child_context, each, elaborate_instance, elaborate_top, nothing, top_context, Part, Context, broken_paths, broken_table, elaborated}
+use Rattle.vhierarchy.specs.Instances.{Instantiation, scope_of, lower_own_processes, with_own, child_context, each, elaborate_instance, elaborate_top, nothing, top_context, Part, Context, broken_paths, broken_table, elaborated}
 use Rattle.elaboration_law.specs.Hierarchy.{Instance, instances_in, top_instance, listed}
 use Rattle.elaboration_law.specs.Laws.{IsMeant}
 use Rattle.elaboration_law.specs.Counts.{Counted, Variables, Processes, Instances, NamedEvents, limit, count_in, HasTooMany}
 use Rattle.elaboration_law.proofs.ToldLemmas.{is_local, is_of_connections, untold, untold_fault}
 use Rattle.elaboration_law.proofs.ModuleRules.{is_of_paths, local_paths, undriven_tell, own_processes_tell}
 use Rattle.elaboration_law.proofs.DesignRules.{table_tells, kind_broken, flaw_broken, broken_paths_tell}
-use Rattle.elaboration_law.proofs.StepLemmas.{same_value, then_ok, then_err, barring_err, few_err}
+use Rattle.elaboration_law.proofs.StepLemmas.{same_value, then_ok, then_err, few_err}
 use Rattle.elaboration_law.proofs.HierarchyLemmas.{instance_of, instance_at, children_are, Own, OwnFault, in_names, in_instances, in_own, opened_ok, opened_err, below, Told, in_modules, in_top, in_hierarchy, in_design, all_elaborated, fault_told}
-use Rattle.elaboration_law.proofs.OwnLemmas.{dotted, own_steps, own_named}
+use Rattle.elaboration_law.proofs.OwnLemmas.{dotted, own_steps, own_named, undriven_variables, OwnTold, net_again, in_variables, in_processes, too_many, own_told}
 use Rattle.elaboration_law.proofs.GatherLemmas.{Gathers, gathered, top_gathered}
 use Rattle.elaboration_law.proofs.CountRules.{gt_of, own_processes_counted, names_counted, ManyNames, many_names, many_instances}
 use Rattle.elaboration_law.proofs.NameLemmas.{or_some}
@@ -175,38 +173,18 @@ module _ (modules : SourceTree) (fault : ElabFault) (rule : fault.rule ≡ TooMa
           let more = gt_of (length (part.scopes ++ scope_of context scope.variables ∷ [])) 1025 many in
           record { what = Instances; many = omega (arith, sum, long, more) }
 
-      abbrev undriven : Result (List Variable) ElabFault
-      undriven =
-          lower_ports (scope_drivers_by context (ports_of context.unit) children scope) scope (ports_of context.unit) >>= λ front.
-          lower_variables (scope_drivers_by context (ports_of context.unit) children scope) scope context.unit.items >>= λ others. Ok (front ++ others)
-
-      in_variables : ((w : Word) × (first_again (driven_by context (ports_of context.unit) children scope) ≡ Some w) × (fault.rule ≡ Drivers)) ⊎ ((first_again (driven_by context (ports_of context.unit) children scope) ≡ None) × (undriven ≡ Err fault)) → ⊥
-      in_variables (inl (w, again, other)) = cc
-      in_variables (inr (none, err)) = untold is_local undriven fault TooMany (undriven_tell context (ports_of context.unit) children scope) refl err rule
-
-      behind_variables : (variables : List Variable) →
-          (lower_own_processes context (ports_of context.unit) scope part.table ≡ Err fault)
-          ⊎ ((processes : Made) × (lower_own_processes context (ports_of context.unit) scope part.table ≡ Ok processes) × (few_enough context.name (with_own context scope part variables processes) ≡ Err fault)) →
-          Exceeds part (instance_at context ∷ list)
-      behind_variables variables (inl err) =
+      own_steps_exceed : OwnTold context children scope part fault → Exceeds part (instance_at context ∷ list)
+      own_steps_exceed (net_again w again other) = absurd cc
+      own_steps_exceed (in_variables err) = absurd (untold is_local (undriven_variables context children scope) fault TooMany (undriven_tell context (ports_of context.unit) children scope) refl err rule)
+      own_steps_exceed (in_processes err) =
           absurd (untold is_of_connections (lower_own_processes context (ports_of context.unit) scope part.table) fault TooMany (own_processes_tell context (ports_of context.unit) children scope part) refl err rule)
-      behind_variables variables (inr (processes, ok, err)) = more_of variables processes ok (few_err context.name (with_own context scope part variables processes) fault err).0
-
-      own_steps_exceed : (lower_own_variables context (ports_of context.unit) children scope ≡ Err fault)
-          ⊎ ((variables : List Variable) × (lower_own_variables context (ports_of context.unit) children scope ≡ Ok variables)
-          × ((lower_own_processes context (ports_of context.unit) scope part.table >>= λ processes. few_enough context.name (with_own context scope part variables processes)) ≡ Err fault)) →
-          Exceeds part (instance_at context ∷ list)
-      own_steps_exceed (inl err) = absurd (in_variables (barring_err (first_again (driven_by context (ports_of context.unit) children scope)) Drivers undriven fault err))
-      own_steps_exceed (inr (variables, ok, err)) =
-          behind_variables variables (then_err (lower_own_processes context (ports_of context.unit) scope part.table) (λ processes. few_enough context.name (with_own context scope part variables processes)) fault err)
+      own_steps_exceed (too_many variables processes ok err) = more_of variables processes ok (few_err context.name (with_own context scope part variables processes) fault err).0
 
     own_exceeds : (levels : ℕ) → OwnFault modules part context fault → Exceeds part (instance_at context ∷ flat_map (listed levels modules) (instances_in modules (instance_at context)))
     own_exceeds levels (in_names err) = more_names (many_names part context fault rule err) (flat_map (listed levels modules) (instances_in modules (instance_at context)))
     own_exceeds levels (in_instances scope names err) = more_instances levels (many_instances modules context.path fault rule 0 scope.known context.unit.items err)
     own_exceeds levels (in_own scope children names wanted err) =
-        own_steps_exceed scope children (flat_map (listed levels modules) (instances_in modules (instance_at context)))
-        (then_err (lower_own_variables context (ports_of context.unit) children scope)
-        (λ variables. lower_own_processes context (ports_of context.unit) scope part.table >>= λ processes. few_enough context.name (with_own context scope part variables processes)) fault err)
+        own_steps_exceed scope children (flat_map (listed levels modules) (instances_in modules (instance_at context))) (own_told context children scope part fault err)
 
   -- what stands before is held, and what stands behind only adds
   before_is : (levels : ℕ) (scope : Scope) (context : Context) (part next : Part) (one : Instantiation) (more : List Instance) → elaborate_instance levels modules part (child_context scope context one) ≡ Ok next →

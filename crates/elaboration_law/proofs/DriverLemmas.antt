@@ -1,5 +1,5 @@
 -- E304: no net of a text that has a design is driven twice, and one of a text that is refused under the rule is.
-use Rattle.std.proofs.Common.{◌≡◌, ℕ, true, false, List, [], ◌∷◌, ◌++◌, map, filter, Option, Some, None, Result, Ok, Err, refl, sym, ap, subst, ◌∙◌, ◌⊎◌, inl, inr, true≢false}
+use Rattle.std.proofs.Common.{◌≡◌, ℕ, true, false, List, [], ◌∷◌, ◌++◌, map, filter, Option, Some, Result, Ok, Err, refl, sym, ap, subst, ◌∙◌, true≢false}
 use Rattle.std.specs.List.{flat_map}
 use Rattle.basis.specs.declared.timescale.Timescale.{Timescale}
 use Rattle.vast.specs.Words.{Text}
@@ -14,7 +14,6 @@ use Rattle.velab_expr.specs.declared.fault.ElabFault.{ElabFault}
 use Rattle.velab_expr.specs.Answers.{◌>>=◌}
 use Rattle.velab_expr.specs.Scopes.{Scope}
 use Rattle.velab_declaration.specs.Variables.{drivers_by, nets_of, lower_ports, lower_variables}
-use Rattle.velab_process.specs.Processes.{Processes}
 use Rattle.vhierarchy.specs.Instances.{Instantiation, driven_inside, driven_outside, driven_by, scope_drivers_by, lower_own_variables, lower_own_processes, with_own, few_enough, lower_own, lower_names, lower_instances, Part, Context, broken_design, elaborated}
 use Rattle.elaboration_law.specs.Hierarchy.{Instance, StandsBelow, top_instance}
 use Rattle.elaboration_law.specs.Laws.{IsMeant}
@@ -22,9 +21,10 @@ use Rattle.elaboration_law.specs.Drivers.{driven_by_outputs, driven_nets, HasTwo
 use Rattle.elaboration_law.proofs.ToldLemmas.{is_local, is_of_connections, untold, untold_fault}
 use Rattle.elaboration_law.proofs.ModuleRules.{is_of_names, local_names, is_of_instances, names_tell, instances_tell, undriven_tell, own_processes_tell}
 use Rattle.elaboration_law.proofs.DesignRules.{design_tells}
-use Rattle.elaboration_law.proofs.StepLemmas.{then_ok, then_err, barring_ok, barring_err, few_rule}
+use Rattle.elaboration_law.proofs.StepLemmas.{then_ok, barring_ok, few_err}
 use Rattle.elaboration_law.proofs.DoubleLemmas.{none_twice, one_twice}
 use Rattle.elaboration_law.proofs.HierarchyLemmas.{instance_of, instance_at, children_are, OwnFault, in_names, in_instances, in_own, ToldBelow, too_deep, by_own, Told, in_modules, in_top, in_hierarchy, in_design, all_elaborated, fault_told, top_elaborated, top_told_below}
+use Rattle.elaboration_law.proofs.OwnLemmas.{undriven_variables, OwnTold, net_again, in_variables, in_processes, too_many, own_told}
 use Rattle.elaboration_law.proofs.DepthLemmas.{one_top}
 
 outputs_are : (path : Text) (children : List Instantiation) → flat_map driven_outside children ≡ flat_map driven_by_outputs (map (instance_of path) children)
@@ -50,37 +50,23 @@ module _ (modules : SourceTree) (context : Context) (scope : Scope) (children : 
       sym (ap (λ (l : List Word). has_double (letters_of l)) driven_are) ∙ none_twice (driven_by context (ports_of context.unit) children scope) once.0
 
   module _ (part : Part) (fault : ElabFault) (rule : fault.rule ≡ Drivers) where
-    again : ((w : Word) × (first_again (driven_by context (ports_of context.unit) children scope) ≡ Some w) × (fault.rule ≡ Drivers)) ⊎ ((first_again (driven_by context (ports_of context.unit) children scope) ≡ None) × (undriven ≡ Err fault)) →
-        has_double (letters_of (driven_nets modules (instance_at context))) ≡ true
-    again (inl (w, is, same)) = sym (ap (λ (l : List Word). has_double (letters_of l)) driven_are) ∙ one_twice (driven_by context (ports_of context.unit) children scope) w is
-    again (inr (none, err)) = absurd (untold is_local undriven fault Drivers (undriven_tell context (ports_of context.unit) children scope) refl err rule)
-
-    behind_variables : (variables : List Variable) →
-        (lower_own_processes context (ports_of context.unit) scope part.table ≡ Err fault)
-        ⊎ ((processes : Processes) × (lower_own_processes context (ports_of context.unit) scope part.table ≡ Ok processes) × (few_enough context.name (with_own context scope part variables processes) ≡ Err fault)) → ⊥
-    behind_variables variables (inl err) =
-        untold is_of_connections (lower_own_processes context (ports_of context.unit) scope part.table) fault Drivers (own_processes_tell context (ports_of context.unit) children scope part) refl err rule
-    behind_variables variables (inr (processes, ok, err)) = absurd (few_rule context.name (with_own context scope part variables processes) fault err rule)
-
-    driven_again : (lower_own_variables context (ports_of context.unit) children scope ≡ Err fault)
-        ⊎ ((variables : List Variable) × (lower_own_variables context (ports_of context.unit) children scope ≡ Ok variables)
-        × ((lower_own_processes context (ports_of context.unit) scope part.table >>= λ processes. few_enough context.name (with_own context scope part variables processes)) ≡ Err fault)) →
-        has_double (letters_of (driven_nets modules (instance_at context))) ≡ true
-    driven_again (inl err) = again (barring_err (first_again (driven_by context (ports_of context.unit) children scope)) Drivers undriven fault err)
-    driven_again (inr (variables, ok, err)) =
-        absurd (behind_variables variables (then_err (lower_own_processes context (ports_of context.unit) scope part.table) (λ processes. few_enough context.name (with_own context scope part variables processes)) fault err))
+    driven_again : OwnTold context children scope part fault → has_double (letters_of (driven_nets modules (instance_at context))) ≡ true
+    driven_again (net_again w is same) = sym (ap (λ (l : List Word). has_double (letters_of l)) driven_are) ∙ one_twice (driven_by context (ports_of context.unit) children scope) w is
+    driven_again (in_variables err) = absurd (untold is_local (undriven_variables context children scope) fault Drivers (undriven_tell context (ports_of context.unit) children scope) refl err rule)
+    driven_again (in_processes err) =
+        absurd (untold is_of_connections (lower_own_processes context (ports_of context.unit) scope part.table) fault Drivers (own_processes_tell context (ports_of context.unit) children scope part) refl err rule)
+    driven_again (too_many variables processes ok err) = absurd (let other = (few_err context.name (with_own context scope part variables processes) fault err).1 in cc)
 
     driven_twice : lower_own context (ports_of context.unit) children scope part ≡ Err fault → has_double (letters_of (driven_nets modules (instance_at context))) ≡ true
-    driven_twice is = driven_again (then_err (lower_own_variables context (ports_of context.unit) children scope)
-        (λ variables. lower_own_processes context (ports_of context.unit) scope part.table >>= λ processes. few_enough context.name (with_own context scope part variables processes)) fault is)
+    driven_twice is = driven_again (own_told context children scope part fault is)
 
 module _ (modules : SourceTree) (top : Option Text) where
-  own_told : (fault : ElabFault) (unit : ModuleTree) (depth : ℕ) (part : Part) (context : Context) → top_of modules top ≡ Some unit → fault.rule ≡ Drivers → StandsBelow modules depth (top_instance unit) (instance_at context) →
+  step_told : (fault : ElabFault) (unit : ModuleTree) (depth : ℕ) (part : Part) (context : Context) → top_of modules top ≡ Some unit → fault.rule ≡ Drivers → StandsBelow modules depth (top_instance unit) (instance_at context) →
       OwnFault modules part context fault → HasTwoDrivers modules top
-  own_told fault unit depth part context is_top rule stands (in_names err) = absurd (untold is_of_names (lower_names part context) fault Drivers (names_tell part context) refl err rule)
-  own_told fault unit depth part context is_top rule stands (in_instances scope names err) =
+  step_told fault unit depth part context is_top rule stands (in_names err) = absurd (untold is_of_names (lower_names part context) fault Drivers (names_tell part context) refl err rule)
+  step_told fault unit depth part context is_top rule stands (in_instances scope names err) =
       absurd (untold is_of_instances (lower_instances modules 0 scope.known context.unit.items) fault Drivers (instances_tell modules 0 scope.known context.unit.items) refl err rule)
-  own_told fault unit depth part context is_top rule stands (in_own scope children names wanted err) = record {
+  step_told fault unit depth part context is_top rule stands (in_own scope children names wanted err) = record {
     levels = depth;
     one = instance_at context;
     stands = (unit, is_top, stands);
@@ -89,7 +75,7 @@ module _ (modules : SourceTree) (top : Option Text) where
 
   below_told : (fault : ElabFault) (unit : ModuleTree) → top_of modules top ≡ Some unit → fault.rule ≡ Drivers → ToldBelow modules 16 (top_instance unit) fault → HasTwoDrivers modules top
   below_told fault unit is_top rule (too_deep one other stands) = absurd cc
-  below_told fault unit is_top rule (by_own depth part context stands own) = own_told fault unit depth part context is_top rule stands own
+  below_told fault unit is_top rule (by_own depth part context stands own) = step_told fault unit depth part context is_top rule stands own
 
   drivers_told : (fault : ElabFault) → fault.rule ≡ Drivers → Told modules top fault → HasTwoDrivers modules top
   drivers_told fault rule (in_modules w again other) = absurd cc

@@ -6,23 +6,23 @@ use Rattle.vast.specs.Words.{Text}
 use Rattle.vast.specs.NumberedWords.{Word}
 use Rattle.vast.specs.NumberedExpressions as text
 use Rattle.vast.specs.NumberedModules.{ConnectionsTree, InstanceTree, ItemTree, instances, ModuleTree, SourceTree}
-use Rattle.vdesign.specs.Design.{Design, Variable}
+use Rattle.vdesign.specs.Design.{Design}
 use Rattle.vdesign.specs.declared.action.Action.{Action}
-use Rattle.vmodules.specs.Names.{letters_of, first_again}
+use Rattle.vmodules.specs.Names.{letters_of}
 use Rattle.vmodules.specs.Hierarchy.{module_of, top_of}
 use Rattle.vmodules.specs.Ports.{Port, ports_of}
 use Rattle.vmodules.specs.Connected.{NamedConnection, open_names, misfit, misfit_if, value_for}
-use Rattle.velab_expr.specs.declared.fault.Rule.TheVariants.{Top, Doubled, Drivers, Ports, TooMany}
+use Rattle.velab_expr.specs.declared.fault.Rule.TheVariants.{Top, Doubled, Ports, TooMany}
 use Rattle.velab_expr.specs.declared.fault.ElabFault.{ElabFault}
 use Rattle.velab_expr.specs.Rules.{told}
 use Rattle.velab_expr.specs.Answers.{◌>>=◌}
 use Rattle.velab_expr.specs.Scopes.{Scope, lower_variable}
 use Rattle.velab_expr.specs.Resolved.{lower_expression}
-use Rattle.velab_declaration.specs.Variables.{port_names, lower_ports, lower_variables}
+use Rattle.velab_declaration.specs.Variables.{port_names}
 use Rattle.velab_process.specs.Statements.{Table}
 use Rattle.velab_process.specs.Processes.{Processes as Made, with_begins_before, lower_items}
 use Rattle.velab_process.specs.Connections.{only_name, lower_input, lower_output, lower_connection, lower_join, lower_joins, one_process}
-use Rattle.vhierarchy.specs.Instances.{barring, Instantiation, instantiation_by, lower_instance, lower_list, named_again, lower_instances_of, lower_instances, driven_by, scope_drivers_by, lower_own_variables, lower_own_processes, with_own, few_enough, lower_names, Part, Context, broken_design, elaborated}
+use Rattle.vhierarchy.specs.Instances.{barring, Instantiation, instantiation_by, lower_instance, lower_list, named_again, lower_instances_of, lower_instances, with_own, lower_names, Part, Context, broken_design, elaborated}
 use Rattle.elaboration_law.specs.Hierarchy.{Instance, StandsBelow, top_instance}
 use Rattle.elaboration_law.specs.Laws.{IsMeant}
 use Rattle.elaboration_law.specs.Misfits.{Misfits, HasMisfit, of_instance, of_output}
@@ -34,7 +34,7 @@ use Rattle.elaboration_law.proofs.DesignRules.{design_tells}
 use Rattle.elaboration_law.proofs.StepLemmas.{then_ok, then_err, provided_ok, provided_err, barring_ok, barring_err, few_err, contains_first, contains_more, contains_none}
 use Rattle.elaboration_law.proofs.ItemLemmas.{item_answered, item_told}
 use Rattle.elaboration_law.proofs.HierarchyLemmas.{instance_at, OwnFault, in_names, in_instances, in_own, ToldBelow, too_deep, by_own, Told, in_modules, in_top, in_hierarchy, in_design, fault_told, top_told_below}
-use Rattle.elaboration_law.proofs.OwnLemmas.{own_steps}
+use Rattle.elaboration_law.proofs.OwnLemmas.{own_steps, undriven_variables, OwnTold, net_again, in_variables, in_processes, too_many, own_told}
 use Rattle.elaboration_law.proofs.NameLemmas.{was_elaborated}
 
 not_both : {A : Type 0} (o : Option A) (x : A) → o ≡ None → o ≡ Some x → ⊥
@@ -242,11 +242,6 @@ module _ (context : Context) (children : List Instantiation) (scope : Scope) (pa
   abbrev Found : Type 0
   Found = Unnamed context.name context.overrides.scope scope context.connections ports
 
-  abbrev undriven : Result (List Variable) ElabFault
-  undriven =
-      lower_ports (scope_drivers_by context ports children scope) scope ports >>= λ front.
-      lower_variables (scope_drivers_by context ports children scope) scope context.unit.items >>= λ others. Ok (front ++ others)
-
   in_joins : (lower_joins context.name context.overrides.scope scope context.connections part.table ports ≡ Err fault)
       ⊎ ((joins : Made) × (lower_joins context.name context.overrides.scope scope context.connections part.table ports ≡ Ok joins) × (with_begins_before joins.begins (lower_items scope joins.table context.unit.items) ≡ Err fault)) →
       Found
@@ -258,43 +253,31 @@ module _ (context : Context) (children : List Instantiation) (scope : Scope) (pa
       by (inl err) = untold is_local (lower_items scope joins.table context.unit.items) fault Ports (items_tell scope joins.table context.unit.items) refl err rule
       by (inr (ps, ok, err)) = cc
 
-  behind_variables : (variables : List Variable) →
-      (lower_own_processes context ports scope part.table ≡ Err fault)
-      ⊎ ((processes : Made) × (lower_own_processes context ports scope part.table ≡ Ok processes) × (few_enough context.name (with_own context scope part variables processes) ≡ Err fault)) → Found
-  behind_variables variables (inl err) =
+  own_unnamed : OwnTold context children scope part fault → Found
+  own_unnamed (net_again w again other) = absurd cc
+  own_unnamed (in_variables err) = absurd (untold is_local (undriven_variables context children scope) fault Ports (undriven_tell context ports children scope) refl err rule)
+  own_unnamed (in_processes err) =
       in_joins (then_err (lower_joins context.name context.overrides.scope scope context.connections part.table ports) (λ joins. with_begins_before joins.begins (lower_items scope joins.table context.unit.items)) fault err)
-  behind_variables variables (inr (processes, ok, err)) = absurd (let other = (few_err context.name (with_own context scope part variables processes) fault err).1 in cc)
-
-  in_variables : ((w : Word) × (first_again (driven_by context ports children scope) ≡ Some w) × (fault.rule ≡ Drivers)) ⊎ ((first_again (driven_by context ports children scope) ≡ None) × (undriven ≡ Err fault)) → ⊥
-  in_variables (inl (w, again, other)) = cc
-  in_variables (inr (none, err)) = untold is_local undriven fault Ports (undriven_tell context ports children scope) refl err rule
-
-  own_unnamed : (lower_own_variables context ports children scope ≡ Err fault)
-      ⊎ ((variables : List Variable) × (lower_own_variables context ports children scope ≡ Ok variables)
-      × ((lower_own_processes context ports scope part.table >>= λ processes. few_enough context.name (with_own context scope part variables processes)) ≡ Err fault)) → Found
-  own_unnamed (inl err) = absurd (in_variables (barring_err (first_again (driven_by context ports children scope)) Drivers undriven fault err))
-  own_unnamed (inr (variables, ok, err)) =
-      behind_variables variables (then_err (lower_own_processes context ports scope part.table) (λ processes. few_enough context.name (with_own context scope part variables processes)) fault err)
+  own_unnamed (too_many variables processes ok err) = absurd (let other = (few_err context.name (with_own context scope part variables processes) fault err).1 in cc)
 
 -- ---- the law
 
 module _ (modules : SourceTree) (top : Option Text) where
-  own_told : (fault : ElabFault) (unit : ModuleTree) (depth : ℕ) (part : Part) (context : Context) → top_of modules top ≡ Some unit → fault.rule ≡ Ports → StandsBelow modules depth (top_instance unit) (instance_at context) →
+  step_told : (fault : ElabFault) (unit : ModuleTree) (depth : ℕ) (part : Part) (context : Context) → top_of modules top ≡ Some unit → fault.rule ≡ Ports → StandsBelow modules depth (top_instance unit) (instance_at context) →
       OwnFault modules part context fault → HasMisfit modules top
-  own_told fault unit depth part context is_top rule stands (in_names err) = absurd (untold is_of_names (lower_names part context) fault Ports (names_tell part context) refl err rule)
-  own_told fault unit depth part context is_top rule stands (in_instances scope names err) =
+  step_told fault unit depth part context is_top rule stands (in_names err) = absurd (untold is_of_names (lower_names part context) fault Ports (names_tell part context) refl err rule)
+  step_told fault unit depth part context is_top rule stands (in_instances scope names err) =
       let it = item_told modules fault 0 scope.known context.unit.items err in
       let found = of_misfit modules fault rule it.name it.before it.known (module_of modules it.name.letters) it.overrides it.list it.is in
       let m = found.2 in
       of_instance depth (instance_at context) it.name it.overrides it.list found.0 m.made m.word (unit, is_top, stands) it.inside found.1 m.inside m.misfits
-  own_told fault unit depth part context is_top rule stands (in_own scope children names wanted err) =
-      let u = own_unnamed context children scope part fault rule (then_err (lower_own_variables context (ports_of context.unit) children scope)
-          (λ variables. lower_own_processes context (ports_of context.unit) scope part.table >>= λ processes. few_enough context.name (with_own context scope part variables processes)) fault err) in
+  step_told fault unit depth part context is_top rule stands (in_own scope children names wanted err) =
+      let u = own_unnamed context children scope part fault rule (own_told context children scope part fault err) in
       of_output depth (instance_at context) u.p u.value (unit, is_top, stands) u.inside u.out u.there u.none
 
   below_told : (fault : ElabFault) (unit : ModuleTree) → top_of modules top ≡ Some unit → fault.rule ≡ Ports → ToldBelow modules 16 (top_instance unit) fault → HasMisfit modules top
   below_told fault unit is_top rule (too_deep one other stands) = absurd cc
-  below_told fault unit is_top rule (by_own depth part context stands own) = own_told fault unit depth part context is_top rule stands own
+  below_told fault unit is_top rule (by_own depth part context stands own) = step_told fault unit depth part context is_top rule stands own
 
   misfits_told : (fault : ElabFault) → fault.rule ≡ Ports → Told modules top fault → HasMisfit modules top
   misfits_told fault rule (in_modules w again other) = absurd cc

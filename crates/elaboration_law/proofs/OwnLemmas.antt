@@ -1,5 +1,5 @@
 -- What an instance's own steps add to a design.
-use Rattle.std.proofs.Common.{◌≡◌, nat_le, true, List, [], ◌∷◌, ◌++◌, map, length, Some, Result, Ok, refl, sym, ap, ◌∙◌}
+use Rattle.std.proofs.Common.{◌≡◌, nat_le, true, List, [], ◌∷◌, ◌++◌, map, length, Some, Result, Ok, ◌⊎◌, inl, inr, Err, None, refl, sym, ap, ◌∙◌}
 use Rattle.std.specs.List.{flat_map}
 use Rattle.std.proofs.lemmas.List.{map-append}
 use Rattle.vast.specs.Words.{Text}
@@ -18,8 +18,8 @@ use Rattle.velab_expr.specs.Symbols.{behind_item}
 use Rattle.velab_declaration.specs.declared.variable.Form.{Form}
 use Rattle.velab_declaration.specs.Variables.{Declaration, all_declared, declared_as, declarations_of, ScopeDrivers, variable_in, variables_in, form_of, lower_kind, lower_declaration, lower_variables, lower_port, lower_ports, declared_names, port_names, declarations}
 use Rattle.velab_process.specs.Processes.{Processes}
-use Rattle.vhierarchy.specs.Instances.{driven_by, scope_drivers_by, lower_own_variables, lower_own_processes, with_own, few_enough, scope_of, Part, Context}
-use Rattle.elaboration_law.proofs.StepLemmas.{same_value, then_ok, provided_ok, required_ok, barring_ok}
+use Rattle.vhierarchy.specs.Instances.{lower_own, Instantiation, driven_by, scope_drivers_by, lower_own_variables, lower_own_processes, with_own, few_enough, scope_of, Part, Context}
+use Rattle.elaboration_law.proofs.StepLemmas.{same_value, then_ok, then_err, provided_ok, required_ok, barring_ok, barring_err}
 use Rattle.elaboration_law.proofs.HierarchyLemmas.{Own}
 
 -- the steps behind the names and the instances
@@ -135,3 +135,44 @@ module _ (modules : SourceTree) (part : Part) (context : Context) (own : Own mod
       ∙ map-append (λ (v : Variable). v.name) s.ports_are s.others_are
       ∙ (λ i. ports_named d own.scope (ports_of context.unit) s.ports_are s.ports_made i ++ variables_named d own.scope context.unit.items s.others_are s.others_made i)
       ∙ sym (map-append (dotted context.path) (port_names context.unit) (map (λ (d : Declaration). d.name) (declarations context.unit)))
+
+-- ---- where its own tells a fault
+
+module _ (context : Context) (children : List Instantiation) (scope : Scope) where
+  -- its variables, whatever drives them
+  abbrev pub undriven_variables : Result (List Variable) ElabFault
+  undriven_variables =
+      lower_ports (scope_drivers_by context (ports_of context.unit) children scope) scope (ports_of context.unit) >>= λ front.
+      lower_variables (scope_drivers_by context (ports_of context.unit) children scope) scope context.unit.items >>= λ others. Ok (front ++ others)
+
+  pub data OwnTold (part : Part) (fault : ElabFault) : Type 0 where
+    net_again : (w : Word) → first_again (driven_by context (ports_of context.unit) children scope) ≡ Some w → fault.rule ≡ Drivers → OwnTold part fault
+    in_variables : undriven_variables ≡ Err fault → OwnTold part fault
+    in_processes : lower_own_processes context (ports_of context.unit) scope part.table ≡ Err fault → OwnTold part fault
+    too_many : (vs : List Variable) (processes : Processes) → lower_own_processes context (ports_of context.unit) scope part.table ≡ Ok processes →
+        few_enough context.name (with_own context scope part vs processes) ≡ Err fault → OwnTold part fault
+
+  module _ (part : Part) (fault : ElabFault) where
+    abbrev behind_variables : List Variable → Result Part ElabFault
+    behind_variables vs = lower_own_processes context (ports_of context.unit) scope part.table >>= λ processes. few_enough context.name (with_own context scope part vs processes)
+
+    told_by_variables : ((w : Word) × (first_again (driven_by context (ports_of context.unit) children scope) ≡ Some w) × (fault.rule ≡ Drivers))
+        ⊎ ((first_again (driven_by context (ports_of context.unit) children scope) ≡ None) × (undriven_variables ≡ Err fault)) → OwnTold part fault
+    told_by_variables (inl (w, again, rule)) = net_again w again rule
+    told_by_variables (inr (none, err)) = in_variables err
+
+    told_behind : (vs : List Variable) →
+        (lower_own_processes context (ports_of context.unit) scope part.table ≡ Err fault)
+        ⊎ ((processes : Processes) × (lower_own_processes context (ports_of context.unit) scope part.table ≡ Ok processes) × (few_enough context.name (with_own context scope part vs processes) ≡ Err fault)) →
+        OwnTold part fault
+    told_behind vs (inl err) = in_processes err
+    told_behind vs (inr (processes, ok, err)) = too_many vs processes ok err
+
+    told_by_own : (lower_own_variables context (ports_of context.unit) children scope ≡ Err fault)
+        ⊎ ((vs : List Variable) × (lower_own_variables context (ports_of context.unit) children scope ≡ Ok vs) × (behind_variables vs ≡ Err fault)) → OwnTold part fault
+    told_by_own (inl err) = told_by_variables (barring_err (first_again (driven_by context (ports_of context.unit) children scope)) Drivers undriven_variables fault err)
+    told_by_own (inr (vs, ok, err)) =
+        told_behind vs (then_err (lower_own_processes context (ports_of context.unit) scope part.table) (λ processes. few_enough context.name (with_own context scope part vs processes)) fault err)
+
+    pub own_told : lower_own context (ports_of context.unit) children scope part ≡ Err fault → OwnTold part fault
+    own_told is = told_by_own (then_err (lower_own_variables context (ports_of context.unit) children scope) behind_variables fault is)

@@ -3,7 +3,7 @@ use Rattle.std.proofs.Common.{◌≡◌, zero, suc, nat_le, Bool, true, false, L
 use Rattle.std.specs.List.{Contains}
 use Rattle.vast.specs.NumberedWords.{Word}
 use Rattle.velab_expr.specs.declared.fault.Rule.{Rule}
-use Rattle.velab_expr.specs.declared.fault.Rule.TheVariants.{Drivers, TooMany}
+use Rattle.velab_expr.specs.declared.fault.Rule.TheVariants.{TooMany}
 use Rattle.velab_expr.specs.declared.fault.ElabFault.{ElabFault}
 use Rattle.velab_expr.specs.Rules.{told}
 use Rattle.velab_expr.specs.Answers.{◌>>=◌, provided, required, found}
@@ -99,6 +99,3 @@ few_err name part fault is = by (provided_err (nat_le (length part.begins) 256) 
         ((nat_le (length part.begins) 256 ≡ false) ⊎ (nat_le (length part.scopes) 1025 ≡ false)) × (fault.rule ≡ TooMany)
     by (inl (many, rule)) = (inl many, rule)
     by (inr (few, err)) = let h = required_err (nat_le (length part.scopes) 1025) TooMany (Some name) part fault err in (inr h.0, h.1)
-
-pub few_rule : (name : Word) (part : Part) (fault : ElabFault) → few_enough name part ≡ Err fault → fault.rule ≡ Drivers → ⊥
-few_rule name part fault is rule = let h = (few_err name part fault is).1 in cc
