@@ -92,7 +92,7 @@ pub own_processes_counted : (context : Context) (scope : Scope) (table : Table) 
     length made.begins ≡ length (connected (instance_at context)) + length (flat_map process_trees_by context.unit.items)
 own_processes_counted context scope table made is =
     let joins = then_ok (lower_joins context.name context.overrides.scope scope context.connections table (ports_of context.unit))
-        (λ joins. with_begins_before joins.begins (lower_items scope joins.table context.unit.items)) made is in
+    (λ joins. with_begins_before joins.begins (lower_items scope joins.table context.unit.items)) made is in
     let items = then_ok (lower_items scope joins.0.table context.unit.items) (λ ps. Ok (record { table = ps.table; begins = joins.0.begins ++ ps.begins })) made joins.2 in
     ap (λ (m : Made). length m.begins) (sym (same_value (record { table = items.0.table; begins = joins.0.begins ++ items.0.begins }) made items.2))
     ∙ length-append joins.0.begins items.0.begins
@@ -240,7 +240,7 @@ module _ (base : Base) (m : ModuleTree) where
   scope_counted : (scope : Scope) → item_scope base m ≡ Ok scope → scope.events ≡ base.events + declared_events
   scope_counted scope is =
       let one = then_ok (add_symbols base.overrides (first_scope base m) valueless)
-          (λ s. add_symbols base.overrides s head >>= λ h. add_symbols base.overrides h whole >>= λ w. Ok (at w h.known)) scope is in
+      (λ s. add_symbols base.overrides s head >>= λ h. add_symbols base.overrides h whole >>= λ w. Ok (at w h.known)) scope is in
       let two = then_ok (add_symbols base.overrides one.0 head) (λ h. add_symbols base.overrides h whole >>= λ w. Ok (at w h.known)) scope one.2 in
       let three = then_ok (add_symbols base.overrides two.0 whole) (λ w. Ok (at w two.0.known)) scope two.2 in
       let same = ap (λ (s : Scope). s.events) (same_value (at three.0 two.0.known) scope three.2) in
@@ -255,7 +255,7 @@ module _ (base : Base) (m : ModuleTree) where
   scope_few : (scope : Scope) → item_scope base m ≡ Ok scope → base.events ≤ 4294967295 → scope.events ≤ 4294967295
   scope_few scope is few =
       let one = then_ok (add_symbols base.overrides (first_scope base m) valueless)
-          (λ s. add_symbols base.overrides s head >>= λ h. add_symbols base.overrides h whole >>= λ w. Ok (at w h.known)) scope is in
+      (λ s. add_symbols base.overrides s head >>= λ h. add_symbols base.overrides h whole >>= λ w. Ok (at w h.known)) scope is in
       let two = then_ok (add_symbols base.overrides one.0 head) (λ h. add_symbols base.overrides h whole >>= λ w. Ok (at w h.known)) scope one.2 in
       let three = then_ok (add_symbols base.overrides two.0 whole) (λ w. Ok (at w two.0.known)) scope two.2 in
       let same = ap (λ (s : Scope). s.events) (same_value (at three.0 two.0.known) scope three.2) in
@@ -371,7 +371,7 @@ module _ (modules : SourceTree) (path : Text) (fault : ElabFault) (rule : fault.
   many_instances before known (item ∷ more) is =
       let long = length-append (instances_by modules path item) (flat_map (instances_by modules path) more) in
       let many = by (then_err (lower_instances_by modules before known item) (λ front. lower_instances modules (before + length front) (known + length (symbols_by item)) more >>= λ others. Ok (front ++ others)) fault is)
-          (λ front. many_instances (before + length front) (known + length (symbols_by item)) more) in
+      (λ front. many_instances (before + length front) (known + length (symbols_by item)) more) in
       omega (arith, long, many)
     where
       second : (front : List Instantiation) → length front ≡ length (instances_by modules path item) → (lower_instances modules (before + length front) (known + length (symbols_by item)) more ≡ Err fault → 1024 < (before + length front) + length (flat_map (instances_by modules path) more)) →

@@ -45,7 +45,7 @@ module _ (modules : SourceTree) (context : Context) (scope : Scope) (children : 
   driven_once : (part whole : Part) → lower_own context (ports_of context.unit) children scope part ≡ Ok whole → has_double (letters_of (driven_nets modules (instance_at context))) ≡ false
   driven_once part whole is =
       let variables = then_ok (lower_own_variables context (ports_of context.unit) children scope)
-          (λ variables. lower_own_processes context (ports_of context.unit) scope part.table >>= λ processes. few_enough context.name (with_own context scope part variables processes)) whole is in
+      (λ variables. lower_own_processes context (ports_of context.unit) scope part.table >>= λ processes. few_enough context.name (with_own context scope part variables processes)) whole is in
       let once = barring_ok (first_again (driven_by context (ports_of context.unit) children scope)) Drivers undriven variables.0 variables.1 in
       sym (ap (λ (l : List Word). has_double (letters_of l)) driven_are) ∙ none_twice (driven_by context (ports_of context.unit) children scope) once.0
 

@@ -64,7 +64,7 @@ module _ (modules : SourceTree) (path : Text) where
   children_are before known [] children is = sym (ap (map (instance_of path)) (same_value [] children is))
   children_are before known (item ∷ more) children is =
       let front = then_ok (lower_instances_by modules before known item)
-          (λ front. lower_instances modules (before + length front) (known + length (symbols_by item)) more >>= λ others. Ok (front ++ others)) children is in
+      (λ front. lower_instances modules (before + length front) (known + length (symbols_by item)) more >>= λ others. Ok (front ++ others)) children is in
       let others = then_ok (lower_instances modules (before + length front.0) (known + length (symbols_by item)) more) (λ others. Ok (front.0 ++ others)) children front.2 in
       sym (ap (map (instance_of path)) (same_value (front.0 ++ others.0) children others.2))
       ∙ map-append (instance_of path) front.0 others.0
@@ -178,7 +178,7 @@ module _ (modules : SourceTree) where
       let it = mapped_contains (instance_of context.path) child own.children listed in
       let step = each_ok (λ so_far c. elaborate_instance levels modules so_far (child_context own.scope context c)) own.whole all own.children it.0 opened.1 it.1 in
       let found = elaborated_below depth levels step.0 (child_context own.scope context it.0) step.1 one step.2
-          (subst (λ (i : Instance). StandsBelow modules depth i one) (sym it.2) stands) in
+      (subst (λ (i : Instance). StandsBelow modules depth i one) (sym it.2) stands) in
       (found.0, omega (arith, found.1), found.2)
 
 -- where a fault is told: by an instance, or by one that is too deep
@@ -203,7 +203,7 @@ module _ (modules : SourceTree) (fault : ElabFault) where
       by (inr (own, err)) rest =
           let at = each_err (λ so_far c. elaborate_instance levels modules so_far (child_context own.scope context c)) own.whole own.children fault err in
           let inside = subst (λ (l : List Instance). Contains l (instance_of context.path at.1)) (children_are modules context.path 0 own.scope.known context.unit.items own.children own.instances_are)
-              (contains_mapped (instance_of context.path) at.1 own.children at.2) in
+          (contains_mapped (instance_of context.path) at.1 own.children at.2) in
           one_deeper levels (instance_at context) (instance_of context.path at.1) inside (rest at.0 own.scope at.1 at.3)
 
 -- ---- a text

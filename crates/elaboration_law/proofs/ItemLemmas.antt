@@ -33,11 +33,11 @@ module _ (modules : SourceTree) where
   item_answered before known [] children name overrides list is inside = absurd (contains_none (instances name overrides list) inside)
   item_answered before known (item ∷ more) children name overrides list is (zero, lt, same) =
       let front = then_ok (lower_instances_by modules before known item)
-          (λ front. lower_instances modules (before + length front) (known + length (symbols_by item)) more >>= λ others. Ok (front ++ others)) children is in
+      (λ front. lower_instances modules (before + length front) (known + length (symbols_by item)) more >>= λ others. Ok (front ++ others)) children is in
       record { before = before; known = known; children = front.0; is = sym (ap (λ (t : ItemTree). lower_instances_by modules before known t) same) ∙ front.1 }
   item_answered before known (item ∷ more) children name overrides list is (suc k, lt, same) =
       let front = then_ok (lower_instances_by modules before known item)
-          (λ front. lower_instances modules (before + length front) (known + length (symbols_by item)) more >>= λ others. Ok (front ++ others)) children is in
+      (λ front. lower_instances modules (before + length front) (known + length (symbols_by item)) more >>= λ others. Ok (front ++ others)) children is in
       let others = then_ok (lower_instances modules (before + length front.0) (known + length (symbols_by item)) more) (λ others. Ok (front.0 ++ others)) children front.2 in
       item_answered (before + length front.0) (known + length (symbols_by item)) more others.0 name overrides list others.1 (k, omega (arith, lt), same)
 

@@ -165,12 +165,12 @@ module _ (whose : Word) (outer inner : Scope) where
   outputs_named connections table [] made p value is inside out there none = contains_none p inside
   outputs_named connections table (first ∷ more) made p value is (zero, lt, same) out there none =
       let front = then_ok (lower_join whose outer inner table first (value_for connections first.name.letters))
-          (λ front. with_begins_before front.begins (lower_joins whose outer inner connections front.table more)) made is in
+      (λ front. with_begins_before front.begins (lower_joins whose outer inner connections front.table more)) made is in
       join_named table first (value_for connections first.name.letters) value front.0 front.1
       (ap (λ (q : Port). value_for connections q.name.letters) same ∙ there) (ap (λ (q : Port). q.output) same ∙ out) none
   outputs_named connections table (first ∷ more) made p value is (suc k, lt, same) out there none =
       let front = then_ok (lower_join whose outer inner table first (value_for connections first.name.letters))
-          (λ front. with_begins_before front.begins (lower_joins whose outer inner connections front.table more)) made is in
+      (λ front. with_begins_before front.begins (lower_joins whose outer inner connections front.table more)) made is in
       let others = then_ok (lower_joins whose outer inner connections front.0.table more) (λ ps. Ok (with_front front.0 ps)) made front.2 in
       outputs_named connections front.0.table more others.0 p value others.1 (k, omega (arith, lt), same) out there none
 
@@ -298,7 +298,7 @@ module _ (modules : SourceTree) (top : Option Text) where
       let within = subst (λ (i : Instance). Contains (ports_of i.unit) p) (sym found.at) inside in
       let connected = ap (λ (i : Instance). value_for i.connections p.name.letters) found.at ∙ there in
       let joins = then_ok (lower_joins context.name context.overrides.scope found.own.scope context.connections found.part.table (ports_of context.unit))
-          (λ joins. with_begins_before joins.begins (lower_items found.own.scope joins.table context.unit.items)) s.processes s.processes_made in
+      (λ joins. with_begins_before joins.begins (lower_items found.own.scope joins.table context.unit.items)) s.processes s.processes_made in
       outputs_named context.name context.overrides.scope found.own.scope context.connections found.part.table (ports_of context.unit) joins.0 p value joins.1 within out connected none
 
 pub misfits_meant : IsMeant Ports HasMisfit

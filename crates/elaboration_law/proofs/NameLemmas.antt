@@ -112,9 +112,10 @@ module _ (modules : SourceTree) (top : Option Text) where
         let scoped = broken_if (has_double (scope_paths part)) Doubled (Some unit.name) in
         let named = broken_if (has_double (variable_paths part)) Doubled (Some unit.name) in
         let outer = or_none named (option_or scoped rest) (or_none (option_or named (option_or scoped rest)) (broken_table unit.name part) right).0 in
-        let inner = or_none scoped rest outer.1 in
-        (sym (ap has_double variables_are) ∙ if_none (has_double (variable_paths part)) Doubled (Some unit.name) outer.0,
-        sym (ap has_double paths_are) ∙ if_none (has_double (scope_paths part)) Doubled (Some unit.name) inner.0)
+        let inner = or_none scoped rest outer.1 in (
+          sym (ap has_double variables_are) ∙ if_none (has_double (variable_paths part)) Doubled (Some unit.name) outer.0,
+          sym (ap has_double paths_are) ∙ if_none (has_double (scope_paths part)) Doubled (Some unit.name) inner.0,
+        )
 
   -- ---- the law
 

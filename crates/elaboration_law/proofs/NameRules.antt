@@ -115,13 +115,13 @@ module _ (base : Base) (m : ModuleTree) where
   scope_once : (scope : Scope) → item_scope base m ≡ Ok scope → has_double (letters_of (declared_names m)) ≡ false → has_double (names_in_module m) ≡ false
   scope_once scope is once =
       let one = then_ok (add_symbols base.overrides (first_scope base m) valueless)
-          (λ s. add_symbols base.overrides s head >>= λ h. add_symbols base.overrides h whole >>= λ w. Ok (at w h.known)) scope is in
+      (λ s. add_symbols base.overrides s head >>= λ h. add_symbols base.overrides h whole >>= λ w. Ok (at w h.known)) scope is in
       let two = then_ok (add_symbols base.overrides one.0 head) (λ h. add_symbols base.overrides h whole >>= λ w. Ok (at w h.known)) scope one.2 in
       let three = then_ok (add_symbols base.overrides two.0 whole) (λ w. Ok (at w two.0.known)) scope two.2 in
       let same : three.0.names ≡ grouped =
-          names_added base.overrides two.0 three.0 whole three.1
-          ∙ ap (λ (l : List Text). l ++ letters_in whole) (names_added base.overrides one.0 two.0 head two.1
-          ∙ ap (λ (l : List Text). l ++ letters_in head) (names_added base.overrides (first_scope base m) one.0 valueless one.1)) in
+      names_added base.overrides two.0 three.0 whole three.1
+      ∙ ap (λ (l : List Text). l ++ letters_in whole) (names_added base.overrides one.0 two.0 head two.1
+      ∙ ap (λ (l : List Text). l ++ letters_in head) (names_added base.overrides (first_scope base m) one.0 valueless one.1)) in
       sym (ap has_double (same ∙ in_groups))
       ∙ added_once base.overrides two.0 three.0 whole three.1 (added_once base.overrides one.0 two.0 head two.1 (added_once base.overrides (first_scope base m) one.0 valueless one.1 once))
 

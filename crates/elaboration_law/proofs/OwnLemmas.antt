@@ -49,7 +49,7 @@ module _ (modules : SourceTree) (part : Part) (context : Context) (own : Own mod
   pub own_steps : OwnSteps modules part context own
   own_steps =
       let made = then_ok (lower_own_variables context ports own.children own.scope)
-          (λ vs. lower_own_processes context ports own.scope part.table >>= λ ps. few_enough context.name (with_own context own.scope part vs ps)) own.whole own.own_is in
+      (λ vs. lower_own_processes context ports own.scope part.table >>= λ ps. few_enough context.name (with_own context own.scope part vs ps)) own.whole own.own_is in
       let processes = then_ok (lower_own_processes context ports own.scope part.table) (λ ps. few_enough context.name (with_own context own.scope part made.0 ps)) own.whole made.2 in
       let whole = with_own context own.scope part made.0 processes.0 in
       let few = provided_ok (nat_le (length whole.begins) 256) TooMany (Some context.name) (required (nat_le (length whole.scopes) 1025) TooMany (Some context.name) whole) own.whole processes.2 in
