@@ -1,0 +1,314 @@
+-- E309: a text that has a design has nothing in too great a number, and one that is refused under the rule has.
+use Rattle.std.proofs.Common.{◌≡◌, ℕ, zero, suc, ◌+◌, ◌<◌, ◌≤◌, arith, nat_le, true, false, Bool, List, [], ◌∷◌, ◌++◌, map, length, Option, Some, Result, Ok, Err, refl, ap, subst, ◌⊎◌, inl, inr, length-append}
+use Rattle.std.specs.List.{flat_map, sum_by}
+use Rattle.std.specs.Option.{option_or}
+use Rattle.std.proofs.lemmas.List.{length-map}
+use Rattle.std.proofs.lemmas.List.Sums.{sum_by-cons, sum_by-append}
+use Rattle.basis.specs.declared.timescale.Timescale.{Timescale}
+use Rattle.vast.specs.Words.{Text}
+use Rattle.vast.specs.NumberedWords.{Word}
+use Rattle.vast.specs.NumberedModules.{ModuleTree, SourceTree}
+use Rattle.vdesign.specs.Design.{Design, Variable}
+use Rattle.vmodules.specs.Hierarchy.{top_of}
+use Rattle.vmodules.specs.Ports.{ports_of}
+use Rattle.vexpr_parse.proofs.Turning.{le_so}
+use Rattle.velab_expr.specs.declared.fault.Rule.{Rule}
+use Rattle.velab_expr.specs.declared.fault.Rule.TheVariants.{Depth, TooMany}
+use Rattle.velab_expr.specs.declared.fault.ElabFault.{ElabFault}
+use Rattle.velab_expr.specs.Rules.{told, unless}
+use Rattle.velab_expr.specs.Scopes.{Scope}
+use Rattle.velab_declaration.specs.Right.{kind_rule}
+use Rattle.velab_declaration.specs.ActionFlaws.{blank_environment, flaw_rule, table_fault}
+use Rattle.velab_declaration.specs.Variables.{declared_names}
+use Rattle.velab_process.specs.Processes.{Processes as Made}
+use Rattle.vhierarchy.specs.Instances.{Instantiation, scope_of, lower_own_processes, with_own, child_context, each, elaborate_instance, elaborate_top, nothing, top_context, Part, Context, broken_paths, broken_table, elaborated}
+use Rattle.elaboration_law.specs.Hierarchy.{Instance, instances_in, top_instance, listed}
+use Rattle.elaboration_law.specs.Laws.{IsMeant}
+use Rattle.elaboration_law.specs.Counts.{Counted, Variables, Processes, Instances, NamedEvents, limit, count_in, HasTooMany}
+use Rattle.elaboration_law.proofs.ToldLemmas.{is_local, is_of_connections, untold, untold_fault}
+use Rattle.elaboration_law.proofs.ModuleRules.{is_of_paths, local_paths, undriven_tell, own_processes_tell}
+use Rattle.elaboration_law.proofs.DesignRules.{table_tells, kind_broken, flaw_broken, broken_paths_tell}
+use Rattle.elaboration_law.proofs.StepLemmas.{same_value, then_ok, then_err, few_err}
+use Rattle.elaboration_law.proofs.HierarchyLemmas.{instance_of, instance_at, children_are, Own, OwnFault, in_names, in_instances, in_own, opened_ok, opened_err, below, Told, in_modules, in_top, in_hierarchy, in_design, all_elaborated, fault_told}
+use Rattle.elaboration_law.proofs.OwnLemmas.{dotted, own_steps, own_named, undriven_variables, OwnTold, net_again, in_variables, in_processes, too_many, own_told}
+use Rattle.elaboration_law.proofs.GatherLemmas.{Gathers, gathered, top_gathered}
+use Rattle.elaboration_law.proofs.CountRules.{gt_of, own_processes_counted, names_counted, ManyNames, many_names, many_instances}
+use Rattle.elaboration_law.proofs.NameLemmas.{or_some}
+use Rattle.elaboration_law.proofs.DepthLemmas.{one_top}
+
+-- how many a design has so far
+abbrev pub held : Counted → Part → ℕ
+held Variables part = length part.variables
+held Processes part = length part.begins
+held Instances part = length part.scopes
+held NamedEvents part = part.events
+
+abbrev total : Counted → List Instance → ℕ
+total what list = sum_by (count_in what) list
+
+-- ---- what an instance adds
+
+module _ (modules : SourceTree) (part : Part) (context : Context) (own : Own modules part context) where
+  added : (what : Counted) → held what own.whole ≡ held what part + count_in what (instance_at context)
+  added Variables =
+      let s = own_steps modules part context own in
+      let whole = ap (held Variables) s.whole_is in
+      let long = length-append part.variables s.variables_made in
+      let named = ap length (own_named modules part context own) in
+      let once = length-map s.variables_made (λ (v : Variable). v.name) in
+      let twice = length-map (declared_names context.unit) (dotted context.path) in
+      omega (arith, whole, long, named, once, twice)
+  added Processes =
+      let s = own_steps modules part context own in
+      let whole = ap (held Processes) s.whole_is in
+      let long = length-append part.begins s.processes.begins in
+      let counted = own_processes_counted context own.scope part.table s.processes s.processes_made in
+      omega (arith, whole, long, counted)
+  added Instances =
+      let s = own_steps modules part context own in
+      let whole = ap (held Instances) s.whole_is in
+      let long = length-append part.scopes (scope_of context own.scope.variables ∷ []) in
+      omega (arith, whole, long)
+  added NamedEvents =
+      let s = own_steps modules part context own in
+      let whole = ap (held NamedEvents) s.whole_is in
+      let names = (names_counted part context own.scope own.names_are).events_are in
+      omega (arith, whole, names)
+
+  -- and then there are no more than there may be
+  few_own : (what : Counted) → held what own.whole ≤ limit what
+  few_own Variables = let more = added Variables in let few = (names_counted part context own.scope own.names_are).few_variables in omega (arith, more, few)
+  few_own Processes =
+      let s = own_steps modules part context own in
+      let whole = ap (held Processes) s.whole_is in
+      let few = le_so (length (part.begins ++ s.processes.begins)) 256 s.few_processes in
+      omega (arith, whole, few)
+  few_own Instances =
+      let s = own_steps modules part context own in
+      let whole = ap (held Instances) s.whole_is in
+      let few = le_so (length (part.scopes ++ scope_of context own.scope.variables ∷ [])) 1025 s.few_instances in
+      omega (arith, whole, few)
+  few_own NamedEvents =
+      let s = own_steps modules part context own in
+      let whole = ap (held NamedEvents) s.whole_is in
+      let few = (names_counted part context own.scope own.names_are).few_events in
+      omega (arith, whole, few)
+
+counts_gather : (modules : SourceTree) (what : Counted) → Gathers modules (λ (a b : ℕ). a + b) (held what) (total what)
+counts_gather modules what = record {
+  none = λ x. omega arith;
+  both = λ x xs ys. let sum = sum_by-append (count_in what) xs ys in omega (arith, sum);
+  own = λ part context own.
+      let more = added modules part context own what in
+      let sum = sum_by-cons (count_in what) (instance_at context) [] in
+      omega (arith, more, sum);
+}
+
+-- ---- in a text that has a design
+
+module _ (modules : SourceTree) (what : Counted) where
+  few_each : (step : Part → Instantiation → Result Part ElabFault) → ((part : Part) (one : Instantiation) (all : Part) → step part one ≡ Ok all → held what all ≤ limit what) →
+      (part all : Part) (list : List Instantiation) → each step part list ≡ Ok all → held what part ≤ limit what → held what all ≤ limit what
+  few_each step one_by part all [] is few = let same = ap (held what) (same_value part all is) in omega (arith, same, few)
+  few_each step one_by part all (one ∷ more) is few =
+      let front = then_ok (step part one) (λ next. each step next more) all is in
+      few_each step one_by front.0 all more front.2 (one_by part one front.0 front.1)
+
+  few_all : (levels : ℕ) (part : Part) (context : Context) (all : Part) → elaborate_instance levels modules part context ≡ Ok all → held what all ≤ limit what
+  few_all zero part context all is = absurd cc
+  few_all (suc levels) part context all is =
+      let opened = opened_ok modules levels part context all is in
+      let own = opened.0 in
+      few_each (λ so_far child. elaborate_instance levels modules so_far (child_context own.scope context child)) (λ so_far child. few_all levels so_far (child_context own.scope context child))
+      own.whole all own.children opened.1 (few_own modules part context own what)
+
+  few_top : (m : ModuleTree) (part : Part) → elaborate_top modules m ≡ Ok part → held what part ≤ limit what
+  unfolding elaborate_top
+  few_top m part is = few_all 16 nothing (top_context m) part is
+
+-- ---- in one that is refused
+
+-- with these there are too many
+pub record Exceeds (part : Part) (list : List Instance) : Type 0 where
+  pub what : Counted
+  pub many : limit what < held what part + total what list
+
+module _ (modules : SourceTree) (fault : ElabFault) (rule : fault.rule ≡ TooMany) where
+  -- each instance is one
+  lists_itself : (levels : ℕ) (one : Instance) → 1 ≤ total Instances (listed levels modules one)
+  lists_itself zero one = let sum = sum_by-cons (count_in Instances) one [] in omega (arith, sum)
+  lists_itself (suc levels) one = let sum = sum_by-cons (count_in Instances) one (flat_map (listed levels modules) (instances_in modules one)) in omega (arith, sum)
+
+  lists_each : (levels : ℕ) (list : List Instance) → length list ≤ total Instances (flat_map (listed levels modules) list)
+  lists_each levels [] = omega arith
+  lists_each levels (one ∷ more) =
+      let sum = sum_by-append (count_in Instances) (listed levels modules one) (flat_map (listed levels modules) more) in
+      let here = lists_itself levels one in
+      let rest = lists_each levels more in
+      omega (arith, sum, here, rest)
+
+  module _ (part : Part) (context : Context) where
+    more_names : ManyNames part context → (list : List Instance) → Exceeds part (instance_at context ∷ list)
+    more_names (inl many) list = let sum = sum_by-cons (count_in Variables) (instance_at context) list in record { what = Variables; many = omega (arith, many, sum) }
+    more_names (inr many) list = let sum = sum_by-cons (count_in NamedEvents) (instance_at context) list in record { what = NamedEvents; many = omega (arith, many, sum) }
+
+    more_instances : (levels : ℕ) → 1024 < 0 + length (instances_in modules (instance_at context)) → Exceeds part (instance_at context ∷ flat_map (listed levels modules) (instances_in modules (instance_at context)))
+    more_instances levels many =
+        let sum = sum_by-cons (count_in Instances) (instance_at context) (flat_map (listed levels modules) (instances_in modules (instance_at context))) in
+        let rest = lists_each levels (instances_in modules (instance_at context)) in
+        record { what = Instances; many = omega (arith, many, sum, rest) }
+
+    module _ (scope : Scope) (children : List Instantiation) (list : List Instance) where
+      more_of : (variables : List Variable) (processes : Made) → lower_own_processes context (ports_of context.unit) scope part.table ≡ Ok processes →
+          ((nat_le (length (part.begins ++ processes.begins)) 256 ≡ false) ⊎ (nat_le (length (part.scopes ++ scope_of context scope.variables ∷ [])) 1025 ≡ false)) → Exceeds part (instance_at context ∷ list)
+      more_of variables processes made (inl many) =
+          let sum = sum_by-cons (count_in Processes) (instance_at context) list in
+          let long = length-append part.begins processes.begins in
+          let counted = own_processes_counted context scope part.table processes made in
+          let more = gt_of (length (part.begins ++ processes.begins)) 256 many in
+          record { what = Processes; many = omega (arith, sum, long, counted, more) }
+      more_of variables processes made (inr many) =
+          let sum = sum_by-cons (count_in Instances) (instance_at context) list in
+          let long = length-append part.scopes (scope_of context scope.variables ∷ []) in
+          let more = gt_of (length (part.scopes ++ scope_of context scope.variables ∷ [])) 1025 many in
+          record { what = Instances; many = omega (arith, sum, long, more) }
+
+      own_steps_exceed : OwnTold context children scope part fault → Exceeds part (instance_at context ∷ list)
+      own_steps_exceed (net_again w again other) = absurd cc
+      own_steps_exceed (in_variables err) = absurd (untold is_local (undriven_variables context children scope) fault TooMany (undriven_tell context (ports_of context.unit) children scope) refl err rule)
+      own_steps_exceed (in_processes err) =
+          absurd (untold is_of_connections (lower_own_processes context (ports_of context.unit) scope part.table) fault TooMany (own_processes_tell context (ports_of context.unit) children scope part) refl err rule)
+      own_steps_exceed (too_many variables processes ok err) = more_of variables processes ok (few_err context.name (with_own context scope part variables processes) fault err).0
+
+    own_exceeds : (levels : ℕ) → OwnFault modules part context fault → Exceeds part (instance_at context ∷ flat_map (listed levels modules) (instances_in modules (instance_at context)))
+    own_exceeds levels (in_names err) = more_names (many_names part context fault rule err) (flat_map (listed levels modules) (instances_in modules (instance_at context)))
+    own_exceeds levels (in_instances scope names err) = more_instances levels (many_instances modules context.path fault rule 0 scope.known context.unit.items err)
+    own_exceeds levels (in_own scope children names wanted err) =
+        own_steps_exceed scope children (flat_map (listed levels modules) (instances_in modules (instance_at context))) (own_told context children scope part fault err)
+
+  -- what stands before is held, and what stands behind only adds
+  before_is : (levels : ℕ) (scope : Scope) (context : Context) (part next : Part) (one : Instantiation) (more : List Instance) → elaborate_instance levels modules part (child_context scope context one) ≡ Ok next →
+      Exceeds next more → Exceeds part (listed levels modules (instance_of context.path one) ++ more)
+  before_is levels scope context part next one more ok e =
+      let what = e.what in
+      let many = e.many in
+      let same = gathered modules (λ (a b : ℕ). a + b) (held what) (total what) (counts_gather modules what) levels part (child_context scope context one) next ok in
+      let sum = sum_by-append (count_in what) (listed levels modules (instance_of context.path one)) more in
+      record { what = what; many = omega (arith, many, same, sum) }
+
+  behind_adds : (part : Part) (list more : List Instance) → Exceeds part list → Exceeds part (list ++ more)
+  behind_adds part list more e = let many = e.many in let sum = sum_by-append (count_in e.what) list more in record { what = e.what; many = omega (arith, many, sum) }
+
+  each_exceeds : (levels : ℕ) (scope : Scope) (context : Context) →
+      ((part : Part) (context : Context) → elaborate_instance levels modules part context ≡ Err fault → Exceeds part (listed levels modules (instance_at context))) →
+      (part : Part) (list : List Instantiation) → each (λ so_far child. elaborate_instance levels modules so_far (child_context scope context child)) part list ≡ Err fault →
+      Exceeds part (flat_map (listed levels modules) (map (instance_of context.path) list))
+  each_exceeds levels scope context one_by part [] is = absurd cc
+  each_exceeds levels scope context one_by part (one ∷ more) is =
+      by (then_err (elaborate_instance levels modules part (child_context scope context one)) (λ next. each (λ so_far child. elaborate_instance levels modules so_far (child_context scope context child)) next more) fault is)
+      (λ next. each_exceeds levels scope context one_by next more)
+    where
+      by : (elaborate_instance levels modules part (child_context scope context one) ≡ Err fault)
+          ⊎ ((next : Part) × (elaborate_instance levels modules part (child_context scope context one) ≡ Ok next)
+          × (each (λ so_far child. elaborate_instance levels modules so_far (child_context scope context child)) next more ≡ Err fault)) →
+          ((next : Part) → each (λ so_far child. elaborate_instance levels modules so_far (child_context scope context child)) next more ≡ Err fault →
+          Exceeds next (flat_map (listed levels modules) (map (instance_of context.path) more))) →
+          Exceeds part (listed levels modules (instance_of context.path one) ++ flat_map (listed levels modules) (map (instance_of context.path) more))
+      by (inl err) rest = behind_adds part (listed levels modules (instance_of context.path one)) (flat_map (listed levels modules) (map (instance_of context.path) more)) (one_by part (child_context scope context one) err)
+      by (inr (next, ok, err)) rest = before_is levels scope context part next one (flat_map (listed levels modules) (map (instance_of context.path) more)) ok (rest next err)
+
+  -- its own is held, too
+  own_held : (part : Part) (context : Context) (own : Own modules part context) (list : List Instance) → Exceeds own.whole list → Exceeds part (instance_at context ∷ list)
+  own_held part context own list e =
+      let many = e.many in
+      let more = added modules part context own e.what in
+      let sum = sum_by-cons (count_in e.what) (instance_at context) list in
+      record { what = e.what; many = omega (arith, many, more, sum) }
+
+  exceeds : (levels : ℕ) (part : Part) (context : Context) → elaborate_instance levels modules part context ≡ Err fault → Exceeds part (listed levels modules (instance_at context))
+  exceeds zero part context is =
+      let same : told Depth (Some context.name) ≡ fault = cc in
+      absurd (let other : Depth ≡ fault.rule = ap (λ (f : ElabFault). f.rule) same in cc)
+  exceeds (suc levels) part context is = by (opened_err modules levels part context fault is) (exceeds levels)
+    where
+      by : OwnFault modules part context fault ⊎ ((own : Own modules part context) × (below modules levels part context own.scope own.children own.whole ≡ Err fault)) →
+          ((part : Part) (context : Context) → elaborate_instance levels modules part context ≡ Err fault → Exceeds part (listed levels modules (instance_at context))) →
+          Exceeds part (instance_at context ∷ flat_map (listed levels modules) (instances_in modules (instance_at context)))
+      by (inl own) rest = own_exceeds part context levels own
+      by (inr (own, err)) rest =
+          own_held part context own (flat_map (listed levels modules) (instances_in modules (instance_at context)))
+          (subst (λ (l : List Instance). Exceeds own.whole (flat_map (listed levels modules) l)) (children_are modules context.path 0 own.scope.known context.unit.items own.children own.instances_are)
+          (each_exceeds levels own.scope context rest own.whole own.children err))
+
+  top_exceeds : (m : ModuleTree) → elaborate_top modules m ≡ Err fault → Exceeds nothing (listed 16 modules (top_instance m))
+  unfolding elaborate_top
+  top_exceeds m is = exceeds 16 nothing (top_context m) is
+
+-- ---- the law
+
+nothing_held : (what : Counted) → held what nothing ≡ 0
+nothing_held Variables = refl
+nothing_held Processes = refl
+nothing_held Instances = refl
+nothing_held NamedEvents = refl
+
+unless_some : (holds : Bool) (rule : Rule) (word : Option Word) (fault : ElabFault) → unless holds rule word ≡ Some fault → holds ≡ false
+unless_some true rule word fault is = absurd cc
+unless_some false rule word fault is = refl
+
+module _ (modules : SourceTree) (top : Option Text) where
+  total_is : (what : Counted) (unit : ModuleTree) (part : Part) → elaborate_top modules unit ≡ Ok part → held what part ≡ total what (listed 16 modules (top_instance unit))
+  total_is what unit part ok =
+      let same = top_gathered modules (λ (a b : ℕ). a + b) (held what) (total what) (counts_gather modules what) unit part ok in
+      let none = nothing_held what in
+      omega (arith, same, none)
+
+  module _ (fault : ElabFault) (rule : fault.rule ≡ TooMany) where
+    in_table : (unit : ModuleTree) (part : Part) → top_of modules top ≡ Some unit → elaborate_top modules unit ≡ Ok part →
+        (unless (nat_le (length part.begins) 256) TooMany (Some unit.name) ≡ Some fault)
+        ⊎ (option_or (table_fault (kind_rule part.variables) part.table.actions part.table.words) (table_fault (flaw_rule (blank_environment part.variables)) part.table.actions part.table.words) ≡ Some fault) →
+        HasTooMany modules top
+    in_table unit part is_top ok (inl is) =
+        let more = gt_of (length part.begins) 256 (unless_some (nat_le (length part.begins) 256) TooMany (Some unit.name) fault is) in
+        let same = total_is Processes unit part ok in
+        record { what = Processes; unit = unit; is_top = is_top; many = omega (arith, more, same) }
+    in_table unit part is_top ok (inr is) =
+        absurd (by (or_some (table_fault (kind_rule part.variables) part.table.actions part.table.words) (table_fault (flaw_rule (blank_environment part.variables)) part.table.actions part.table.words) fault is))
+      where
+        by : (table_fault (kind_rule part.variables) part.table.actions part.table.words ≡ Some fault) ⊎ (table_fault (flaw_rule (blank_environment part.variables)) part.table.actions part.table.words ≡ Some fault) → ⊥
+        by (inl is) = untold_fault is_local (table_fault (kind_rule part.variables) part.table.actions part.table.words) fault TooMany
+            (table_tells is_local (kind_rule part.variables) (kind_broken part.variables) part.table.actions part.table.words) refl is rule
+        by (inr is) = untold_fault is_local (table_fault (flaw_rule (blank_environment part.variables)) part.table.actions part.table.words) fault TooMany
+            (table_tells is_local (flaw_rule (blank_environment part.variables)) (flaw_broken (blank_environment part.variables)) part.table.actions part.table.words) refl is rule
+
+    in_whole : (unit : ModuleTree) (part : Part) → top_of modules top ≡ Some unit → elaborate_top modules unit ≡ Ok part →
+        (broken_paths unit.name part ≡ Some fault) ⊎ (broken_table unit.name part ≡ Some fault) → HasTooMany modules top
+    in_whole unit part is_top ok (inl is) = absurd (untold_fault is_of_paths (broken_paths unit.name part) fault TooMany (broken_paths_tell is_of_paths local_paths unit.name part refl) refl is rule)
+    in_whole unit part is_top ok (inr is) =
+        in_table unit part is_top ok (or_some (unless (nat_le (length part.begins) 256) TooMany (Some unit.name))
+        (option_or (table_fault (kind_rule part.variables) part.table.actions part.table.words) (table_fault (flaw_rule (blank_environment part.variables)) part.table.actions part.table.words)) fault is)
+
+    counts_told : Told modules top fault → HasTooMany modules top
+    counts_told (in_modules w again other) = absurd cc
+    counts_told (in_top missing other) = absurd cc
+    counts_told (in_hierarchy unit is_top err) =
+        let e = top_exceeds modules fault rule unit err in
+        let many = e.many in
+        let none = nothing_held e.what in
+        record { what = e.what; unit = unit; is_top = is_top; many = omega (arith, many, none) }
+    counts_told (in_design unit part is_top ok broken) = in_whole unit part is_top ok (or_some (broken_paths unit.name part) (broken_table unit.name part) fault broken)
+
+  counts_never : (scale : Timescale) (design : Design) → elaborated modules top scale ≡ Ok design → ¬ HasTooMany modules top
+  counts_never scale design is h =
+      let all = all_elaborated modules top scale design is in
+      let same = ap (λ (u : ModuleTree). total h.what (listed 16 modules (top_instance u))) (one_top modules top h.unit all.unit h.is_top all.is_top) in
+      let few = few_top modules h.what all.unit all.part all.is_part in
+      let sum = total_is h.what all.unit all.part all.is_part in
+      let many = h.many in
+      omega (arith, same, few, sum, many)
+
+pub counts_meant : IsMeant TooMany HasTooMany
+counts_meant = record {
+  never = counts_never;
+  told = λ modules top scale fault is rule. counts_told modules top fault rule (fault_told modules top scale fault is);
+}

@@ -1,0 +1,127 @@
+-- The rules that a finished design tells.
+use Rattle.std.proofs.Common.{◌≡◌, ℕ, nat_le, Bool, true, false, if◌then◌else◌, List, [], ◌∷◌, drop, length, slice_get, Option, Some, None, refl}
+use Rattle.std.specs.Prelude.{option_map, unwrap_or}
+use Rattle.std.specs.Option.{option_or}
+use Rattle.vast.specs.Words.{Text}
+use Rattle.vast.specs.NumberedWords.{Word}
+use Rattle.vmodules.specs.Names.{is_declared, has_double}
+use Rattle.vdesign.specs.Design.{Variable}
+use Rattle.vdesign.specs.declared.dump.Chosen.{Chosen}
+use Rattle.vdesign.specs.declared.action.Action.{Action}
+use Rattle.vdesign.specs.declared.action.Action.TheVariants.{Assign, Nonblocking, AssignDelayed, NonblockingDelayed, Trigger, Test, Case, While, Repeat, Forever, Delay, EventControl, Wait, ContinuousAssign, Print, DumpVars, Dump, NoOperation, Finish, Stop}
+use Rattle.vvalue.specs.Value.{Environment}
+use Rattle.vvalue.specs.declared.flaw.Flaw.{Flaw}
+use Rattle.vvalue.specs.declared.flaw.Flaw.TheVariants.{NoBits, Size}
+use Rattle.velab_expr.specs.declared.fault.Rule.{Rule}
+use Rattle.velab_expr.specs.declared.fault.Rule.TheVariants.{Doubled, Unknown, TooMany, Kind}
+use Rattle.velab_expr.specs.declared.fault.ElabFault.{ElabFault}
+use Rattle.velab_expr.specs.Rules.{rule_of, unless, broken_if}
+use Rattle.velab_declaration.specs.Right.{writes_rightly, kind_rule}
+use Rattle.velab_declaration.specs.ActionFlaws.{action_flaw, blank_environment, flaw_rule, table_fault}
+use Rattle.vhierarchy.specs.Instances.{Part, variable_paths, scope_paths, broken_chosen, broken_selection, broken_paths, broken_table, broken_design}
+use Rattle.elaboration_law.proofs.ToldLemmas.{is_local, TellsFault, TellsRule}
+
+module _ (rules : Rule → Bool) where
+  or_tells : (a b : Option ElabFault) → TellsFault rules a → TellsFault rules b → TellsFault rules (option_or a b)
+  or_tells None b h k = k
+  or_tells (Some fault) b h k = h
+
+  pub table_tells : (rule : Action → Option Rule) → ((action : Action) → TellsRule rules (rule action)) → (actions : List Action) (words : List (Option ℕ)) →
+      TellsFault rules (table_fault rule actions words)
+  table_tells rule each [] words = tt
+  table_tells rule each (action ∷ more) words =
+      or_tells (option_map (λ r. record { rule = r; at = unwrap_or (slice_get words 0) None }) (rule action)) (table_fault rule more (drop 1 words))
+      (by (rule action) (each action)) (table_tells rule each more (drop 1 words))
+    where
+      by : (r : Option Rule) → TellsRule rules r → TellsFault rules (option_map (λ r. record { rule = r; at = unwrap_or (slice_get words 0) None }) r)
+      by None h = tt
+      by (Some r) h = h
+
+  broken_tells : (holds : Bool) (rule : Rule) (word : Option Word) → rules rule ≡ true → TellsFault rules (broken_if holds rule word)
+  broken_tells true rule word e = e
+  broken_tells false rule word e = tt
+
+  unless_tells : (holds : Bool) (rule : Rule) (word : Option Word) → rules rule ≡ true → TellsFault rules (unless holds rule word)
+  unless_tells true rule word e = tt
+  unless_tells false rule word e = e
+
+-- ---- what an action breaks
+
+chosen_tells : (scopes variables : List Text) (list : List Chosen) → TellsRule is_local (broken_chosen scopes variables list)
+chosen_tells scopes variables [] = tt
+chosen_tells scopes variables (one ∷ more) = by (is_declared scopes one.path) (is_declared variables one.path) (chosen_tells scopes variables more)
+  where
+    by : (is_scope is_variable : Bool) → TellsRule is_local (broken_chosen scopes variables more) →
+        TellsRule is_local (option_or (if is_scope then None else Some (if is_variable then Kind else Unknown)) (broken_chosen scopes variables more))
+    by true v rest = rest
+    by false true rest = refl
+    by false false rest = refl
+
+pub selection_broken : (scopes variables : List Text) (action : Action) → TellsRule is_local (broken_selection scopes variables action)
+selection_broken scopes variables (DumpVars selection) = chosen_tells scopes variables selection
+selection_broken scopes variables (Assign targets value) = tt
+selection_broken scopes variables (Nonblocking targets value) = tt
+selection_broken scopes variables (AssignDelayed amount targets value) = tt
+selection_broken scopes variables (NonblockingDelayed amount targets value) = tt
+selection_broken scopes variables (Trigger event) = tt
+selection_broken scopes variables (Test condition when_true otherwise) = tt
+selection_broken scopes variables (Case kind value branches otherwise) = tt
+selection_broken scopes variables (While condition body) = tt
+selection_broken scopes variables (Repeat count body) = tt
+selection_broken scopes variables (Forever body) = tt
+selection_broken scopes variables (Delay amount body) = tt
+selection_broken scopes variables (EventControl terms body) = tt
+selection_broken scopes variables (Wait condition terms body) = tt
+selection_broken scopes variables (ContinuousAssign net value terms) = tt
+selection_broken scopes variables (Print when pieces) = tt
+selection_broken scopes variables (Dump command) = tt
+selection_broken scopes variables NoOperation = tt
+selection_broken scopes variables Finish = tt
+selection_broken scopes variables Stop = tt
+
+pub kind_broken : (variables : List Variable) (action : Action) → TellsRule is_local (kind_rule variables action)
+kind_broken variables action = by (writes_rightly variables action)
+  where
+    by : (right : Bool) → TellsRule is_local (if right then None else Some Kind)
+    by true = tt
+    by false = refl
+
+pub flaw_broken : (now : Environment) (action : Action) → TellsRule is_local (flaw_rule now action)
+flaw_broken now action = by (action_flaw now action)
+  where
+    by : (flaw : Option Flaw) → TellsRule is_local (option_map rule_of flaw)
+    by None = tt
+    by (Some NoBits) = refl
+    by (Some Size) = refl
+
+-- ---- of the whole
+
+module _ (rules : Rule → Bool) (wide : (rule : Rule) → is_local rule ≡ true → rules rule ≡ true) where
+  widened : (r : Option Rule) → TellsRule is_local r → TellsRule rules r
+  widened None h = tt
+  widened (Some rule) h = wide rule h
+
+  pub broken_table_tells : (top : Word) (part : Part) → rules TooMany ≡ true → TellsFault rules (broken_table top part)
+  broken_table_tells top part many =
+      let kinds = table_fault (kind_rule part.variables) part.table.actions part.table.words in
+      let flaws = table_fault (flaw_rule (blank_environment part.variables)) part.table.actions part.table.words in
+      let few = unless (nat_le (length part.begins) 256) TooMany (Some top) in
+      or_tells rules few (option_or kinds flaws) (unless_tells rules (nat_le (length part.begins) 256) TooMany (Some top) many)
+      (or_tells rules kinds flaws
+      (table_tells rules (kind_rule part.variables) (λ action. widened (kind_rule part.variables action) (kind_broken part.variables action)) part.table.actions part.table.words)
+      (table_tells rules (flaw_rule (blank_environment part.variables)) (λ action. widened (flaw_rule (blank_environment part.variables) action) (flaw_broken (blank_environment part.variables) action)) part.table.actions part.table.words))
+
+  pub broken_paths_tell : (top : Word) (part : Part) → rules Doubled ≡ true → TellsFault rules (broken_paths top part)
+  broken_paths_tell top part doubled =
+      let scopes = scope_paths part in
+      let paths = variable_paths part in
+      let selections = table_fault (broken_selection scopes paths) part.table.actions part.table.words in
+      let scoped = broken_if (has_double scopes) Doubled (Some top) in
+      let named = broken_if (has_double paths) Doubled (Some top) in
+      or_tells rules named (option_or scoped selections) (broken_tells rules (has_double paths) Doubled (Some top) doubled)
+      (or_tells rules scoped selections (broken_tells rules (has_double scopes) Doubled (Some top) doubled)
+      (table_tells rules (broken_selection scopes paths) (λ action. widened (broken_selection scopes paths action) (selection_broken scopes paths action)) part.table.actions part.table.words))
+
+  pub design_tells : (top : Word) (part : Part) → rules Doubled ≡ true → rules TooMany ≡ true → TellsFault rules (broken_design top part)
+  design_tells top part doubled many =
+      or_tells rules (broken_paths top part) (broken_table top part) (broken_paths_tell top part doubled) (broken_table_tells top part many)

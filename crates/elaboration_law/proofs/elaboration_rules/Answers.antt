@@ -1,0 +1,10 @@
+use Rattle.elaboration_law.proofs.DepthLemmas.{depth_meant}
+use Rattle.elaboration_law.proofs.DriverLemmas.{drivers_meant}
+use Rattle.elaboration_law.proofs.NameLemmas.{names_meant}
+use Rattle.elaboration_law.proofs.CountLemmas.{counts_meant}
+use Rattle.elaboration_law.proofs.TopLemmas.{tops_meant}
+use Rattle.elaboration_law.proofs.MisfitLemmas.{misfits_meant}
+use Rattle.elaboration_law.proofs.elaboration_rules.Goals as goal
+
+pub returns : goal.returns
+returns c = record { tops = tops_meant; names = names_meant; drivers = drivers_meant; connections = misfits_meant; depth = depth_meant; counts = counts_meant }

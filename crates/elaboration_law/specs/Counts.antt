@@ -1,0 +1,55 @@
+-- E309: how much a design may have (product rule).
+use Rattle.std.specs.Prelude.{◌≡◌, ℕ, ◌+◌, ◌<◌, List, [], length, Option, Some}
+use Rattle.std.specs.List.{flat_map, filter_map, sum_by}
+use Rattle.vast.specs.Words.{Text}
+use Rattle.vast.specs.NumberedWords.{Word}
+use Rattle.vast.specs.NumberedExpressions.{ExpressionTree}
+use Rattle.vast.specs.NumberedModules.{ItemTree, parameters, declaration, events, assignments, initial, always, instances, ModuleTree, SourceTree}
+use Rattle.vmodules.specs.Hierarchy.{top_of}
+use Rattle.vmodules.specs.Ports.{ports_of}
+use Rattle.vmodules.specs.Connected.{value_for}
+use Rattle.velab_declaration.specs.Variables.{declared_names}
+use Rattle.velab_process.specs.Processes.{process_trees_by}
+use Rattle.elaboration_law.specs.Hierarchy.{Instance, top_instance, listed}
+
+-- what is counted
+pub data Counted : Type 0 where
+  Variables : Counted
+  Processes : Counted
+  Instances : Counted
+  NamedEvents : Counted
+
+-- how many of them there may be: with the top, instances are 1,025
+abbrev pub limit : Counted → ℕ
+limit Variables = 1024
+limit Processes = 256
+limit Instances = 1025
+limit NamedEvents = 4294967295
+
+-- what ports are connected to: each connection is a process (12.3.9.2)
+abbrev pub connected : Instance → List ExpressionTree
+connected one = filter_map (λ p. value_for one.connections p.name.letters) (ports_of one.unit)
+
+-- 9.7.3
+abbrev pub events_by : ItemTree → List Word
+events_by (parameters local type settings) = []
+events_by (declaration kind list) = []
+events_by (events names) = names
+events_by (assignments settings) = []
+events_by (initial statement) = []
+events_by (always statement) = []
+events_by (instances name overrides list) = []
+
+-- how many an instance has
+abbrev pub count_in : Counted → Instance → ℕ
+count_in Variables one = length (declared_names one.unit)
+count_in Processes one = length (connected one) + length (flat_map process_trees_by one.unit.items)
+count_in Instances one = 1
+count_in NamedEvents one = length (flat_map events_by one.unit.items)
+
+-- The top and all instances below it have too many together. Down to 16 levels they are counted: deeper ones are E308.
+pub record HasTooMany (modules : SourceTree) (top : Option Text) : Type 0 where
+  pub what : Counted
+  pub unit : ModuleTree
+  pub is_top : top_of modules top ≡ Some unit
+  pub many : limit what < sum_by (count_in what) (listed 16 modules (top_instance unit))
