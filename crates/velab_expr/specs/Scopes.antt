@@ -6,7 +6,7 @@ use Rattle.vast.specs.Words.{Text}
 use Rattle.vast.specs.NumberedWords.{Word}
 use Rattle.vdesign.specs.declared.expression.Bounds.{Bounds}
 use Rattle.vvalue.specs.Value.{whole_bounds}
-use Rattle.velab_expr.specs.Answers.{refused, required}
+use Rattle.velab_expr.specs.Answers.{refused, required, value_or}
 use Rattle.velab_expr.specs.declared.fault.ElabFault.{ElabFault}
 use Rattle.velab_expr.specs.declared.fault.Rule.TheVariants.{Unknown, Constant, Kind}
 use Rattle.velab_expr.specs.declared.scope.Meaning.{Meaning}
@@ -86,3 +86,13 @@ event_by name (Some Instance) = refused Kind (Some name)
 
 abbrev pub lower_event : Scope → Word → Result ℕ ElabFault
 lower_event scope name = event_by name (meaning_of scope name)
+
+-- ---- what an answer has, for those who know that it has something
+
+-- the number of a variable
+abbrev pub number_of : Scope → Word → ℕ
+number_of scope name = value_or 0 (lower_variable scope name)
+
+-- the number of a named event
+abbrev pub event_of : Scope → Word → ℕ
+event_of scope name = value_or 0 (lower_event scope name)
