@@ -11,7 +11,12 @@ mod MovedLemmas
 mod WakingLemmas
 mod RanLemmas
 mod AwakeLemmas
+mod OrderLemmas
+mod BagLemmas
+mod OpenLemmas
+mod HeldLemmas
 mod KeptLemmas
+mod ViewLemmas
 mod ValuesLemmas
 mod ShapeLemmas
 mod TimesLemmas

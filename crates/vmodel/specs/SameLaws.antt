@@ -14,7 +14,7 @@ use Rattle.vmodel.specs.declared.part.Part.TheVariants.{Whole, Bits}
 use Rattle.vmodel.specs.declared.process.Frame.TheVariants.{Executing, Repeating, Writing}
 use Rattle.vmodel.specs.Queue.{Later, Queue}
 use Rattle.vmodel.specs.State.{Process, State}
-use Rattle.vmodel.specs.Same.{values_same, frame_same, process_same, grain_same, cause_same, part_same, parts_same, slot_same, stand_same, regions_same, queue_same, state_same}
+use Rattle.vmodel.specs.Same.{values_same, frame_same, process_same, grain_same, cause_same, part_same, parts_same, slot_same, stand_same, regions_same, queue_same, held_back_same, lines_same, printed_same, state_same}
 
 -- the test decides equality
 abbrev pub Tells : {A : Type 0} → (A → A → Bool) → Type 0
@@ -140,23 +140,51 @@ queues_tell q r = Decides-like (queue_same q r) whole parts
       ),
     )
 
+pub held_back_tell : Tells held_back_same
+held_back_tell = option_tells (pointwise nat_eq) (list_tells nat_eq unsigned_Decides)
+
+pub lines_tell : Tells lines_same
+lines_tell = list_tells (pointwise nat_eq) (list_tells nat_eq unsigned_Decides)
+
+pub printed_tell : Tells printed_same
+printed_tell = option_tells lines_same lines_tell
+
 abbrev StateParts : State → State → Type 0
-StateParts s t = (((s.values ≡ t.values) × (s.queue ≡ t.queue)) × (s.processes ≡ t.processes)) × (s.cause ≡ t.cause)
+StateParts s t =
+    (((((s.values ≡ t.values) × (s.queue ≡ t.queue)) × (s.held_back ≡ t.held_back)) × (s.printed ≡ t.printed)) × (s.processes ≡ t.processes))
+    × (s.cause ≡ t.cause)
 
 pub states_tell : Tells state_same
 states_tell s t = Decides-like (state_same s t) whole parts
-    (Decides-and _ _ (Decides-and _ _ (Decides-and _ _
+    (Decides-and _ _ (Decides-and _ _ (Decides-and _ _ (Decides-and _ _ (Decides-and _ _
     (values_tell s.values t.values)
     (queues_tell s.queue t.queue))
+    (held_back_tell s.held_back t.held_back))
+    (printed_tell s.printed t.printed))
     (list_tells process_same processes_tell s.processes t.processes))
     (option_tells cause_same causes_tell s.cause t.cause))
   where
     whole : StateParts s t → s ≡ t
-    whole h = λ i. record { values = h.0.0.0 i; queue = h.0.0.1 i; processes = h.0.1 i; cause = h.1 i }
+    whole h = λ i. record {
+      values = h.0.0.0.0.0 i;
+      queue = h.0.0.0.0.1 i;
+      held_back = h.0.0.0.1 i;
+      printed = h.0.0.1 i;
+      processes = h.0.1 i;
+      cause = h.1 i;
+    }
 
     parts : s ≡ t → StateParts s t
-    parts h =
-        (((ap (λ (p : State). p.values) h, ap (λ (p : State). p.queue) h), ap (λ (p : State). p.processes) h), ap (λ (p : State). p.cause) h)
+    parts h = (
+      (
+        (
+          ((ap (λ (p : State). p.values) h, ap (λ (p : State). p.queue) h), ap (λ (p : State). p.held_back) h),
+          ap (λ (p : State). p.printed) h,
+        ),
+        ap (λ (p : State). p.processes) h,
+      ),
+      ap (λ (p : State). p.cause) h,
+    )
 
 -- ---- so each is an equivalence
 
@@ -186,6 +214,9 @@ slots_equivalent = decided slot_same slots_tell
 
 pub queues_equivalent : IsEquivalence queue_same
 queues_equivalent = decided queue_same queues_tell
+
+pub lines_equivalent : IsEquivalence lines_same
+lines_equivalent = decided lines_same lines_tell
 
 pub states_equivalent : IsEquivalence state_same
 states_equivalent = decided state_same states_tell

@@ -3,6 +3,7 @@
 // The law: `slow_step` is `Step` of specs/Step.antt, to the letter. What all runs keep is said by `run_law`.
 #![tactic(auto)]
 
+pub mod bag;
 pub mod choice;
 mod choices;
 mod continuation;
@@ -10,6 +11,7 @@ mod digest;
 pub mod effect;
 mod future;
 pub mod history;
+mod holding;
 mod law;
 mod open;
 pub mod part;
