@@ -34,7 +34,7 @@ either : (b : Bool) → cond b nobody nobody ≡ nobody
 either true = refl
 either false = refl
 
-released-none : (q : Queue) → released q [] ≡ []
+pub released-none : (q : Queue) → released q [] ≡ []
 released-none q = either (length q.active == 0 && length q.activated == 0)
 
 pub none-held : (q : Queue) → AreHeldBack q []
