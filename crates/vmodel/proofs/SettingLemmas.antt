@@ -1,5 +1,5 @@
 -- Runs of settings that differ in their departures, or in what is looked at.
-use Rattle.std.proofs.Common.{◌≡◌, ℕ, zero, suc, ◌+◌, ◌<◌, ◌≤◌, cond, is_some, List, [], ◌∷◌, ◌++◌, take, length, Option, Some, None, refl, sym, ap, subst, ◌∙◌, arith}
+use Rattle.std.proofs.Common.{◌≡◌, ℕ, zero, suc, ◌<◌, ◌≤◌, cond, is_some, List, [], ◌∷◌, ◌++◌, take, length, Option, Some, None, refl, sym, ap, subst, ◌∙◌, arith}
 use Rattle.std.specs.Prelude.{slice_get}
 use Rattle.std.proofs.lemmas.List.{append-nil}
 use Rattle.basis.proofs.Lists.{listed_place}
@@ -7,8 +7,7 @@ use Rattle.sched_core.specs.Rules.{choice_at, IsRun}
 use Rattle.sched_core.specs.Replay.{EndsAfter}
 use Rattle.vdesign.specs.Design.{Design}
 use Rattle.vmodel.specs.declared.history.Cause.{Cause}
-use Rattle.vmodel.specs.declared.history.Departures.{Departures}
-use Rattle.vmodel.specs.declared.history.Departures.TheVariants.{Taking, Holding}
+use Rattle.vmodel.specs.declared.history.Departures.TheVariants.{Taking}
 use Rattle.vmodel.specs.declared.history.Grain.{Grain}
 use Rattle.vmodel.specs.declared.history.Grain.TheVariants.{Process, Statement}
 use Rattle.vmodel.specs.declared.history.Item.{Item}
@@ -19,17 +18,17 @@ use Rattle.vmodel.specs.declared.choice.Choice.TheVariants.{Run, Update, Advance
 use Rattle.vmodel.specs.Queue.{Later, Queue}
 use Rattle.vmodel.specs.State.{State}
 use Rattle.vmodel.specs.Choices.{or_advance, active_choices, offered_choices, order_by, order_of, taking_or_holding, choices_by, choices}
-use Rattle.vmodel.specs.Holding.{count_before, with_held, before_choice, without_taken, held_with, released, held_after}
-use Rattle.vmodel.specs.Printed.{with_lines, lines_before, printed_after, AreLinesInOrder, HasLines}
-use Rattle.vmodel.specs.Step.{Transition, transition_of, with_views, with_held_after, transition_by, next, items_of, slot_end_of}
-use Rattle.vmodel.specs.Run.{Setting, rules_of, opening_of, state_after, items_after, held_at_first, printed_at_first}
+use Rattle.vmodel.specs.Holding.{count_before, with_held, before_choice, without_taken, released, held_after}
+use Rattle.vmodel.specs.Printed.{printed_after, HasLines}
+use Rattle.vmodel.specs.Step.{Transition, transition_of, with_views, with_held_after, transition_by, next, items_of}
+use Rattle.vmodel.specs.Run.{Setting, rules_of, state_after, items_after, held_at_first, printed_at_first}
 use Rattle.vmodel.specs.RunProgress.{opening_is, after_is, width_is}
 use Rattle.vmodel.specs.RunLaws.{holding, of_values}
 use Rattle.vmodel.proofs.ProcessLemmas.{is_lt}
 use Rattle.vmodel.proofs.OrderLemmas.{get_front}
 use Rattle.vmodel.proofs.HeldLemmas.{released-none}
 use Rattle.vmodel.proofs.BagLemmas.{lines-kept}
-use Rattle.vmodel.proofs.ViewLemmas.{with_seen, with_seen_after, items-seen, without_lines, holding_none, values_step, holding_step}
+use Rattle.vmodel.proofs.ViewLemmas.{with_seen_after, items-seen, without_lines, holding_none, values_step, holding_step}
 
 -- ---- where values alone are looked at
 
@@ -49,8 +48,8 @@ as_values setting log (suc n) =
     let same : next setting.design (state_after (of_values setting) log n) i ≡ with_seen_after t.state.held_back None t =
     ap (λ (x : State). next setting.design x i) before.0 ∙ values_step setting.design i o s in (
       after_is (of_values setting) (state_after (of_values setting) log n) i
-      ∙ ap (λ (x : Transition). x.state) same
-      ∙ ap without_lines (sym (after_is setting s i)),
+          ∙ ap (λ (x : Transition). x.state) same
+          ∙ ap without_lines (sym (after_is setting s i)),
       (λ k. before.1 k ++ (ap (items_of setting.design) same ∙ items-seen t.state.held_back None setting.design t) k),
     )
 
@@ -188,9 +187,9 @@ carried setting log (suc n) takes run =
     ∙ ap (transition_by setting.design (holding_none s) i) (is_there.same ∙ at.1)
     ∙ holding_step setting.design i at.0 s (is_there.none at.0 (transition_of setting.design at.0 s).state.queue) in (
       after_is (holding setting) (state_after (holding setting) log n) i
-      ∙ ap (λ (x : Transition). x.state) same
-      ∙ ap (λ (x : Transition). holding_none x.state) (sym was)
-      ∙ ap holding_none (sym (after_is setting s i)),
+          ∙ ap (λ (x : Transition). x.state) same
+          ∙ ap (λ (x : Transition). holding_none x.state) (sym was)
+          ∙ ap holding_none (sym (after_is setting s i)),
       (λ k. before.1 k ++ (ap (items_of setting.design) same ∙ items-seen (Some []) t.state.printed setting.design t ∙ ap (items_of setting.design) (sym was)) k),
     )
 

@@ -46,6 +46,13 @@ abbrev pub printed_after : Choice → List Item → Option (List (List ℕ)) →
 printed_after c items None = None
 printed_after c items (Some bag) = Some (with_lines items (lines_before c bag))
 
+-- which of two bags stands first: the one whose line is less where they first differ, or which is a front of the other
+abbrev pub bag_cmp : List (List ℕ) → List (List ℕ) → Ordering
+bag_cmp = slice_cmp (slice_cmp nat_cmp)
+
+abbrev pub IsBagLess : List (List ℕ) → List (List ℕ) → Type 0
+IsBagLess a b = bag_cmp a b ≡ Less
+
 -- no line is less than one before it
 abbrev pub AreLinesInOrder : List (List ℕ) → Type 0
 AreLinesInOrder lines = (i j : ℕ) (a b : List ℕ) →

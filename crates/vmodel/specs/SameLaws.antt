@@ -1,9 +1,11 @@
 -- Each test of equality, part by part, decides whether the two are equal (laws with their proofs).
-use Rattle.std.specs.Prelude.{◌≡◌, ℕ, Bool, nat_eq, ◌&&◌, Some, None, Decides, refl}
+use Rattle.std.specs.Prelude.{◌≡◌, ℕ, Bool, List, nat_eq, ◌&&◌, Some, None, Decides, refl}
 use Rattle.std.proofs.Common.{ap}
 use Rattle.std.specs.Option.{option_eq}
-use Rattle.std.specs.Cmp.{IsEquivalence, decided, booleans_Decides, unsigned_Decides}
-use Rattle.std.specs.Cmp.Lexicographic.{pointwise}
+use Rattle.std.specs.Cmp.{IsEquivalence, IsTotalOrder, IsPartialOrder, decided, booleans_Decides, unsigned_Decides, partial_order_from_agreeing_total}
+use Rattle.std.specs.Ordering.{nat_cmp, eq_by_cmp}
+use Rattle.std.proofs.lemmas.Cmp.{nat_list_cmp_total, lists_total}
+use Rattle.std.specs.Cmp.Lexicographic.{pointwise, slice_cmp, lists_ties, texts_ties}
 use Rattle.std.proofs.lemmas.Slice.Eq.{slice_eq-Decides}
 use Rattle.std.proofs.lemmas.Bool.Decides.{Decides-and, Decides-like}
 use Rattle.vbits.specs.Vectors.{vector_same}
@@ -14,6 +16,7 @@ use Rattle.vmodel.specs.declared.part.Part.TheVariants.{Whole, Bits}
 use Rattle.vmodel.specs.declared.process.Frame.TheVariants.{Executing, Repeating, Writing}
 use Rattle.vmodel.specs.Queue.{Later, Queue}
 use Rattle.vmodel.specs.State.{Process, State}
+use Rattle.vmodel.specs.Printed.{bag_cmp}
 use Rattle.vmodel.specs.Same.{values_same, frame_same, process_same, grain_same, cause_same, part_same, parts_same, slot_same, stand_same, regions_same, queue_same, held_back_same, lines_same, printed_same, state_same}
 
 -- the test decides equality
@@ -220,3 +223,15 @@ lines_equivalent = decided lines_same lines_tell
 
 pub states_equivalent : IsEquivalence state_same
 states_equivalent = decided state_same states_tell
+
+-- ---- the order of bags
+
+pub bags_total : IsTotalOrder bag_cmp
+bags_total = lists_total nat_list_cmp_total
+
+-- two are equal where neither stands first
+pub bags_tie : (a b : List (List ℕ)) → lines_same a b ≡ eq_by_cmp bag_cmp a b
+bags_tie = lists_ties (slice_cmp nat_cmp) texts_ties
+
+pub bags_ordered : IsPartialOrder lines_same (λ a b. Some (bag_cmp a b))
+bags_ordered = partial_order_from_agreeing_total bag_cmp bags_total (λ a b. refl) bags_tie

@@ -49,6 +49,40 @@ impl Eq for PrintedLine {
     ghost laws = { nat_list_eq_equiv };
 }
 
+/// Lines are compared by their bytes, a front before the longer.
+impl PartialOrd for PrintedLine {
+    ghost use Rattle.std.specs.Prelude.{Some};
+    ghost use Rattle.std.specs.Ordering.{nat_cmp};
+    ghost use Rattle.std.specs.Cmp.Lexicographic.{slice_cmp, texts_po};
+
+    ghost partial_cmp = { λ a b. Some (slice_cmp nat_cmp a b) };
+
+    ghost laws = { texts_po };
+
+    fn partial_cmp(&self, other: &PrintedLine) -> Option<Ordering> {
+        Some(self.cmp(other))
+    }
+}
+
+impl Ord for PrintedLine {
+    ghost use Rattle.std.specs.Prelude.{refl};
+    ghost use Rattle.std.specs.Ordering.{nat_cmp};
+    ghost use Rattle.std.specs.Cmp.Lexicographic.{slice_cmp, texts_ties};
+    ghost use Rattle.std.proofs.lemmas.Cmp.{nat_list_cmp_total};
+
+    ghost cmp = { slice_cmp nat_cmp };
+
+    ghost total = { nat_list_cmp_total };
+
+    ghost matches_partial_cmp = { λ a b. refl };
+
+    ghost matches_eq = { texts_ties };
+
+    fn cmp(&self, other: &PrintedLine) -> Ordering {
+        self.bytes.cmp(&other.bytes)
+    }
+}
+
 impl PrintedLine {
     /// A line of these bytes.
     pub fn new(alloc: Global, bytes: &[u8]) -> Result<PrintedLine, NoMemory>
@@ -100,6 +134,39 @@ impl Eq for Bag {
     ghost use Rattle.vmodel.specs.SameLaws.{lines_equivalent};
 
     ghost laws = { lines_equivalent };
+}
+
+/// Bags are compared line by line, a front before the longer.
+impl PartialOrd for Bag {
+    ghost use Rattle.std.specs.Prelude.{Some};
+    ghost use Rattle.vmodel.specs.Printed.{bag_cmp};
+    ghost use Rattle.vmodel.specs.SameLaws.{bags_ordered};
+
+    ghost partial_cmp = { λ a b. Some (bag_cmp a b) };
+
+    ghost laws = { bags_ordered };
+
+    fn partial_cmp(&self, other: &Bag) -> Option<Ordering> {
+        Some(self.cmp(other))
+    }
+}
+
+impl Ord for Bag {
+    ghost use Rattle.std.specs.Prelude.{refl};
+    ghost use Rattle.vmodel.specs.Printed.{bag_cmp};
+    ghost use Rattle.vmodel.specs.SameLaws.{bags_total, bags_tie};
+
+    ghost cmp = { bag_cmp };
+
+    ghost total = { bags_total };
+
+    ghost matches_partial_cmp = { λ a b. refl };
+
+    ghost matches_eq = { bags_tie };
+
+    fn cmp(&self, other: &Bag) -> Ordering {
+        self.lines.cmp(&other.lines)
+    }
 }
 
 // How the bytes of a line compare with those of another.

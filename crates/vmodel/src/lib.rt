@@ -1,5 +1,5 @@
-// Runs of a design, step by step, as IEEE 1364-2005 defines them. In go a design, a time limit and a grain; out
-// come states, how many choices each has, and for a choice the next state with what it gives to the history.
+// Runs of a design, step by step, as IEEE 1364-2005 defines them. In go a design, a time limit, a grain, which departures there are
+// and what is looked at; out come states, how many choices each has, and for a choice the next state with what it gives to the history.
 // The law: `slow_step` is `Step` of specs/Step.antt, to the letter. What all runs keep is said by `run_law`.
 #![tactic(auto)]
 
