@@ -28,7 +28,7 @@ keeps_by : (b : Bool) (r n : ℕ) (active : List ℕ) → count_in r active ≤ 
 keeps_by true r n active = count-keeps n r active
 keeps_by false r n active = omega arith
 
-awake_keeps : (comes : Process → Bool) (r n : ℕ) (ps : List Process) (active : List ℕ) → count_in r active ≤ count_in r (with_awake comes n ps active)
+pub awake_keeps : (comes : Process → Bool) (r n : ℕ) (ps : List Process) (active : List ℕ) → count_in r active ≤ count_in r (with_awake comes n ps active)
 awake_keeps comes r n [] active = omega arith
 awake_keeps comes r n (process ∷ rest) active =
     omega (

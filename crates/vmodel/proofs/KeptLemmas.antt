@@ -1,32 +1,43 @@
 -- What every state of a run keeps: the opening state has it, and each step keeps it.
-use Rattle.std.proofs.Common.{◌≡◌, ◌≢◌, ℕ, zero, suc, ◌+◌, ◌<◌, ◌≤◌, List, [], ◌∷◌, ◌++◌, map, length, Option, Some, None, cond, is_some, refl, sym, ap, subst, ◌∙◌, arith}
+use Rattle.std.proofs.Common.{◌≡◌, ℕ, zero, suc, ◌+◌, ◌<◌, ◌≤◌, List, [], ◌∷◌, map, length, Option, Some, None, refl, sym, ap, subst, ◌∙◌, arith}
 use Rattle.std.specs.Prelude.{slice_get}
 use Rattle.sched_core.specs.Rules.{choice_at}
 use Rattle.vdesign.specs.Design.{Design}
 use Rattle.vdesign.specs.declared.action.Action.{Action}
 use Rattle.vmodel.specs.declared.history.Cause.{Cause}
-use Rattle.vmodel.specs.declared.history.Grain.{Grain}
-use Rattle.vmodel.specs.declared.history.Grain.TheVariants.{Process, Statement}
 use Rattle.vmodel.specs.declared.part.Part.{Part}
 use Rattle.vmodel.specs.declared.process.Frame.{Frame}
 use Rattle.vmodel.specs.declared.choice.Choice.{Choice}
 use Rattle.vmodel.specs.declared.choice.Choice.TheVariants.{Run, Update, Advance}
-use Rattle.vmodel.specs.Queue.{Later, Queue, without_process}
+use Rattle.vmodel.specs.Queue.{Later, Queue}
 use Rattle.vmodel.specs.State.{State}
-use Rattle.vmodel.specs.Choices.{in_order, first_update, or_advance, active_choices, offered_choices, queue_choices, choices}
+use Rattle.vmodel.specs.Choices.{choices}
 use Rattle.vmodel.specs.Step.{environment_of, StepResult, execute_at, held_of, place_of, process_to_continue, with_moves_by, with_woken, with_moves, with_step, with_strobe, process_by, transition_with, action_transition, continuation_transition, without_update, with_update, with_advance, transition_of, transition_by, next}
-use Rattle.vmodel.specs.Run.{Setting, busy_from, opening_process, opening_of, state_after}
+use Rattle.vmodel.specs.declared.history.Departures.{Departures}
+use Rattle.vmodel.specs.declared.history.Departures.TheVariants.{Taking, Holding}
+use Rattle.std.specs.Option.{ForSome}
+use Rattle.vmodel.specs.Run.{Setting, busy_from, opening_process, held_at_first, opening_of, state_after}
 use Rattle.vmodel.specs.RunProgress.{opening_is, after_is}
-use Rattle.vmodel.specs.Kept.{RisesFrom, IsInOrder, count_in, asleep, IsInPlace, IsIdle, IsKept, IsEmptied}
-use Rattle.vmodel.proofs.PlaceLemmas.{count-other, count-self, count-cons, count-without, rises_below}
-use Rattle.vmodel.proofs.MovedLemmas.{most_at, IsWaiting, LastIsActive, nobody_last, settled_by, order-process_with_move, is_there, place-process_with_move, continuation_at}
+use Rattle.vmodel.specs.Kept.{RisesFrom, IsInOrder, count_in, asleep, IsInPlace, IsIdle, AreHeldBack, IsKept, IsEmptied}
+use Rattle.vmodel.proofs.PlaceLemmas.{count-other, count-self, rises_below}
+use Rattle.vmodel.proofs.MovedLemmas.{most_at, IsWaiting, nobody_last, settled_by, order-process_with_move, is_there, place-process_with_move, continuation_at}
 use Rattle.vmodel.proofs.AwakeLemmas.{order-with_woken, place-with_woken}
-use Rattle.vmodel.specs.RulesLaws.{idle_when}
+use Rattle.vmodel.proofs.OpenLemmas.{IsOpen, open_choice}
+use Rattle.vmodel.proofs.HeldLemmas.{none-held, held-kept}
 use Rattle.vbits.specs.Vectors.{Vector}
+
+-- all of it but what is held back, which is told anew behind the step
+record IsQueueKept (s : State) : Type 0 where
+  order : IsInOrder s.queue
+  place : IsInPlace s.queue s.processes
+  moves : s.cause ≡ None → IsIdle s.queue → IsEmptied s.queue
+
+queue_kept : (s : State) → IsKept s → IsQueueKept s
+queue_kept s kept = record { order = kept.order; place = kept.place; moves = kept.moves }
 
 -- ---- the region moves
 
-with_moves-kept : (s : State) → IsInOrder s.queue → IsInPlace s.queue s.processes → IsKept (with_moves s)
+with_moves-kept : (s : State) → IsInOrder s.queue → IsInPlace s.queue s.processes → IsQueueKept (with_moves s)
 with_moves-kept s order place = by_cause s.cause refl
   where
     -- what was inactive is active now, and what was active before is nothing
@@ -38,7 +49,7 @@ with_moves-kept s order place = by_cause s.cause refl
       last = λ p e. absurd (omega (arith, place.last p e, ap (count_in p) none));
     }
 
-    by_cause : (cause : Option Cause) → s.cause ≡ cause → IsKept (with_moves_by cause s)
+    by_cause : (cause : Option Cause) → s.cause ≡ cause → IsQueueKept (with_moves_by cause s)
     by_cause (Some cause) is = record { order = order; place = place; moves = λ none. let no : None ≡ Some cause = sym none ∙ is in cc }
     by_cause None is = record {
       order = settled_by IsInOrder s.queue (λ moves. order)
@@ -54,76 +65,8 @@ with_moves-kept s order place = by_cause s.cause refl
           (λ done i p idle. (i, p, refl));
     }
 
--- ---- what a choice says of the state that offers it
-
-abbrev pub IsOpen : Choice → Queue → Type 0
-IsOpen (Run p) q = 1 ≤ count_in p q.active
-IsOpen Update q = q.activated ≢ []
-IsOpen Advance q = IsIdle q × (q.future ≢ [])
-
-abbrev AreOpen : Queue → List Choice → Type 0
-AreOpen q cs = (i : ℕ) (c : Choice) → slice_get cs i ≡ Some c → IsOpen c q
-
-open_one : (q : Queue) (c : Choice) (cs : List Choice) → IsOpen c q → AreOpen q cs → AreOpen q (c ∷ cs)
-open_one q c cs first rest zero d e = let same : c ≡ d = cc in subst (λ (x : Choice). IsOpen x q) same first
-open_one q c cs first rest (suc i) d e = rest i d e
-
-open_none : (q : Queue) → AreOpen q []
-open_none q i c e = cc
-
-open_all : (q : Queue) (xs ys : List Choice) → AreOpen q xs → AreOpen q ys → AreOpen q (xs ++ ys)
-open_all q [] ys left right = right
-open_all q (x ∷ xs) ys left right =
-    open_one q x (xs ++ ys) (left 0 x refl) (open_all q xs ys (λ i c e. left (suc i) c e) right)
-
-open_runs : (q : Queue) (ps : List ℕ) → ((p : ℕ) → 1 ≤ count_in p ps → 1 ≤ count_in p q.active) → AreOpen q (map Run ps)
-open_runs q [] h = open_none q
-open_runs q (p ∷ ps) h = open_one q (Run p) (map Run ps) (h p (omega (arith, count-self p ps)))
-    (open_runs q ps (λ r some. h r (omega (arith, some, count-cons r p ps))))
-
-open_update : (q : Queue) (us : List (List Part)) → q.activated ≡ us → AreOpen q (first_update us)
-open_update q [] is = open_none q
-open_update q (u ∷ us) is = open_one q Update [] (λ none. let no : u ∷ us ≡ [] = sym is ∙ none in cc) (open_none q)
-
-open_active : (q : Queue) (last : Option ℕ) → q.last ≡ last → LastIsActive q → AreOpen q (map Run (in_order last q.active))
-open_active q None is active = open_runs q q.active (λ p some. some)
-open_active q (Some p) is active =
-    open_one q (Run p) (map Run (without_process p q.active)) (active p is)
-    (open_runs q (without_process p q.active) (λ r some. omega (arith, some, count-without p r q.active)))
-
-open_choices : (q : Queue) → LastIsActive q → AreOpen q (active_choices q)
-open_choices q active =
-    open_all q (map Run (in_order q.last q.active)) (first_update q.activated) (open_active q q.last refl active) (open_update q q.activated refl)
-
-open_offered : (q : Queue) (grain : Grain) (last : Option ℕ) → q.last ≡ last → LastIsActive q → AreOpen q (offered_choices q grain last)
-open_offered q Process (Some p) is active = open_one q (Run p) [] (active p is) (open_none q)
-open_offered q Process None is active = open_choices q active
-open_offered q Statement last is active = open_choices q active
-
-open_advance : (q : Queue) (cs : List Choice) (future : List (ℕ × Later)) → q.future ≡ future → AreOpen q cs → (length cs ≡ 0 → IsIdle q) →
-    AreOpen q (or_advance cs future)
-open_advance q [] [] is offers idle = open_none q
-open_advance q [] (e ∷ es) is offers idle =
-    open_one q Advance [] (idle refl, λ none. let no : e ∷ es ≡ [] = sym is ∙ none in cc) (open_none q)
-open_advance q (c ∷ cs) future is offers idle = offers
-
-pub open_choice : (s : State) (i : ℕ) (c : Choice) → LastIsActive s.queue → slice_get (choices s) i ≡ Some c → (s.cause ≡ None) × IsOpen c s.queue
-open_choice s i c active e = by_cause s.cause refl e
-  where
-    q : Queue
-    q = s.queue
-
-    by_cause : (cause : Option Cause) → s.cause ≡ cause → slice_get (cond (is_some cause) [] (queue_choices s.queue)) i ≡ Some c →
-        (s.cause ≡ None) × IsOpen c s.queue
-    by_cause (Some cause) is e = cc
-    by_cause None is e = (
-      is,
-      open_advance s.queue (offered_choices s.queue s.queue.grain s.queue.last) s.queue.future refl
-          (open_offered s.queue s.queue.grain s.queue.last refl active) (idle_when s.queue) i c e,
-    )
-
 with_woken-kept : (design : Design) (before : List Vector) (triggered : Option ℕ) (s : State) → IsInOrder s.queue → IsInPlace s.queue s.processes →
-    IsKept (with_moves (with_woken design before triggered s))
+    IsQueueKept (with_moves (with_woken design before triggered s))
 with_woken-kept design before triggered s order place =
     with_moves-kept (with_woken design before triggered s) (order-with_woken design before triggered s order) (place-with_woken design before triggered s place)
 
@@ -151,7 +94,7 @@ advanced-kept s (e ∷ es) is kept =
     )
 
 transition_with-kept : (design : Design) (p : ℕ) (step : StepResult) (s : State) → IsKept s → 1 ≤ count_in p s.queue.active → p < length s.processes →
-    IsKept (transition_with design p step s).state
+    IsQueueKept (transition_with design p step s).state
 transition_with-kept design p step s kept active lt =
     let q = with_strobe step.effect.strobed s.queue in
     with_woken-kept design s.values step.effect.triggered (with_step p step s)
@@ -161,17 +104,17 @@ transition_with-kept design p step s kept active lt =
     (record { once = kept.place.once; waiting = kept.place.waiting; last = kept.place.last }) refl active lt)
 
 action_transition-kept : (design : Design) (p : ℕ) (frame : Frame) (action : Option Action) (after : List Frame) (s : State) → IsKept s → 1 ≤ count_in p s.queue.active →
-    p < length s.processes → IsKept (action_transition design p frame action after s).state
-action_transition-kept design p frame None after s kept active lt = kept
+    p < length s.processes → IsQueueKept (action_transition design p frame action after s).state
+action_transition-kept design p frame None after s kept active lt = queue_kept s kept
 action_transition-kept design p frame (Some action) after s kept active lt = transition_with-kept design p (execute_at frame action after (held_of (slice_get s.processes p)) (environment_of design s)) s kept active lt
 
 process-kept : (design : Design) (p : ℕ) (continuation : List Frame) (s : State) → IsKept s → continuation_at s.processes p ≡ continuation →
-    1 ≤ count_in p s.queue.active → IsKept (continuation_transition design p continuation s).state
-process-kept design p [] s kept is active = kept
+    1 ≤ count_in p s.queue.active → IsQueueKept (continuation_transition design p continuation s).state
+process-kept design p [] s kept is active = queue_kept s kept
 process-kept design p (frame ∷ after) s kept is active =
     action_transition-kept design p frame (slice_get design.actions (place_of frame)) after s kept active (is_there s.processes p frame after is)
 
-transition-kept : (design : Design) (c : Choice) (s : State) → IsKept s → IsOpen c s.queue → IsKept (transition_of design c s).state
+transition-kept : (design : Design) (c : Choice) (s : State) → IsKept s → IsOpen c s.queue → IsQueueKept (transition_of design c s).state
 transition-kept design (Run p) s kept active = process-kept design p (continuation_at s.processes p) s kept refl active
 transition-kept design Update s kept allowed =
     let h = with_update-kept s s.queue.activated kept in with_woken-kept design s.values None (with_update s) h.0 h.1
@@ -182,9 +125,12 @@ transition-kept design Advance s kept allowed =
 pub next-kept : (design : Design) (s : State) (i : ℕ) → IsKept s → IsKept (next design s i).state
 next-kept design s i kept = by_choice (slice_get (choices s) i) refl
   where
-    by_choice : (o : Option Choice) → slice_get (choices s) i ≡ o → IsKept (transition_by design o s).state
+    by_choice : (o : Option Choice) → slice_get (choices s) i ≡ o → IsKept (transition_by design s i o).state
     by_choice None is = kept
-    by_choice (Some c) is = transition-kept design c s kept (open_choice s i c kept.place.last is).1
+    by_choice (Some c) is =
+        let is_open = (open_choice s i c kept is).1 in
+        let after = transition-kept design c s kept is_open in
+        record { order = after.order; place = after.place; held = held-kept design s i c kept is_open; moves = after.moves }
 
 -- ---- the opening state
 
@@ -213,6 +159,13 @@ opening_waiting [] p = tt
 opening_waiting (places ∷ rest) zero = tt
 opening_waiting (places ∷ rest) (suc p) = opening_waiting rest p
 
+nobody_held : (departures : Departures) (q : Queue) → ForSome (held_at_first departures) (AreHeldBack q)
+nobody_held Taking q = λ held is. cc
+nobody_held Holding q = λ held is. subst (AreHeldBack q) (some_same [] held is) (none-held q)
+  where
+    some_same : (xs ys : List ℕ) → Some xs ≡ Some ys → xs ≡ ys
+    some_same xs ys is = cc
+
 opening-kept : (setting : Setting) → IsKept (opening_of setting)
 opening-kept setting = record {
   order = record { active = busy_rises 0 setting.design.processes; inactive = tt; future = tt };
@@ -221,6 +174,7 @@ opening-kept setting = record {
     waiting = λ p. opening_waiting setting.design.processes p;
     last = nobody_last (opening_of setting).queue refl;
   };
+  held = nobody_held setting.departures (opening_of setting).queue;
   moves = λ none idle. (refl, refl, refl);
 }
 

@@ -11,7 +11,13 @@ mod MovedLemmas
 mod WakingLemmas
 mod RanLemmas
 mod AwakeLemmas
+mod OrderLemmas
+mod BagLemmas
+mod OpenLemmas
+mod HeldLemmas
 mod KeptLemmas
+mod ViewLemmas
+mod SettingLemmas
 mod ValuesLemmas
 mod ShapeLemmas
 mod TimesLemmas

@@ -171,7 +171,7 @@ own-reschedule p Runnable continuation q once active = own-goes_on p continuatio
 own-reschedule p (Delayed d) continuation q once active = omega (arith, own-sleeps p d (process_to_continue p continuation) q once active, own-process_to_continue p continuation)
 own-reschedule p (Waiting place) continuation q once active = omega (arith, left_all p q once active)
 
-active-posts : (posted : Option Post) (q : Queue) → (posts posted q).active ≡ q.active
+pub active-posts : (posted : Option Post) (q : Queue) → (posts posted q).active ≡ q.active
 active-posts posted q = posts_by (λ (after : Queue). after.active ≡ q.active) posted q refl (λ post is. refl) refl (λ post t is lt within. refl)
 
 places-own : (p : ℕ) (disposition : Disposition) (posted : Option Post) (continuation : List Frame) (q : Queue) → places p q ≤ 1 → 1 ≤ count_in p q.active →

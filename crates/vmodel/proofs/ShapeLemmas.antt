@@ -378,9 +378,9 @@ transition-shaped variables design Advance s h =
 next-shaped : (variables : List Variable) (design : Design) (s : State) (i : ℕ) → IsShaped variables s → IsShaped variables (next design s i).state
 next-shaped variables design s i h = by_choice (slice_get (choices s) i)
   where
-    by_choice : (o : Option Choice) → IsShaped variables (transition_by design o s).state
+    by_choice : (o : Option Choice) → IsShaped variables (transition_by design s i o).state
     by_choice None = h
-    by_choice (Some c) = transition-shaped variables design c s h
+    by_choice (Some c) = let after = transition-shaped variables design c s h in record { values = after.values; queue = after.queue }
 
 -- ---- the run
 

@@ -20,12 +20,13 @@ use Rattle.vmodel.specs.declared.choice.Choice.TheVariants.{Run, Update, Advance
 use Rattle.vmodel.specs.Queue.{Later, Queue}
 use Rattle.vmodel.specs.State.{State}
 use Rattle.vmodel.specs.Choices.{choices}
-use Rattle.vmodel.specs.Step.{environment_of, Transition, StepResult, execute_at, place_of, process_to_continue, goes_on, reschedule, posts, with_strobe, with_queue_moves, with_moves_by, with_woken, with_moves, with_step, transition_with, action_transition, continuation_transition, continuation_of, held_of, without_update, with_update, with_advance, transition_of, transition_by, next, shown_items, idle_items, slot_end_by, slot_end_of, strobe_items, before_end, end_items, items_of}
+use Rattle.vmodel.specs.Step.{environment_of, Transition, StepResult, execute_at, place_of, process_to_continue, goes_on, reschedule, posts, with_strobe, with_queue_moves, with_moves_by, with_woken, with_moves, with_step, transition_with, action_transition, continuation_transition, continuation_of, held_of, without_update, with_update, with_advance, transition_of, with_views, transition_by, next, shown_items, idle_items, slot_end_by, slot_end_of, strobe_items, before_end, end_items, items_of}
 use Rattle.vmodel.specs.Run.{Setting, rules_of, opening_of, state_after, items_after}
 use Rattle.vmodel.specs.RunProgress.{opening_is, after_is, width_is}
 use Rattle.vmodel.specs.Kept.{RisesFrom, IsIdle, IsKept, slot_times, count_in}
 use Rattle.vmodel.proofs.MovedLemmas.{sleeps_by, posts_by, settled_by}
-use Rattle.vmodel.proofs.KeptLemmas.{IsOpen, open_choice, kept}
+use Rattle.vmodel.proofs.OpenLemmas.{IsOpen, open_choice}
+use Rattle.vmodel.proofs.KeptLemmas.{kept}
 
 -- ---- times one after another
 
@@ -157,32 +158,30 @@ time-advanced times s (e ∷ es) is kept some le =
     let h = rw is at kept.order.future in omega (arith, h.0, le)
 
 transition-timed : (design : Design) (times : List ℕ) (c : Choice) (s : State) → IsKept s → s.cause ≡ None → IsOpen c s.queue → IsTimed times s →
-    IsTimed (times ++ slot_times (items_of design (transition_of design c s))) (transition_of design c s).state
+    free_from 0 times ≤ (transition_of design c s).state.queue.time
 transition-timed design times (Run p) s kept none active timed =
-    timed_transition design times (transition_of design (Run p) s) timed.rises
-    (omega (
+    omega (
       arith,
       timed.before none (λ idle. absurd (omega (arith, active, ap (count_in p) idle.0))),
       time-process design p (continuation_of (slice_get s.processes p)) s,
-    ))
+    )
 transition-timed design times Update s kept none some timed =
-    timed_transition design times (transition_of design Update s) timed.rises
-    (omega (arith, timed.before none (λ idle. some idle.1), time-with_moves (with_woken design s.values None (with_update s)), time-with_update s.queue.activated s.queue))
+    omega (arith, timed.before none (λ idle. some idle.1), time-with_moves (with_woken design s.values None (with_update s)), time-with_update s.queue.activated s.queue)
 transition-timed design times Advance s kept none allowed timed =
-    timed_transition design times (transition_of design Advance s) timed.rises
-    (omega (
+    omega (
       arith,
       time-advanced times s s.queue.future refl kept allowed.1 timed.within,
       time-with_moves (record s { queue = with_advance s.queue.future s.queue }),
-    ))
+    )
 
 next-timed : (design : Design) (times : List ℕ) (s : State) (i : ℕ) → IsKept s → IsTimed times s → i < length (choices s) →
     IsTimed (times ++ slot_times (items_of design (next design s i))) (next design s i).state
 next-timed design times s i kept timed lt =
     let there = listed_place (choices s) i lt in
-    let allowed = open_choice s i there.0 kept.place.last there.1 in
-    subst (λ (o : Option Choice). IsTimed (times ++ slot_times (items_of design (transition_by design o s))) (transition_by design o s).state) (sym there.1)
-    (transition-timed design times there.0 s kept allowed.0 allowed.1 timed)
+    let allowed = open_choice s i there.0 kept there.1 in
+    subst (λ (o : Option Choice). IsTimed (times ++ slot_times (items_of design (transition_by design s i o))) (transition_by design s i o).state) (sym there.1)
+    (timed_transition design times (with_views design s i there.0 (transition_of design there.0 s)) timed.rises
+    (transition-timed design times there.0 s kept allowed.0 allowed.1 timed))
 
 -- ---- the run
 

@@ -60,7 +60,7 @@ transition-full design Advance s = length-with_moves (record s { queue = with_ad
 next-full : (design : Design) (s : State) (i : ℕ) → length (next design s i).state.values ≡ length s.values
 next-full design s i = by_choice (slice_get (choices s) i)
   where
-    by_choice : (o : Option Choice) → length (transition_by design o s).state.values ≡ length s.values
+    by_choice : (o : Option Choice) → length (transition_by design s i o).state.values ≡ length s.values
     by_choice None = refl
     by_choice (Some c) = transition-full design c s
 

@@ -1,5 +1,5 @@
--- *internal*: What the hash of a state is fed: one number made of its time, its values, where its processes stand and what its queue
--- holds. Equal states have the same one; no more is asked of it.
+-- *internal*: What the hash of a state is fed: one number made of its time, its values, where its processes stand, what its queue holds, and
+-- what is held back and printed where that is kept. Equal states have the same one; no more is asked of it.
 use Rattle.std.specs.Prelude.{◌≡◌, ℕ, ◌+◌, ◌*◌, ◌%◌, ◌/◌, ◌^◌, true, List, [], ◌∷◌, Option, Some, None, slice_get}
 use Rattle.std.specs.Hash as fed
 use Rattle.std.proofs.Common.{ap}
@@ -104,8 +104,25 @@ digest_of_queue digest q = digest_of_future (digest_of_events (digest_of_process
 
 -- ---- the state
 
+-- what is held back, where that is kept
+abbrev pub digest_of_held : ℕ → Option (List ℕ) → ℕ
+digest_of_held digest None = digest
+digest_of_held digest (Some held) = digest_of_set digest held
+
+abbrev pub digest_of_lines : ℕ → List (List ℕ) → ℕ
+digest_of_lines digest [] = digest
+digest_of_lines digest (line ∷ lines) = digest_of_lines (digest_of_list digest line) lines
+
+-- the lines of the slot and their end, where they are kept
+abbrev pub digest_of_printed : ℕ → Option (List (List ℕ)) → ℕ
+digest_of_printed digest None = digest
+digest_of_printed digest (Some lines) = digest_of_end (digest_of_lines digest lines)
+
+abbrev pub digest_of_run : State → ℕ
+digest_of_run s = digest_of_queue (digest_of_processes (digest_of_values (digest_with 0 s.queue.time) s.values) s.processes) s.queue
+
 abbrev pub digest : State → ℕ
-digest s = digest_of_queue (digest_of_processes (digest_of_values (digest_with 0 s.queue.time) s.values) s.processes) s.queue
+digest s = digest_of_printed (digest_of_held (digest_of_run s) s.held_back) s.printed
 
 pub fed_alike : (s t : State) → state_same s t ≡ true → fed.u64 (digest s) ≡ fed.u64 (digest t)
 fed_alike s t h = ap (λ (u : State). fed.u64 (digest u)) ((states_tell s t).0 h)

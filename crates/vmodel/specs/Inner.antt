@@ -12,6 +12,12 @@ use Rattle.vdesign.specs.declared.action.Action.{Action}
 use Rattle.vmodel.specs.declared.process.Frame.{Frame}
 use Rattle.vmodel.specs.Queue.{Later, Queue}
 use Rattle.vmodel.specs.Step.{place_of}
+use Rattle.std.specs.Ordering.{nat_cmp}
+use Rattle.std.specs.Cmp.Lexicographic.{slice_cmp}
+use Rattle.std.specs.declared.cmp.Ordering.{Ordering}
+use Rattle.std.specs.declared.cmp.Ordering.TheVariants.{Less, Equal, Greater}
+use Rattle.vmodel.specs.declared.choice.Choice.{Choice}
+use Rattle.vmodel.specs.Holding.{with_one_held}
 
 -- ---- parts
 
@@ -69,6 +75,24 @@ NoneIs P (Some e) = ¬ P e
 -- the last monitor event is taken back
 abbrev pub without_last_strobe : Queue → Queue
 without_last_strobe q = record q { strobes = take (length q.strobes - 1) q.strobes }
+
+-- ---- what is held back, and what is printed
+
+-- held back with this choice, if there is one
+abbrev pub with_some_held : Option Choice → List ℕ → List ℕ
+with_some_held None held = held
+with_some_held (Some c) held = with_one_held c held
+
+-- one place more before a line that is less
+abbrev pub place_behind : Ordering → ℕ → ℕ
+place_behind Greater n = suc n
+place_behind Equal n = zero
+place_behind Less n = zero
+
+-- how many lines stand before a new one
+abbrev pub place_of_line : List ℕ → List (List ℕ) → ℕ
+place_of_line line [] = zero
+place_of_line line (first ∷ rest) = place_behind (slice_cmp nat_cmp line first) (place_of_line line rest)
 
 -- ---- what a process comes to
 

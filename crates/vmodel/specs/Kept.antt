@@ -5,6 +5,7 @@ use Rattle.std.specs.Option.{ForSome}
 use Rattle.vmodel.specs.declared.process.Frame.{Frame}
 use Rattle.vmodel.specs.Queue.{Later, Queue}
 use Rattle.vmodel.specs.State.{Process, State}
+use Rattle.vmodel.specs.Holding.{released}
 use Rattle.vmodel.specs.Step.{continuation_of}
 use Rattle.vmodel.specs.Run.{Setting, state_after}
 use Rattle.vbits.specs.Vectors.{Vector}
@@ -70,9 +71,16 @@ IsIdle q = (q.active ≡ []) × (q.activated ≡ [])
 abbrev pub IsEmptied : Queue → Type 0
 IsEmptied q = (q.inactive ≡ []) × (q.posted ≡ []) × (q.strobes ≡ [])
 
+-- what is held back is active, each process once, and something else is active, too
+pub record AreHeldBack (q : Queue) (held : List ℕ) : Type 0 where
+  pub rises : RisesFrom 0 held
+  pub active : (p : ℕ) → count_in p held ≤ count_in p q.active
+  pub released : released q held ≡ held
+
 pub record IsKept (s : State) : Type 0 where
   pub order : IsInOrder s.queue
   pub place : IsInPlace s.queue s.processes
+  pub held : ForSome s.held_back (AreHeldBack s.queue)
   -- 11.4: while the run goes on the region moves were made: where nothing is active, nothing else stands at this time, and the
   -- monitor events have run
   pub moves : s.cause ≡ None → IsIdle s.queue → IsEmptied s.queue

@@ -7,6 +7,8 @@ pub mod State
 pub mod Waking
 pub mod InnerWaking
 pub mod Choices
+pub mod Holding
+pub mod Printed
 pub mod History
 pub mod Step
 pub mod Same

@@ -9,7 +9,7 @@ use Rattle.vmodel.specs.declared.history.Grain.TheVariants.{Process, Statement}
 use Rattle.vmodel.specs.declared.part.Part.{Part}
 use Rattle.vmodel.specs.Queue.{Later, Queue}
 use Rattle.vmodel.specs.State.{State}
-use Rattle.vmodel.specs.Choices.{in_order, first_update, or_advance, active_choices, offered_choices, queue_choices, choices}
+use Rattle.vmodel.specs.Choices.{in_order, first_update, or_advance, active_choices, offered_choices, free_among, active_order, order_by, order_of, taking_or_holding, choices_by, choices}
 use Rattle.vmodel.specs.Step.{next}
 use Rattle.vmodel.specs.Same.{state_same}
 use Rattle.vmodel.specs.Run.{Setting, rules_of, is_mark}
@@ -29,6 +29,30 @@ nothing_offered q Process (Some p) h = absurd (omega arith)
 nothing_offered q Process None h = h
 nothing_offered q Statement last h = h
 
+-- nor where what may be taken in order, and then what is held back, is nothing
+none_in_front : (cs : List Choice) (held : List ℕ) → length (cs ++ map Run held) ≡ 0 → (held ≡ []) × (length cs ≡ 0)
+none_in_front [] [] h = (refl, refl)
+none_in_front [] (p ∷ held) h = absurd (omega arith)
+none_in_front (c ∷ cs) held h = absurd (omega arith)
+
+active_none : (held : List ℕ) (q : Queue) → length (active_order held q) ≡ 0 → IsIdle q
+active_none held q h =
+    let none = none_in_front (active_choices (record q { active = free_among held q.active })) held h in
+    nothing_active q.last q.active q.activated
+    (subst (λ (ps : List ℕ). length (active_choices (record q { active = free_among ps q.active })) ≡ 0) none.0 none.1)
+
+order_none : (held : List ℕ) (q : Queue) (grain : Grain) (last : Option ℕ) → length (order_by held q grain last) ≡ 0 → IsIdle q
+order_none held q Process (Some p) h = absurd (omega arith)
+order_none held q Process None h = active_none held q h
+order_none held q Statement last h = active_none held q h
+
+pub idle_when_ordered : (held : List ℕ) (q : Queue) → length (taking_or_holding (order_of held q)) ≡ 0 → IsIdle q
+idle_when_ordered held q h = order_none held q q.grain q.last (front_none (order_of held q) h)
+  where
+    front_none : (order : List Choice) → length (taking_or_holding order) ≡ 0 → length order ≡ 0
+    front_none [] h = refl
+    front_none (c ∷ cs) h = absurd (omega arith)
+
 pub idle_when : (q : Queue) → length (offered_choices q q.grain q.last) ≡ 0 → IsIdle q
 idle_when q h = nothing_active q.last q.active q.activated (nothing_offered q q.grain q.last h)
 
@@ -44,8 +68,12 @@ ended_or (Some cause) cs b h otherwise = refl
 end_is_mark : (s : State) → length (choices s) ≡ 0 → is_mark s ≡ true
 end_is_mark s h =
     let q = s.queue in
-    ended_or s.cause (queue_choices q) (length q.active == 0 && length q.activated == 0) h
-    (λ none. let idle = idle_when q (no_advance (offered_choices q q.grain q.last) q.future none) in rw (idle.0, idle.1) refl)
+    ended_or s.cause (choices_by s.held_back q) (length q.active == 0 && length q.activated == 0) h
+    (λ none. let idle = idle_where s.held_back q none in rw (idle.0, idle.1) refl)
+  where
+    idle_where : (held : Option (List ℕ)) (q : Queue) → length (choices_by held q) ≡ 0 → IsIdle q
+    idle_where None q none = idle_when q (no_advance (offered_choices q q.grain q.last) q.future none)
+    idle_where (Some held) q none = idle_when_ordered held q (no_advance (taking_or_holding (order_of held q)) q.future none)
 
 pub lawful : (setting : Setting) → IsLawful (rules_of setting)
 unfolding rules_of

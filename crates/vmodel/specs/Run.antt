@@ -8,6 +8,10 @@ use Rattle.vmodel.specs.declared.history.Cause.TheVariants.{Quiet, Limit}
 use Rattle.vmodel.specs.declared.history.End.{End}
 use Rattle.vmodel.specs.declared.history.Grain.{Grain}
 use Rattle.vmodel.specs.declared.history.Item.{Item}
+use Rattle.vmodel.specs.declared.history.Departures.{Departures}
+use Rattle.vmodel.specs.declared.history.Departures.TheVariants.{Taking, Holding}
+use Rattle.vmodel.specs.declared.history.Looked.{Looked}
+use Rattle.vmodel.specs.declared.history.Looked.TheVariants.{Values, Lines}
 use Rattle.vmodel.specs.Queue.{Queue}
 use Rattle.vmodel.specs.State.{Process, State}
 use Rattle.vmodel.specs.Choices.{choices}
@@ -52,16 +56,33 @@ opening design until grain = record {
   processes = map opening_process design.processes;
   queue = opening_queue (busy_from 0 design.processes) until grain;
   cause = None;
+  held_back = None;
+  printed = None;
 }
 
--- what is run: a design, a time limit and a grain
+-- what is run, and how: a design, a time limit, a grain, which departures there are and what is looked at
 pub record Setting : Type 0 where
   pub design : Design
   pub until : ℕ
   pub grain : Grain
+  pub departures : Departures
+  pub looked : Looked
+
+-- where departures may hold back, nothing is held back at first
+abbrev pub held_at_first : Departures → Option (List ℕ)
+held_at_first Taking = None
+held_at_first Holding = Some []
+
+-- where lines are looked at, none is printed at first
+abbrev pub printed_at_first : Looked → Option (List (List ℕ))
+printed_at_first Values = None
+printed_at_first Lines = Some []
 
 abbrev pub opening_of : Setting → State
-opening_of setting = opening setting.design setting.until setting.grain
+opening_of setting = record (opening setting.design setting.until setting.grain) {
+  held_back = held_at_first setting.departures;
+  printed = printed_at_first setting.looked;
+}
 
 -- a slot has ended, or the run has
 abbrev pub is_mark : State → Bool

@@ -1,12 +1,16 @@
 -- *internal*: What holds of the runs of every setting, log and number of steps; `run_law` proves each.
-use Rattle.std.specs.Prelude.{◌≡◌, ℕ, List, All, length, Decides}
+use Rattle.std.specs.Prelude.{◌≡◌, ℕ, List, [], Some, None, All, length, Decides}
 use Rattle.std.specs.List.{Contains}
 use Rattle.sched_core.specs.Rules.{IsLawful, IsRun}
+use Rattle.sched_core.specs.Replay.{EndsAfter}
 use Rattle.vbits.specs.Vectors.{Vector}
 use Rattle.vmodel.specs.State.{State}
 use Rattle.vmodel.specs.Same.{state_same}
 use Rattle.vmodel.specs.Run.{Setting, rules_of, state_after, items_after}
 use Rattle.vmodel.specs.declared.history.Item.TheVariants.{SlotEnd}
+use Rattle.vmodel.specs.declared.history.Departures.TheVariants.{Taking, Holding}
+use Rattle.vmodel.specs.declared.history.Looked.TheVariants.{Values}
+use Rattle.vmodel.specs.Printed.{HasLines}
 use Rattle.vmodel.specs.Kept.{IsKept, RisesFrom, slot_times, AreShaped, HasValues, HasSlotEnd}
 
 -- the test that an explorer takes for two states is their equality
@@ -50,3 +54,35 @@ ShowsOnlySlotEnds = (setting : Setting) (log : List (ℕ × ℕ)) (n time : ℕ)
 abbrev pub ShowsEachSlotEnd : Type 0
 ShowsEachSlotEnd = (setting : Setting) (log : List (ℕ × ℕ)) (n time : ℕ) (values : List Vector) →
     HasSlotEnd setting log n time values → Contains (items_after setting log n) (SlotEnd time values)
+
+-- ---- settings beside each other
+
+-- the same setting, where departures may hold back
+abbrev pub holding : Setting → Setting
+holding setting = record setting { departures = Holding }
+
+-- the same setting, where values alone are looked at
+abbrev pub of_values : Setting → Setting
+of_values setting = record setting { looked = Values }
+
+-- a run where departures only take is, under the same log, one where they may hold back, with nothing held back
+abbrev pub TakingIsHolding : Type 0
+TakingIsHolding = (setting : Setting) (log : List (ℕ × ℕ)) (n : ℕ) → setting.departures ≡ Taking → IsRun (rules_of setting) log n →
+    IsRun (rules_of (holding setting)) log n
+    × (state_after (holding setting) log n ≡ record (state_after setting log n) { held_back = Some [] })
+    × (items_after (holding setting) log n ≡ items_after setting log n)
+
+-- and where the one ends so does the other
+abbrev pub HoldingEndsToo : Type 0
+HoldingEndsToo = (setting : Setting) (log : List (ℕ × ℕ)) (n : ℕ) → setting.departures ≡ Taking →
+    EndsAfter (rules_of setting) log n → EndsAfter (rules_of (holding setting)) log n
+
+-- lines are there where they are looked at, in order
+abbrev pub PrintsWhereLooked : Type 0
+PrintsWhereLooked = (setting : Setting) (log : List (ℕ × ℕ)) (n : ℕ) → HasLines setting.looked (state_after setting log n).printed
+
+-- where lines are looked at, runs are those where values are, and their states those without the lines
+abbrev pub LinesChangeNoRun : Type 0
+LinesChangeNoRun = (setting : Setting) (log : List (ℕ × ℕ)) (n : ℕ) →
+    (state_after (of_values setting) log n ≡ record (state_after setting log n) { printed = None })
+    × (items_after (of_values setting) log n ≡ items_after setting log n)

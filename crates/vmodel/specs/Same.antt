@@ -1,6 +1,5 @@
--- *product rule*: When two states of a run are equal: by all that they hold, statements by their places (docs/SCHEDULING.md). Only
--- `values_same` has to be believed: it tells whether a monitor has something new to show.
-use Rattle.std.specs.Prelude.{ℕ, Bool, true, false, nat_eq, ◌&&◌, List}
+-- *product rule*: When two states of a run are equal: by all that they hold, statements by their places (docs/SCHEDULING.md).
+use Rattle.std.specs.Prelude.{ℕ, Bool, true, false, nat_eq, ◌&&◌, List, Option}
 use Rattle.std.specs.Bool.{beq}
 use Rattle.std.specs.Option.{option_eq}
 use Rattle.std.specs.Cmp.Lexicographic.{pointwise}
@@ -70,7 +69,17 @@ regions_same q r =
 abbrev pub queue_same : Queue → Queue → Bool
 queue_same q r = stand_same q r && regions_same q r
 
+abbrev pub held_back_same : Option (List ℕ) → Option (List ℕ) → Bool
+held_back_same = option_eq (pointwise nat_eq)
+
+abbrev pub lines_same : List (List ℕ) → List (List ℕ) → Bool
+lines_same = pointwise (pointwise nat_eq)
+
+abbrev pub printed_same : Option (List (List ℕ)) → Option (List (List ℕ)) → Bool
+printed_same = option_eq lines_same
+
 abbrev pub state_same : State → State → Bool
 state_same s t =
-    ((values_same s.values t.values && queue_same s.queue t.queue) && pointwise process_same s.processes t.processes)
+    ((((values_same s.values t.values && queue_same s.queue t.queue) && held_back_same s.held_back t.held_back) && printed_same s.printed t.printed)
+    && pointwise process_same s.processes t.processes)
     && option_eq cause_same s.cause t.cause

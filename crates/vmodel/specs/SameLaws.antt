@@ -1,9 +1,11 @@
 -- *internal*: Each test of equality, part by part, decides whether the two are equal (laws with their proofs).
-use Rattle.std.specs.Prelude.{◌≡◌, ℕ, Bool, nat_eq, ◌&&◌, Some, None, Decides, refl}
+use Rattle.std.specs.Prelude.{◌≡◌, ℕ, Bool, List, nat_eq, ◌&&◌, Some, None, Decides, refl}
 use Rattle.std.proofs.Common.{ap}
 use Rattle.std.specs.Option.{option_eq}
-use Rattle.std.specs.Cmp.{IsEquivalence, decided, booleans_Decides, unsigned_Decides}
-use Rattle.std.specs.Cmp.Lexicographic.{pointwise}
+use Rattle.std.specs.Cmp.{IsEquivalence, IsTotalOrder, IsPartialOrder, decided, booleans_Decides, unsigned_Decides, partial_order_from_agreeing_total}
+use Rattle.std.specs.Ordering.{nat_cmp, eq_by_cmp}
+use Rattle.std.proofs.lemmas.Cmp.{nat_list_cmp_total, lists_total}
+use Rattle.std.specs.Cmp.Lexicographic.{pointwise, slice_cmp, lists_ties, texts_ties}
 use Rattle.std.proofs.lemmas.Slice.Eq.{slice_eq-Decides}
 use Rattle.std.proofs.lemmas.Bool.Decides.{Decides-and, Decides-like}
 use Rattle.vbits.specs.Vectors.{vector_same}
@@ -14,7 +16,8 @@ use Rattle.vmodel.specs.declared.part.Part.TheVariants.{Whole, Bits}
 use Rattle.vmodel.specs.declared.process.Frame.TheVariants.{Executing, Repeating, Writing}
 use Rattle.vmodel.specs.Queue.{Later, Queue}
 use Rattle.vmodel.specs.State.{Process, State}
-use Rattle.vmodel.specs.Same.{values_same, frame_same, process_same, grain_same, cause_same, part_same, parts_same, slot_same, stand_same, regions_same, queue_same, state_same}
+use Rattle.vmodel.specs.Printed.{bag_cmp}
+use Rattle.vmodel.specs.Same.{values_same, frame_same, process_same, grain_same, cause_same, part_same, parts_same, slot_same, stand_same, regions_same, queue_same, held_back_same, lines_same, printed_same, state_same}
 
 -- the test decides equality
 abbrev pub Tells : {A : Type 0} → (A → A → Bool) → Type 0
@@ -140,23 +143,51 @@ queues_tell q r = Decides-like (queue_same q r) whole parts
       ),
     )
 
+pub held_back_tell : Tells held_back_same
+held_back_tell = option_tells (pointwise nat_eq) (list_tells nat_eq unsigned_Decides)
+
+pub lines_tell : Tells lines_same
+lines_tell = list_tells (pointwise nat_eq) (list_tells nat_eq unsigned_Decides)
+
+pub printed_tell : Tells printed_same
+printed_tell = option_tells lines_same lines_tell
+
 abbrev StateParts : State → State → Type 0
-StateParts s t = (((s.values ≡ t.values) × (s.queue ≡ t.queue)) × (s.processes ≡ t.processes)) × (s.cause ≡ t.cause)
+StateParts s t =
+    (((((s.values ≡ t.values) × (s.queue ≡ t.queue)) × (s.held_back ≡ t.held_back)) × (s.printed ≡ t.printed)) × (s.processes ≡ t.processes))
+    × (s.cause ≡ t.cause)
 
 pub states_tell : Tells state_same
 states_tell s t = Decides-like (state_same s t) whole parts
-    (Decides-and _ _ (Decides-and _ _ (Decides-and _ _
+    (Decides-and _ _ (Decides-and _ _ (Decides-and _ _ (Decides-and _ _ (Decides-and _ _
     (values_tell s.values t.values)
     (queues_tell s.queue t.queue))
+    (held_back_tell s.held_back t.held_back))
+    (printed_tell s.printed t.printed))
     (list_tells process_same processes_tell s.processes t.processes))
     (option_tells cause_same causes_tell s.cause t.cause))
   where
     whole : StateParts s t → s ≡ t
-    whole h = λ i. record { values = h.0.0.0 i; queue = h.0.0.1 i; processes = h.0.1 i; cause = h.1 i }
+    whole h = λ i. record {
+      values = h.0.0.0.0.0 i;
+      queue = h.0.0.0.0.1 i;
+      held_back = h.0.0.0.1 i;
+      printed = h.0.0.1 i;
+      processes = h.0.1 i;
+      cause = h.1 i;
+    }
 
     parts : s ≡ t → StateParts s t
-    parts h =
-        (((ap (λ (p : State). p.values) h, ap (λ (p : State). p.queue) h), ap (λ (p : State). p.processes) h), ap (λ (p : State). p.cause) h)
+    parts h = (
+      (
+        (
+          ((ap (λ (p : State). p.values) h, ap (λ (p : State). p.queue) h), ap (λ (p : State). p.held_back) h),
+          ap (λ (p : State). p.printed) h,
+        ),
+        ap (λ (p : State). p.processes) h,
+      ),
+      ap (λ (p : State). p.cause) h,
+    )
 
 -- ---- so each is an equivalence
 
@@ -187,5 +218,20 @@ slots_equivalent = decided slot_same slots_tell
 pub queues_equivalent : IsEquivalence queue_same
 queues_equivalent = decided queue_same queues_tell
 
+pub lines_equivalent : IsEquivalence lines_same
+lines_equivalent = decided lines_same lines_tell
+
 pub states_equivalent : IsEquivalence state_same
 states_equivalent = decided state_same states_tell
+
+-- ---- the order of bags
+
+pub bags_total : IsTotalOrder bag_cmp
+bags_total = lists_total nat_list_cmp_total
+
+-- two are equal where neither stands first
+pub bags_tie : (a b : List (List ℕ)) → lines_same a b ≡ eq_by_cmp bag_cmp a b
+bags_tie = lists_ties (slice_cmp nat_cmp) texts_ties
+
+pub bags_ordered : IsPartialOrder lines_same (λ a b. Some (bag_cmp a b))
+bags_ordered = partial_order_from_agreeing_total bag_cmp bags_total (λ a b. refl) bags_tie

@@ -1,6 +1,6 @@
--- *trusted*: A state of a run (IEEE 1364-2005, 11.1, 11.3; docs/SCHEDULING.md): values, what each process has left, the queue, and why
--- the run ended if `$finish` or `$stop` was taken. All of it is numbers, letters and lists of them; statements go by their places in the
--- design's table of actions.
+-- *trusted*: A state of a run (IEEE 1364-2005, 11.1, 11.3; docs/SCHEDULING.md): values, what each process has left, the queue, why the run
+-- ended if `$finish` or `$stop` was taken, and what departures and ends are seen by where a setting asks for more (docs/HOLDING.md).
+-- All of it is numbers, letters and lists of them; statements go by their places in the design's table of actions.
 use Rattle.std.specs.Prelude.{ℕ, List, Option}
 use Rattle.vbits.specs.Vectors.{Vector}
 use Rattle.vmodel.specs.Queue.{Queue}
@@ -18,3 +18,5 @@ pub record State : Type 0 where
   pub processes : List Process  -- by number
   pub queue : Queue
   pub cause : Option Cause  -- once `$finish` or `$stop` was taken (17.4)
+  pub held_back : Option (List ℕ)  -- where departures may hold back: the active processes that are held back, by number
+  pub printed : Option (List (List ℕ))  -- where lines are looked at: those of the slot so far, in the order of their bytes

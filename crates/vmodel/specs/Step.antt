@@ -38,6 +38,8 @@ use Rattle.vmodel.specs.Waking.{wakes, awake, with_awake}
 use Rattle.vmodel.specs.declared.choice.Choice.{Choice}
 use Rattle.vmodel.specs.declared.choice.Choice.TheVariants.{Run, Update, Advance}
 use Rattle.vmodel.specs.Choices.{choices}
+use Rattle.vmodel.specs.Holding.{held_after}
+use Rattle.vmodel.specs.Printed.{printed_after}
 
 -- ---- what a step of a process does: an equation for each action of the table of steps (docs/SCHEDULING.md, "Steps"); an
 -- update and an advance stand in `transition_of`
@@ -269,7 +271,7 @@ process_by step = record { continuation = step.continuation; held = step.effect.
 
 -- the process is placed, the parts are written, and the queue has what becomes of both
 abbrev pub with_step : ℕ → StepResult → State → State
-with_step p step s = record {
+with_step p step s = record s {
   values = with_parts step.effect.wrote s.values;
   processes = slice_set s.processes p (process_by step);
   queue = reschedule p step.effect.disposition (process_to_continue p step.continuation) (posts step.effect.posted (with_strobe step.effect.strobed s.queue));
@@ -356,14 +358,6 @@ transition_of design (Run p) s = process_transition design p s
 transition_of design Update s = complete (record quiet { wrote = first_of s.queue.activated }) (with_woken design s.values None (with_update s))
 transition_of design Advance s = complete quiet (record s { queue = with_advance s.queue.future s.queue })
 
-abbrev pub transition_by : Design → Option Choice → State → Transition
-transition_by design None s = no_transition s
-transition_by design (Some c) s = transition_of design c s
-
--- the step of choice i
-abbrev pub next : Design → State → ℕ → Transition
-next design s i = transition_by design (slice_get (choices s) i) s
-
 -- ---- what a step gives to the history
 
 -- what the action of a print task shows; no place of another action is asked for
@@ -416,6 +410,34 @@ end_items design s monitors = before_end (strobe_items design s monitors) (slot_
 abbrev pub items_of : Design → Transition → List Item
 items_of design transition = shown_items design transition.state transition.effect.shown ++ end_items design transition.state transition.monitors
 
--- what stood before still stands, and after it are the first, if any, of those that were to come
+-- ---- the step of a choice, with what departures and ends are seen by
+
+-- with what is held back from now on
+abbrev pub with_held_after : State → ℕ → Choice → Transition → Transition
+with_held_after s i c transition = record transition {
+  state = record transition.state { held_back = held_after s.held_back s.queue i c transition.state.queue };
+}
+
+-- with the lines of the slot
+abbrev pub with_lines_after : Design → State → Choice → Transition → Transition
+with_lines_after design s c transition = record transition {
+  state = record transition.state { printed = printed_after c (items_of design transition) s.printed };
+}
+
+-- a step of choice i, which is c, with both
+abbrev pub with_views : Design → State → ℕ → Choice → Transition → Transition
+with_views design s i c transition = with_lines_after design s c (with_held_after s i c transition)
+
+abbrev pub transition_by : Design → State → ℕ → Option Choice → Transition
+transition_by design s i None = no_transition s
+transition_by design s i (Some c) = with_views design s i c (transition_of design c s)
+
+-- the step of choice i
+abbrev pub next : Design → State → ℕ → Transition
+next design s i = transition_by design s i (slice_get (choices s) i)
+
+-- ---- lists of items
+
+-- what stood before still stands, and behind it are the first, if any, of those that were to come
 abbrev pub HasFront : List Item → List Item → List Item → Type 0
 HasFront old coming new = (n : ℕ) × (new ≡ old ++ take n coming)

@@ -1,8 +1,9 @@
 // What the hash of a state is fed (specs/Digest.antt).
 
 ghost use Rattle.std.specs.Prelude.{◌≡◌, slice_get};
-ghost use Rattle.vmodel.specs.Digest.{digest_with, digest_of_end, digest_of_vector, digest_of_values, stand_of as stand_of_frame, digest_of_processes, digest_of_half, digest_of_set, digest_of_list, digest_of_part, digest_of_parts, digest_of_updates, digest_of_update_list, digest_of_time, digest_of_future, digest_of_last, digest_of_processes_ready, digest_of_events, digest_of_queue};
+ghost use Rattle.vmodel.specs.Digest.{digest_with, digest_of_end, digest_of_vector, digest_of_values, stand_of as stand_of_frame, digest_of_processes, digest_of_half, digest_of_set, digest_of_list, digest_of_part, digest_of_parts, digest_of_updates, digest_of_update_list, digest_of_time, digest_of_future, digest_of_last, digest_of_processes_ready, digest_of_events, digest_of_queue, digest_of_held, digest_of_lines, digest_of_printed};
 
+use crate::bag::{Bag, PrintedLine};
 use crate::part::{Kept, Part, Parts};
 use crate::process::{Frame, Process};
 use crate::process_set::ProcessSet;
@@ -195,7 +196,46 @@ fn mix_queue(digest: u64, queue: &Queue) -> u64
     )
 }
 
-/// A hash is fed one number made of the time, the values, where the processes stand and what the queue holds.
+fn mix_held(digest: u64, held_back: &Option<ProcessSet>) -> u64
+    ensures { result ≡ digest_of_held digest held_back.now }
+{
+    match held_back {
+        None => digest,
+        Some(held) => mix_set(digest, held),
+    }
+}
+
+fn mix_bytes(first: u64, bytes: &[u8]) -> u64
+    ensures { result ≡ digest_of_list first bytes.now }
+{
+    let mut digest = first;
+    for byte in bytes {
+        digest = mix(digest, *byte as u64);
+    }
+    mix_end(digest)
+}
+
+fn mix_lines(first: u64, lines: &[PrintedLine]) -> u64
+    ensures { result ≡ digest_of_lines first lines.now }
+{
+    let mut digest = first;
+    for line in lines {
+        digest = mix_bytes(digest, line.as_bytes());
+    }
+    digest
+}
+
+fn mix_printed(digest: u64, printed: &Option<Bag>) -> u64
+    ensures { result ≡ digest_of_printed digest printed.now }
+{
+    match printed {
+        None => digest,
+        Some(bag) => mix_end(mix_lines(digest, bag.as_slice())),
+    }
+}
+
+/// A hash is fed one number made of the time, the values, where the processes stand, what the queue holds, and what is held back and
+/// printed where that is kept.
 impl Hash for State {
     ghost use Rattle.std.specs.Hash as fed;
     ghost use Rattle.vmodel.specs.Digest.{digest, fed_alike};
@@ -207,6 +247,7 @@ impl Hash for State {
     fn hash<H: Hasher>(&self, state: &mut H) {
         let valued = mix_values(mix(0, self.time()), self.values());
         let placed = mix_processes(valued, &self.processes);
-        state.write_u64(mix_queue(placed, &self.queue));
+        let held = mix_held(mix_queue(placed, &self.queue), &self.held_back);
+        state.write_u64(mix_printed(held, &self.printed));
     }
 }

@@ -42,6 +42,24 @@ impl Eq for Grain {
     ghost laws = { grains_equivalent };
 }
 
+/// Which departures there are (docs/HOLDING.md).
+#[derive(Clone, Copy, Debug, PartialEq, Eq)]
+pub enum Departures {
+    /// A departure takes another choice first.
+    Taking,
+    /// It may also hold back the processes that stand before what it takes.
+    Holding,
+}
+
+/// What is looked at where slots and runs end.
+#[derive(Clone, Copy, Debug, PartialEq, Eq)]
+pub enum Looked {
+    /// The values of the variables.
+    Values,
+    /// These, and the lines that the slot printed.
+    Lines,
+}
+
 /// Why a run ended.
 #[derive(Clone, Copy, Debug)]
 pub enum Cause {

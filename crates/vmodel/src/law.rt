@@ -8,7 +8,8 @@ ghost use Rattle.vmodel.specs.RunLaws as laws;
 /// two slots of a run end at one time; each state and each slot end has as many values as the design has variables, and
 /// each value of a state the length and sign of its variable (4.2.2); a history shows a slot end exactly where its run was
 /// at one; and after a part is written each of its bits that the variable has reads its letter, and all other bits of the
-/// variable stay (5.2.1). It does nothing.
+/// variable stay (5.2.1). A run where departures only take is one where they may hold back, and ends where that one does; lines are
+/// there where they are looked at, in the order of their bytes, and change no run. It does nothing.
 pub fn run_law()
     ensures equal { laws.TestsEquality }
     ensures lawful { laws.HasLawfulRuns }
@@ -20,4 +21,8 @@ pub fn run_law()
     ensures ended { laws.ShowsOnlySlotEnds }
     ensures ends { laws.ShowsEachSlotEnd }
     ensures parts { WritesEachBit }
+    ensures holding { laws.TakingIsHolding }
+    ensures holding_ends { laws.HoldingEndsToo }
+    ensures printed { laws.PrintsWhereLooked }
+    ensures lines { laws.LinesChangeNoRun }
 {}

@@ -1,8 +1,9 @@
-// Runs of a design, step by step, as IEEE 1364-2005 defines them. In go a design, a time limit and a grain; out
-// come states, how many choices each has, and for a choice the next state with what it gives to the history.
+// Runs of a design, step by step, as IEEE 1364-2005 defines them. In go a design, a time limit, a grain, which departures there are
+// and what is looked at; out come states, how many choices each has, and for a choice the next state with what it gives to the history.
 // The law: `slow_step` is `Step` of specs/Step.antt, to the letter. What all runs keep is said by `run_law`.
 #![tactic(auto)]
 
+pub mod bag;
 pub mod choice;
 mod choices;
 mod continuation;
@@ -10,6 +11,7 @@ mod digest;
 pub mod effect;
 mod future;
 pub mod history;
+mod holding;
 mod law;
 mod open;
 pub mod part;

@@ -72,5 +72,7 @@ pub fn opening(alloc: Global, design: &Design, until: u64, grain: Grain) -> Resu
         processes: opening_processes(alloc, &design.processes)?,
         queue: opening_queue(active, alloc, until, grain),
         cause: None,
+        held_back: None,
+        printed: None,
     })
 }

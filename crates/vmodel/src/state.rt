@@ -1,23 +1,26 @@
 // The state of a run (IEEE 1364-2005, 11.1, 11.3), as the plain step works on it.
 
-ghost use Rattle.std.specs.Prelude.{◌≡◌, length, slice_get, IfOk, IfSome};
+ghost use Rattle.std.specs.Prelude.{◌≡◌, length, slice_get, IfOk, IfSome, option_map};
 ghost use Rattle.std.specs.Option.{ForSome};
 ghost use Rattle.vmodel.specs.Choices.{choices as choices_of, IsWithin};
-ghost use Rattle.vmodel.specs.Run.{end_of, is_mark};
+ghost use Rattle.vmodel.specs.Holding.{held_by_choice};
+ghost use Rattle.vmodel.specs.Run.{end_of, is_mark, held_at_first, printed_at_first};
 
+use crate::bag::{Bag, copy_printed};
 use crate::choice::Choice;
-use crate::choices;
-use crate::history::{Cause, End};
+use crate::history::{Cause, Departures, End, Looked};
 use crate::process::Process;
+use crate::process_set::ProcessSet;
 use crate::queue::Queue;
 use crate::values::Values;
+use crate::{choices, holding};
 use basis::NoMemory;
 use std::alloc::Global;
 use std::marker::Model;
 use vbits::Vec4;
 
 /// A state: the values of the variables, what each process stands at, the queue, and why the run ended if `$finish` or `$stop`
-/// was taken. Statements go by their places in the design's table. A clause sees it as the record `State` of
+/// was taken; and what is held back and the lines of the slot, where the setting asks for these. Statements go by their places in the design's table. A clause sees it as the record `State` of
 /// specs/State.antt.
 #[derive(Drop)]
 pub struct State {
@@ -25,6 +28,8 @@ pub struct State {
     pub(crate) processes: Vec<Process>,
     pub(crate) queue: Queue,
     pub(crate) cause: Option<Cause>,
+    pub(crate) held_back: Option<ProcessSet>,
+    pub(crate) printed: Option<Bag>,
 }
 
 impl Model for State {
@@ -34,7 +39,14 @@ impl Model for State {
 
     ghost use Rattle.std.specs.Prelude.{◌≤◌, length};
 
-    ghost view = { λ s. record { values = s.values; processes = s.processes.items; queue = s.queue; cause = s.cause } };
+    ghost view = { λ s. record {
+      values = s.values;
+      processes = s.processes.items;
+      queue = s.queue;
+      cause = s.cause;
+      held_back = s.held_back;
+      printed = s.printed;
+    } };
 
     ghost invariant = { λ s. length s.processes.items ≤ 256 };
 }
@@ -51,8 +63,22 @@ impl PartialEq for State {
 
     fn eq(&self, other: &State) -> bool {
         // What differs most often first: states of one digest mostly have other queues, and processes are long to compare.
-        let held = (&self.values, &self.queue, &self.processes, &self.cause);
-        held == (&other.values, &other.queue, &other.processes, &other.cause)
+        let held = (
+            &self.values,
+            &self.queue,
+            &self.held_back,
+            &self.printed,
+            &self.processes,
+            &self.cause,
+        );
+        held == (
+            &other.values,
+            &other.queue,
+            &other.held_back,
+            &other.printed,
+            &other.processes,
+            &other.cause,
+        )
     }
 }
 
@@ -72,6 +98,8 @@ impl State {
             processes: copy_processes(alloc, &self.processes)?,
             queue: self.queue.copy(alloc)?,
             cause: self.cause,
+            held_back: copy_held(&self.held_back),
+            printed: copy_printed(alloc, &self.printed)?,
         })
     }
 
@@ -82,7 +110,7 @@ impl State {
         if self.cause.is_some() {
             0
         } else {
-            choices::width(&self.queue)
+            choices::width_by(&self.held_back, &self.queue)
         }
     }
 
@@ -94,8 +122,31 @@ impl State {
         if self.cause.is_some() {
             None
         } else {
-            choices::choice_at(&self.queue, i)
+            choices::choice_by(&self.held_back, &self.queue, i)
         }
+    }
+
+    /// The processes that choice `i` holds back: none where it only takes.
+    pub fn holding(&self, i: u32) -> ProcessSet
+        ensures { result ≡ held_by_choice self.now.held_back self.now.queue i }
+    {
+        holding::held_by_choice(&self.held_back, &self.queue, i)
+    }
+
+    /// The lines of the slot so far, where lines are looked at.
+    pub fn printed(&self) -> Option<&Bag>
+        ensures { option_map (λ bag. bag.now) result ≡ self.now.printed }
+    {
+        self.printed.as_ref()
+    }
+
+    /// An opening state becomes that of a setting with such departures, in which so much is looked at.
+    pub fn look(&mut self, departures: Departures, looked: Looked)
+        ensures { self.new ≡ record self.old { held_back = held_at_first departures; printed = printed_at_first looked } }
+    {
+        let alloc = *self.processes.allocator();
+        self.held_back = held_first(departures);
+        self.printed = printed_first(alloc, looked);
     }
 
     /// Whether a slot has ended here, or the run.
@@ -144,6 +195,35 @@ impl State {
             time: self.queue.time,
             cause,
         }
+    }
+}
+
+// What is held back at first.
+fn held_first(departures: Departures) -> Option<ProcessSet>
+    ensures { result ≡ held_at_first departures }
+{
+    match departures {
+        Departures::Taking => None,
+        Departures::Holding => Some(ProcessSet::new()),
+    }
+}
+
+// What is printed at first.
+fn printed_first(alloc: Global, looked: Looked) -> Option<Bag>
+    ensures { result ≡ printed_at_first looked }
+{
+    match looked {
+        Looked::Values => None,
+        Looked::Lines => Some(Bag::new(alloc)),
+    }
+}
+
+fn copy_held(held_back: &Option<ProcessSet>) -> Option<ProcessSet>
+    ensures { result ≡ held_back.now }
+{
+    match held_back {
+        None => None,
+        Some(held) => Some(held.copy()),
     }
 }
 

@@ -2,20 +2,22 @@
 
 ghost use Rattle.std.specs.Prelude.{◌≡◌, ℕ, List, ◌<◌, ◌++◌, [], IfOk, OnOk, OnErr, IfSome, IfNone, length, slice_get, slice_set, drop};
 ghost use Rattle.std.specs.Option.{option_to_list};
-ghost use Rattle.vmodel.specs.Step.{frames, process_to_continue, process_by, reschedule, posts, with_woken, with_moves, monitors_of, complete, no_transition, continuation_of, environment_of, process_transition, transition_of, next, slot_end_of, items_of};
+ghost use Rattle.vmodel.specs.Step.{frames, process_to_continue, process_by, reschedule, posts, with_woken, with_moves, monitors_of, complete, no_transition, continuation_of, environment_of, process_transition, transition_of, with_held_after, with_lines_after, with_views, next, slot_end_of, items_of};
 ghost use Rattle.vmodel.specs.Parts.{write, with_parts};
 ghost use Rattle.vmodel.specs.declared.process.Frame.{Frame};
 ghost use Rattle.vdesign.specs.Design.{Design};
 ghost use Rattle.vmodel.specs.Step as spec;
-ghost use Rattle.vmodel.specs.Choices.{choices as choices_of};
+ghost use Rattle.vmodel.specs.Choices.{choices as choices_of, IsWithin};
 ghost use Rattle.vmodel.specs.Inner.{IsFirstAction, first_place};
 ghost use Rattle.vmodel.specs.InnerContinuation.{IsWhole, continuation_frames};
 ghost use Rattle.vmodel.specs.InnerStep.{state_with_move, with_cause, behind, continuation_in, held_in, process_with_move, queue_with_move, transition_to, processes_with_move};
 
+use crate::bag::print_items;
 use crate::choice::Choice;
 use crate::continuation::Continuation;
 use crate::effect::{Disposition, Effect, Execution, effect_at};
 use crate::history::Item;
+use crate::holding::{held_with, released};
 use crate::part::{Kept, Part, Parts};
 use crate::process::{Frame, Process};
 use crate::queue::Queue;
@@ -25,6 +27,7 @@ use crate::values::Changes;
 use crate::waking::{News, wake};
 use basis::NoMemory;
 use std::alloc::Global;
+use std::mem;
 use vbits::Vec4;
 use vdesign::action::Action;
 use vdesign::design::Design;
@@ -347,6 +350,112 @@ impl State {
         Effect::quiet()
     }
 
+    // The step of a choice, without what is held back from now on and the lines of the slot.
+    fn take(
+        &mut self,
+        design: &Design,
+        choice: Choice,
+        monitors: &mut Vec<usize>,
+    ) -> Result<Effect, NoMemory>
+        requires { IsWithin choice }
+        ensures ok { IfOk result (λ effect.
+            transition_of design.now choice self.old ≡ transition_to self.new effect monitors.new.items) }
+        ensures err { OnErr result (self.new ≡ self.old) }
+        ensures err_monitors { OnErr result (monitors.new.items ≡ monitors.old.items) }
+    {
+        match choice {
+            Choice::Run(process) => self.run(design, process, monitors),
+            Choice::Update => Ok(self.update(design, monitors)),
+            Choice::Advance => Ok(self.advance(monitors)),
+        }
+    }
+
+    // The same of choice `i`, which is this one, where these are held back, with what is held back from now on.
+    fn take_holding(
+        &mut self,
+        design: &Design,
+        i: u32,
+        choice: Choice,
+        monitors: &mut Vec<usize>,
+    ) -> Result<Effect, NoMemory>
+        requires { IsWithin choice }
+        ensures ok { IfOk result (λ effect. with_held_after self.old i choice (transition_of design.now choice self.old)
+            ≡ transition_to self.new effect monitors.new.items) }
+        ensures err { OnErr result (self.new ≡ self.old) }
+        ensures err_monitors { OnErr result (monitors.new.items ≡ monitors.old.items) }
+    {
+        match &self.held_back {
+            None => self.take(design, choice, monitors),
+            Some(held) => {
+                let held = held_with(&self.queue, held, i, choice);
+                let effect = self.take(design, choice, monitors)?;
+                self.held_back = Some(released(&self.queue, held));
+                Ok(effect)
+            }
+        }
+    }
+
+    // The lines of a step by this choice go into the bag of its slot.
+    fn print(
+        &mut self,
+        design: &Design,
+        choice: Choice,
+        effect: &Effect,
+        monitors: &[usize],
+    ) -> Result<(), NoMemory>
+        ensures { OnOk result (transition_to self.new effect.now monitors.now
+            ≡ with_lines_after design.now self.old choice (transition_to self.old effect.now monitors.now)) }
+    {
+        let mut items = Vec::new(*self.processes.allocator());
+        put_items(&mut items, design, self, effect, monitors)?;
+        print_items(&mut self.printed, choice, &items)
+    }
+
+    // The step of choice `i`, which is this one, with what is held back from now on and the lines of the slot, taken by a copy.
+    fn take_printing(
+        &mut self,
+        design: &Design,
+        i: u32,
+        choice: Choice,
+        monitors: &mut Vec<usize>,
+    ) -> Result<Effect, NoMemory>
+        requires { IsWithin choice }
+        ensures ok { IfOk result (λ effect. with_views design.now self.old i choice (transition_of design.now choice self.old)
+            ≡ transition_to self.new effect monitors.new.items) }
+        ensures err { OnErr result (self.new ≡ self.old) }
+        ensures err_monitors { OnErr result (monitors.new.items ≡ monitors.old.items) }
+    {
+        let alloc = *self.processes.allocator();
+        let mut after = self.copy(alloc)?;
+        let mut ran = Vec::new(alloc);
+        let effect = after.take_holding(design, i, choice, &mut ran)?;
+        after.print(design, choice, &effect, &ran)?;
+        mem::swap(self, &mut after);
+        mem::swap(monitors, &mut ran);
+        Ok(effect)
+    }
+
+    // The step of choice `i`, which is this one, with what is held back from now on and the lines of the slot.
+    fn take_viewed(
+        &mut self,
+        design: &Design,
+        i: u32,
+        choice: Choice,
+        monitors: &mut Vec<usize>,
+    ) -> Result<Effect, NoMemory>
+        requires { IsWithin choice }
+        ensures ok { IfOk result (λ effect. with_views design.now self.old i choice (transition_of design.now choice self.old)
+            ≡ transition_to self.new effect monitors.new.items) }
+        ensures err { OnErr result (self.new ≡ self.old) }
+        ensures err_monitors { OnErr result (monitors.new.items ≡ monitors.old.items) }
+    {
+        if self.printed.is_none() {
+            self.take_holding(design, i, choice, monitors)
+        } else {
+            self.take_printing(design, i, choice, monitors)
+        }
+    }
+
     /// The step of choice `i`, in place: one step of a process, the write of an update or the advance of the time, and the
     /// region moves after it (11.3, 11.4). The answer is what the step did, and the list is then that of the monitor events that ran:
     /// the places of their print tasks, in order of creation (17.1.2). Where there is no such choice nothing happens. E901 is the
@@ -364,9 +473,7 @@ impl State {
     {
         match self.choice(i) {
             None => Ok(self.stay(monitors)),
-            Some(Choice::Run(process)) => self.run(design, process, monitors),
-            Some(Choice::Update) => Ok(self.update(design, monitors)),
-            Some(Choice::Advance) => Ok(self.advance(monitors)),
+            Some(choice) => self.take_viewed(design, i, choice, monitors),
         }
     }
 

@@ -5,6 +5,7 @@ use Rattle.vmodel.proofs.TimesLemmas.{times_rise}
 use Rattle.vmodel.proofs.ValuesLemmas.{as_many, as_many_shown}
 use Rattle.vmodel.proofs.ShapeLemmas.{as_shaped}
 use Rattle.vmodel.proofs.EndsLemmas.{shown_end, end_shown}
+use Rattle.vmodel.proofs.SettingLemmas.{taking_is_holding, holding_ends_too, prints_where_looked, as_values}
 use Rattle.vmodel.proofs.WrittenLemmas.{writes_each_bit}
 use Rattle.vmodel.proofs.law.run_law.Goals as goal
 
@@ -20,4 +21,8 @@ returns c = record {
   ended = shown_end;
   ends = end_shown;
   parts = writes_each_bit;
+  holding = taking_is_holding;
+  holding_ends = holding_ends_too;
+  printed = prints_where_looked;
+  lines = as_values;
 }

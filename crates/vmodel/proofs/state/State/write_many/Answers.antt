@@ -12,7 +12,7 @@ returns c =
     let s : State = Rattle.vmodel.specs.contracts.state.State.the_view c.self.inside in
     let actions = c.deref.ensures.value ∙ ap (λ (d : Design). d.actions) c.design.view_is in
     let after : State = Rattle.vmodel.specs.contracts.state.State.the_view
-    (record { values = c.write_all.new.self; processes = c.wake.new.processes; queue = c.wake.new.queue; cause = c.self.inside.cause }) in
+    (record { values = c.write_all.new.self; processes = c.wake.new.processes; queue = c.wake.new.queue; cause = c.self.inside.cause; held_back = c.self.inside.held_back; printed = c.self.inside.printed }) in
     subst (λ (t : State). after ≡ with_woken c.args.design.now t.values c.args.triggered (record t { values = with_parts c.args.parts.now t.values }))
     c.self.view_is
     (awoken_is c.args.design.now c.args.parts.now s c.write_all.new.self c.wake.new.processes.items c.wake.new.queue c.deref.result.now (record { changes = Many c.as_slice.result c.args.parts; triggered = c.args.triggered })
