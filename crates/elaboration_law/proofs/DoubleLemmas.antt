@@ -3,7 +3,7 @@ use Rattle.std.proofs.Common.{◌≡◌, Bool, true, false, ◌||◌, true≢fal
 use Rattle.std.specs.Str.{bytes_eq}
 use Rattle.std.proofs.lemmas.List.{append-nil}
 use Rattle.std.proofs.lemmas.List.Folds.{list_any-append}
-use Rattle.basis.proofs.Bools.{or_second}
+use Rattle.basis.proofs.Bools.{or_second, or_first}
 use Rattle.vast.specs.Words.{Text}
 use Rattle.vast.specs.NumberedWords.{Word}
 use Rattle.vmodules.specs.Names.{is_declared, has_double, letters_of, again_behind, first_again}
@@ -35,9 +35,6 @@ none_twice words is = behind_none [] words refl is
 pub one_twice : (words : List Word) (w : Word) → first_again words ≡ Some w → has_double (letters_of words) ≡ true
 one_twice words w is = behind_some [] words w is
 
-or_left_true : (a b : Bool) → a ≡ true → (a || b) ≡ true
-or_left_true a b e = ap (λ x. x || b) e
-
 or_true : (a b c : Bool) → (a ≡ true → c ≡ true) → (b ≡ true → c ≡ true) → (a || b) ≡ true → c ≡ true
 or_true true b c f g e = f refl
 or_true false b c f g e = g e
@@ -47,6 +44,6 @@ pub twice_among : (names more : List Text) → has_double names ≡ true → has
 twice_among [] more e = absurd (true≢false (sym e))
 twice_among (x ∷ xs) more e =
     or_true (is_declared xs x) (has_double xs) (is_declared (xs ++ more) x || has_double (xs ++ more))
-    (λ h. or_left_true (is_declared (xs ++ more) x) (has_double (xs ++ more)) (list_any-append (bytes_eq x) xs more ∙ or_left_true (is_declared xs x) (is_declared more x) h))
+    (λ h. or_first (is_declared (xs ++ more) x) (has_double (xs ++ more)) (list_any-append (bytes_eq x) xs more ∙ or_first (is_declared xs x) (is_declared more x) h))
     (λ h. or_second (is_declared (xs ++ more) x) (has_double (xs ++ more)) (twice_among xs more h))
     e

@@ -1,4 +1,4 @@
--- E309: how much a design may have (product rule).
+-- *product rule*: E309: how much a design may have.
 use Rattle.std.specs.Prelude.{◌≡◌, ℕ, ◌+◌, ◌<◌, List, [], length, Option, Some}
 use Rattle.std.specs.List.{flat_map, filter_map, sum_by}
 use Rattle.vast.specs.Words.{Text}

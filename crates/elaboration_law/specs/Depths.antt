@@ -1,4 +1,4 @@
--- E308: how deep instances may nest (product rule).
+-- *product rule*: E308: how deep instances may nest.
 use Rattle.std.specs.Prelude.{Option}
 use Rattle.vast.specs.Words.{Text}
 use Rattle.vast.specs.NumberedModules.{SourceTree}

@@ -1,4 +1,4 @@
--- E302: names that are declared twice (4.11, 12.7).
+-- *trusted*: E302: names that are declared twice (IEEE 1364-2005, 4.11, 12.7).
 use Rattle.std.specs.Prelude.{◌≡◌, ℕ, Bool, true, ◌||◌, List, [], ◌∷◌, ◌++◌, map, Option, Some}
 use Rattle.std.specs.List.{Contains, flat_map}
 use Rattle.vast.specs.Words.{Text}

@@ -1,4 +1,4 @@
--- E304: nets with more than one driver. No strength resolves them (4.6, product rule).
+-- *product rule*: E304: nets with more than one driver. No strength resolves them (IEEE 1364-2005, 4.6).
 use Rattle.std.specs.Prelude.{◌≡◌, ℕ, true, List, ◌++◌, Option}
 use Rattle.std.specs.List.{filter, flat_map}
 use Rattle.vast.specs.Words.{Text}

@@ -1,4 +1,4 @@
--- Instances, and which stand below which (IEEE 1364-2005, 12.1).
+-- *trusted*: Instances, and which stand below which (IEEE 1364-2005, 12.1).
 use Rattle.std.specs.Prelude.{◌≡◌, ℕ, zero, suc, List, [], ◌∷◌, ◌++◌, map, Option, None, Some}
 use Rattle.std.specs.List.{Contains, flat_map}
 use Rattle.vast.specs.Words.{Text}

@@ -1,4 +1,4 @@
--- What it is to say what a rule forbids.
+-- *internal*: What it is to say what a rule forbids: laws, which `elaboration_rules` proves.
 use Rattle.std.specs.Prelude.{◌≡◌, Option, Ok, Err}
 use Rattle.basis.specs.declared.timescale.Timescale.{Timescale}
 use Rattle.vast.specs.Words.{Text}

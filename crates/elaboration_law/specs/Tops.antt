@@ -1,4 +1,4 @@
--- E301: modules that aren't there (12.1.1, 12.1.2).
+-- *trusted*: E301: modules that aren't there (IEEE 1364-2005, 12.1.1, 12.1.2).
 use Rattle.std.specs.Prelude.{◌≡◌, ℕ, List, Option, None}
 use Rattle.std.specs.List.{Contains}
 use Rattle.vast.specs.Words.{Text}

@@ -1,4 +1,4 @@
--- The laws, which functions of `law` prove.
+-- *internal*: The laws, which functions of `law` prove.
 use Rattle.std.specs.Prelude.{◌≡◌, ℕ, List, [], ◌∷◌, ◌++◌, map, Option, Some, slice_get, Ok}
 use Rattle.vbits.specs.Vectors.{Vector}
 use Rattle.vast.specs.NumberedStatements.{StatementTree}

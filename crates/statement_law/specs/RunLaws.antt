@@ -1,4 +1,4 @@
--- What the laws say of the states of runs; functions of `law` prove it.
+-- *internal*: What the laws say of the states of runs; functions of `law` prove it.
 use Rattle.std.specs.Prelude.{◌≡◌, ◌≢◌, ℕ, Bool, false, if◌then◌else◌, List, [], ◌∷◌, Option, None, Some, option_map, slice_get}
 use Rattle.vbits.specs.Vectors.{Vector}
 use Rattle.vdesign.specs.Design.{Design}

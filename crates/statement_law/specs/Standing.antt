@@ -1,4 +1,4 @@
--- Where statements stand in a table of actions, and what a step that speaks of places tells.
+-- *internal*: Where statements stand in a table of actions, and what a step that speaks of places tells.
 use Rattle.std.specs.Prelude.{◌≡◌, ℕ, true, List, [], ◌∷◌, ◌++◌, Option, Some, option_map, slice_get, Ok}
 use Rattle.vast.specs.NumberedWords.{Word}
 use Rattle.vast.specs.NumberedExpressions as text

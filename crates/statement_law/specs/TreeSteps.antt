@@ -1,4 +1,4 @@
--- What a process does that stands before statements (IEEE 1364-2005, clause 9), told by their trees and the values of their expressions.
+-- *trusted*: What a process does that stands before statements (IEEE 1364-2005, clause 9), told by their trees and the values of their expressions.
 use Rattle.std.specs.Prelude.{Bool, true, false, ◌≡◌, ℕ, zero, suc, ◌-◌, if◌then◌else◌, List, [], ◌∷◌, ◌++◌, Option, None, Some}
 use Rattle.vbits.specs.Vectors.{Vector}
 use Rattle.vast.specs.NumberedWords.{Word}

@@ -1,4 +1,4 @@
--- The lines of a time slot, as a bag (IEEE 1364-2005, 17.1.1, 17.1.2; docs/HOLDING.md): in which order processes print doesn't
+-- *trusted*: The lines of a time slot, as a bag (IEEE 1364-2005, 17.1.1, 17.1.2; docs/HOLDING.md): in which order processes print doesn't
 -- count.
 use Rattle.std.specs.Prelude.{◌≡◌, ◌≢◌, ℕ, ◌<◌, List, [], ◌∷◌, slice_get, Option, Some, None}
 use Rattle.std.specs.Ordering.{nat_cmp}
