@@ -1,4 +1,4 @@
--- A step changes nothing of what departures and ends are seen by, and reads none of it.
+-- What is held back and printed: what a choice takes changes neither, and reads neither.
 use Rattle.std.proofs.Common.{◌≡◌, ℕ, List, [], ◌∷◌, ◌++◌, Option, Some, None, refl, sym, ap, ◌∙◌}
 use Rattle.std.specs.Prelude.{slice_get}
 use Rattle.vdesign.specs.Design.{Design}

@@ -410,7 +410,7 @@ end_items design s monitors = before_end (strobe_items design s monitors) (slot_
 abbrev pub items_of : Design → Transition → List Item
 items_of design transition = shown_items design transition.state transition.effect.shown ++ end_items design transition.state transition.monitors
 
--- ---- the step of a choice, with what departures and ends are seen by
+-- ---- the step of a choice, with what is held back and the lines of the slot
 
 -- with what is held back from now on
 abbrev pub with_held_after : State → ℕ → Choice → Transition → Transition

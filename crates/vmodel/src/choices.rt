@@ -9,7 +9,7 @@ use crate::history::Grain;
 use crate::process_set::ProcessSet;
 use crate::queue::Queue;
 
-// How many processes of these are there, with the one that made the last step.
+// How many of these processes there are, the one that made the last step among them.
 fn active_count(last: Option<u32>, active: &ProcessSet) -> u32
     ensures exact { result ≡ length (in_order last active.now) }
     ensures few { result ≤ 257 }
