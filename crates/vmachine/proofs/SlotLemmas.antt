@@ -9,7 +9,7 @@ use Rattle.vmodel.specs.declared.part.Part.{Part}
 use Rattle.vmodel.specs.declared.effect.Shown.{Shown}
 use Rattle.vmodel.specs.declared.effect.Shown.TheVariants.{Commands, Prints, Watches}
 use Rattle.vmodel.specs.State.{State}
-use Rattle.vmodel.specs.Choices.{choices, queue_choices}
+use Rattle.vmodel.specs.Choices.{choices, choices_by}
 use Rattle.vmodel.specs.Step.{Transition, idle_items, slot_end_by, slot_end_of, shown_items, strobe_items, before_end, items_of}
 use Rattle.vmodel.specs.Run.{is_mark}
 use Rattle.vmachine.specs.Handed.{ends_slot, in_first, by_slot, TakesEach}
@@ -81,7 +81,7 @@ ends_one (Some cause) s e = inl (refl, refl)
 ends_one None s e = inr (idle s.queue.active s.queue.activated s.queue.time s.values e)
 
 over : (s : State) → is_some s.cause ≡ true → length (choices s) ≡ 0
-over s e = ap (λ (b : Bool). length (if b then [] else queue_choices s.queue)) e
+over s e = ap (λ (b : Bool). length (if b then [] else choices_by s.held_back s.queue)) e
 
 -- ---- what waits to be handed on
 

@@ -1,6 +1,9 @@
 // A machine: the runs of a design under a time limit in a grain, as a space.
 
 ghost use Rattle.std.specs.Prelude.{◌≡◌, IfOk};
+ghost use Rattle.vmodel.specs.declared.history.Departures.TheVariants.{Taking};
+ghost use Rattle.vmodel.specs.declared.history.Looked.TheVariants.{Values};
+ghost use Rattle.vmodel.specs.Run.{opening_of};
 
 use crate::machine_state::MachineState;
 use basis::NoMemory;
@@ -8,17 +11,19 @@ use sched_core::Space;
 use std::alloc::Global;
 use std::marker::Model;
 use vdesign::design::Design;
-use vmodel::history::Grain;
-use vmodel::opening;
+use vmodel::history::{Departures, Grain, Looked};
+use vmodel::{State, opening};
 
-/// The runs of a design within a time limit, in units of its precision, and in a grain. A clause sees it as the
-/// `Setting` of these three.
+/// The runs of a design within a time limit, in units of its precision, and in a grain; with which departures
+/// there are and what is looked at (docs/HOLDING.md). A clause sees it as the `Setting` of these five.
 #[derive(Drop)]
 pub struct Machine {
     pub(crate) alloc: Global,
     pub(crate) design: Design,
     pub(crate) until: u64,
     pub(crate) grain: Grain,
+    pub(crate) departures: Departures,
+    pub(crate) looked: Looked,
 }
 
 impl Model for Machine {
@@ -30,21 +35,37 @@ impl Model for Machine {
 
     ghost coded = { Prim.hlevel (codes, expression.the_row.coded) };
 
-    ghost view = { λ m. record { design = m.design; until = m.until; grain = m.grain } };
+    ghost view = { λ m. record {
+        design = m.design;
+        until = m.until;
+        grain = m.grain;
+        departures = m.departures;
+        looked = m.looked;
+    } };
 }
 
 impl Machine {
-    /// The machine of a design. E901 is the only refusal.
+    /// The machine of a design, where departures take and values are looked at. E901 is the only refusal.
     pub fn new(alloc: Global, design: Design, until: u64, grain: Grain) -> Result<Machine, NoMemory>
         ensures { IfOk result (λ machine.
-            machine ≡ record { design = design; until = until; grain = grain }) }
+            machine ≡ record { design = design; until = until; grain = grain; departures = Taking; looked = Values }) }
     {
         Ok(Machine {
             alloc,
             design,
             until,
             grain,
+            departures: Departures::Taking,
+            looked: Looked::Values,
         })
+    }
+
+    /// From here on it is the machine with such departures, in which so much is looked at.
+    pub fn look(&mut self, departures: Departures, looked: Looked)
+        ensures { self.new ≡ record self.old { departures = departures; looked = looked } }
+    {
+        self.departures = departures;
+        self.looked = looked;
     }
 
     /// The design that it was made of.
@@ -67,6 +88,29 @@ impl Machine {
     {
         self.grain
     }
+
+    /// Which departures there are.
+    pub fn departures(&self) -> Departures
+        ensures { result ≡ self.now.departures }
+    {
+        self.departures
+    }
+
+    /// What is looked at where slots and runs end.
+    pub fn looked(&self) -> Looked
+        ensures { result ≡ self.now.looked }
+    {
+        self.looked
+    }
+
+    // The state in which each run begins.
+    pub(crate) fn opened(&self) -> Result<State, NoMemory>
+        ensures { IfOk result (λ state. state ≡ opening_of self.now) }
+    {
+        let mut state = opening(self.alloc, &self.design, self.until, self.grain)?;
+        state.look(self.departures, self.looked);
+        Ok(state)
+    }
 }
 
 /// States are those of runs, choices those of 11.4.1 and 11.4.2, and marks are slot ends and ends.
@@ -79,7 +123,7 @@ impl Space for Machine {
     ghost rules = { machine_rules };
 
     fn root(&self) -> Result<MachineState, NoMemory> {
-        let state = opening(self.alloc, &self.design, self.until, self.grain)?;
+        let state = self.opened()?;
         Ok(MachineState { state })
     }
 

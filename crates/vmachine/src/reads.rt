@@ -1,6 +1,6 @@
 // What a state of a machine tells of the run that stands there.
 
-ghost use Rattle.std.specs.Prelude.{◌≡◌};
+ghost use Rattle.std.specs.Prelude.{◌≡◌, option_map};
 ghost use Rattle.vmodel.specs.State.{State};
 ghost use Rattle.vmachine.specs.Machines.{Stands};
 ghost use Rattle.vmachine.specs.Reads.{end_in, slot_in};
@@ -9,6 +9,7 @@ use crate::machine::Machine;
 use crate::machine_state::MachineState;
 use vbits::Vec4;
 use vmodel::State;
+use vmodel::bag::Bag;
 use vmodel::history::End;
 
 fn end_at(state: &State) -> Option<End>
@@ -51,5 +52,12 @@ impl Machine {
         ensures { (t : State) → Stands self.now s.now t → result.now ≡ t.values }
     {
         s.state.values()
+    }
+
+    /// The lines that the slot has printed so far, in order, where lines are looked at.
+    pub fn printed<'s>(&self, s: &'s MachineState) -> Option<&'s Bag>
+        ensures { (t : State) → Stands self.now s.now t → option_map (λ bag. bag.now) result ≡ t.printed }
+    {
+        s.state.printed()
     }
 }

@@ -22,7 +22,7 @@ use vmodel::effect::Effect;
 use vmodel::history::{End, History, Item};
 use vmodel::sink::HistorySink;
 use vmodel::values::Values;
-use vmodel::{State, opening, put_items, put_slot_end};
+use vmodel::{State, put_items, put_slot_end};
 
 /// Why a run wasn't handed on to its end, but for want of memory.
 #[derive(Drop)]
@@ -140,7 +140,7 @@ impl Machine {
         ensures here { IfOk result (λ run. (steps : ℕ) → IsRunAt self.now steps run) }
         ensures waits { IfOk result (λ run. AllWaits self.now run) }
     {
-        let state = opening(self.alloc, &self.design, self.until, self.grain)?;
+        let state = self.opened()?;
         let mut pending = Vec::new(self.alloc);
         put_slot_end(&mut pending, &state)?;
         Ok(Run {
@@ -297,7 +297,7 @@ impl Machine {
         ensures ok { IfOk result (IsHistory self.now log.now steps) }
         ensures reason { IfFault result (IsReplayReason (rules_of self.now) log.now steps) }
     {
-        let mut state = opening(self.alloc, &self.design, self.until, self.grain)?;
+        let mut state = self.opened()?;
         let mut items = Vec::new(self.alloc);
         put_slot_end(&mut items, &state)?;
         let mut monitors = Vec::new(self.alloc);

@@ -12,7 +12,7 @@ use Rattle.vmachine.proofs.machine.Machine.history.Goals as goal
 pub walk-init : goal.walk-init
 walk-init c =
     let setting = c.args.self.now in
-    let opened : c.in_ok-state.state ≡ opening_of setting = c.in_ok-state.ensures ∙ ap opening_of c.self.view_is in (
+    let opened : c.in_ok-state.state ≡ opening_of setting = c.in_ok-state.ensures in (
       subst (λ (rest : List (ℕ × ℕ)). IsAt setting c.args.log.now rest c.args.steps 0 c.in_ok-state.state) (sym c.members-rest.ensures.list)
           (at_opening setting c.args.log.now c.args.steps c.in_ok-state.state c.members-rest.ensures.lawful opened),
       c.in_ok-put_slot_end.ensures.ok ∙ ap (λ (xs : List Item). xs ++ slot_end_of c.in_ok-state.state) c.new-items.ensures.items ∙ ap slot_end_of opened,

@@ -1,8 +1,6 @@
-use Rattle.std.proofs.Common.{◌∙◌, ap}
-use Rattle.vmodel.specs.Run.{opening_of}
 use Rattle.vmachine.proofs.StandLemmas.{opens}
 use Rattle.vmachine.proofs.machine.MachineSpace.root.Goals as goal
 
 pub returns : goal.returns
 returns c =
-    opens c.args.self.now c.in_ok-state.state (c.in_ok-state.ensures ∙ ap opening_of c.self.view_is)
+    opens c.args.self.now c.in_ok-state.state c.in_ok-state.ensures
