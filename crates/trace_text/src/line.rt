@@ -12,6 +12,7 @@ use vmodel::choice::Choice;
 use vmodel::effect::{Disposition, Effect, Shown};
 use vmodel::history::{Cause, End};
 use vmodel::part::{Kept, Part};
+use vmodel::process_set::ProcessSet;
 use vmodel::values::value_after;
 use vsrc::Place;
 
@@ -34,12 +35,14 @@ impl Origins {
 }
 
 // What a line tells of a step before what the step did.
-#[derive(Clone, Copy)]
+#[derive(Drop)]
 struct Taken {
     number: u32,
     time: u64,
     index: u32,
     width: u32,
+    // The processes that the choice holds back.
+    held: ProcessSet,
     choice: Choice,
     // The place in the design's table of the action that its process came to.
     action: Option<usize>,
@@ -91,12 +94,27 @@ fn put_choice(text: &mut Vec<u8>, choice: Choice, place: Option<Place>) -> Resul
     }
 }
 
+// ` holding P ..`, where the choice holds anybody back.
+fn put_held(text: &mut Vec<u8>, held: &ProcessSet) -> Result<(), NoMemory> {
+    if held.is_empty() {
+        return Ok(());
+    }
+    text.extend_from_slice(b" holding")?;
+    for i in 0..held.len() {
+        if let Some(process) = held.get(i) {
+            put_counted(text, b" ", process as u64)?;
+        }
+    }
+    Ok(())
+}
+
 // The front of a step's line.
-fn put_taken(text: &mut Vec<u8>, taken: Taken, origins: &Origins) -> Result<(), NoMemory> {
+fn put_taken(text: &mut Vec<u8>, taken: &Taken, origins: &Origins) -> Result<(), NoMemory> {
     put_counted(text, b"step ", taken.number as u64)?;
     put_counted(text, b" time ", taken.time)?;
     put_counted(text, b" choice ", taken.index as u64)?;
     put_counted(text, b" of ", taken.width as u64)?;
+    put_held(text, &taken.held)?;
     put_choice(text, taken.choice, origins.place(taken.action))
 }
 
@@ -275,7 +293,7 @@ fn put_done(
     text: &mut Vec<u8>,
     design: &Design,
     old: &[Vec4],
-    taken: Taken,
+    taken: &Taken,
     effect: &Effect,
     time: u64,
 ) -> Result<(), NoMemory> {
@@ -292,7 +310,7 @@ fn put_step(
     design: &Design,
     origins: &Origins,
     old: &[Vec4],
-    taken: Taken,
+    taken: &Taken,
     effect: &Effect,
     time: u64,
 ) -> Result<(), NoMemory> {
@@ -330,6 +348,7 @@ fn taken_of(state: &State, number: u32, index: u32) -> Option<Taken> {
         time: state.time(),
         index,
         width: state.width(),
+        held: state.holding(index),
         choice,
         action,
     })
@@ -341,7 +360,7 @@ fn lines_of(
     design: &Design,
     origins: &Origins,
     old: &[Vec4],
-    taken: Taken,
+    taken: &Taken,
     effect: &Effect,
     state: &State,
 ) -> Result<Vec<u8>, NoMemory> {
@@ -368,7 +387,7 @@ pub(crate) fn step(
     let mut monitors = Vec::new(alloc);
     match state.step(design, index, &mut monitors) {
         Ok(effect) => {
-            let text = lines_of(alloc, design, origins, &values, taken, &effect, state)?;
+            let text = lines_of(alloc, design, origins, &values, &taken, &effect, state)?;
             Ok(Some(text))
         }
         Err(refused) => Err(refused),

@@ -12,7 +12,7 @@ use std::io::Write;
 use vcd_text::{Metered, WriteFault, put};
 use vdesign::design::Design;
 use vmachine::Machine;
-use vmodel::{State, opening};
+use vmodel::State;
 
 // Writes a text that was made, unless memory was refused for it.
 fn put_made<W: Write>(
@@ -72,7 +72,7 @@ pub fn write_trace<W: Write>(
     ensures err { IfErr result (HasStopped W.contents writer.old writer.new) }
 {
     let design = machine.design();
-    let mut state = match opening(alloc, design, machine.until(), machine.grain()) {
+    let mut state = match machine.opened() {
         Ok(state) => state,
         Err(refused) => return Err(OrMemory::Memory(refused)),
     };

@@ -103,8 +103,8 @@ impl Machine {
         self.looked
     }
 
-    // The state in which each run begins.
-    pub(crate) fn opened(&self) -> Result<State, NoMemory>
+    /// The state in which each run begins.
+    pub fn opened(&self) -> Result<State, NoMemory>
         ensures { IfOk result (λ state. state ≡ opening_of self.now) }
     {
         let mut state = opening(self.alloc, &self.design, self.until, self.grain)?;
