@@ -1,4 +1,4 @@
--- Why a call answers a fault: by a reason of its own, or for want of memory, which only a refused growth makes.
+-- *product rule*: Why a call answers a fault: for a reason of its own, or for want of memory, which only a refused growth makes.
 use Rattle.std.specs.Prelude.{Result, Ok, Err}
 use Rattle.basis.specs.declared.memory.OrMemory.{OrMemory}
 use Rattle.basis.specs.declared.memory.OrMemory.TheVariants.{Fault, Memory}

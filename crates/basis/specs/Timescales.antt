@@ -1,4 +1,4 @@
--- Timescales (IEEE 1364-2005, 19.8): the unit that times are written in, and the precision, in units of which time is counted.
+-- *trusted*: Timescales (IEEE 1364-2005, 19.8): the unit that times are written in, and the precision, in units of which time is counted.
 use Rattle.std.specs.Prelude.{ℕ, ◌*◌, ◌/◌, ◌==◌, ◌&&◌, Bool, List, codes}
 use Rattle.basis.specs.declared.timescale.Count.{Count}
 use Rattle.basis.specs.declared.timescale.Count.TheVariants.{One, Ten, Hundred}

@@ -1,4 +1,4 @@
--- What an answer tells of the book that the search left: whatever the status, the marks are read from such a book.
+-- *internal*: What an answer tells of the book that the search left: whatever the status, the marks are read from such a book.
 use Rattle.std.specs.Prelude.{◌≡◌, ℕ, ◌+◌, ◌<◌, ◌≤◌, ◌⊎◌, true, List, length, slice_get, Some}
 use Rattle.sched_core.specs.Rules.{Rules}
 use Rattle.statebook.specs.Books.{Book, IsRootAt, IsUndominated}

@@ -1,4 +1,5 @@
--- What an explorer lists: marks, each with the log of a run that reaches it. And when that is all of them.
+-- *product rule*: What an explorer lists: marks, each with the log of a run that reaches it. And when that is all of them. Only
+-- `HasEntries` and what it names has to be believed.
 use Rattle.std.specs.Prelude.{◌≡◌, ℕ, ◌<◌, ◌≤◌, true, List, length, slice_get, Some}
 use Rattle.sched_core.specs.Rules.{Rules, stands, IsRun, NamesBelow}
 use Rattle.statebook.specs.Covered.{IsCovered}

@@ -1,4 +1,4 @@
--- The wheel is a lawful space: its equal states are the same.
+-- *internal*: The wheel is a lawful space: its equal states are the same.
 use Rattle.std.proofs.Common.{◌≡◌, ℕ, Bool, true, ap, arith, subst}
 use Rattle.std.proofs.lemmas.Bool.Decides.{nat_tests}
 use Rattle.sched_core.specs.Rules.{IsLawful}

@@ -1,4 +1,4 @@
--- Places in a ring, as a toy space that loops: the tests explore it.
+-- *internal*: Places in a ring, as a toy space that loops: the tests explore it.
 use Rattle.std.specs.Prelude.{ℕ, ◌+◌, ◌==◌, ◌&&◌, nat_lt, not, Bool, zero, suc, if◌then◌else◌}
 use Rattle.sched_core.specs.Rules.{Rules}
 

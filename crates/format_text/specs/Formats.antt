@@ -1,5 +1,5 @@
--- Formats of printed lines (IEEE 1364-2005, 17.1.1; docs/LANGUAGE.md, "Printed lines"): what a string prints, and where it shows the
--- expressions behind it.
+-- *trusted*: Formats of printed lines (IEEE 1364-2005, 17.1.1; docs/LANGUAGE.md, "Printed lines"): what a string prints, and where it
+-- shows the expressions after it.
 use Rattle.std.specs.Prelude.{ℕ, ◌==◌, ◌||◌, Bool, true, false, if◌then◌else◌, List, [], ◌∷◌, ◌++◌, Option, Some, None}
 use Rattle.vdesign.specs.declared.print.Form.{Form}
 use Rattle.vdesign.specs.declared.print.Form.TheVariants.{Binary, Hexadecimal, Decimal, ShortDecimal, Time, ShortTime}

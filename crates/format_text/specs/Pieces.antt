@@ -1,4 +1,4 @@
--- The pieces of a line (IEEE 1364-2005, 17.1.1): strings are formats that take the expressions behind them.
+-- *trusted*: The pieces of a line (IEEE 1364-2005, 17.1.1): strings are formats that take the expressions after them.
 use Rattle.std.specs.Prelude.{◌≡◌, ℕ, Bool, true, false, List, [], ◌∷◌, ◌++◌, Option, Some, None, unwrap_or}
 use Rattle.vdesign.specs.Expressions.{ExpressionTree}
 use Rattle.vdesign.specs.declared.print.Form.{Form}

@@ -1,4 +1,4 @@
--- A reading on its way: words for the contracts of parts within.
+-- *internal*: A reading on its way: words for the contracts of parts within.
 use Rattle.std.specs.Prelude.{◌≡◌, ℕ, Bool, true, false, List, ◌∷◌, drop, Option, Some, None}
 use Rattle.vdesign.specs.declared.print.Piece.{Piece}
 use Rattle.format_text.specs.declared.run.FormatState.{FormatState}

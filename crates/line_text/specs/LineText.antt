@@ -1,4 +1,4 @@
--- Printed lines (IEEE 1364-2005, 17.1): what the pieces of a line show at a moment.
+-- *trusted*: Printed lines (IEEE 1364-2005, 17.1): what the pieces of a line show at a moment.
 use Rattle.std.specs.Prelude.{ℕ, Bool, true, false, List, [], ◌∷◌, ◌++◌}
 use Rattle.vbits.specs.Vectors.{Vector}
 use Rattle.vdesign.specs.Expressions.{ExpressionTree}

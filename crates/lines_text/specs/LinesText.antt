@@ -1,4 +1,4 @@
--- `LinesText` (IEEE 1364-2005, 17.1; docs/FORMATS.md, "Lines"): the printed lines of a design and what its run shows.
+-- *trusted*: `LinesText` (IEEE 1364-2005, 17.1; docs/FORMATS.md, "Lines"): the printed lines of a design and what its run shows.
 use Rattle.std.specs.Prelude.{ℕ, if◌then◌else◌, List, [], ◌∷◌, ◌++◌, Option, Some, None}
 use Rattle.vbits.specs.Vectors.{Vector}
 use Rattle.vdesign.specs.Design.{Design}

@@ -1,4 +1,4 @@
--- The laws of a sink that writes the lines.
+-- *internal*: The laws of a sink that writes the lines.
 use Rattle.std.proofs.Common.{◌≡◌, ℕ, List, [], ◌∷◌, ◌++◌, refl, sym, ap, subst, ◌∙◌, append_assoc}
 use Rattle.basis.specs.declared.memory.OrMemory.{OrMemory}
 use Rattle.vdesign.specs.Design.{Design}

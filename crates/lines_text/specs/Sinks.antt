@@ -1,4 +1,4 @@
--- A sink that writes the lines: what taking items makes of it.
+-- *internal*: A sink that writes the lines: what taking items makes of it.
 use Rattle.std.specs.Prelude.{◌≡◌, ℕ, List, [], ◌∷◌}
 use Rattle.basis.specs.declared.memory.OrMemory.{OrMemory}
 use Rattle.vbits.specs.Vectors.{Vector}

@@ -1,4 +1,4 @@
--- Words for the contracts of calls within: states of slot ends, gone through by time and variable.
+-- *internal*: Words for the contracts of calls within: states of slot ends, gone through by time and variable.
 use Rattle.std.specs.Prelude.{◌≡◌, ◌≢◌, Bool, ℕ, ◌<◌, ◌≤◌, List, [], length, slice_get, map, Option, Some, None, unwrap_or}
 use Rattle.std.specs.List.{Contains}
 use Rattle.std.specs.declared.cmp.Ordering.{Ordering}

@@ -1,4 +1,4 @@
--- The order in which races, and the values of one race, are listed.
+-- *product rule*: The order in which races, and the values of one race, are listed.
 use Rattle.std.specs.Prelude.{◌≡◌, ℕ, ◌+◌, ◌*◌, ◌<◌, ◌⊎◌, if◌then◌else◌, List, [], ◌∷◌, length, slice_get, Some}
 use Rattle.vbits.specs.declared.bit4.Bit4.{Bit4}
 use Rattle.vbits.specs.declared.bit4.Bit4.TheVariants.{Zero, One, X, Z}

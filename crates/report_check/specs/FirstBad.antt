@@ -1,4 +1,4 @@
--- The first item of a report that isn't true: its head, an end or a race, counted from 0.
+-- *product rule*: The first item of a report that isn't true: its head, an end or a race, counted from 0.
 use Rattle.std.specs.Prelude.{◌≡◌, ℕ, List, map, take, slice_get, Some}
 use Rattle.std.specs.Borrow.{Bor}
 use Rattle.vmodel.specs.Run.{Setting}

@@ -1,4 +1,4 @@
--- Words for the contracts of calls within.
+-- *internal*: Words for the contracts of calls within.
 use Rattle.std.specs.Prelude.{◌≡◌, ℕ, ◌+◌, ◌<◌, ◌≤◌, ◌⊎◌, Bool, true, List, length, slice_get, Option, Some, None, Decides}
 use Rattle.sched_core.specs.Rules.{IsRun, NamesBelow}
 use Rattle.vbits.specs.Vectors.{Vector}

@@ -1,3 +1,4 @@
+-- *internal*: Words for the contracts of calls within.
 pub mod Fronts
 pub mod Places
 pub mod Headings

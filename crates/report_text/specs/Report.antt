@@ -1,4 +1,4 @@
--- What a report of an exploration holds (docs/FORMATS.md, "Reports").
+-- *product rule*: What a report of an exploration holds (docs/FORMATS.md, "Reports").
 use Rattle.std.specs.Prelude.{ℕ, List}
 use Rattle.vmodel.specs.declared.history.Cause.{Cause}
 use Rattle.vmodel.specs.declared.history.Grain.{Grain}

@@ -1,4 +1,4 @@
--- `ReportText` (docs/FORMATS.md, "Reports"): the text of a report and of the dumps of its ends.
+-- *product rule*: `ReportText` (docs/FORMATS.md, "Reports"): the text of a report and of the dumps of its ends.
 use Rattle.std.specs.Prelude.{ℕ, List, [], ◌∷◌, ◌++◌, length, codes, decimal, slice_get, Option, Some, None}
 use Rattle.sched_core.specs.LogText.{log_text}
 use Rattle.vmodel.specs.declared.history.Cause.{Cause}

@@ -1,4 +1,4 @@
--- Which reports there are: those whose text is read (docs/FORMATS.md, "Reports").
+-- *product rule*: Which reports there are: those whose text is read (docs/FORMATS.md, "Reports").
 use Rattle.std.specs.Prelude.{◌≡◌, ◌≢◌, ℕ, ◌<◌, ◌≤◌, ◌^◌, ◌&&◌, ◌||◌, ◌==◌, ◌⊎◌, Bool, true, false, List, [], ◌∷◌, length, slice_get, Some, Result, MatchResult}
 use Rattle.std.specs.List.{list_all}
 use Rattle.std.specs.Ordering.{nat_cmp}

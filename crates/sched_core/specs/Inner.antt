@@ -1,2 +1,2 @@
--- Words for the contracts of calls within.
+-- *internal*: Words for the contracts of calls within.
 pub mod Reading

@@ -1,4 +1,5 @@
--- A log and its text: '-', or members 'step:index' joined by commas, in decimals without leading zeros.
+-- *product rule*: A log and its text (docs/FORMATS.md, "Logs"): '-', or members 'step:index' joined by commas, in decimals without
+-- leading zeros.
 use Rattle.std.specs.Prelude.{◌≡◌, ◌≢◌, ℕ, List, [], ◌∷◌, ◌++◌, codes, Result, MatchResult}
 use Rattle.basis.specs.declared.memory.OrMemory.{OrMemory}
 use Rattle.basis.specs.Reasons.{Because}

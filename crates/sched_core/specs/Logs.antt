@@ -1,4 +1,4 @@
--- Which lists of members (step, index) are logs.
+-- *product rule*: Which lists of members (step, index) are logs (docs/SCHEDULING.md, "Logs").
 use Rattle.std.specs.Prelude.{ℕ, ◌+◌, ◌≤◌, List, [], ◌∷◌}
 
 -- Members (step, index): steps from low to 999,999, strictly rising; indices from 1 to 4,294,967,295.

@@ -1,4 +1,4 @@
--- How a run under a log ends, and why there may be none.
+-- *product rule*: How a run under a log ends, and why there may be none.
 use Rattle.std.specs.Prelude.{◌≡◌, ℕ, ◌<◌, ◌≤◌, ◌⊎◌, List, Result, MatchResult, true}
 use Rattle.basis.specs.declared.memory.OrMemory.{OrMemory}
 use Rattle.basis.specs.Reasons.{Because}

@@ -1,4 +1,4 @@
--- The meaning of a space: states with numbered choices, and the runs that logs name.
+-- *product rule*: The meaning of a space: states with numbered choices, and the runs that logs name.
 use Rattle.std.specs.Prelude.{◌≡◌, ℕ, ◌<◌, ◌==◌, zero, suc, Bool, true, List, [], ◌∷◌, if◌then◌else◌}
 
 -- What a space says of its states. Choices of a state are numbered from 0, choice 0 is the default.

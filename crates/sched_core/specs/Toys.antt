@@ -1,3 +1,3 @@
--- A toy space, and that it is lawful.
+-- *internal*: A toy space, and that it is lawful.
 pub mod Grids
 pub mod GridLaws

@@ -1,4 +1,4 @@
--- When a list of entries that were seen closes.
+-- *internal*: When a list of entries that were seen closes.
 use Rattle.std.specs.Prelude.{◌≡◌, ℕ, List, length, slice_get, Option, Some}
 use Rattle.std.specs.List.{range_with_len}
 use Rattle.sched_core.specs.Rules.{Rules}

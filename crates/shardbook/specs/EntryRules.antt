@@ -1,4 +1,4 @@
--- What a search asks of the entries of its book.
+-- *internal*: What a search asks of the entries of its book.
 use Rattle.std.specs.Prelude.{◌≡◌, ℕ, Option, Some}
 use Rattle.sched_core.specs.Rules.{Rules}
 use Rattle.statebook.specs.ExplorerCore.{IsEntry}

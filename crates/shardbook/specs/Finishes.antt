@@ -1,4 +1,4 @@
--- What is asked of an entry that is to be finished.
+-- *internal*: What is asked of an entry that is to be finished.
 use Rattle.std.specs.Prelude.{◌≡◌, ℕ, List, length, slice_get, Option, Some}
 use Rattle.sched_core.specs.Rules.{Rules}
 use Rattle.statebook.specs.Books.{Dominates}

@@ -1,4 +1,4 @@
--- What a book answers on meeting an entry, over the list of the entries of its shard.
+-- *internal*: What a book answers on meeting an entry, over the list of the entries of its shard.
 use Rattle.std.specs.Prelude.{◌≡◌, ℕ, Bool, List, [], ◌∷◌, ◌++◌, slice_get, Some, Contains}
 use Rattle.statebook.specs.Books.{Dominates}
 use Rattle.statebook.specs.declared.entry.Entry.{Entry}

@@ -1,4 +1,4 @@
--- By what a book is told from others.
+-- *internal*: By what a book is told from others.
 use Rattle.std.specs.Prelude.{◌≡◌, ℕ}
 use Rattle.boxcar.specs.Table.{Shelves}
 

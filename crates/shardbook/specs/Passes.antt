@@ -1,4 +1,4 @@
--- Passes: what each has counted.
+-- *internal*: Passes: what each has counted.
 use Rattle.std.specs.Prelude.{◌≡◌, ℕ, ◌+◌, Bool}
 
 -- The parts of a pass, the New answers that it has counted, and whether there is room for one more.

@@ -1,4 +1,4 @@
--- The entries of a shared book, as what shows them says.
+-- *internal*: The entries of a shared book, as what shows them says.
 use Rattle.std.specs.Prelude.{ℕ, List, map}
 use Rattle.statebook.specs.declared.entry.Entry.{Entry}
 

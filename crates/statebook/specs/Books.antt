@@ -1,4 +1,4 @@
--- The book that an explorer keeps: its entries, and what each of them has met.
+-- *internal*: The book that an explorer keeps: its entries, and what each of them has met.
 use Rattle.std.specs.Prelude.{◌≡◌, ◌<◌, ◌≤◌, Vec, ℕ, Bool, true, List, [], ◌∷◌, ◌++◌, slice_get, slice_set, length, Contains, Option, Some, None, map}
 use Rattle.statebook.specs.declared.entry.Entry.{Entry}
 use Rattle.statebook.specs.declared.book.Met.{Met}

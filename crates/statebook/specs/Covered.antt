@@ -1,4 +1,4 @@
--- What an exhausted list covers. This speaks of all runs, and knows no book and no worker.
+-- *internal*: What an exhausted list covers. This speaks of all runs, and knows no book and no worker.
 use Rattle.std.specs.Prelude.{◌≡◌, ℕ, ◌≤◌, true, List, length}
 use Rattle.sched_core.specs.Rules.{Rules, stands, IsRun}
 

@@ -1,4 +1,5 @@
--- The explorer's core: a pure machine that knows no hash, no lock and no order of work.
+-- *product rule*: The explorer's core: a pure machine that knows no hash, no lock and no order of work. Only `IsEntry` has to be
+-- believed.
 use Rattle.std.specs.Prelude.{◌≡◌, ℕ, ◌+◌, ◌-◌, ◌<◌, ◌≤◌, ◌==◌, zero, suc, min, Bool, true, false, if◌then◌else◌, List, [], ◌∷◌, ◌++◌, length, replicate, Contains, slice_get, slice_set, slice_index, unwrap_or, Some, None}
 use Rattle.sched_core.specs.Logs.{IsLog}
 use Rattle.sched_core.specs.Rules.{Rules, stands, IsRun, NamesBelow}

@@ -1,3 +1,3 @@
--- Words for the contracts of calls within, and what the code keeps.
+-- *internal*: Words for the contracts of calls within, and what the code keeps.
 pub mod Kept
 pub mod Forced

@@ -1,4 +1,4 @@
--- The laws that exploring rests on, as they are claimed.
+-- *internal*: The laws that exploring rests on, as they are claimed.
 use Rattle.std.specs.Prelude.{ℕ, Bool, List}
 use Rattle.sched_core.specs.Rules.{Rules}
 use Rattle.statebook.specs.Books.{Book, IsClosed, Inserts, finish}

@@ -1,4 +1,4 @@
--- How far an explorer may be asked to go.
+-- *product rule*: How far an explorer may be asked to go (docs/LANGUAGE.md, "Limits").
 use Rattle.std.specs.Prelude.{ℕ, ◌≤◌}
 
 -- departures, steps of one run, and entries, each within its limit

@@ -1,5 +1,5 @@
--- Stations: where an explorer stops, the states that it stores. Between them all steps are forced, and no state is stored
--- (path compression).
+-- *product rule*: Stations: where an explorer stops, the states that it stores. Between them all steps are forced, and no state is stored
+-- (path compression). Only `is_station` has to be believed.
 use Rattle.std.specs.Prelude.{◌≡◌, ℕ, ◌<◌, ◌==◌, zero, suc, Bool, true, false, ◌||◌, not}
 use Rattle.sched_core.specs.Rules.{Rules}
 

@@ -1,4 +1,4 @@
--- The ways that an entry's choices lead to, up to the limit of steps.
+-- *product rule*: The ways that an entry's choices lead to, up to the limit of steps. Only `SomeRunExceeds` has to be believed.
 use Rattle.std.specs.Prelude.{◌≡◌, ℕ, ◌+◌, ◌<◌, ◌≤◌, false, List, length}
 use Rattle.sched_core.specs.Rules.{Rules, IsRun}
 use Rattle.statebook.specs.ExplorerCore.{choices_of}

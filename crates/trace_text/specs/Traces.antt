@@ -1,4 +1,4 @@
--- What a trace makes of a writer.
+-- *internal*: What a trace makes of a writer.
 use Rattle.std.specs.Prelude.{◌≡◌, ℕ, List, Option}
 use Rattle.std.specs.Io.KnownBytes.{Appends}
 use Rattle.basis.specs.declared.memory.OrMemory.{OrMemory}

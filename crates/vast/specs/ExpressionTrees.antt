@@ -1,4 +1,4 @@
--- The tree that an expression of the program stands for.
+-- *internal*: The tree that an expression of the program stands for.
 use Rattle.std.specs.Prelude.{List, [], ◌∷◌, Box}
 use Rattle.vast.specs.Expressions.{ExpressionOf, ExpressionsOf, ExpressionTree, number, name, time, bit, part, parentheses, concatenation, replication, conversion, apply, combine, conditional, ExpressionTrees, none, first}
 use Rattle.vast.specs.TokenTexts.{token_text}

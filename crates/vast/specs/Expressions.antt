@@ -1,4 +1,4 @@
--- Expressions of the whole profile (IEEE 1364-2005, clause 5 and A.8, narrowed to this product's profile): their trees, the
+-- *trusted*: Expressions of the whole profile (IEEE 1364-2005, clause 5 and A.8, narrowed to this product's profile): their trees, the
 -- words that these spell, how deep they nest, and which stand as the grammar lets them.
 use Rattle.std.specs.Prelude.{◌≡◌, ℕ, ◌+◌, max, nat_le, nat_lt, Bool, true, false, IsTrue, ◌&&◌, if◌then◌else◌, List, [], ◌∷◌, ◌++◌, codes}
 use Rattle.vast.specs.Words.{Text, is_name, is_number, is_time}

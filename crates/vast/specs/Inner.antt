@@ -1,4 +1,4 @@
--- What inner functions of the code answer; nothing here has to be believed.
+-- *internal*: What inner functions of the code answer.
 use Rattle.std.specs.Prelude.{◌≡◌, Bool, true, false, if◌then◌else◌, List, [], ◌∷◌, Option, ◌++◌, flat_map, Vec, Result, OnOk, codes}
 use Rattle.vast.specs.declared.spelling.Spelling.{Spelling}
 use Rattle.vast.specs.declared.statement.CaseKind.{CaseKind}

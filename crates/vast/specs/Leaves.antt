@@ -1,4 +1,4 @@
--- The tokens that trees of the program keep, in the order of the text: its names, its numbers, its strings and each `$time`.
+-- *internal*: The tokens that trees of the program keep, in the order of the text: its names, its numbers, its strings and each `$time`.
 use Rattle.std.specs.Prelude.{List, [], ◌∷◌, ◌++◌, Option, None, Some, Box}
 use Rattle.std.specs.List.{flat_map}
 use Rattle.vast.specs.declared.token.Token.{Token}

@@ -1,4 +1,4 @@
--- The tree that a text of the program stands for.
+-- *internal*: The tree that a text of the program stands for.
 use Rattle.std.specs.Prelude.{List, map, option_map}
 use Rattle.vast.specs.Words.{Text}
 use Rattle.vast.specs.TokenTexts.{token_text}

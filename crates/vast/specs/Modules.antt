@@ -1,5 +1,5 @@
--- Modules of the whole profile (IEEE 1364-2005, clauses 4 and 12, A.1 and A.2, narrowed to this product's profile): their trees, the
--- words that these spell, and which stand as the grammar lets them. A source text is its modules.
+-- *trusted*: Modules of the whole profile (IEEE 1364-2005, clauses 4 and 12, A.1 and A.2, narrowed to this product's profile): their
+-- trees, the words that these spell, and which stand as the grammar lets them. A source text is its modules.
 use Rattle.std.specs.Prelude.{◌≡◌, IsTrue, ℕ, nat_le, Bool, true, false, ◌&&◌, if◌then◌else◌, List, [], ◌∷◌, ◌++◌, Option, Some, None, length, codes, flat_map}
 use Rattle.std.specs.List.{list_all}
 use Rattle.vast.specs.Words.{Text, is_name}

@@ -1,4 +1,4 @@
--- Names as a report tells them (IEEE 1364-2005, 3.7, 12.5; docs/FORMATS.md, "Reports").
+-- *product rule*: Names as a report tells them (IEEE 1364-2005, 3.7, 12.5; docs/FORMATS.md, "Reports").
 use Rattle.std.specs.Prelude.{ℕ, ◌&&◌, ◌||◌, ◌==◌, Bool, true, false, List, [], ◌∷◌}
 use Rattle.std.specs.List.{list_all}
 use Rattle.vast.specs.Words.{begins_name, is_in_name}

@@ -1,4 +1,4 @@
--- Expressions whose words keep their numbers.
+-- *product rule*: Expressions whose words keep their numbers.
 pub use Rattle.vast.specs.Expressions.{number, name, time, bit, part, parentheses, concatenation, replication, conversion, apply, combine, conditional, none, first}
 use Rattle.vast.specs.Expressions.{ExpressionOf, ExpressionsOf}
 use Rattle.vast.specs.NumberedWords.{Word}

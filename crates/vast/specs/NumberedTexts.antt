@@ -1,4 +1,4 @@
--- The tree of a text with the number of each word that it keeps.
+-- *product rule*: The tree of a text with the number of each word that it keeps.
 use Rattle.std.specs.Prelude.{◌≡◌, List}
 use Rattle.vast.specs.Words.{Text}
 use Rattle.vast.specs.Modules.{SourceTree, SourceOf}

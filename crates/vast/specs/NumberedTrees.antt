@@ -1,4 +1,4 @@
--- Trees of the program, their words with their numbers.
+-- *internal*: Trees of the program, their words with their numbers.
 use Rattle.std.specs.Prelude.{List, Box}
 use Rattle.vast.specs.Words.{Text}
 use Rattle.vast.specs.NumberedWords.{Word, numbered}

@@ -1,4 +1,5 @@
--- A word as elaboration reads it: its letters, and its number among the words of the text, by which a fault tells its place.
+-- *product rule*: A word as elaboration reads it: its letters, and its number among the words of the text, by which a fault tells its
+-- place.
 use Rattle.std.specs.Prelude.{ℕ, suc, if◌then◌else◌, List, [], ◌∷◌}
 use Rattle.vast.specs.Words.{Text, is_leaf}
 use Rattle.vast.specs.TokenTexts.{token_text}

@@ -1,4 +1,4 @@
--- The bytes of spelled words.
+-- *internal*: The bytes of spelled words.
 use Rattle.std.specs.Prelude.{List, map}
 use Rattle.vast.specs.Words.{Text}
 use Rattle.vast.specs.declared.spelling.Spelling.{Spelling}

@@ -1,5 +1,5 @@
--- Statements of the whole profile (IEEE 1364-2005, clause 9 and A.6, narrowed to this product's profile): their trees, the words
--- that these spell, how deep they nest, and which stand as the grammar lets them.
+-- *trusted*: Statements of the whole profile (IEEE 1364-2005, clause 9 and A.6, narrowed to this product's profile): their trees, the
+-- words that these spell, how deep they nest, and which stand as the grammar lets them.
 use Rattle.std.specs.Prelude.{ℕ, ◌+◌, max, nat_le, Bool, true, false, ◌&&◌, not, if◌then◌else◌, List, [], ◌∷◌, ◌++◌, Option, Some, None, length, codes, flat_map}
 use Rattle.std.specs.List.{list_all}
 use Rattle.vast.specs.Words.{Text, is_name, is_number, is_string}

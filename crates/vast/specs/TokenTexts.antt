@@ -1,4 +1,4 @@
--- The letters of a token that a tree keeps by its number, among the words of the text.
+-- *internal*: The letters of a token that a tree keeps by its number, among the words of the text.
 use Rattle.std.specs.Prelude.{ℕ, suc, if◌then◌else◌, List, [], ◌∷◌, ◌++◌, Option, Some, None, map, slice_get}
 use Rattle.std.specs.Borrow.{Bor}
 use Rattle.vast.specs.Words.{Text, is_leaf}

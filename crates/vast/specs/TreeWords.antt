@@ -1,4 +1,4 @@
--- The words of trees: each changed (`.._with`), and all of them in the order of the text (`.._words`).
+-- *product rule*: The words of trees: each changed (`.._with`), and all of them in the order of the text (`.._words`).
 use Rattle.std.specs.Prelude.{List, [], ◌∷◌, ◌++◌, map, Option, None, Some, option_map}
 use Rattle.std.specs.List.{flat_map}
 use Rattle.vast.specs.Expressions.{ExpressionOf, ExpressionsOf, number, name, time, bit, part, parentheses, concatenation, replication, conversion, apply, combine, conditional, none, first}

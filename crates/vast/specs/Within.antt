@@ -1,4 +1,4 @@
--- Whether a tree fits and has so many levels at most, as it is found out on the way down; nothing here has to be believed.
+-- *internal*: Whether a tree fits and has so many levels at most, as it is found out on the way down.
 use Rattle.std.specs.Prelude.{ℕ, ◌-◌, nat_le, nat_lt, Bool, true, ◌&&◌, not, List, Option}
 use Rattle.vast.specs.Words.{is_name, is_number, is_time}
 use Rattle.vast.specs.Expressions.{ExpressionTree, number, name, time, bit, part, parentheses, concatenation, replication, conversion, apply, combine, conditional, ExpressionTrees, none, first, rank, rank_of, unary_rank, is_some_part, fits_parts, greatest_depth}

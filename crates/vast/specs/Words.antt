@@ -1,5 +1,5 @@
--- Words: what may stand for a name or a number in a tree, and which words the profile has (docs/LANGUAGE.md,
--- "Words"; IEEE 1364-2005, 3.7, 3.5.1). A word is the bytes of one token.
+-- *trusted*: Words: what may stand for a name or a number in a tree, and which words the profile has (docs/LANGUAGE.md, "Words"; IEEE
+-- 1364-2005, 3.7, 3.5.1). A word is the bytes of one token.
 use Rattle.std.specs.Prelude.{Bool, false, ◌&&◌, ◌||◌, not, ℕ, ◌==◌, List, [], ◌∷◌, codes}
 use Rattle.std.specs.List.{list_any, list_all}
 use Rattle.std.specs.Str.{bytes_eq}

@@ -1,4 +1,4 @@
--- The test of equality of vectors decides it (a law with its proof).
+-- *internal*: The test of equality of vectors decides it (a law with its proof).
 use Rattle.std.specs.Prelude.{◌≡◌, ℕ, suc, ◌+◌, ◌*◌, Bool, true, ◌&&◌, List, [], ◌∷◌, ◌++◌, length, Decides, refl}
 use Rattle.std.specs.Cmp.{IsEquivalence, decided, booleans_Decides}
 use Rattle.std.specs.Hash as fed

@@ -1,4 +1,4 @@
--- Tables over the four letters (IEEE 1364-2005, 5.1.10: bitwise operators). A z among the operands counts as x.
+-- *trusted*: Tables over the four letters (IEEE 1364-2005, 5.1.10: bitwise operators). A z among the operands counts as x.
 use Rattle.std.specs.Prelude.{Bool, true, false}
 use Rattle.vbits.specs.declared.bit4.Bit4.{Bit4}
 use Rattle.vbits.specs.declared.bit4.Bit4.TheVariants.{Zero, One, X, Z}

@@ -1,4 +1,4 @@
--- The whole numbers that lists of letters stand for, lowest letter first.
+-- *trusted*: The whole numbers that lists of letters stand for (IEEE 1364-2005, 4.3.1, 5.1.6), lowest letter first.
 use Rattle.std.specs.Prelude.{Bool, if◌then◌else◌, ℕ, zero, suc, ◌*◌, ◌+◌, ◌/◌, ◌%◌, ◌^◌, ◌-◌, ℤ, pos, ◌-ℤ◌, nat_le, List, [], ◌∷◌, Option, Some, None, length, unsigned_abs, option_map}
 use Rattle.std.specs.Int.{int_rem_euclid}
 use Rattle.vbits.specs.declared.bit4.Bit4.{Bit4}

@@ -1,4 +1,4 @@
--- Four-state vectors and their operators (IEEE 1364-2005, clauses 4 and 5). Letters stand lowest first.
+-- *trusted*: Four-state vectors and their operators (IEEE 1364-2005, clauses 4 and 5). Letters stand lowest first.
 use Rattle.std.specs.Prelude.{Bool, true, false, if◌then◌else◌, ◌&&◌, ◌||◌, ℕ, zero, ◌+◌, ◌-◌, ℤ, pos, ◌+ℤ◌, ◌-ℤ◌, ◌*ℤ◌, neg_ℤ, int_div, int_rem, int_lt, int_le, List, [], ◌∷◌, ◌++◌, map, fold, zip, length, take, drop, replicate, get_or, Option, Some, None, option_map}
 use Rattle.std.specs.Bool.{beq}
 use Rattle.std.specs.List.{list_any, list_all}

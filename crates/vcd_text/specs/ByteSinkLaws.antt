@@ -1,4 +1,4 @@
--- What several texts make of a byte sink.
+-- *internal*: What several texts make of a byte sink.
 use Rattle.std.proofs.Common.{◌≡◌, ℕ, ◌+◌, min, List, ◌++◌, length, take, subst, sym, ◌∙◌, arith}
 use Rattle.std.proofs.lemmas.List.{take-append-le, take_min}
 use Rattle.std.proofs.Math.Seq.{take-append-add}

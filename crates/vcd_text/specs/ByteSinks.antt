@@ -1,4 +1,4 @@
--- What takes texts, one behind another.
+-- *internal*: What takes texts, one after another.
 use Rattle.std.specs.Prelude.{ℕ, List, [], ◌++◌, take}
 use Rattle.basis.specs.declared.memory.OrMemory.{OrMemory}
 use Rattle.basis.specs.declared.memory.OrMemory.TheVariants.{Fault, Memory}

@@ -1,4 +1,4 @@
--- What codes are (docs/FORMATS.md, "Dumps"): numerals in bijective base 94, the lowest digit first.
+-- *internal*: What codes are (docs/FORMATS.md, "Dumps"): numerals in bijective base 94, the lowest digit first.
 use Rattle.std.specs.Prelude.{◌≡◌, ℕ, ◌+◌, ◌-◌, ◌*◌, ◌≤◌, List, [], ◌∷◌, All}
 
 -- printable characters but the space (18.2.1): `!` is 1 and `~` is 94

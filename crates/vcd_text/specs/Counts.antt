@@ -1,4 +1,4 @@
--- What counts the bytes of texts.
+-- *internal*: What counts the bytes of texts.
 use Rattle.std.proofs.Common.{◌≡◌, ◌≤◌, ◌^◌, ℕ, ◌+◌, min, List, ◌++◌, length, take, length-append, subst, sym, arith}
 use Rattle.std.proofs.Math.Seq.{take-append-add}
 use Rattle.vcd_text.specs.declared.counter.Counter.{Counter}

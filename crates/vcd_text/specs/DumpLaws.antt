@@ -1,4 +1,4 @@
--- What a sink writes item by item is the dump of the history.
+-- *internal*: What a sink writes item by item is the dump of the history.
 use Rattle.std.proofs.Common.{◌≡◌, ℕ, Bool, true, false, if◌then◌else◌, List, [], ◌∷◌, ◌++◌, refl, sym, ap, subst, ◌∙◌, append_assoc}
 use Rattle.vdesign.specs.declared.dump.DumpCommand.{DumpCommand}
 use Rattle.vdesign.specs.Design.{Design}

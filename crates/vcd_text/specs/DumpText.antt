@@ -1,4 +1,4 @@
--- `DumpText` (IEEE 1364-2005, clause 18; docs/FORMATS.md): the value change dump of a design and a history.
+-- *trusted*: `DumpText` (IEEE 1364-2005, clause 18; docs/FORMATS.md): the value change dump of a design and a history.
 use Rattle.std.specs.Prelude.{ℕ, zero, suc, ◌+◌, ◌-◌, ◌==◌, nat_lt, ◌&&◌, ◌||◌, not, length, Bool, true, false, if◌then◌else◌, List, [], ◌∷◌, ◌++◌, Option, Some, None, map, replicate, reverse, take, drop, slice_get, codes, decimal}
 use Rattle.std.specs.List.{after_last, list_any}
 use Rattle.vbits.specs.declared.bit4.Bit4.{Bit4}

@@ -1,4 +1,4 @@
--- The lines of a header as they are written, one list of variables behind another.
+-- *internal*: The lines of a header as they are written, one list of variables after another.
 use Rattle.std.specs.Prelude.{◌≡◌, ℕ, ◌+◌, Bool, if◌then◌else◌, List, [], ◌++◌}
 use Rattle.vdesign.specs.Design.{Variable, Scope}
 use Rattle.vcd_text.specs.DumpText.{code, scope_lines, scope_text, variable_lines}

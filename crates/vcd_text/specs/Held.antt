@@ -1,4 +1,4 @@
--- What holds texts.
+-- *internal*: What holds texts.
 use Rattle.std.proofs.Common.{◌≡◌, ℕ, List, [], ◌++◌, ap, sym, ◌∙◌}
 use Rattle.std.specs.Prelude.{⊤}
 use Rattle.std.proofs.lemmas.List.{append-nil, append_assoc}

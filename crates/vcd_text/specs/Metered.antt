@@ -1,4 +1,4 @@
--- Readers and writers whose failures are counted, and what pieces of text make of such a writer.
+-- *product rule*: Readers and writers whose failures are counted, and what pieces of text make of such a writer.
 use Rattle.std.specs.Prelude.{◌≡◌, ℕ, zero, suc, ◌+◌, ◌%◌, ◌^◌, Bool, true, false, if◌then◌else◌, List, [], ◌∷◌, take, Option, Result, Ok, Err}
 use Rattle.std.specs.Io.KnownBytes.{Appends, ReadConsumes, WriteAppends}
 use Rattle.vcd_text.specs.declared.metered.Metered.{Metered}

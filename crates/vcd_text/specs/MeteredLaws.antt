@@ -1,4 +1,4 @@
--- What several texts make of a writer.
+-- *internal*: What several texts make of a writer.
 use Rattle.std.proofs.Common.{ℕ, ◌+◌, min, List, [], ◌++◌, length, take, Option, None, Some, refl, sym, ap, ◌∙◌, append_assoc}
 use Rattle.std.specs.Io.KnownBytes.{Appends}
 use Rattle.std.proofs.lemmas.List.{append-nil}

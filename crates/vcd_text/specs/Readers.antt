@@ -1,4 +1,4 @@
--- What a reader of a dump knows.
+-- *internal*: What a reader of a dump knows.
 use Rattle.std.specs.Prelude.{◌≡◌, ℕ, ◌+◌, ◌-◌, ◌==◌, ◌||◌, Bool, true, if◌then◌else◌, List, [], ◌∷◌, ◌++◌, Some, All, get_or, length, map, replicate, slice_get, slice_set, take}
 use Rattle.vbits.specs.declared.bit4.Bit4.{Bit4}
 use Rattle.vbits.specs.Vectors.{Vector}

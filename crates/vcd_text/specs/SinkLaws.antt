@@ -1,4 +1,4 @@
--- The laws of a sink that writes the dump.
+-- *internal*: The laws of a sink that writes the dump.
 use Rattle.std.proofs.Common.{◌≡◌, ℕ, List, [], ◌∷◌, ◌++◌, refl, sym, ap, subst, ◌∙◌, append_assoc}
 use Rattle.vdesign.specs.Design.{Design}
 use Rattle.vmodel.specs.declared.history.Item.{Item}

@@ -1,4 +1,4 @@
--- A sink that writes the dump: what it keeps from item to item, and what taking them makes of it.
+-- *internal*: A sink that writes the dump: what it keeps from item to item, and what taking them makes of it.
 use Rattle.std.specs.Prelude.{◌≡◌, ℕ, ◌==◌, if◌then◌else◌, List, [], ◌∷◌, ◌++◌, codes, true, Bool}
 use Rattle.vbits.specs.Vectors.{Vector}
 use Rattle.vdesign.specs.Design.{Design}

@@ -1,4 +1,4 @@
--- A design as the definitions see it (IEEE 1364-2005, clause 12): variables, scopes, and one table of actions.
+-- *trusted*: A design as the definitions see it (IEEE 1364-2005, clause 12): variables, scopes, and one table of actions.
 use Rattle.std.specs.Prelude.{ℕ, Bool, List, Option}
 use Rattle.vbits.specs.declared.bit4.Bit4.{Bit4}
 use Rattle.basis.specs.declared.timescale.Timescale.{Timescale}

@@ -1,4 +1,4 @@
--- Expressions of a design (IEEE 1364-2005, clause 5): trees whose leaves are constants, variables by number, and `$time`.
+-- *trusted*: Expressions of a design (IEEE 1364-2005, clause 5): trees whose leaves are constants, variables by number, and `$time`.
 use Rattle.std.specs.Prelude.{ℕ, Bool}
 use Rattle.vast.specs.declared.expression.UnaryOperator.{UnaryOperator}
 use Rattle.vast.specs.declared.expression.BinaryOperator.{BinaryOperator}

@@ -1,4 +1,4 @@
--- An expression as the list of its nodes, each before its operands, and the way back: from the list comes the tree.
+-- *internal*: An expression as the list of its nodes, each before its operands, and the way back: from the list comes the tree.
 use Rattle.std.proofs.Common.{◌≡◌, List, [], ◌∷◌, ◌++◌, refl, sym, ap, ◌∙◌, append_assoc, append-nil}
 use Rattle.vdesign.specs.Expressions.{ExpressionTree, constant, variable, bit, bit_of, part, time, conversion, apply, combine, conditional, joined, repeated}
 use Rattle.vdesign.specs.declared.expression.Node.{Node}

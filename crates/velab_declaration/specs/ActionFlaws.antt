@@ -1,4 +1,4 @@
--- What is wrong with the expressions of actions (IEEE 1364-2005, 5.1.14, 5.2.1): their sizes, and bits of what has none.
+-- *trusted*: What is wrong with the expressions of actions (IEEE 1364-2005, 5.1.14, 5.2.1): their sizes, and bits of what has none.
 use Rattle.std.specs.Prelude.{ℕ, List, [], ◌∷◌, map, drop, slice_get, Option, None, unwrap_or, option_map}
 use Rattle.std.specs.Option.{option_or}
 use Rattle.vbits.specs.declared.bit4.Bit4.TheVariants.{X}

@@ -1,4 +1,4 @@
--- What the steps of elaboration are told by and answer; nothing here has to be believed.
+-- *internal*: What the steps of elaboration are told by and answer.
 use Rattle.std.specs.Prelude.{List, [], ◌++◌, Vec, map, Option, Some, option_map}
 use Rattle.std.specs.Borrow.{Bor}
 use Rattle.std.specs.List.{filter, flat_map, filter_map}

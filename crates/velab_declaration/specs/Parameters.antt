@@ -1,4 +1,4 @@
--- The parameters of an instance (IEEE 1364-2005, 4.10, 12.2), and what its names stand for.
+-- *trusted*: The parameters of an instance (IEEE 1364-2005, 4.10, 12.2), and what its names stand for.
 use Rattle.std.specs.Prelude.{ℕ, ◌+◌, nat_lt, not, Bool, true, false, List, [], ◌∷◌, ◌++◌, length, Option, None, Some, Result, Ok}
 use Rattle.std.specs.List.{flat_map}
 use Rattle.vast.specs.Words.{Text}

@@ -1,4 +1,4 @@
--- What may be written (IEEE 1364-2005, 6.1, 6.2, table 6-1): variables by processes, nets by continuous assignments.
+-- *trusted*: What may be written (IEEE 1364-2005, 6.1, 6.2, table 6-1): variables by processes, nets by continuous assignments.
 use Rattle.std.specs.Prelude.{if◌then◌else◌, Bool, true, false, not, List, Option, None, Some, slice_get}
 use Rattle.std.specs.List.{list_all}
 use Rattle.vdesign.specs.Design.{Variable}

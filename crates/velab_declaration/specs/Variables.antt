@@ -1,4 +1,4 @@
--- The variables of an instance (IEEE 1364-2005, 4.2, 4.3.1, 4.8), and the nets that something drives in it (6.1).
+-- *trusted*: The variables of an instance (IEEE 1364-2005, 4.2, 4.3.1, 4.8), and the nets that something drives in it (6.1).
 use Rattle.std.specs.Prelude.{ℕ, Bool, true, false, if◌then◌else◌, List, [], ◌∷◌, ◌++◌, map, Option, None, Some, option_map, Result, Ok}
 use Rattle.std.specs.List.{filter, flat_map, filter_map}
 use Rattle.vbits.specs.declared.bit4.Bit4.TheVariants.{X, Z}

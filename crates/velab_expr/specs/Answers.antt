@@ -1,4 +1,4 @@
--- What a definition makes of a part of a text: a value, or the first fault in it. And what a call says by such an answer.
+-- *product rule*: What a definition makes of a part of a text: a value, or the first fault in it. And what a call says by such an answer.
 use Rattle.std.specs.Prelude.{◌≡◌, Bool, true, false, Option, None, Some, List, ◌++◌, Result, Ok, Err}
 use Rattle.basis.specs.declared.memory.OrMemory.{OrMemory}
 use Rattle.basis.specs.declared.memory.OrMemory.TheVariants.{Fault, Memory}

@@ -1,4 +1,4 @@
--- Constants that bounds and counts are (IEEE 1364-2005, 4.3.1, 4.10, 5.1.14, 5.2.1): expressions without variables.
+-- *trusted*: Constants that bounds and counts are (IEEE 1364-2005, 4.3.1, 4.10, 5.1.14, 5.2.1): expressions without variables.
 use Rattle.std.specs.Prelude.{ℕ, nat_le, Bool, if◌then◌else◌, [], Option, None, Some, unwrap_or, option_and_then, Result}
 use Rattle.vbits.specs.Letters.{is_one}
 use Rattle.vbits.specs.Numbers as numbers

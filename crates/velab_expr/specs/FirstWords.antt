@@ -1,4 +1,5 @@
--- The word by which a fault tells where something stands: its first name, number, string or `$time`, in the order of the text.
+-- *product rule*: The word by which a fault tells where something stands: its first name, number, string or `$time`, in the order of the
+-- text.
 use Rattle.std.specs.Prelude.{List, [], ◌∷◌, Option, None, Some}
 use Rattle.std.specs.List.{flat_map}
 use Rattle.vast.specs.NumberedWords.{Word}

@@ -1,4 +1,4 @@
--- What the steps of elaboration are told by and answer; nothing here has to be believed.
+-- *internal*: What the steps of elaboration are told by and answer.
 use Rattle.std.specs.Prelude.{◌≤◌, ℕ, ◌-◌, if◌then◌else◌, List, ◌++◌, map, take, Option, None, Some, option_map}
 use Rattle.std.specs.List.{flat_map}
 use Rattle.vbits.specs.declared.bit4.Bit4.{Bit4}

@@ -1,4 +1,4 @@
--- How an expression stands in a list of nodes, and the parts of a concatenation.
+-- *internal*: How an expression stands in a list of nodes, and the parts of a concatenation.
 use Rattle.std.specs.Prelude.{ℕ, zero, suc, false, List, ◌++◌, Result, Ok}
 use Rattle.vdesign.specs.Expressions.{ExpressionTree}
 use Rattle.vdesign.specs.Nodes.{nodes_of}

@@ -1,5 +1,5 @@
--- What a number of the text stands for (IEEE 1364-2005, 3.5.1). The letters of a vector stand lowest first, the
--- digits of a number highest first. A text that is no number has a value too, which stands nowhere.
+-- *trusted*: What a number of the text stands for (IEEE 1364-2005, 3.5.1). The letters of a vector stand lowest first, the digits of a
+-- number highest first. A text that is no number has a value too, which stands nowhere.
 use Rattle.std.specs.Prelude.{ℕ, ◌+◌, ◌-◌, ◌==◌, ◌&&◌, ◌||◌, nat_lt, min, max, not, Bool, true, false, if◌then◌else◌, List, [], ◌∷◌, ◌++◌, length, take, drop, replicate, get_or, Option, Some, None, position}
 use Rattle.vbits.specs.declared.bit4.Bit4.{Bit4}
 use Rattle.vbits.specs.declared.bit4.Bit4.TheVariants.{Zero, X, Z}

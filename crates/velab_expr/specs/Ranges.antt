@@ -1,4 +1,4 @@
--- Ranges (IEEE 1364-2005, 4.3.1): two bounds, at most 64 bits apart.
+-- *trusted*: Ranges (IEEE 1364-2005, 4.3.1): two bounds, at most 64 bits apart.
 use Rattle.std.specs.Prelude.{ℕ, ◌+◌, ◌-◌, max, min, nat_le, Option, None, Some, Result, Ok}
 use Rattle.vast.specs.NumberedWords.{Word}
 use Rattle.vast.specs.NumberedExpressions as text

@@ -1,4 +1,5 @@
--- What an expression of the text is lowered to: the expression of a design, or the first fault in it (IEEE 1364-2005, clause 5, 12.7).
+-- *trusted*: What an expression of the text is lowered to: the expression of a design, or the first fault in it (IEEE 1364-2005, clause
+-- 5, 12.7).
 use Rattle.std.specs.Prelude.{ℕ, ◌+◌, nat_le, Bool, true, false, not, Option, Some, Result, Ok}
 use Rattle.vbits.specs.declared.bit4.Bit4.TheVariants.{X}
 use Rattle.vbits.specs.Vectors.{Vector, filled}

@@ -1,5 +1,5 @@
--- Rules that a text breaks, each told with the word at which it is broken. Of a part of the text the first that is broken is told, in the
--- order in which it is looked at.
+-- *product rule*: Rules that a text breaks, each told with the word at which it is broken. Of a part of the text the first that is broken
+-- is told, in the order in which it is looked at.
 use Rattle.std.specs.Prelude.{◌≡◌, ℕ, Bool, true, false, Option, None, Some, option_map}
 use Rattle.vast.specs.NumberedWords.{Word}
 use Rattle.vvalue.specs.declared.flaw.Flaw.{Flaw}

@@ -1,4 +1,4 @@
--- What a module's names stand for (IEEE 1364-2005, 4.10, 9.7.3, 12.1.2, 12.7).
+-- *trusted*: What a module's names stand for (IEEE 1364-2005, 4.10, 9.7.3, 12.1.2, 12.7).
 use Rattle.std.specs.Prelude.{ℕ, ◌+◌, ◌-◌, nat_lt, Bool, if◌then◌else◌, not, ◌||◌, List, slice_get, position, Option, None, Some, unwrap_or, option_and_then, Result, Ok}
 use Rattle.std.specs.Str.{bytes_eq}
 use Rattle.vbits.specs.Vectors.{Vector}

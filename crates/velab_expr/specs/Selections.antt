@@ -1,4 +1,4 @@
--- What a `$dumpvars` selects (IEEE 1364-2005, 12.5, 18.1.2).
+-- *trusted*: What a `$dumpvars` selects (IEEE 1364-2005, 12.5, 18.1.2).
 use Rattle.std.specs.Prelude.{ℕ, List, [], ◌∷◌, ◌++◌, map, Option, None, Some, Result, Ok}
 use Rattle.std.specs.List.{flat_map}
 use Rattle.vbits.specs.Numbers.{number}

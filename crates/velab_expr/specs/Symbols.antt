@@ -1,4 +1,5 @@
--- The names of a module beside its variables (IEEE 1364-2005, 4.10, 9.7.3, 12.1.2, 12.2): parameters, named events and instances.
+-- *trusted*: The names of a module beside its variables (IEEE 1364-2005, 4.10, 9.7.3, 12.1.2, 12.2): parameters, named events and
+-- instances.
 use Rattle.std.specs.Prelude.{ℕ, ◌+◌, List, [], ◌∷◌, map, length, Option, None, Some}
 use Rattle.std.specs.Option.{option_or}
 use Rattle.vast.specs.NumberedWords.{Word}

@@ -1,4 +1,4 @@
--- What assignments write to (IEEE 1364-2005, 5.1.14, 5.2.1, 6.2): targets of the text, lowered to those of a design.
+-- *trusted*: What assignments write to (IEEE 1364-2005, 5.1.14, 5.2.1, 6.2): targets of the text, lowered to those of a design.
 use Rattle.std.specs.Prelude.{ℕ, List, [], ◌∷◌, ◌++◌, Option, Result, Ok}
 use Rattle.vast.specs.NumberedExpressions as text
 use Rattle.vast.specs.NumberedStatements.{TargetTree, TargetTrees, whole, bit, part, joined, none, first}

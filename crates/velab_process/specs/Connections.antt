@@ -1,4 +1,4 @@
--- The processes that port connections make (IEEE 1364-2005, 12.3.9.2).
+-- *trusted*: The processes that port connections make (IEEE 1364-2005, 12.3.9.2).
 use Rattle.std.specs.Prelude.{if◌then◌else◌, List, [], ◌∷◌, length, Option, None, Some, Result, Ok}
 use Rattle.vast.specs.NumberedWords.{Word}
 use Rattle.vast.specs.NumberedExpressions as text

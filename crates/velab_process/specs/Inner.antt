@@ -1,4 +1,4 @@
--- What the steps of elaboration are told by and answer; nothing here has to be believed.
+-- *internal*: What the steps of elaboration are told by and answer.
 use Rattle.std.specs.Prelude.{◌≡◌, ℕ, List, [], ◌++◌, Vec, map, Option, None, option_map, Result, Ok, Err, OnOk, Bool, true, false}
 use Rattle.std.specs.List.{filter_map}
 use Rattle.basis.specs.declared.memory.OrMemory.{OrMemory}

@@ -1,4 +1,4 @@
--- Print tasks of the text, their names resolved and their formats read (IEEE 1364-2005, 17.1).
+-- *trusted*: Print tasks of the text, their names resolved and their formats read (IEEE 1364-2005, 17.1).
 use Rattle.std.specs.Prelude.{◌-◌, Bool, true, false, List, [], ◌∷◌, length, take, drop, Result, Ok}
 use Rattle.vast.specs.Words.{Text}
 use Rattle.vast.specs.NumberedExpressions as text

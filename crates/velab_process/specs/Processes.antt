@@ -1,4 +1,4 @@
--- The processes of a module (IEEE 1364-2005, 6.1, 9.9): those of its items, in the order of the text.
+-- *trusted*: The processes of a module (IEEE 1364-2005, 6.1, 9.9): those of its items, in the order of the text.
 use Rattle.std.specs.Prelude.{ℕ, List, [], ◌∷◌, ◌++◌, map, Option, None, Some, option_map, Result, Ok}
 use Rattle.std.specs.List.{filter_map}
 use Rattle.vast.specs.NumberedWords.{Word}

@@ -1,4 +1,5 @@
--- What statements are lowered to (IEEE 1364-2005, clause 9): actions, each after those of its body; or the first fault in them.
+-- *trusted*: Statements (IEEE 1364-2005, clause 9): what they are lowered to, which is actions, each after those of its body; or the
+-- first fault in them.
 use Rattle.std.specs.Prelude.{ℕ, if◌then◌else◌, List, [], ◌∷◌, ◌++◌, length, Option, None, Some, option_map, Bool, true, false, Result, Ok}
 use Rattle.vast.specs.NumberedWords.{Word}
 use Rattle.vast.specs.NumberedExpressions as text

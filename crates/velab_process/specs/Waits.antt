@@ -1,4 +1,4 @@
--- What event controls and `wait` listen to (IEEE 1364-2005, 9.7): terms, of which one is enough (9.7.4).
+-- *trusted*: What event controls and `wait` listen to (IEEE 1364-2005, 9.7): terms, of which one is enough (9.7.4).
 use Rattle.std.specs.Prelude.{List, [], ◌∷◌, ◌++◌, Option, None, Some, Result, Ok}
 use Rattle.std.specs.List.{flat_map}
 use Rattle.vast.specs.NumberedWords.{Word}

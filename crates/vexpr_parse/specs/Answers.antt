@@ -1,4 +1,4 @@
--- What the cursor passes, and which trees are made of those that were read. Nothing here has to be believed.
+-- *internal*: What the cursor passes, and which trees are made of those that were read.
 use Rattle.std.specs.Prelude.{◌≡◌, ℕ, ◌+◌, ◌<◌, ◌≤◌, ◌^◌, max, nat_le, true, false, if◌then◌else◌, List, [], ◌∷◌, ◌++◌, drop, take, map, Option, Some, None, Result, Ok, Err, IfOk}
 use Rattle.std.specs.Borrow.{MutBor}
 use Rattle.std.specs.List.{flat_map}

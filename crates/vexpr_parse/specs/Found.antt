@@ -1,4 +1,4 @@
--- What was read of words: an expression of a rank and of so many levels at most.
+-- *internal*: What was read of words: an expression of a rank and of so many levels at most.
 use Rattle.std.specs.Prelude.{◌≡◌, ℕ, nat_le, true, List}
 use Rattle.vast.specs.Words.{Text}
 use Rattle.vast.specs.Expressions.{ExpressionTree, spell_expression, fits_expression, depth, rank_of}

@@ -1,4 +1,4 @@
--- Where words stop to be an expression (docs/LANGUAGE.md, "Grammar" and "Depth").
+-- *internal*: Where words stop to be an expression (docs/LANGUAGE.md, "Grammar" and "Depth").
 use Rattle.std.specs.Prelude.{◌≡◌, ℕ, suc, ◌<◌, ◌≤◌, nat_le, true, List, [], ◌∷◌, ◌++◌, length}
 use Rattle.vast.specs.Words.{Text}
 use Rattle.vast.specs.Expressions.{ExpressionTree, unary_rank}

@@ -1,5 +1,5 @@
--- Readers: what stands at the front of a list of words, and the words behind it; or the words from the first one on that
--- can't be read. One word of lookahead decides everywhere, and what was read is never given back.
+-- *product rule*: Readers: what stands at the front of a list of words, and the words after it; or the words from the first one on that
+-- can't be read. One word of lookahead decides everywhere, and what was read is never given back. Only `front` has to be believed.
 use Rattle.std.specs.Prelude.{ℕ, zero, suc, nat_le, Bool, false, if◌then◌else◌, List, [], ◌∷◌, Option, Some, None, length}
 use Rattle.std.specs.Str.{bytes_eq}
 use Rattle.vast.specs.Words.{Text}

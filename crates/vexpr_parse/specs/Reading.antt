@@ -1,5 +1,5 @@
--- Reading of expressions: the longest tree of so many levels at the front of the words, one word at a time. That this is
--- the grammar read backwards is what `DerivesExpression` says of it.
+-- *internal*: Reading of expressions: the longest tree of so many levels at the front of the words, one word at a time. That this is the
+-- grammar read backwards is what `DerivesExpression` says of it.
 use Rattle.std.specs.Prelude.{ℕ, zero, suc, nat_le, if◌then◌else◌, List, [], ◌∷◌, ◌++◌, Option, Some, None, codes}
 use Rattle.std.specs.Str.{bytes_eq}
 use Rattle.vast.specs.Words.{Text}

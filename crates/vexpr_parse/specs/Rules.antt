@@ -1,5 +1,4 @@
--- What the program's functions read, each by the definition of its rule, with so many levels below. Nothing here has to
--- be believed.
+-- *internal*: What the program's functions read, each by the definition of its rule, with so many levels below.
 use Rattle.std.specs.Prelude.{ℕ, ◌+◌, Bool, List, [], ◌∷◌, Result, codes}
 use Rattle.basis.specs.declared.memory.OrMemory.{OrMemory}
 use Rattle.vast.specs.TokenTexts.{token_text}

@@ -1,4 +1,4 @@
--- The words of a text, as its tokens stand.
+-- *product rule*: The words of a text, as its tokens stand.
 use Rattle.std.specs.Prelude.{List, map}
 use Rattle.vlex.specs.Tokenized.{Tokenized, pieces_of}
 use Rattle.vast.specs.Words.{Text}

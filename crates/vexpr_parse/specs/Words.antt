@@ -1,4 +1,4 @@
--- What words begin and join (IEEE 1364-2005, A.8).
+-- *internal*: What words begin and join (IEEE 1364-2005, A.8).
 use Rattle.std.specs.Prelude.{ℕ, nat_le, Bool, true, false, ◌&&◌, ◌==◌, not, if◌then◌else◌, List, [], ◌∷◌, Option, Some, None, codes}
 use Rattle.std.specs.List.{list_any}
 use Rattle.std.specs.Str.{bytes_eq}

@@ -1,5 +1,5 @@
--- Lists with commas, up to the word that ends them. Nothing here has to be believed: the readers of the grammar are made of
--- `comma_list`, and these are what the program's loops go on from.
+-- *internal*: Lists with commas, up to the word that ends them. The readers of the grammar are made of `comma_list`, and these are what
+-- the program's loops go on from.
 use Rattle.std.specs.Prelude.{List, [], ◌∷◌, codes}
 use Rattle.vast.specs.Words.{Text}
 use Rattle.vexpr_parse.specs.Readers.{Reader, got, and_then, past, is_front, turns}

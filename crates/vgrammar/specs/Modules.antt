@@ -1,5 +1,5 @@
--- Reading of modules, and of a whole text (IEEE 1364-2005, A.1 and A.2), whose statements and expressions have so many levels at
--- most.
+-- *internal*: Reading of modules, and of a whole text (IEEE 1364-2005, A.1 and A.2), whose statements and expressions have so many levels
+-- at most.
 use Rattle.std.specs.Prelude.{ℕ, Bool, true, false, not, List, [], ◌∷◌, Option, Some, None, codes}
 use Rattle.vast.specs.Words.{Text}
 use Rattle.vast.specs.Expressions.{ExpressionTree}

@@ -1,4 +1,5 @@
--- What is read as a text, and where words stop to begin one (docs/LANGUAGE.md, "Grammar" and "Depth").
+-- *product rule*: What is read as a text, and where words stop to begin one (docs/LANGUAGE.md, "Grammar" and "Depth"). What reading gives
+-- is a law.
 use Rattle.std.specs.Prelude.{◌≡◌, ℕ, suc, ◌≤◌, List, [], ◌∷◌, ◌++◌}
 use Rattle.vast.specs.Words.{Text}
 use Rattle.vast.specs.Modules.{SourceTree, DerivesWithin}

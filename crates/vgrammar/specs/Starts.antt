@@ -1,4 +1,4 @@
--- What the first word of a statement begins (IEEE 1364-2005, A.6).
+-- *internal*: What the first word of a statement begins (IEEE 1364-2005, A.6).
 use Rattle.std.specs.Prelude.{Bool, true, false, ◌||◌, if◌then◌else◌, List, [], ◌∷◌, Option, Some, None, codes}
 use Rattle.std.specs.Str.{bytes_eq}
 use Rattle.vast.specs.Words.{Text, is_name}

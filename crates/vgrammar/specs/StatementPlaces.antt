@@ -1,4 +1,4 @@
--- What is read as a statement, and where words stop to be one (docs/LANGUAGE.md, "Grammar" and "Depth").
+-- *internal*: What is read as a statement, and where words stop to be one (docs/LANGUAGE.md, "Grammar" and "Depth").
 use Rattle.std.specs.Prelude.{◌≡◌, ℕ, suc, ◌≤◌, nat_le, true, List, [], ◌∷◌, ◌++◌}
 use Rattle.vast.specs.Words.{Text}
 use Rattle.vast.specs.Statements.{StatementTree, spell_statement, statement_depth, fits_statement}

@@ -1,4 +1,4 @@
--- Reading of statements: one at the front of the words, of so many levels at most, one word at a time (IEEE 1364-2005, A.6).
+-- *internal*: Reading of statements: one at the front of the words, of so many levels at most, one word at a time (IEEE 1364-2005, A.6).
 use Rattle.std.specs.Prelude.{ℕ, zero, suc, Bool, true, false, ◌&&◌, ◌||◌, not, if◌then◌else◌, List, [], ◌∷◌, Option, Some, None, codes}
 use Rattle.std.specs.Str.{bytes_eq}
 use Rattle.vast.specs.Words.{Text, is_name, is_number, is_string}

@@ -1,4 +1,4 @@
--- What the steps of elaboration over instances are told by and answer; nothing here has to be believed.
+-- *internal*: What the steps of elaboration over instances are told by and answer.
 use Rattle.std.specs.Prelude.{◌≡◌, ℕ, nat_le, List, ◌++◌, map, Option, Some, option_map, Result, Ok, Err}
 use Rattle.std.specs.List.{filter, flat_map}
 use Rattle.basis.specs.declared.memory.OrMemory.{OrMemory}

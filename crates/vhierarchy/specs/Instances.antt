@@ -1,4 +1,5 @@
--- `Elaborates modules top scale design`: the design that a text stands for, by recursion over instances (IEEE 1364-2005, clause 12).
+-- *trusted*: `Elaborates modules top scale design`: the design that a text stands for, by recursion over instances (IEEE 1364-2005,
+-- clause 12).
 use Rattle.std.specs.Prelude.{◌≡◌, ℕ, zero, suc, ◌+◌, nat_le, if◌then◌else◌, List, [], ◌∷◌, ◌++◌, map, length, Option, None, Some, Result, Ok, Err}
 use Rattle.std.specs.List.{flat_map, filter, filter_map}
 use Rattle.std.specs.Option.{option_or}

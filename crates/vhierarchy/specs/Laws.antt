@@ -1,4 +1,4 @@
--- Laws of the definitions, which functions of `law` prove.
+-- *internal*: Laws of the definitions, which functions of `law` prove.
 use Rattle.std.specs.Prelude.{◌≡◌, List, Option}
 use Rattle.vast.specs.Words.{Text}
 use Rattle.vast.specs.Modules.{DerivesText, SourceTree as PlainTree}

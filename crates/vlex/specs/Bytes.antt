@@ -1,4 +1,4 @@
--- Sets of bytes, and what a byte can begin.
+-- *trusted*: Sets of bytes (IEEE 1364-2005, 3.2, 3.5.1, 3.7), and what a byte can begin.
 use Rattle.std.specs.Prelude.{ℕ, Bool, ◌==◌, ◌&&◌, ◌||◌, not, nat_le, if◌then◌else◌, codes}
 use Rattle.std.specs.List.{list_any}
 use Rattle.std.specs.Char.{is_ascii_digit, is_ascii_alphabetic, is_ascii_hexdigit}

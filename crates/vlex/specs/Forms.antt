@@ -1,4 +1,5 @@
--- What bytes are, taken alone: a run of blanks, a comment, a token of some kind, or none of these.
+-- *trusted*: What bytes are, taken alone (IEEE 1364-2005, 3.2 to 3.7): a run of blanks, a comment, a token of some kind, or none of
+-- these.
 use Rattle.std.specs.Prelude.{ℕ, ◌+◌, ◌-◌, ◌*◌, Bool, true, false, ◌==◌, ◌&&◌, ◌||◌, not, nat_le, if◌then◌else◌, List, [], ◌∷◌, length, Option, None, Some, fold, codes}
 use Rattle.std.specs.List.{list_all, list_any, before_first, after_first}
 use Rattle.std.specs.Str.{bytes_eq}

@@ -1,4 +1,4 @@
--- What the parts of the lexer answer and its tokens keep; nothing here has to be believed.
+-- *internal*: What the parts of the lexer answer and its tokens keep.
 use Rattle.std.specs.Prelude.{◌≡◌, ℕ, ◌+◌, ◌<◌, ◌≤◌, Bool, true, false, List, [], ◌∷◌, Option, length, take, All, MatchOption}
 use Rattle.vsrc.specs.Source.{text_limit}
 use Rattle.vlex.specs.declared.list.Span.{Span}

@@ -1,4 +1,4 @@
--- The relation between a text and its tokens (IEEE 1364-2005, clause 3).
+-- *trusted*: The relation between a text and its tokens (IEEE 1364-2005, clause 3).
 use Rattle.std.specs.Prelude.{◌≡◌, ℕ, ◌+◌, ◌<◌, ◌≤◌, Bool, true, false, ◌==◌, ◌&&◌, ◌||◌, not, List, [], ◌∷◌, None, Some, length, take, drop, slice_index, ◌⊎◌}
 use Rattle.vsrc.specs.Source.{Source, place_of}
 use Rattle.vsrc.specs.Outside.{block_end, string_end}

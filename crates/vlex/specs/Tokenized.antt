@@ -1,4 +1,4 @@
--- A text with where its tokens stand in it.
+-- *product rule*: A text, and where its tokens stand in it.
 use Rattle.std.specs.Prelude.{ℕ, ◌+◌, ◌≤◌, List, [], ◌∷◌, Option, length, take, drop, map, slice_get, unwrap_or}
 use Rattle.std.specs.Option.{option_map}
 use Rattle.vsrc.specs.Source.{Source}

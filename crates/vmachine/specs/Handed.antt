@@ -1,4 +1,4 @@
--- What becomes of who watches a run: a sink that is handed its items (IEEE 1364-2005, 11.4, 18.1).
+-- *internal*: What becomes of who watches a run: a sink that is handed its items (IEEE 1364-2005, 11.4, 18.1).
 use Rattle.std.specs.Prelude.{◌≡◌, ℕ, Bool, true, false, if◌then◌else◌, List, [], ◌∷◌, take}
 use Rattle.sched_core.specs.Replay.{IsReplayReason}
 use Rattle.vmodel.specs.declared.history.End.{End}

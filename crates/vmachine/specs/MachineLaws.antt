@@ -1,4 +1,4 @@
--- What holds of the states of every machine; `machine_law` proves each.
+-- *internal*: What holds of the states of every machine; `machine_law` proves each.
 use Rattle.std.specs.Prelude.{◌≡◌, ℕ, List, true}
 use Rattle.sched_core.specs.Rules.{IsRun, stands}
 use Rattle.vmodel.specs.State.{State}

@@ -1,4 +1,4 @@
--- The rules of a machine, and when a state of it stands for a state of a run (docs/SCHEDULING.md). Who reads a machine's
+-- *internal*: The rules of a machine, and when a state of it stands for a state of a run (docs/SCHEDULING.md). Who reads a machine's
 -- states rests on `machine_law` alone, as these words unfold nowhere else.
 use Rattle.std.specs.Prelude.{◌≡◌, refl}
 use Rattle.sched_core.specs.Rules.{Rules, IsLawful}

@@ -1,4 +1,4 @@
--- What is read of a state of a run: its end, and the slot that ends there (IEEE 1364-2005, 11.4).
+-- *internal*: What is read of a state of a run: its end, and the slot that ends there (IEEE 1364-2005, 11.4).
 use Rattle.std.specs.Prelude.{ℕ, ◌==◌, ◌&&◌, if◌then◌else◌, is_none, Option, Some, None, length}
 use Rattle.vmodel.specs.declared.history.End.{End}
 use Rattle.vmodel.specs.State.{State}

@@ -1,4 +1,4 @@
--- Runs on their way: where they stand, and what was handed on of what they gave.
+-- *internal*: Runs on their way: where they stand, and what was handed on of what they gave.
 use Rattle.std.specs.Prelude.{◌≡◌, ℕ, false, List, [], ◌∷◌, ◌++◌, Option, Some, None}
 use Rattle.vmodel.specs.declared.history.End.{End}
 use Rattle.vmodel.specs.declared.history.Item.{Item}

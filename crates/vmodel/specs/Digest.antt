@@ -1,4 +1,4 @@
--- What the hash of a state is fed: one number made of its time, its values, where its processes stand and what its queue
+-- *internal*: What the hash of a state is fed: one number made of its time, its values, where its processes stand and what its queue
 -- holds. Equal states have the same one; no more is asked of it.
 use Rattle.std.specs.Prelude.{◌≡◌, ℕ, ◌+◌, ◌*◌, ◌%◌, ◌/◌, ◌^◌, true, List, [], ◌∷◌, Option, Some, None, slice_get}
 use Rattle.std.specs.Hash as fed

@@ -1,4 +1,4 @@
--- How the program keeps what the definitions see as lists: words for the contracts of parts within.
+-- *internal*: How the program keeps what the definitions see as lists: words for the contracts of parts within.
 use Rattle.std.specs.Prelude.{◌≡◌, ◌==◌, ℕ, zero, suc, ◌+◌, ◌-◌, if◌then◌else◌, nat_lt, List, [], ◌∷◌, length, take, Option, Some, None}
 use Rattle.vmodel.specs.declared.part.Part.{Part}
 use Rattle.vmodel.specs.declared.part.Part.TheVariants.{Whole, Bits}

@@ -1,4 +1,4 @@
--- How the program keeps what a process has left: a stack, the first frame last, of which the front is shared.
+-- *internal*: How the program keeps what a process has left: a stack, the first frame last, of which the front is shared.
 use Rattle.std.specs.Prelude.{◌≤◌, List, ◌++◌, length, reverse, take}
 use Rattle.std.specs.Arc.{arc_slice_items}
 use Rattle.vmodel.specs.declared.continuation.Continuation.{Continuation}

@@ -1,4 +1,4 @@
--- How the parts of a step are told: words for the contracts of parts within.
+-- *internal*: How the parts of a step are told: words for the contracts of parts within.
 use Rattle.std.specs.Prelude.{ℕ, Bool, if◌then◌else◌, ◌∷◌, List, Option, Some, None, drop, slice_get, slice_set}
 use Rattle.vbits.specs.Vectors.{Vector}
 use Rattle.vmodel.specs.declared.process.Frame.{Frame}

@@ -1,4 +1,4 @@
--- What is told of a step to find what it wakes: words for the contracts of parts within.
+-- *internal*: What is told of a step to find what it wakes: words for the contracts of parts within.
 use Rattle.std.specs.Prelude.{◌≡◌, ◌≢◌, ℕ, Bool, false, ◌==◌, ◌&&◌, ◌||◌, List, [], ◌∷◌, Option, Some, None, slice_get}
 use Rattle.vbits.specs.Vectors.{Vector}
 use Rattle.vdesign.specs.declared.action.Edge.{Edge}

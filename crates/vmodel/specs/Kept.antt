@@ -1,4 +1,5 @@
--- What every state of a run keeps, under every log (IEEE 1364-2005, 11.3, 11.4; docs/SCHEDULING.md).
+-- *trusted*: What every state of a run keeps, under every log (IEEE 1364-2005, 11.3, 11.4; docs/SCHEDULING.md). Only `IsSlotEnd` and what
+-- it names has to be believed; all else is a law.
 use Rattle.std.specs.Prelude.{◌≡◌, ℕ, suc, ◌+◌, ◌≤◌, ◌==◌, if◌then◌else◌, List, [], ◌∷◌, length, slice_get, Option, Some, None}
 use Rattle.std.specs.Option.{ForSome}
 use Rattle.vmodel.specs.declared.process.Frame.{Frame}

@@ -1,4 +1,4 @@
--- What it means to write a part of a variable (IEEE 1364-2005, 5.2.1); `run_law` proves it.
+-- *internal*: What it means to write a part of a variable (IEEE 1364-2005, 5.2.1); `run_law` proves it.
 use Rattle.std.specs.Prelude.{◌≡◌, ℕ, suc, ◌-◌, ◌<◌, max, min, true, List, length, slice_get, Option, None, Some}
 use Rattle.vbits.specs.declared.bit4.Bit4.{Bit4}
 use Rattle.vdesign.specs.declared.expression.Bounds.{Bounds}

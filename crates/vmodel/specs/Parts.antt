@@ -1,4 +1,4 @@
--- What a step writes (IEEE 1364-2005, clause 6): parts of variables with their new letters, in order.
+-- *trusted*: What a step writes (IEEE 1364-2005, clause 6): parts of variables with their new letters, in order.
 use Rattle.std.specs.Prelude.{ℕ, ◌+◌, nat_le, if◌then◌else◌, List, [], ◌∷◌, ◌++◌, length, take, drop, slice_get, slice_set, unwrap_or}
 use Rattle.vbits.specs.declared.bit4.Bit4.TheVariants.{X}
 use Rattle.vbits.specs.Vectors.{Vector, filled}

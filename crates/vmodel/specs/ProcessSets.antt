@@ -1,4 +1,4 @@
--- How sets of processes are kept: two words of 128 bits, a bit for each process.
+-- *internal*: How sets of processes are kept: two words of 128 bits, a bit for each process.
 use Rattle.std.specs.Prelude.{ℕ, zero, suc, ◌+◌, ◌-◌, ◌^◌, ◌==◌, Bool, true, ◌&&◌, if◌then◌else◌, nat_le, nat_lt, List, [], ◌∷◌}
 use Rattle.std.specs.Int.{bit_at}
 

@@ -1,4 +1,4 @@
--- The rules of a run are lawful (a law with its proof).
+-- *internal*: The rules of a run are lawful (a law with its proof).
 use Rattle.std.proofs.Common.{◌≡◌, ℕ, ◌==◌, Bool, true, if◌then◌else◌, ◌&&◌, ◌||◌, is_some, List, [], ◌∷◌, ◌++◌, map, Option, Some, None, length, refl, ap, subst, arith}
 use Rattle.sched_core.specs.Rules.{IsLawful}
 use Rattle.vmodel.specs.declared.choice.Choice.{Choice}

@@ -1,4 +1,4 @@
--- What holds of the runs of every setting, log and number of steps; `run_law` proves each.
+-- *internal*: What holds of the runs of every setting, log and number of steps; `run_law` proves each.
 use Rattle.std.specs.Prelude.{◌≡◌, ℕ, List, All, length, Decides}
 use Rattle.std.specs.List.{Contains}
 use Rattle.sched_core.specs.Rules.{IsLawful, IsRun}

@@ -1,4 +1,4 @@
--- What the runs of a setting say, step by step.
+-- *product rule*: What the runs of a setting say, step by step. Only `Finishes` has to be believed.
 use Rattle.std.specs.Prelude.{◌≡◌, ℕ, ◌≤◌, List, length, refl}
 use Rattle.sched_core.specs.Rules.{IsRun}
 use Rattle.sched_core.specs.Replay.{EndsAfter}

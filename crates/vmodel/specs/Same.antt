@@ -1,4 +1,5 @@
--- When two states of a run are equal: by all that they hold, statements by their places (docs/SCHEDULING.md).
+-- *product rule*: When two states of a run are equal: by all that they hold, statements by their places (docs/SCHEDULING.md). Only
+-- `values_same` has to be believed: it tells whether a monitor has something new to show.
 use Rattle.std.specs.Prelude.{ℕ, Bool, true, false, nat_eq, ◌&&◌, List}
 use Rattle.std.specs.Bool.{beq}
 use Rattle.std.specs.Option.{option_eq}

@@ -1,4 +1,4 @@
--- Each test of equality, part by part, decides whether the two are equal (laws with their proofs).
+-- *internal*: Each test of equality, part by part, decides whether the two are equal (laws with their proofs).
 use Rattle.std.specs.Prelude.{◌≡◌, ℕ, Bool, nat_eq, ◌&&◌, Some, None, Decides, refl}
 use Rattle.std.proofs.Common.{ap}
 use Rattle.std.specs.Option.{option_eq}

@@ -1,4 +1,4 @@
--- `Step` (IEEE 1364-2005, 11.3, 11.4, 11.6; docs/SCHEDULING.md): the one step of a choice, then the region moves.
+-- *trusted*: `Step` (IEEE 1364-2005, 11.3, 11.4, 11.6; docs/SCHEDULING.md): the one step of a choice, then the region moves.
 use Rattle.std.specs.Prelude.{◌≡◌, ℕ, zero, suc, ◌-◌, List, [], ◌∷◌, ◌++◌, Option, Some, None, map, take, slice_get, slice_set, ◌/◌, if◌then◌else◌}
 use Rattle.std.specs.Option.{option_to_list}
 use Rattle.vbits.specs.Vectors.{Vector}

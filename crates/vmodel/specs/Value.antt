@@ -1,4 +1,4 @@
--- What assignments write (IEEE 1364-2005, 5.1.14, 5.2.1, 5.4.1, 6.2).
+-- *trusted*: What assignments write (IEEE 1364-2005, 5.1.14, 5.2.1, 5.4.1, 6.2).
 use Rattle.std.specs.Prelude.{ℕ, ◌-◌, nat_le, min, max, false, if◌then◌else◌, List, [], ◌∷◌, ◌++◌, length, take, drop, Option, None, Some}
 use Rattle.vbits.specs.declared.bit4.Bit4.{Bit4}
 use Rattle.vbits.specs.Vectors.{Vector, resize}

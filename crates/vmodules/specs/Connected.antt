@@ -1,4 +1,4 @@
--- What is connected by order or by name: ports (IEEE 1364-2005, 12.3.5, 12.3.6) and parameters (12.2.2).
+-- *trusted*: What is connected by order or by name: ports (IEEE 1364-2005, 12.3.5, 12.3.6) and parameters (12.2.2).
 use Rattle.std.specs.Prelude.{not, if◌then◌else◌, ◌||◌, nat_le, List, [], ◌∷◌, ◌++◌, length, map, Option, None, Some, option_and_then}
 use Rattle.std.specs.List.{find, flat_map}
 use Rattle.std.specs.Str.{bytes_eq}

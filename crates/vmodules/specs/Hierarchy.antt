@@ -1,4 +1,4 @@
--- The modules of a text, which of them are instantiated, and which is the top (IEEE 1364-2005, 12.1).
+-- *trusted*: The modules of a text, which of them are instantiated, and which is the top (IEEE 1364-2005, 12.1).
 use Rattle.std.specs.Prelude.{not, List, [], ◌∷◌, Option, None, Some, map, filter}
 use Rattle.std.specs.List.{find, flat_map}
 use Rattle.std.specs.Str.{bytes_eq}

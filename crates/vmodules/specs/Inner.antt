@@ -1,4 +1,5 @@
--- What the calls are told by and answer, in the words of a text; nothing here has to be believed.
+-- *product rule*: What the calls are told by and answer, in the words of a text. Only `named_text` has to be believed, the name that was
+-- asked for.
 use Rattle.std.specs.Prelude.{◌≡◌, ℕ, ◌++◌, List, [], ◌∷◌, map, Option, None, Some, option_map, Bool, true, false, if◌then◌else◌}
 use Rattle.std.specs.Borrow.{Bor}
 use Rattle.std.specs.List.{flat_map}

@@ -1,4 +1,4 @@
--- The ports of a module, each with its whole direction (IEEE 1364-2005, 12.3.3, 12.3.4).
+-- *trusted*: The ports of a module, each with its whole direction (IEEE 1364-2005, 12.3.3, 12.3.4).
 use Rattle.std.specs.Prelude.{Bool, true, false, List, [], ◌∷◌, Option, None, Some, unwrap_or}
 use Rattle.std.specs.Option.{option_or}
 use Rattle.vast.specs.NumberedWords.{Word}

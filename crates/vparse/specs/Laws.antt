@@ -1,4 +1,4 @@
--- Laws of the definitions, which functions of `law` prove.
+-- *internal*: Laws of the definitions, which functions of `law` prove.
 use Rattle.std.specs.Prelude.{ℕ, List, All}
 use Rattle.vlex.specs.Lexed.{Lexed, Piece}
 use Rattle.vparse.specs.Words.{TellsNumber, TellsName}

@@ -1,4 +1,4 @@
--- The longest expression at a token (IEEE 1364-2005, A.8.3; docs/LANGUAGE.md, "Grammar" and "Depth").
+-- *trusted*: The longest expression at a token (IEEE 1364-2005, A.8.3; docs/LANGUAGE.md, "Grammar" and "Depth"), for `parse_expr` alone.
 use Rattle.std.specs.Prelude.{◌≡◌, ℕ, ◌≤◌, true, false, List, ◌++◌, Option, length, drop, slice_get}
 use Rattle.vsrc.specs.Source.{place_of}
 use Rattle.vsrc.specs.declared.expanded.Place.{Place}

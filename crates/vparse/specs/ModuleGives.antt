@@ -1,4 +1,4 @@
--- What the program's functions answer that read modules. Nothing here has to be believed.
+-- *internal*: What the program's functions answer that read modules.
 use Rattle.std.specs.Prelude.{◌≡◌, ◌≤◌, ◌⊎◌, Bool, true, false, not, List, [], ◌∷◌, ◌++◌, Option, Some, None, Result, Ok, Err, Box, Vec, length, map, drop, option_map, codes, IfOk}
 use Rattle.std.specs.Borrow.{MutBor}
 use Rattle.std.specs.List.{flat_map}

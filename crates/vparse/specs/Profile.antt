@@ -1,5 +1,5 @@
--- Words outside the profile: reserved words and system names that no rule of the grammar names, and the operators
--- that it leaves out (docs/LANGUAGE.md, "Words" and "Grammar").
+-- *product rule*: Words outside the profile: reserved words and system names that no rule of the grammar names, and the operators that it
+-- leaves out (docs/LANGUAGE.md, "Words" and "Grammar").
 use Rattle.std.specs.Prelude.{Bool, false, ◌&&◌, ◌||◌, ◌==◌, not, List, [], ◌∷◌, Option, None, Some, codes}
 use Rattle.std.specs.List.{list_any}
 use Rattle.std.specs.Str.{bytes_eq}

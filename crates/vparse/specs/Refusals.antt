@@ -1,4 +1,4 @@
--- What a fault says of a text (docs/LANGUAGE.md, "Grammar").
+-- *product rule*: What a fault says of a text (docs/LANGUAGE.md, "Grammar").
 use Rattle.std.specs.Prelude.{◌≡◌, ℕ, ◌≤◌, Bool, true, false, List, length, drop, slice_get}
 use Rattle.vsrc.specs.Source.{place_of}
 use Rattle.vsrc.specs.declared.expanded.Place.{Place}

@@ -1,4 +1,4 @@
--- The readers of modules with the 64 levels that a text has (docs/LANGUAGE.md, "Depth").
+-- *internal*: The readers of modules with the 64 levels that a text has (docs/LANGUAGE.md, "Depth").
 use Rattle.std.specs.Prelude.{List, Option}
 use Rattle.vast.specs.Expressions.{ExpressionTree}
 use Rattle.vast.specs.Modules.{RangeTree, TypeTree, ParameterType, SettingTree, DeclaredTree, DirectionTree, PortTree, HeadParameter, ConnectionTree, ConnectionsTree, InstanceTree, ItemTree, ModuleTree, SourceTree}

@@ -1,4 +1,4 @@
--- What the words of a text's tokens tell.
+-- *internal*: What the words of a text's tokens tell.
 use Rattle.std.specs.Prelude.{◌≡◌, ◌⊎◌, ◌↔◌, IsTrue, false}
 use Rattle.vlex.specs.declared.kind.TokenKind.TheVariants.{Name, Plain, Based}
 use Rattle.vlex.specs.Lexed.{Piece}

@@ -1,4 +1,4 @@
--- When the text of a report is true of files; and when a check is refused.
+-- *product rule*: When the text of a report is true of files; and when a check is refused.
 use Rattle.std.specs.Prelude.{◌≡◌, ℕ, ◌⊎◌, List, Some, map}
 use Rattle.std.specs.Borrow.{Bor}
 use Rattle.report_text.specs.Report.{Report}

@@ -1,4 +1,4 @@
--- What an exploration writes, from the bytes of the files to the report; and when it is refused.
+-- *product rule*: What an exploration writes, from the bytes of the files to the report; and when it is refused.
 use Rattle.std.specs.Prelude.{◌≡◌, ℕ, ◌<◌, ◌≤◌, ◌⊎◌, List, [], Option, None, length, take}
 use Rattle.std.specs.Io.KnownBytes.{Appends}
 use Rattle.basis.specs.Reasons.{Because}

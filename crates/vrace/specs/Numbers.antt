@@ -1,4 +1,4 @@
--- The numbers of faults, and how a fault is shown (docs/FAULTS.md).
+-- *product rule*: The numbers of faults, and how a fault is shown (docs/FAULTS.md).
 use Rattle.std.specs.Prelude.{ℕ, List, [], ◌++◌, codes, decimal}
 use Rattle.vrace.specs.Places.{place_text}
 use Rattle.vrace.specs.declared.fault.Detail.{Detail}

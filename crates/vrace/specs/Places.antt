@@ -1,4 +1,4 @@
--- How a place in the files is shown: ` at F:L`, file and line from 1, or nothing.
+-- *product rule*: How a place in the files is shown: ` at F:L`, file and line from 1, or nothing.
 use Rattle.std.specs.Prelude.{List, [], ◌++◌, ℕ, Option, None, Some, codes, decimal}
 use Rattle.vsrc.specs.declared.expanded.Place.{Place}
 

@@ -1,4 +1,4 @@
--- What reading a text to its end takes from a reader.
+-- *product rule*: What reading a text to its end takes from a reader.
 use Rattle.std.specs.Prelude.{◌≡◌, ℕ, ◌+◌, ◌<◌, ◌≤◌, List, Option, length}
 use Rattle.std.specs.Io.KnownBytes.{Consumes, IsAtEnd}
 use Rattle.vcd_text.specs.Metered.{one_more}

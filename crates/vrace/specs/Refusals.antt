@@ -1,4 +1,4 @@
--- When a replay is refused, and what then stands written.
+-- *product rule*: When a replay is refused, and what then stands written.
 use Rattle.std.specs.Prelude.{◌≡◌, ℕ, ◌<◌, ◌≤◌, nat_le, if◌then◌else◌, ◌⊎◌, List, length, Option, None, Some, option_and_then, Err, take}
 use Rattle.std.specs.Io.KnownBytes.{Appends}
 use Rattle.basis.specs.declared.timescale.Timescale.{Timescale}

@@ -1,4 +1,4 @@
--- What a replay writes, from the bytes of the files to the dump or the lines of the run.
+-- *product rule*: What a replay writes, from the bytes of the files to the dump or the lines of the run.
 use Rattle.std.specs.Prelude.{◌≡◌, ℕ, ◌≤◌, List, All, Option, Ok, length, map, sum_by}
 use Rattle.basis.specs.declared.timescale.Timescale.{Timescale}
 use Rattle.vsrc.specs.Source.{Source}

@@ -1,4 +1,4 @@
--- What is asked of a call: the top module's name, the time limit, the steps of one run, and the grain.
+-- *product rule*: What is asked of a call: the top module's name, the time limit, the steps of one run, and the grain.
 use Rattle.std.specs.Prelude.{ℕ, ◌≤◌, List, Option}
 use Rattle.vmodules.specs.Inner.{named_text}
 use Rattle.vmodel.specs.declared.history.Grain.{Grain}

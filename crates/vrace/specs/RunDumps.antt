@@ -1,4 +1,4 @@
--- What is shown of one run, on its way to a writer.
+-- *product rule*: What is shown of one run, on its way to a writer. Only `failures_after` has to be believed.
 use Rattle.std.specs.Prelude.{◌≡◌, ◌⊎◌, ℕ, List, Option}
 use Rattle.sched_core.specs.Replay.{IsMissing, TakesMore}
 use Rattle.sched_core.specs.declared.run.ReplayFault.{ReplayFault}

@@ -1,4 +1,4 @@
--- The printed lines of one run (IEEE 1364-2005, 17.1), on their way to what takes texts.
+-- *internal*: The printed lines of one run (IEEE 1364-2005, 17.1), on their way to what takes texts.
 use Rattle.std.specs.Prelude.{◌≡◌, ℕ, List, []}
 use Rattle.basis.specs.declared.memory.OrMemory.{OrMemory}
 use Rattle.vmodel.specs.declared.history.End.{End}

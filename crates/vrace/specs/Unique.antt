@@ -1,4 +1,4 @@
--- The only tokens of a text, and its only tree.
+-- *internal*: The only tokens of a text, and its only tree.
 use Rattle.std.specs.Prelude.{◌≡◌, ℕ, List}
 use Rattle.vsrc.specs.Source.{Source}
 use Rattle.vlex.specs.Lexed.{IsOnlyLexed}

@@ -1,4 +1,5 @@
--- When two reports tell the same ends and the same races; the logs and the bytes of the dumps beside them aren't compared.
+-- *product rule*: When two reports tell the same ends and the same races; the logs and the bytes of the dumps beside them aren't
+-- compared.
 use Rattle.std.specs.Prelude.{◌≡◌, ℕ, List, slice_get, Some}
 use Rattle.statebook.specs.declared.limits.Limits.{Limits}
 use Rattle.vmodel.specs.declared.history.Cause.{Cause}

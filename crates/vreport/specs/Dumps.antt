@@ -1,4 +1,4 @@
--- The dump of one run (IEEE 1364-2005, clause 18), on its way to what takes texts.
+-- *product rule*: The dump of one run (IEEE 1364-2005, clause 18), on its way to what takes texts. Only `IsRunDump` has to be believed.
 use Rattle.std.specs.Prelude.{◌≡◌, ℕ, List, []}
 use Rattle.basis.specs.declared.memory.OrMemory.{OrMemory}
 use Rattle.vmodel.specs.declared.history.End.{End}

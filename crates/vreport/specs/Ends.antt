@@ -1,4 +1,4 @@
--- Ends that runs come to, and when a list of them is whole.
+-- *product rule*: Ends that runs come to, and when a list of them is whole.
 use Rattle.std.specs.Prelude.{◌≡◌, ℕ, ◌≤◌, ◌^◌, List, length, slice_get, Some}
 use Rattle.sched_core.specs.Replay.{EndsAfter}
 use Rattle.explore.specs.declared.findings.Findings.{Findings}

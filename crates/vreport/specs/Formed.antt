@@ -1,4 +1,4 @@
--- Reports with the dumps of their ends: when such a report can be read again (docs/FORMATS.md, "Reports"), and is true.
+-- *internal*: Reports with the dumps of their ends: when such a report can be read again (docs/FORMATS.md, "Reports"), and is true.
 use Rattle.std.specs.Prelude.{ℕ, List}
 use Rattle.vmodel.specs.Run.{Setting}
 use Rattle.report_text.specs.Report.{Report}

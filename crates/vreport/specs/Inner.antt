@@ -1,4 +1,4 @@
--- Words for the contracts of calls within: the marks at which runs end, as rows.
+-- *internal*: Words for the contracts of calls within: the marks at which runs end, as rows.
 use Rattle.std.specs.Prelude.{◌≡◌, ℕ, zero, suc, ◌+◌, ◌^◌, ◌<◌, ◌≤◌, ◌⊎◌, List, length, slice_get, Option, Some, None}
 use Rattle.std.specs.List.{Contains}
 use Rattle.std.specs.Ordering.{nat_cmp, ordering_then}

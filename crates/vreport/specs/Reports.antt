@@ -1,5 +1,5 @@
--- The report of what an explorer found: its head, and its races beside those of specs/Races of the races' own crate; and what
--- an exploration reports.
+-- *product rule*: The report of what an explorer found: its head, and its races beside those of specs/Races of the races' own crate; and
+-- what an exploration reports.
 use Rattle.std.specs.Prelude.{◌≡◌, ℕ, ◌≤◌, List, map}
 use Rattle.statebook.specs.declared.limits.Limits.{Limits}
 use Rattle.explore.specs.declared.findings.Findings.{Findings}

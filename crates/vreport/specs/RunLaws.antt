@@ -1,4 +1,4 @@
--- A run under a log that ends is the only one, and what it gives on the way stands at the front of what it gives in all.
+-- *internal*: A run under a log that ends is the only one, and what it gives on the way stands at the front of what it gives in all.
 use Rattle.std.proofs.Common.{◌≡◌, ℕ, zero, suc, ◌≤◌, List, [], ◌++◌, inl, inr, sym, ap, subst, ◌∙◌, append_assoc, arith}
 use Rattle.std.proofs.lemmas.Bool.{cases_lt}
 use Rattle.std.proofs.lemmas.List.{append-nil}

@@ -1,4 +1,4 @@
--- When what a report lists is true: its head is that of a setting, and each end and each race is of runs of it within the
+-- *product rule*: When what a report lists is true: its head is that of a setting, and each end and each race is of runs of it within the
 -- limits that the head names.
 use Rattle.std.specs.Prelude.{◌≡◌, ℕ, ◌≤◌, List, [], ◌∷◌, length, map}
 use Rattle.sched_core.specs.Rules.{IsRun, NamesBelow}

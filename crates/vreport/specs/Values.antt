@@ -1,4 +1,4 @@
--- How a report tells values (docs/FORMATS.md, "Reports").
+-- *product rule*: How a report tells values (docs/FORMATS.md, "Reports").
 use Rattle.std.specs.Prelude.{ℕ, List, [], ◌∷◌, ◌++◌}
 use Rattle.vbits.specs.Vectors.{Vector}
 use Rattle.vcd_text.specs.DumpText.{dump_digits}

@@ -1,4 +1,4 @@
--- The text of a report on its way to what takes texts.
+-- *product rule*: The text of a report on its way to what takes texts. Only `AreDumps` and what it names has to be believed.
 use Rattle.std.specs.Prelude.{◌≡◌, ℕ, List, [], ◌∷◌, ◌++◌, length, Option, IfSome}
 use Rattle.basis.specs.declared.memory.OrMemory.{OrMemory}
 use Rattle.vmodel.specs.Run.{Setting}

@@ -1,4 +1,4 @@
--- Conditional parts of a text (IEEE 1364-2005, 19.4).
+-- *trusted*: Conditional parts of a text (IEEE 1364-2005, 19.4).
 use Rattle.std.specs.Prelude.{ℕ, Bool, true, false, if◌then◌else◌, nat_le, List, [], ◌∷◌, length, Result, Ok, Err}
 use Rattle.vsrc.specs.declared.refusal.Refusal.{Refusal}
 use Rattle.vsrc.specs.declared.refusal.Why.TheVariants.{Directive, Limit}

@@ -1,4 +1,4 @@
--- What directives and macros make of the files: a text and a timescale, or a fault (IEEE 1364-2005, clause 19).
+-- *trusted*: What directives and macros make of the files: a text and a timescale, or a fault (IEEE 1364-2005, clause 19).
 --
 -- The files are joined, with a line feed between each two (`joined`). Then one walk goes over them, piece by piece
 -- (`step`). A piece is a comment, a string, a backtick with the name behind it, or one byte more. What is known between

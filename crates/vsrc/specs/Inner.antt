@@ -1,4 +1,4 @@
--- What the code keeps and its inner functions answer; nothing here has to be believed.
+-- *internal*: What the code keeps and its inner functions answer.
 use Rattle.std.specs.Prelude.{◌≡◌, ℕ, ◌+◌, ◌<◌, List, length, drop, slice_index, Option, Some, option_map, Vec, Result, Ok, Err}
 use Rattle.std.specs.Map.{lookup}
 use Rattle.std.specs.Str.{bytes_eq}

@@ -1,4 +1,4 @@
--- Macros (IEEE 1364-2005, 19.3): what a definition gives a name, and what a use of it makes.
+-- *trusted*: Macros (IEEE 1364-2005, 19.3): what a definition gives a name, and what a use of it makes.
 use Rattle.std.specs.Prelude.{ℕ, zero, suc, ◌+◌, ◌==◌, ◌&&◌, Bool, true, false, not, if◌then◌else◌, nat_lt, nat_le, List, [], ◌∷◌, ◌++◌, length, take, drop, map, Option, None, Some, is_some, Result, Ok, Err}
 use Rattle.std.specs.List.{range_with_len}
 use Rattle.std.specs.Str.{bytes_eq}

@@ -1,4 +1,4 @@
--- Where comments and strings end (IEEE 1364-2005, 3.3 and 3.6).
+-- *trusted*: Where comments and strings end (IEEE 1364-2005, 3.3 and 3.6).
 use Rattle.std.specs.Prelude.{ℕ, ◌+◌, ◌==◌, ◌&&◌, not, List, [], ◌∷◌, length, Option, None, Some, unwrap_or, option_map, if◌then◌else◌}
 use Rattle.std.specs.List.{position_or_len}
 use Rattle.memchr.specs.Find.{is_byte}

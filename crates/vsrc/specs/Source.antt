@@ -1,4 +1,4 @@
--- The text that files make together, and the file and line of each place in it.
+-- *product rule*: The text that files make together, and the file and line of each place in it.
 use Rattle.std.specs.Prelude.{ℕ, ◌+◌, ◌-◌, List, [], ◌∷◌, Vec, length, map, count_by, nat_lt, if◌then◌else◌, Option, None, Some}
 use Rattle.std.specs.List.{join_by}
 use Rattle.std.specs.List.{slice_index_or}

@@ -1,4 +1,4 @@
--- Timescales (IEEE 1364-2005, 19.8): a length of time for the unit, a slash, and one for the precision.
+-- *trusted*: Timescales (IEEE 1364-2005, 19.8): a length of time for the unit, a slash, and one for the precision.
 use Rattle.std.specs.Prelude.{ℕ, ◌+◌, ◌==◌, if◌then◌else◌, nat_lt, List, [], ◌∷◌, take, drop, Option, None, Some, option_and_then, codes}
 use Rattle.std.specs.List.{prefix_len}
 use Rattle.std.specs.Str.{bytes_eq}

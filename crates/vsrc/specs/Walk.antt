@@ -1,4 +1,4 @@
--- The walk over the joined files, piece by piece (IEEE 1364-2005, clause 19).
+-- *trusted*: The walk over the joined files, piece by piece (IEEE 1364-2005, clause 19).
 use Rattle.std.specs.Prelude.{ℕ, zero, suc, ◌+◌, ◌==◌, ◌&&◌, ◌||◌, Bool, true, false, not, if◌then◌else◌, nat_lt, List, [], ◌∷◌, length, take, drop, Option, None, Some, is_some, Result, Ok, Err, codes}
 use Rattle.std.specs.Str.{bytes_eq}
 use Rattle.vsrc.specs.declared.refusal.Refusal.{Refusal}

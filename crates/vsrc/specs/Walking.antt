@@ -1,4 +1,4 @@
--- What the code of the walk keeps and answers; nothing here has to be believed.
+-- *internal*: What the code of the walk keeps and answers.
 use Rattle.std.specs.Prelude.{◌≡◌, ℕ, Result, Ok}
 use Rattle.vsrc.specs.declared.walk.Walk.{Walk}
 use Rattle.vsrc.specs.declared.refusal.Refusal.{Refusal}

@@ -1,4 +1,4 @@
--- What a directive is read by: blanks, names (IEEE 1364-2005, 3.2 and 3.7) and the words of directives (clause 19).
+-- *trusted*: What a directive is read by: blanks, names (IEEE 1364-2005, 3.2 and 3.7) and the words of directives (clause 19).
 use Rattle.std.specs.Prelude.{ℕ, ◌+◌, ◌==◌, ◌||◌, Bool, if◌then◌else◌, List, [], ◌∷◌, take, drop, Option, None, Some, codes}
 use Rattle.std.specs.List.{prefix_len}
 use Rattle.std.specs.Str.{bytes_eq}

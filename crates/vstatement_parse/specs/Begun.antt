@@ -1,4 +1,4 @@
--- What is read behind the first words of statements. Nothing here has to be believed.
+-- *internal*: What is read after the first words of statements.
 use Rattle.std.specs.Prelude.{ℕ, List, [], codes}
 use Rattle.vast.specs.Statements.{StatementTree, ArgumentTree, empty, task, print}
 use Rattle.vast.specs.declared.statement.Printing.{Printing}

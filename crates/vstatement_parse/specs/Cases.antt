@@ -1,4 +1,4 @@
--- What is read of a case: its labels, its branches. Nothing here has to be believed.
+-- *internal*: What is read of a case: its labels, its branches.
 use Rattle.std.specs.Prelude.{ℕ, Bool, not, List, [], ◌∷◌, Option, Vec, map, codes}
 use Rattle.std.specs.List.{flat_map}
 use Rattle.vast.specs.Words.{Text}

@@ -1,4 +1,4 @@
--- What the program's functions answer that read by the definitions. Nothing here has to be believed.
+-- *internal*: What the program's functions answer that read by the definitions.
 use Rattle.std.specs.Prelude.{◌≡◌, ℕ, Bool, not, List, [], ◌∷◌, ◌++◌, Option, Some, Box, Vec, map, option_map, codes, Result, Ok, Err, IfOk}
 use Rattle.std.specs.List.{flat_map}
 use Rattle.vast.specs.Words.{Text}

@@ -1,4 +1,4 @@
--- What is read of statements round others: of an if, and of a for. Nothing here has to be believed.
+-- *internal*: What is read of statements round others: of an if, and of a for.
 use Rattle.std.specs.Prelude.{ℕ, List, ◌++◌, Option, option_map, Box, codes}
 use Rattle.vast.specs.Words.{Text}
 use Rattle.vast.specs.Expressions.{ExpressionTree}

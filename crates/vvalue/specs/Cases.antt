@@ -1,4 +1,4 @@
--- What `case` and `repeat` ask of expressions (IEEE 1364-2005, 9.5, 9.6).
+-- *trusted*: What `case` and `repeat` ask of expressions (IEEE 1364-2005, 9.5, 9.6).
 use Rattle.std.specs.Prelude.{ℕ, Bool, true, false, ◌&&◌, ◌||◌, if◌then◌else◌, List, [], ◌∷◌, unwrap_or}
 use Rattle.vast.specs.declared.statement.CaseKind.{CaseKind}
 use Rattle.vast.specs.declared.statement.CaseKind.TheVariants as kinds

@@ -1,4 +1,4 @@
--- Sizes that vectors may have, and operands of one size: what the functions over vectors ask of each other.
+-- *internal*: Sizes that vectors may have, and operands of one size: what the functions over vectors ask of each other.
 use Rattle.std.specs.Prelude.{◌≡◌, ◌≤◌, length}
 use Rattle.vbits.specs.Vectors.{Vector}
 use Rattle.vvalue.specs.declared.size_and_sign.SizeAndSign.{SizeAndSign}

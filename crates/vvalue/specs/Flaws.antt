@@ -1,5 +1,5 @@
--- What is wrong with the sizes of an expression, or with the bits that it asks for (IEEE 1364-2005, 4.2, 5.1.14, 5.2.1). The first
--- that is wrong counts, in the order of the text.
+-- *trusted*: What is wrong with the sizes of an expression, or with the bits that it asks for (IEEE 1364-2005, 4.2, 5.1.14, 5.2.1). The
+-- first that is wrong counts, in the order of the text.
 use Rattle.std.specs.Prelude.{ℕ, ◌+◌, ◌-◌, ◌*◌, max, min, nat_le, nat_lt, Bool, true, false, ◌&&◌, ◌||◌, List, [], ◌∷◌, slice_get, Option, None, Some, is_some}
 use Rattle.std.specs.Option.{option_or}
 use Rattle.vdesign.specs.Design.{Variable}

@@ -1,4 +1,4 @@
--- Operators by what becomes of their operands (IEEE 1364-2005, 5.4.1, table 5-22).
+-- *trusted*: Operators by what becomes of their operands (IEEE 1364-2005, 5.4.1, table 5-22).
 use Rattle.vbits.specs.declared.reduction.Reduction.TheVariants as reduction
 use Rattle.vast.specs.declared.expression.UnaryOperator.{UnaryOperator}
 use Rattle.vast.specs.declared.expression.UnaryOperator.TheVariants as unary

@@ -1,5 +1,5 @@
--- What is read off nodes that stand in a row: of the expression that they begin with, and what is behind it. Nothing is said where
--- they begin with none.
+-- *internal*: What is read off nodes that stand in a row: of the expression that they begin with, and what comes after it. Nothing is
+-- said where they begin with none.
 use Rattle.std.specs.Prelude.{◌≡◌, List, ◌++◌}
 use Rattle.vdesign.specs.declared.expression.Node.{Node}
 use Rattle.vdesign.specs.Expressions.{ExpressionTree}

@@ -1,5 +1,5 @@
--- What an assignment writes to (IEEE 1364-2005, 5.1.14, 5.2.1, 6.2): how many bits its targets have, and which bits of their variables
--- these are.
+-- *trusted*: What an assignment writes to (IEEE 1364-2005, 5.1.14, 5.2.1, 6.2): how many bits its targets have, and which bits of their
+-- variables these are.
 use Rattle.std.specs.Prelude.{ℕ, ◌+◌, ◌-◌, nat_le, Bool, if◌then◌else◌, ◌&&◌, List, [], ◌∷◌, length, Option, option_and_then}
 use Rattle.vdesign.specs.declared.expression.Bounds.{Bounds}
 use Rattle.vdesign.specs.Expressions.{ExpressionTree}

@@ -1,4 +1,4 @@
--- Words for the contracts of calls within, and what the code keeps.
+-- *internal*: Words for the contracts of calls within, and what the code keeps.
 pub mod Sums
 pub mod Rules
 pub mod Fair

@@ -1,4 +1,4 @@
--- Which jobs were put into a deque and taken out of it.
+-- *internal*: Which jobs were put into a deque and taken out of it.
 use Rattle.std.specs.Prelude.{◌≡◌, ℕ, ◌+◌, List, length}
 use Rattle.std.specs.declared.alloc.Global.{Global}
 use Rattle.workpool.specs.Inner.Sums.{times}

@@ -1,4 +1,4 @@
--- Threads in a ring, each of which steals from the next; and their deques, once the thieves have given their ends back.
+-- *internal*: Threads in a ring, each of which steals from the next; and their deques, once the thieves have given their ends back.
 use Rattle.std.specs.Prelude.{◌≡◌, ℕ, ◌+◌, ◌%◌, ◌^◌, List, [], ◌∷◌, ◌++◌, length, slice_get, Some}
 use Rattle.workpool.specs.Inner.Sums.{total, times}
 use Rattle.workpool.specs.Jobs.{DequeId, Owned}

@@ -1,4 +1,4 @@
--- What is told when the workers of a search have ended.
+-- *internal*: What is told when the workers of a search have ended.
 use Rattle.std.specs.Prelude.{◌≡◌, ℕ, ◌+◌, ◌≤◌, ◌⊎◌, List, Option, Some}
 use Rattle.basis.specs.declared.memory.NoMemory.{NoMemory}
 use Rattle.sched_core.specs.Rules.{Rules}

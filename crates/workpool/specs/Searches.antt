@@ -1,4 +1,4 @@
--- What workers search for, and what they meet.
+-- *internal*: What workers search for, and what they meet.
 use Rattle.std.specs.Prelude.{◌≡◌, ℕ, ◌<◌, true, [], Option, Some}
 use Rattle.sched_core.specs.Rules.{Rules}
 use Rattle.statebook.specs.ExplorerCore.{IsEntry}

@@ -1,4 +1,4 @@
--- What a seat at a tally has counted.
+-- *internal*: What a seat at a tally has counted.
 use Rattle.std.specs.Prelude.{ℕ, ◌+◌, Bool, ◌||◌}
 use Rattle.atomic_table.specs.Seated.{TableId}
 

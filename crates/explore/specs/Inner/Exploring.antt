@@ -1,4 +1,4 @@
--- What the parts of the explorer keep as they go on.
+-- *internal*: What the parts of the explorer keep as they go on.
 use Rattle.std.specs.Prelude.{◌≡◌, ℕ, ◌+◌, ◌^◌, ◌<◌, ◌≤◌, ◌⊎◌, Bool, false, List, length, slice_get, Some, Result, Err}
 use Rattle.basis.specs.declared.memory.OrMemory.{OrMemory}
 use Rattle.basis.specs.declared.memory.OrMemory.TheVariants.{Fault}

@@ -1,4 +1,4 @@
--- Words for the list of marks that is read from entries that were seen.
+-- *internal*: Words for the list of marks that is read from entries that were seen.
 use Rattle.std.specs.Prelude.{◌≡◌, ℕ, ◌≤◌, Bool, true, List, length, slice_get, Some}
 use Rattle.sched_core.specs.Rules.{Rules}
 use Rattle.statebook.specs.declared.entry.Entry.{Entry}

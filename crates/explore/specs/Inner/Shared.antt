@@ -1,4 +1,4 @@
--- Why workers stopped short, and what that tells.
+-- *internal*: Why workers stopped short, and what that tells.
 use Rattle.std.specs.Prelude.{◌≡◌, Option, Some}
 use Rattle.sched_core.specs.Rules.{Rules}
 use Rattle.statebook.specs.declared.limits.Limits.{Limits}

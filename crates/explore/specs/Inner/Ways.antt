@@ -1,4 +1,4 @@
--- What an explorer remembers of forced ways, so that ways that join needn't each be walked to the end.
+-- *internal*: What an explorer remembers of forced ways, so that ways that join needn't each be walked to the end.
 use Rattle.std.specs.Prelude.{◌≡◌, ℕ, ◌+◌, ◌-◌, ◌<◌, ◌≤◌, ◌⊎◌, Bool, true, false, List, length, Option, Some, None, slice_get}
 use Rattle.sched_core.specs.Rules.{Rules}
 use Rattle.statebook.specs.Stations.{is_station, forced_state}

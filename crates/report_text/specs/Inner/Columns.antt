@@ -1,4 +1,4 @@
--- The lines of variables.
+-- *internal*: The lines of variables.
 use Rattle.std.specs.Prelude.{◌≡◌, ◌≢◌, ℕ, true, List, ◌++◌, length, map}
 use Rattle.report_text.specs.Report.{Column}
 use Rattle.report_text.specs.ReportText.{column_line, column_lines}

@@ -1,4 +1,4 @@
--- Ends, as they are read.
+-- *internal*: Ends, as they are read.
 use Rattle.std.specs.Prelude.{◌≡◌, ℕ, ◌<◌, ◌-◌, ◌^◌, true, List, [], ◌∷◌, ◌++◌, length, slice_get, Some, codes, decimal, map, flat_map, Vec, Result, IfOk}
 use Rattle.std.specs.Borrow.{Bor}
 use Rattle.sched_core.specs.Logs.{IsLog}

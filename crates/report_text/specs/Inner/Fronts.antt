@@ -1,4 +1,4 @@
--- What stands at the front of a text, and how it is told from what follows.
+-- *internal*: What stands at the front of a text, and how it is told from what follows.
 use Rattle.std.specs.Prelude.{◌≡◌, ℕ, ◌<◌, ◌^◌, ◌==◌, Bool, true, false, not, ◌||◌, List, ◌∷◌, ◌++◌, Option, MatchOption, decimal}
 use Rattle.std.specs.Borrow.{Bor}
 use Rattle.std.specs.List.{list_all}

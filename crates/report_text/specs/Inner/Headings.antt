@@ -1,4 +1,4 @@
--- The lines of a head before its variables.
+-- *internal*: The lines of a head before its variables.
 use Rattle.std.specs.Prelude.{◌≡◌, ℕ, ◌<◌, ◌≤◌, ◌^◌, true, List, ◌∷◌, ◌++◌, codes, decimal}
 use Rattle.vmodel.specs.declared.history.Grain.{Grain}
 use Rattle.vmodel.specs.declared.history.Grain.TheVariants.{Process}

@@ -1,4 +1,4 @@
--- Lists whose things meet a fact one by one and two by two.
+-- *internal*: Lists whose things meet a fact one by one and two by two.
 use Rattle.std.specs.Prelude.{◌≡◌, ℕ, List, ◌++◌, Vec, Result, OnOk}
 use Rattle.report_text.specs.WellFormed.{Each, EachTwo}
 

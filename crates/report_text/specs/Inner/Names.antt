@@ -1,4 +1,4 @@
--- Names in order.
+-- *internal*: Names in order.
 use Rattle.std.specs.Prelude.{ℕ, Bool, List}
 use Rattle.std.specs.List.{list_any}
 use Rattle.std.specs.Str.{bytes_eq}

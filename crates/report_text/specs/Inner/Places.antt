@@ -1,4 +1,4 @@
--- Where a reader stands in a text.
+-- *internal*: Where a reader stands in a text.
 use Rattle.std.specs.Prelude.{◌≡◌, ℕ, ◌<◌, ◌^◌, Bool, true, List, ◌∷◌, ◌++◌, decimal, length}
 use Rattle.report_text.specs.Inner.Fronts.{IsCut}
 

@@ -1,4 +1,4 @@
--- Races, as they are read.
+-- *internal*: Races, as they are read.
 use Rattle.std.specs.Prelude.{◌≡◌, ℕ, ◌<◌, ◌≤◌, ◌-◌, ◌^◌, List, ◌∷◌, ◌++◌, length, slice_get, Option, Some, MatchOption, Vec, Result, IfOk, true, codes, decimal}
 use Rattle.sched_core.specs.Logs.{IsLog}
 use Rattle.sched_core.specs.LogText.{log_text}

@@ -1,4 +1,4 @@
--- The head of a report with its variables, and its ends and races, as they are read.
+-- *internal*: The head of a report with its variables, and its ends and races, as they are read.
 use Rattle.std.specs.Prelude.{◌≡◌, ℕ, ◌<◌, ◌^◌, List, ◌++◌, length, codes, decimal, map, flat_map, true, Vec, Result, IfOk}
 use Rattle.std.specs.Borrow.{Bor}
 use Rattle.report_text.specs.Report.{Column, End, Race}

@@ -1,4 +1,4 @@
--- The board is a lawful space.
+-- *internal*: The board is a lawful space.
 use Rattle.std.proofs.Common.{◌≡◌, ℕ, true, ap, subst, arith}
 use Rattle.std.proofs.lemmas.Bool.Decides.{nat_tests}
 use Rattle.sched_core.specs.Rules.{IsLawful}

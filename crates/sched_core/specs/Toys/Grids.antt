@@ -1,4 +1,4 @@
--- Moves on a board: right, and down.
+-- *internal*: Moves on a board: right, and down.
 use Rattle.std.specs.Prelude.{ℕ, ◌+◌, ◌==◌, nat_lt, ◌&&◌, ◌||◌, if◌then◌else◌}
 use Rattle.sched_core.specs.Rules.{Rules}
 use Rattle.sched_core.specs.declared.grid.Square.{Square}

@@ -1,4 +1,4 @@
--- The codes of a list's members, and where the last member of a code stands.
+-- *internal*: The codes of a list's members, and where the last member of a code stands.
 use Rattle.std.specs.Prelude.{◌≡◌, ◌≢◌, ℕ, ◌<◌, Bool, List, slice_get, Option, Some, None}
 
 -- The codes of the members in their order, and whether there is room for one more.

@@ -1,4 +1,4 @@
--- The code of a state.
+-- *internal*: The code of a state.
 use Rattle.std.specs.Prelude.{ℕ, List, fold, map}
 use Rattle.std.specs.Hash.FoldHasher as folding
 use Rattle.statebook.specs.declared.entry.Entry.{Entry}

@@ -1,4 +1,4 @@
--- How passes and shards count New answers by shares of one ledger.
+-- *internal*: How passes and shards count New answers by shares of one ledger.
 use Rattle.std.specs.Prelude.{◌≡◌, ℕ, ◌+◌, ◌*◌, ◌^◌, ◌≤◌}
 use Rattle.std.specs.declared.sync.ledger.Share.{Share}
 use Rattle.std.specs.declared.sync.ledger.Total.{Total}

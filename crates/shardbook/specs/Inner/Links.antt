@@ -1,4 +1,4 @@
--- What an index by codes keeps.
+-- *internal*: What an index by codes keeps.
 use Rattle.std.specs.Prelude.{◌≡◌, ℕ, ◌&&◌, nat_lt, List, map, length, slice_get, Option, Some, Vec, vec_len, vec_capacity}
 use Rattle.indexmap.specs.IndexMap.{IndexMap, spare}
 use Rattle.shardbook.specs.Inner.Chained.{Chained, IsLast}

@@ -1,4 +1,4 @@
--- How a list of entries that were seen is gone through.
+-- *internal*: How a list of entries that were seen is gone through.
 use Rattle.std.specs.Prelude.{◌≡◌, ℕ, List, [], slice_get, Option, Some}
 use Rattle.sched_core.specs.Rules.{Rules}
 use Rattle.statebook.specs.declared.entry.Entry.{Entry}

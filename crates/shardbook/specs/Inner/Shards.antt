@@ -1,4 +1,4 @@
--- What a shard keeps.
+-- *internal*: What a shard keeps.
 use Rattle.std.specs.Prelude.{◌≡◌, ℕ, Bool, List, length}
 use Rattle.statebook.specs.Books.{IsUndominated}
 use Rattle.statebook.specs.declared.entry.Entry.{Entry}

@@ -1,4 +1,4 @@
--- What a walk along forced steps comes to.
+-- *internal*: What a walk along forced steps comes to.
 use Rattle.std.specs.Prelude.{◌≡◌, ℕ, ◌+◌, ◌<◌, zero, suc, true, false, List, [], ◌∷◌, ◌++◌, Option, Result, IfOk, IfSome, IfNone}
 use Rattle.sched_core.specs.Rules.{Rules}
 use Rattle.statebook.specs.ExplorerCore.{IsEntry, budget_after}

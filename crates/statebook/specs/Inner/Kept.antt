@@ -1,4 +1,4 @@
--- What a book of one owner keeps, and how it looks entries up.
+-- *internal*: What a book of one owner keeps, and how it looks entries up.
 use Rattle.std.specs.Prelude.{◌≡◌, ◌≤◌, ◌==◌, ◌&&◌, ℕ, Bool, true, false, List, length, slice_get, Some}
 use Rattle.statebook.specs.Books.{Book, Dominates, IsUndominated}
 use Rattle.statebook.specs.declared.entry.Entry.{Entry}

@@ -1,4 +1,4 @@
--- The rule of a deque: what was put is what was taken and what is left.
+-- *internal*: The rule of a deque: what was put is what was taken and what is left.
 use Rattle.std.specs.Prelude.{◌≡◌, ℕ, ◌+◌, ◌-◌, List, [], ◌++◌}
 use mathlib.Core.Option.{some}
 use lib.ListN.{get_elem?}

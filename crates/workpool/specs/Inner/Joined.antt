@@ -1,4 +1,4 @@
--- How workers are seated, and joined again.
+-- *internal*: How workers are seated, and joined again.
 use Rattle.std.specs.Prelude.{◌≡◌, ℕ, ◌+◌, ◌%◌, ◌^◌, ◌≤◌, ◌<◌, ◌||◌, List, [], ◌∷◌, length, slice_index_or, None}
 use Rattle.atomic_table.specs.Seated.{TableId}
 use Rattle.sched_core.specs.Rules.{Rules}

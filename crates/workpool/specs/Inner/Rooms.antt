@@ -1,4 +1,4 @@
--- What there is before the workers of a search begin.
+-- *internal*: What there is before the workers of a search begin.
 use Rattle.std.specs.Prelude.{◌≡◌, ℕ, ◌≤◌, [], length, vec_capacity}
 use Rattle.workpool.specs.Rings.{AreIdle, IsRing}
 use Rattle.workpool.specs.declared.room.Room.{Room}

@@ -1,4 +1,4 @@
--- The rule of a tally's words over what the seats have counted.
+-- *internal*: The rule of a tally's words over what the seats have counted.
 use Rattle.std.specs.Prelude.{◌≡◌, ℕ, ◌+◌, ◌-◌, ◌%◌, ◌^◌, ◌<◌, true, false, ◌||◌, nat_lt, List, [], ◌∷◌}
 use mathlib.Core.Option.{some}
 use lib.ListN.{get_elem?}

@@ -1,4 +1,4 @@
--- Sums over all threads, and how often a number stands in a list.
+-- *internal*: Sums over all threads, and how often a number stands in a list.
 use Rattle.std.specs.Prelude.{ℕ, ◌+◌, ◌==◌, List, [], ◌∷◌, if◌then◌else◌}
 
 -- the sum over all views

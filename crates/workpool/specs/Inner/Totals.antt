@@ -1,4 +1,4 @@
--- What the sums of all workers tell.
+-- *internal*: What the sums of all workers tell.
 use Rattle.std.specs.Prelude.{◌≡◌, ℕ, ◌+◌, ◌≤◌, [], None}
 use Rattle.shardbook.specs.Passes.{Counts}
 use Rattle.workpool.specs.Runs.{AreGiven, AreJobs, IsRefused}

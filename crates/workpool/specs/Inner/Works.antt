@@ -1,4 +1,4 @@
--- What a worker holds and has counted.
+-- *internal*: What a worker holds and has counted.
 use Rattle.std.specs.Prelude.{◌≡◌, ℕ, ◌+◌, ◌%◌, ◌^◌, ◌≤◌, Bool, true, length, None}
 use Rattle.atomic_table.specs.Seated.{TableId}
 use Rattle.sched_core.specs.Rules.{Rules}
