@@ -1,5 +1,5 @@
--- Facts about truth values: what follows of both sides of `&&` and `||`.
-use Rattle.std.proofs.Common.{◌≡◌, Bool, true, false, ◌&&◌, ◌||◌, refl, sym}
+-- Facts about truth values: what follows of both sides of `&&` and `||`, and what a test decides.
+use Rattle.std.proofs.Common.{◌≡◌, Bool, true, false, ◌&&◌, ◌||◌, if◌then◌else◌, refl, sym}
 
 pub and_left : (a b : Bool) → (a && b) ≡ true → a ≡ true
 and_left true b h = refl
@@ -12,6 +12,14 @@ and_right false b h = cc
 pub and_both : (a b : Bool) → a ≡ true → b ≡ true → (a && b) ≡ true
 and_both true b p q = q
 and_both false b p q = cc
+
+pub and_false : (a : Bool) → (a && false) ≡ false
+and_false true = refl
+and_false false = refl
+
+pub and_assoc : (a b c : Bool) → ((a && b) && c) ≡ (a && (b && c))
+and_assoc true b c = refl
+and_assoc false b c = refl
 
 pub or_left : (a b : Bool) → (a || b) ≡ false → a ≡ false
 or_left true b h = h
@@ -34,3 +42,13 @@ pub same_truth : (a b : Bool) → (a ≡ true → b ≡ true) → (b ≡ true �
 same_truth true b f g = sym (f refl)
 same_truth false true f g = g refl
 same_truth false false f g = refl
+
+-- none is both true and false
+pub clash : (b : Bool) → b ≡ true → b ≡ false → ⊥
+clash true p q = let no : true ≡ false = q in cc
+clash false p q = let no : false ≡ true = p in cc
+
+-- what holds of what a test takes, whichever way it goes
+pub by_if : {B : Type 0} (P : B → Type 0) (test : Bool) (x y : B) → (test ≡ true → P x) → (test ≡ false → P y) → P (if test then x else y)
+by_if P true x y f g = f refl
+by_if P false x y f g = g refl

@@ -1,3 +1,6 @@
 pub mod Bools
+pub mod Digits
 pub mod Lists
+pub mod Numbers
+pub mod Options
 pub mod Results

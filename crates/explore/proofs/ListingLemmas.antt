@@ -4,7 +4,7 @@ use Rattle.std.specs.Cmp.{IsEquivalence}
 use Rattle.std.specs.List.{IsDistinct}
 use Rattle.std.specs.Map.{keys_of, lookup}
 use Rattle.std.proofs.lemmas.Bool.{cases_lt}
-use Rattle.std.proofs.lemmas.Option.{same_Some, slice_get-map}
+use Rattle.std.proofs.lemmas.Option.{same_Some, slice_get-map, none-some}
 use Rattle.std.proofs.lemmas.List.{length-map}
 use Rattle.std.proofs.lemmas.Map.Entries.{place_from_lookup}
 use Rattle.indexmap.specs.IndexMap.{insert_entry}
@@ -151,11 +151,8 @@ long_from eq laws marks apart s log d e le i p at equal =
     let count : length log ≡ length p.1 = ap length (same_Some log p.1 (e ∙ looked_up eq laws marks apart s i p at equal)) in
     omega (arith, count, le)
 
-none_is_some : {X : Type 0} (x : X) → None ≡ Some x → ⊥
-none_is_some x e = cc
-
 pub long_from_none : {S : Type 0} (eq : S → S → Bool) → IsEquivalence eq → (marks : List (S × List (ℕ × ℕ))) → IsDistinct eq (keys_of marks) → (s : S) (d : ℕ) → None ≡ lookup (eq s) marks → AreLong eq marks s d
-long_from_none eq laws marks apart s d e i p at equal = absurd (none_is_some p.1 (e ∙ looked_up eq laws marks apart s i p at equal))
+long_from_none eq laws marks apart s d e i p at equal = absurd (none-some p.1 (e ∙ looked_up eq laws marks apart s i p at equal))
 
 pub on_ok : {A E : Type 0} {P Q : Type 0} (x : Result A E) → (P → Q) → OnOk x P → OnOk x Q
 on_ok (Ok a) f p = f p

@@ -6,7 +6,7 @@ use Rattle.std.specs.Map.{keys_of}
 use Rattle.std.proofs.lemmas.Bool.{cases_lt}
 use Rattle.std.proofs.lemmas.Option.{same_Some}
 use Rattle.indexmap.specs.IndexMap.{insert_entry}
-use Rattle.basis.proofs.Bools.{same_truth}
+use Rattle.basis.proofs.Bools.{same_truth, clash}
 use Rattle.sched_core.specs.Rules.{Rules, IsLawful, stands, IsRun, NamesBelow}
 use Rattle.statebook.specs.Books.{Book, IsUndominated}
 use Rattle.statebook.specs.ExplorerCore.{IsEntry}
@@ -44,9 +44,6 @@ equivalence r law eq agree = record {
       (λ h. sym (agree x z) ∙ law.transitive x y z (agree x y ∙ e) (agree y z ∙ h));
 }
 
-different : (b : Bool) → b ≡ true → b ≡ false → ⊥
-different b h g = cc
-
 same_place : {X : Type 0} (xs : List X) (i j : ℕ) (x y : X) → j ≡ i → slice_get xs i ≡ Some x → slice_get xs j ≡ Some y → x ≡ y
 same_place {X} xs i j x y e at at' =
     let P : ℕ → Type 0 = λ p. slice_get xs p ≡ Some y in
@@ -60,7 +57,7 @@ marks_skip {S} r law limits entries place marks x m there plain = record {
     | inl before ↦ m.each i e before at mark
     | inr ge ↦ (
         let itself : x ≡ e = same_place entries place i x e (omega (arith, ge, lt)) there at in
-        absurd (different (r.mark e.state) mark (ap (λ y. r.mark y.state) (sym itself) ∙ plain)))
+        absurd (clash (r.mark e.state) mark (ap (λ y. r.mark y.state) (sym itself) ∙ plain)))
   ];
   best = λ j p at. (let b = m.best j p at in record {
     at_place = b.at_place;
@@ -73,7 +70,7 @@ marks_skip {S} r law limits entries place marks x m there plain = record {
       | inr ge ↦ (
           let itself : x ≡ e = same_place entries place i x e (omega (arith, ge, lt)) there at' in
           let mark : r.mark e.state ≡ true = sym (law.mark_same p.0 e.state same) ∙ (m.found j p at).mark in
-          absurd (different (r.mark e.state) mark (ap (λ y. r.mark y.state) (sym itself) ∙ plain)))
+          absurd (clash (r.mark e.state) mark (ap (λ y. r.mark y.state) (sym itself) ∙ plain)))
     ];
   });
 }
@@ -175,7 +172,7 @@ best_other {S} r limits eq entries place x t log marks after h p other b = recor
         let itself : x ≡ e = same_place entries place i x e (omega (arith, ge, lt)) h.there at in
         let state : r.same t e.state ≡ true = ap (λ y. r.same t y.state) (sym itself) ∙ h.copy in
         let near : r.same t p.0 ≡ true = h.law.transitive t e.state p.0 state (h.law.symmetric p.0 e.state equal) in
-        absurd (different (eq t p.0) (sym (h.agree t p.0) ∙ near) other))
+        absurd (clash (eq t p.0) (sym (h.agree t p.0) ∙ near) other))
   ];
 }
 

@@ -9,42 +9,38 @@ use Rattle.std.specs.declared.cmp.Ordering.{Ordering}
 use Rattle.std.specs.declared.cmp.Ordering.TheVariants.{Less, Equal, Greater}
 use Rattle.std.specs.BTreeMap.{BTreeMap, get, IsOrdered}
 use Rattle.std.proofs.lemmas.Bool.{cases_lt}
-use Rattle.std.proofs.lemmas.Cmp.{nat_cmp_total, on_total, then_total, ranked, tied_itself}
+use Rattle.std.proofs.lemmas.Cmp.{nat_cmp_total, on_total, then_total, tied_itself}
 use Rattle.std.proofs.lemmas.List.{append-nil}
 use Rattle.std.proofs.lemmas.Map.Entries.{btree_map_get_place, place_from_lookup}
 use Rattle.std.proofs.lemmas.Map.Keys.{Less-from_sorted}
 use Rattle.std.proofs.lemmas.Option.{slice_get-map, slice_get_within, get_or_from_slice_get, same_Some}
+use Rattle.basis.proofs.Numbers.{equal_numbers, less_numbers}
+use Rattle.basis.proofs.Lists.{at_contains}
 use Rattle.vbits.specs.declared.bit4.Bit4.TheVariants.{X}
 use Rattle.vbits.specs.Vectors.{Vector, filled}
 use Rattle.racebook.specs.Order.{IsEarlier, AreInTextOrder}
 use Rattle.racebook.specs.Inner.{key_of, key_cmp, HasBestAt, IsBestAt, KeepsBest, AreBest, HasValue, row_of_entry}
 use Rattle.racebook.proofs.KeyLemmas.{key_tells}
-use Rattle.racebook.proofs.ListLemmas.{contains_at, at_contains}
+use Rattle.racebook.proofs.ListLemmas.{contains_at}
 
 -- ---- the order of keys
 
 pub key_total : IsTotalOrder key_cmp
 key_total = then_total (on_total (λ (p : ℕ × ℕ). p.0) nat_cmp_total) (on_total (λ (p : ℕ × ℕ). p.1) nat_cmp_total)
 
-nat_equal : (a b : ℕ) → nat_cmp a b ≡ Equal → a ≡ b
-nat_equal a b e = rw e at (ranked a b (nat_cmp a b) refl)
-
-nat_less : (a b : ℕ) → nat_cmp a b ≡ Less → a < b
-nat_less a b e = rw e at (ranked a b (nat_cmp a b) refl)
-
 exact : (a b : ℕ × ℕ) (o p : Ordering) → nat_cmp a.0 b.0 ≡ o → nat_cmp a.1 b.1 ≡ p → is_eq (ordering_then o p) ≡ true → a ≡ b
 exact a b Less p h g e = absurd (cc)
 exact a b Equal Less h g e = absurd (cc)
 exact a b Equal Equal h g e =
-    let one : a.0 ≡ b.0 = nat_equal a.0 b.0 h in
-    let two : a.1 ≡ b.1 = nat_equal a.1 b.1 g in
+    let one : a.0 ≡ b.0 = equal_numbers a.0 b.0 h in
+    let two : a.1 ≡ b.1 = equal_numbers a.1 b.1 g in
     λ i. (one i, two i)
 exact a b Equal Greater h g e = absurd (cc)
 exact a b Greater p h g e = absurd (cc)
 
 earlier : (a b : ℕ × ℕ) (o p : Ordering) → nat_cmp a.0 b.0 ≡ o → nat_cmp a.1 b.1 ≡ p → ordering_then o p ≡ Less → IsEarlier a.0 a.1 b.0 b.1
-earlier a b Less p h g e = inl (nat_less a.0 b.0 h)
-earlier a b Equal Less h g e = inr (nat_equal a.0 b.0 h, nat_less a.1 b.1 g)
+earlier a b Less p h g e = inl (less_numbers a.0 b.0 h)
+earlier a b Equal Less h g e = inr (equal_numbers a.0 b.0 h, less_numbers a.1 b.1 g)
 earlier a b Equal Equal h g e = absurd (cc)
 earlier a b Equal Greater h g e = absurd (cc)
 earlier a b Greater p h g e = absurd (cc)

@@ -2,10 +2,10 @@
 use Rattle.std.proofs.Common.{◌≡◌, ℕ, ◌+◌, ◌<◌, ◌≤◌, ◌⊎◌, ◌==◌, ◌&&◌, ◌||◌, Bool, true, false, cond, is_some, is_none, List, [], ◌∷◌, ◌++◌, length, slice_get, get_or, Option, Some, None, refl, sym, ap, ◌∙◌, subst, inl, inr, arith}
 use Rattle.std.specs.List.Sorted.{IsNonDecreasingBy, IsPermutation}
 use Rattle.std.proofs.lemmas.Bool.{cases_lt}
-use Rattle.std.proofs.lemmas.Bool.Decides.{nat_tests}
 use Rattle.std.proofs.lemmas.List.Elements.{Contains-append_left, Contains-push, Contains-push_cases}
 use Rattle.std.proofs.lemmas.List.Sorted.{Contains-permutation, IsPermutation-sym}
 use Rattle.std.proofs.lemmas.Option.{slice_get_within, get_or_from_slice_get, same_Some}
+use Rattle.basis.proofs.Lists.{empty_from_test}
 use Rattle.vbits.specs.Vectors.{Vector}
 use Rattle.sched_core.specs.Rules.{IsRun, stands}
 use Rattle.statebook.specs.Covered.{IsCovered}
@@ -24,10 +24,6 @@ use Rattle.racebook.specs.Races.{Race, EachRace, HasFewest, IsRace, ShowsValue, 
 use Rattle.racebook.specs.Inner.{AreAll, AreSlotStates, AreSlotStatesBelow, AreInTime, AreWide, Disagree, IsSlotState, IsNoSlot, IsOfSome, IsSeen}
 
 -- ---- what stands at the end of a slot
-
-no_length : {A : Type 0} (xs : List A) → (length xs == 0) ≡ true → xs ≡ []
-no_length [] e = refl
-no_length (x ∷ xs) e = absurd (grind (arith, nat_tests))
 
 zero_length : {A : Type 0} (xs : List A) → xs ≡ [] → (length xs == 0) ≡ true
 zero_length xs e = ap (λ ys. length ys == 0) e
@@ -56,7 +52,7 @@ slot_ends t time e =
     let h = ended t.cause (length t.queue.active == 0) (length t.queue.activated == 0) t.queue.time time e in
     record {
       goes_on = h.goes_on;
-      idle = (no_length t.queue.active h.first, no_length t.queue.activated h.second);
+      idle = (empty_from_test t.queue.active h.first, empty_from_test t.queue.activated h.second);
       time_is = h.same;
       values_are = refl;
     }

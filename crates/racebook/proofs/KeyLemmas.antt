@@ -1,5 +1,6 @@
 -- Keys: their bounds, and that no two values have the same.
 use Rattle.std.proofs.Common.{◌≡◌, ℕ, zero, suc, ◌+◌, ◌*◌, ◌^◌, ◌<◌, ◌≤◌, cond, Bool, true, false, List, [], ◌∷◌, length, drop, slice_get, Some, refl, sym, ap, ◌∙◌, arith, length-drop}
+use Rattle.basis.proofs.Lists.{drop_at_place}
 use Rattle.vbits.specs.declared.bit4.Bit4.{Bit4}
 use Rattle.vbits.specs.declared.bit4.Bit4.TheVariants.{Zero, One, X, Z}
 use Rattle.vbits.specs.Vectors.{Vector}
@@ -71,11 +72,6 @@ text_small (suc n) (x ∷ xs) l =
     let shorter : length xs ≤ n = omega arith in
     let p : digit_of x + 4 * text_number xs < 4 * 4 ^ n = grows (digit_of x) (text_number xs) (4 ^ n) (digit_small x) (text_small n xs shorter) in
     omega arith
-
-pub drop_at_place : {A : Type 0} (xs : List A) (i : ℕ) (x : A) → slice_get xs i ≡ Some x → drop i xs ≡ x ∷ drop (suc i) xs
-drop_at_place [] i x e = cc
-drop_at_place (y ∷ ys) zero x e = let same : y ≡ x = cc in cc
-drop_at_place (y ∷ ys) (suc i) x e = drop_at_place ys i x e
 
 -- one more digit
 pub number_more : (xs : List Bit4) (i : ℕ) (x : Bit4) → slice_get xs i ≡ Some x → text_number (drop i xs) ≡ digit_of x + 4 * text_number (drop (suc i) xs)

@@ -4,13 +4,14 @@ use Rattle.std.specs.List.{Contains}
 use Rattle.std.proofs.lemmas.Bool.{cases_lt}
 use Rattle.std.proofs.lemmas.List.{length-map}
 use Rattle.std.proofs.lemmas.Option.{slice_get-map, slice_get_within, slice_get-get_or, same_Some}
+use Rattle.basis.proofs.Lists.{at_contains, last_or_before, stands_last}
 use Rattle.vbits.specs.declared.bit4.Bit4.TheVariants.{X}
 use Rattle.vbits.specs.Vectors.{Vector, filled}
 use Rattle.racebook.specs.declared.slot_state.SlotState.{SlotState}
 use Rattle.racebook.specs.Order.{IsEarlier}
 use Rattle.racebook.specs.Races.{Race}
 use Rattle.racebook.specs.Inner.{AllSame, AreBest, AreUpTo, AreWide, Disagree, HasTwo, HasValue, HaveValue, IsRaceAmong, IsSeen, IsSlotOf, TellsRace, row_of, rows_of, value_in}
-use Rattle.racebook.proofs.ListLemmas.{contains_at, at_contains}
+use Rattle.racebook.proofs.ListLemmas.{contains_at}
 
 -- ---- rows
 
@@ -81,23 +82,10 @@ race_among slot_states slot race of have two best = record {
 
 -- ---- one race more
 
-push_place : {A : Type 0} (xs : List A) (x : A) (i : ℕ) (y : A) → slice_get (xs ++ x ∷ []) i ≡ Some y → (slice_get xs i ≡ Some y) ⊎ ((i ≡ length xs) × (x ≡ y))
-push_place [] x zero y at = inr (refl, same_Some x y at)
-push_place [] x (suc i) y at = absurd (cc)
-push_place (z ∷ xs) x zero y at = inl at
-push_place (z ∷ xs) x (suc i) y at = elim (push_place xs x i y at) [
-  | inl h ↦ inl h
-  | inr h ↦ inr (ap suc h.0, h.1)
-]
-
 push_keeps : {A : Type 0} (xs : List A) (x : A) (i : ℕ) (y : A) → slice_get xs i ≡ Some y → slice_get (xs ++ x ∷ []) i ≡ Some y
 push_keeps [] x i y at = absurd (cc)
 push_keeps (z ∷ xs) x zero y at = at
 push_keeps (z ∷ xs) x (suc i) y at = push_keeps xs x i y at
-
-push_last : {A : Type 0} (xs : List A) (x : A) → slice_get (xs ++ x ∷ []) (length xs) ≡ Some x
-push_last [] x = refl
-push_last (z ∷ xs) x = push_last xs x
 
 later : (t v time variable : ℕ) → IsEarlier t v time variable → IsEarlier t v time (variable + 1)
 later t v time variable (inl lt) = inl lt
@@ -128,24 +116,24 @@ more_none slot_states races time variable up agree = record {
 pub more_race : (slot_states : List SlotState) (races : List Race) (race : Race) → AreUpTo slot_states races race.time race.variable →
     IsRaceAmong slot_states race → AreUpTo slot_states (races ++ race ∷ []) race.time (race.variable + 1)
 more_race slot_states races race up is = record {
-  each = λ i a at. elim (push_place races race i a at) [
+  each = λ i a at. elim (last_or_before races race i a at) [
     | inl old ↦ up.each i a old
     | inr new ↦ subst (λ (x : Race). IsRaceAmong slot_states x) new.1 is
   ];
-  before = λ i a at. elim (push_place races race i a at) [
+  before = λ i a at. elim (last_or_before races race i a at) [
     | inl old ↦ later a.time a.variable race.time race.variable (up.before i a old)
     | inr new ↦ subst (λ (x : Race). IsEarlier x.time x.variable race.time (race.variable + 1)) new.1 (inr (refl, omega arith))
   ];
   all = λ t v before differ. elim (split t v race.time race.variable before) [
     | inl earlier ↦ (let l = up.all t v earlier differ in (l.0, l.1, push_keeps races race l.0 l.1 l.2, l.3, l.4))
-    | inr here ↦ (length races, race, push_last races race, sym here.0, sym here.1)
+    | inr here ↦ (length races, race, stands_last races race, sym here.0, sym here.1)
   ];
-  order = λ i j a b lt at at'. elim (push_place races race j b at') [
-    | inl old ↦ elim (push_place races race i a at) [
+  order = λ i j a b lt at at'. elim (last_or_before races race j b at') [
+    | inl old ↦ elim (last_or_before races race i a at) [
       | inl old' ↦ up.order i j a b lt old' old
       | inr new ↦ absurd (let n = new.0 in let m = slice_get_within races j b old in omega arith)
     ]
-    | inr new ↦ elim (push_place races race i a at) [
+    | inr new ↦ elim (last_or_before races race i a at) [
       | inl old ↦ subst (λ (x : Race). IsEarlier a.time a.variable x.time x.variable) new.1 (up.before i a old)
       | inr new' ↦ absurd (let n = new.0 in let m = new'.0 in omega arith)
     ]

@@ -2,12 +2,13 @@
 use Rattle.std.proofs.Common.{◌≡◌, ◌≢◌, ℕ, zero, suc, ◌+◌, ◌-◌, ◌<◌, ◌≤◌, ◌⊎◌, List, [], ◌∷◌, length, take, drop, slice_get, get_or, Some, refl, sym, ap, ◌∙◌, inl, inr, arith}
 use Rattle.std.proofs.lemmas.Bool.{cases_lt}
 use Rattle.std.proofs.lemmas.Option.{slice_get_within, slice_get-get_or, same_Some}
+use Rattle.basis.proofs.Lists.{taken_at, at_contains}
 use Rattle.racebook.specs.declared.slot_state.SlotState.{SlotState}
 use Rattle.vbits.specs.Vectors.{Vector}
 use Rattle.racebook.specs.Order.{IsEarlier}
 use Rattle.racebook.specs.Races.{Race}
 use Rattle.racebook.specs.Inner.{AreAll, AreInTime, AreUpTo, AreWide, IsSeen, IsSlotEndAt, IsSlotOf}
-use Rattle.racebook.proofs.ListLemmas.{contains_at, at_contains}
+use Rattle.racebook.proofs.ListLemmas.{contains_at}
 
 -- the slot states before the place are of earlier times
 abbrev pub ComeBefore : List SlotState → ℕ → ℕ → Type 0
@@ -27,12 +28,6 @@ drop_place : {A : Type 0} (s : ℕ) (xs : List A) (k : ℕ) → slice_get (drop 
 drop_place zero xs k = let e : k ≡ 0 + k = omega arith in ap (slice_get xs) e
 drop_place (suc s) [] k = refl
 drop_place (suc s) (x ∷ xs) k = let e : suc (s + k) ≡ suc s + k = omega arith in drop_place s xs k ∙ ap (slice_get (x ∷ xs)) e
-
-take_place : {A : Type 0} (n : ℕ) (xs : List A) (k : ℕ) (x : A) → slice_get (take n xs) k ≡ Some x → (k < n) × (slice_get xs k ≡ Some x)
-take_place zero xs k x at = absurd (cc)
-take_place (suc n) [] k x at = absurd (cc)
-take_place (suc n) (y ∷ xs) zero x at = (omega arith, at)
-take_place (suc n) (y ∷ xs) (suc k) x at = let h = take_place n xs k x at in let l = h.0 in (omega arith, h.1)
 
 take_keeps : {A : Type 0} (n : ℕ) (xs : List A) (k : ℕ) (x : A) → k < n → slice_get xs k ≡ Some x → slice_get (take n xs) k ≡ Some x
 take_keeps zero xs k x lt at = absurd (omega arith)
@@ -68,11 +63,11 @@ pub slot_of : (slot_states : List SlotState) (start end : ℕ) (first : SlotStat
 slot_of slot_states start end first is order gap at = record {
   within = λ g has.
       (let p = at_contains (take (end - start) (drop start slot_states)) g has in
-      let q = take_place (end - start) (drop start slot_states) p.0 g p.1 in
+      let q = taken_at (end - start) (drop start slot_states) p.0 g p.1 in
       contains_at slot_states (start + p.0) g (sym (drop_place start slot_states p.0) ∙ q.1));
   time_is = λ g has.
       (let p = at_contains (take (end - start) (drop start slot_states)) g has in
-      let q = take_place (end - start) (drop start slot_states) p.0 g p.1 in
+      let q = taken_at (end - start) (drop start slot_states) p.0 g p.1 in
       let lt = q.0 in
       is.same (start + p.0) first g (omega arith) (omega arith) at (sym (drop_place start slot_states p.0) ∙ q.1));
   whole = λ g has same.

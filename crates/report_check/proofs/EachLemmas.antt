@@ -1,20 +1,13 @@
 -- What holds of each thing of a list, place by place.
-use Rattle.std.proofs.Common.{◌≡◌, ℕ, zero, suc, ◌+◌, ◌<◌, ◌≤◌, List, [], ◌∷◌, length, take, slice_get, Some, sym, ap, ◌∙◌, subst, inl, inr, arith}
+use Rattle.std.proofs.Common.{◌≡◌, ℕ, ◌+◌, ◌<◌, ◌≤◌, List, length, take, slice_get, Some, sym, ap, ◌∙◌, subst, inl, inr, arith}
 use Rattle.std.proofs.lemmas.Bool.{cases_lt}
 use Rattle.std.proofs.lemmas.Option.{same_Some}
-use Rattle.basis.proofs.Lists.{place_within}
+use Rattle.basis.proofs.Lists.{place_within, taken_at}
 use Rattle.report_text.specs.WellFormed.{Each}
 
 -- of each before the place
 abbrev pub EachBelow : {X : Type 0} → (X → Type 0) → List X → ℕ → Type 0
 EachBelow {X} P xs n = (i : ℕ) (x : X) → i < n → slice_get xs i ≡ Some x → P x
-
--- what stands in a front of a list stands there in the list
-taken_at : {X : Type 0} (n : ℕ) (xs : List X) (i : ℕ) (x : X) → slice_get (take n xs) i ≡ Some x → (i < n) × (slice_get xs i ≡ Some x)
-taken_at zero xs i x at = absurd (cc)
-taken_at (suc n) [] i x at = absurd (cc)
-taken_at (suc n) (y ∷ xs) zero x at = (omega arith, at)
-taken_at (suc n) (y ∷ xs) (suc i) x at = let h = taken_at n xs i x at in (let lt = h.0 in omega (arith, lt), h.1)
 
 module _ {X : Type 0} (P : X → Type 0) (xs : List X) (n : ℕ) (below : EachBelow P xs n) where
   -- of one more

@@ -7,6 +7,7 @@ use Rattle.std.proofs.lemmas.Option.{same_Some}
 use Rattle.std.proofs.lemmas.List.{map-append}
 use Rattle.std.specs.Bool.{Decides}
 use Rattle.std.proofs.lemmas.Slice.Eq.{bytes_eq-Decides}
+use Rattle.basis.proofs.Bools.{and_left, and_right, and_both, or_first, or_second}
 use Rattle.vast.specs.Words.{begins_name, is_in_name}
 use Rattle.report_text.specs.Report.{Column}
 use Rattle.report_text.specs.ReportText.{column_line, column_lines}
@@ -16,20 +17,11 @@ use Rattle.report_text.specs.Inner.Fronts.{lacks}
 use Rattle.report_text.specs.Inner.Columns.{IsColumnTaken, Differ}
 use Rattle.report_text.specs.Inner.Names.{is_among}
 use Rattle.report_text.specs.Inner.Places.{Place, Took, Stands}
-use Rattle.report_text.proofs.FrontLemmas.{and_left, and_right, both}
 use Rattle.report_text.proofs.LineLemmas.{lacks_by}
 use Rattle.report_text.proofs.ListLemmas.{HasRead, has_more}
 
 abbrev in_path : ℕ → Bool
 in_path c = is_in_name c || (c == 46)
-
-or_first : (a b : Bool) → a ≡ true → (a || b) ≡ true
-or_first true b h = refl
-or_first false b h = absurd cc
-
-or_second : (a b : Bool) → b ≡ true → (a || b) ≡ true
-or_second true b h = refl
-or_second false b h = h
 
 split_path : (a b c d : Bool) (G : Type 0) → ((a && b) || (c && d)) ≡ true → (a ≡ true → b ≡ true → G) → (c ≡ true → d ≡ true → G) → G
 split_path true true c d G h f g = f refl refl
@@ -44,8 +36,8 @@ path_bytes : (begun : Bool) (cs : List ℕ) → is_path_from begun cs ≡ true �
 path_bytes begun [] h = refl
 path_bytes true (c ∷ cs) h =
     split_path (is_in_name c) (is_path_from true cs) (c == 46) (is_path_from false cs) _ h
-    (λ a b. both _ _ (or_first (is_in_name c) (c == 46) a) (path_bytes true cs b)) (λ a b. both _ _ (or_second (is_in_name c) (c == 46) a) (path_bytes false cs b))
-path_bytes false (c ∷ cs) h = both _ _ (rw (and_left (begins_name c) _ h) refl) (path_bytes true cs (and_right _ _ h))
+    (λ a b. and_both _ _ (or_first (is_in_name c) (c == 46) a) (path_bytes true cs b)) (λ a b. and_both _ _ (or_second (is_in_name c) (c == 46) a) (path_bytes false cs b))
+path_bytes false (c ∷ cs) h = and_both _ _ (rw (and_left (begins_name c) _ h) refl) (path_bytes true cs (and_right _ _ h))
 
 pub path_lacks : (b : ℕ) (name : List ℕ) → in_path b ≡ false → is_path name ≡ true → lacks b name ≡ true
 path_lacks b name other h = lacks_by in_path b other name (path_bytes false name h)
@@ -100,7 +92,7 @@ column_step count old now mid next names columns column added h n lt took each n
     (λ z after fine is apart e.
     let w = each z after fine (is, e) in
     let fresh : is_among names column.name ≡ false = ap (λ ns. is_among ns column.name) n ∙ none_among columns column.name (λ i x at. subst (λ k. x.name ≢ k.name) (sym w.0) (apart i x at)) in
-    (w.0, (ok ∙ both _ _ w.1.0 (new ∙ ap not fresh), rest ∙ w.1.1)))
+    (w.0, (ok ∙ and_both _ _ w.1.0 (new ∙ ap not fresh), rest ∙ w.1.1)))
 
 pub names_more : (names put : List (List ℕ)) (columns : List Column) (column : Column) → names ≡ map (λ c. c.name) columns → put ≡ names ++ column.name ∷ [] → put ≡ map (λ c. c.name) (columns ++ column ∷ [])
 names_more names put columns column n p = p ∙ ap (λ t. t ++ column.name ∷ []) n ∙ sym (map-append (λ c. c.name) columns (column ∷ []))

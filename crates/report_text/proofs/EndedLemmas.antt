@@ -1,13 +1,14 @@
 -- Ends with their dumps, one after another.
-use Rattle.std.proofs.Common.{◌≡◌, ℕ, ◌-◌, ◌<◌, ◌&&◌, zero, suc, Bool, true, List, [], ◌∷◌, ◌++◌, map, length, slice_get, Some, ap, refl, sym, subst, ◌∙◌}
+use Rattle.std.proofs.Common.{◌≡◌, ℕ, ◌-◌, ◌<◌, ◌&&◌, zero, suc, Bool, true, List, [], ◌∷◌, ◌++◌, map, length, slice_get, Some, ap, sym, subst, ◌∙◌}
 use Rattle.std.specs.Prelude.{◌↔◌, IsTrue}
 use Rattle.std.proofs.lemmas.List.{length-map, map-append}
 use Rattle.std.proofs.lemmas.Option.{same_Some}
+use Rattle.basis.proofs.Lists.{of_mapped}
+use Rattle.basis.proofs.Bools.{and_left, and_right, and_both}
 use Rattle.report_text.specs.Report.{Column, End}
 use Rattle.report_text.specs.WellFormed.{IsEndBefore}
 use Rattle.report_text.specs.Inner.Ends.{Ended, ended_text, IsEnded, IsEndedBefore, IsEndedTaken, FollowsLast}
 use Rattle.report_text.specs.Inner.Places.{Place, Took, Stands}
-use Rattle.report_text.proofs.FrontLemmas.{and_left, and_right, both}
 use Rattle.report_text.proofs.ListLemmas.{HasRead, has_more}
 use Rattle.report_text.proofs.EndLemmas.{end_before_trans, behind_all}
 
@@ -16,11 +17,6 @@ pub part_at : {A B : Type 0} (f : A → B) (xs : List A) (i : ℕ) (x : A) → s
 part_at f [] i x e = absurd cc
 part_at f (y ∷ ys) zero x e = ap (λ z. Some (f z)) (same_Some y x e)
 part_at f (y ∷ ys) (suc i) x e = part_at f ys i x e
-
-pub whole_at : {A B : Type 0} (f : A → B) (xs : List A) (i : ℕ) (b : B) → slice_get (map f xs) i ≡ Some b → (x : A) × (slice_get xs i ≡ Some x) × (f x ≡ b)
-whole_at f [] i b e = absurd cc
-whole_at f (y ∷ ys) zero b e = (y, refl, same_Some (f y) b e)
-whole_at f (y ∷ ys) (suc i) b e = whole_at f ys i b e
 
 pub ended_step : (columns : List Column) (count : ℕ) (old now mid next : Place) (all : List Ended) (ended : Ended) (ends : List End) (follows : Bool) → HasRead ended_text (IsEnded columns) IsEndedBefore count old all now →
     length all < count → ends ≡ map (λ e. e.0) all → Took now mid (λ text rest. IsEndedTaken columns text ended rest) →
@@ -44,10 +40,10 @@ ended_step columns count old now mid next all ended ends follows h lt shown took
     (λ z after fine is apart e.
     let w = each z after fine (is, e) in
     let follows_is = told.1 (λ before at.
-    let x = whole_at (λ e. e.0) all (length ends - 1) before (ap (λ es. slice_get es (length ends - 1)) (sym shown) ∙ at) in
+    let x = of_mapped (λ e. e.0) all (length ends - 1) before (ap (λ es. slice_get es (length ends - 1)) (sym shown) ∙ at) in
     let behind : IsEndBefore x.0.0 z.0 = apart (length ends - 1) x.0 x.1 in
     subst (λ b. IsEndBefore b ended.0) x.2 (subst (λ k. IsEndBefore x.0.0 k) (sym w.0) behind)) in
-    ((λ i. (w.0 i, w.1 i)), (ok ∙ both _ _ w.2.0 follows_is, rest ∙ w.2.1)))
+    ((λ i. (w.0 i, w.1 i)), (ok ∙ and_both _ _ w.2.0 follows_is, rest ∙ w.2.1)))
 
 -- one more end, with its dump
 pub parts_more : {A B : Type 0} (f : A → B) (xs : List A) (x : A) (parts put : List B) (part : B) → parts ≡ map f xs → put ≡ parts ++ part ∷ [] → part ≡ f x → put ≡ map f (xs ++ x ∷ [])

@@ -1,8 +1,8 @@
 -- Lists read one thing after another, each behind the last.
 use Rattle.std.proofs.Common.{◌≡◌, ℕ, ◌-◌, ◌<◌, ◌&&◌, Bool, true, List, [], ◌∷◌, ◌++◌, length, slice_get, Some, ap, sym, subst, ◌∙◌}
 use Rattle.std.specs.Prelude.{◌↔◌, IsTrue}
+use Rattle.basis.proofs.Bools.{and_left, and_right, and_both}
 use Rattle.report_text.specs.Inner.Places.{Place, Took, Stands}
-use Rattle.report_text.proofs.FrontLemmas.{and_left, and_right, both}
 use Rattle.report_text.proofs.ListLemmas.{HasRead, has_more}
 use Rattle.report_text.proofs.EndLemmas.{behind_all}
 
@@ -18,4 +18,4 @@ follow_step f P Q trans count old now mid next xs y follows h lt took each told 
     (λ z after fine is apart e.
     let w = each z after fine (is, e) in
     let follows_is = told.1 (λ before at. subst (λ k. Q before k) (sym w.0) (apart (length xs - 1) before at)) in
-    (w.0, (ok ∙ both _ _ w.1.0 follows_is, rest ∙ w.1.1)))
+    (w.0, (ok ∙ and_both _ _ w.1.0 follows_is, rest ∙ w.1.1)))

@@ -1,21 +1,10 @@
 -- Cuts of a text at a byte, and fronts.
-use Rattle.std.proofs.Common.{◌≡◌, ◌≢◌, ℕ, ◌+◌, ◌<◌, ◌==◌, ◌&&◌, zero, suc, not, Bool, true, false, List, [], ◌∷◌, ◌++◌, length, get_or, take, drop, arith, ap, refl, sym, subst, ◌∙◌, Option, None, Some, MatchOption, IfSome}
+use Rattle.std.proofs.Common.{◌≡◌, ◌≢◌, ℕ, ◌+◌, ◌<◌, ◌==◌, zero, suc, not, true, List, [], ◌∷◌, ◌++◌, length, get_or, take, drop, arith, ap, refl, sym, subst, ◌∙◌, Option, None, Some, MatchOption}
 use Rattle.std.proofs.lemmas.List.{append_cancel_left}
 use Rattle.std.proofs.lemmas.Bool.Decides.{nat_tests}
+use Rattle.basis.proofs.Bools.{and_left, and_right, and_both}
 use Rattle.memchr.specs.Find.{IsFirstByte, is_byte}
 use Rattle.report_text.specs.Inner.Fronts.{lacks, IsCut}
-
-pub and_left : (a b : Bool) → (a && b) ≡ true → a ≡ true
-and_left true b h = refl
-and_left false b h = h
-
-pub and_right : (a b : Bool) → (a && b) ≡ true → b ≡ true
-and_right true b h = h
-and_right false b h = cc
-
-pub both : (a b : Bool) → a ≡ true → b ≡ true → (a && b) ≡ true
-both true b p q = q
-both false b p q = cc
 
 not_same : (b c : ℕ) → not (c == b) ≡ true → c ≢ b
 not_same b c h e = grind (arith, nat_tests)
@@ -39,7 +28,7 @@ first_cut b [] k h none here = absurd (omega (arith, h))
 first_cut b (x ∷ xs) zero h none here = let same : x ≡ b = grind (arith, nat_tests, here) in (refl, ap (λ y. y ∷ xs) same)
 first_cut b (x ∷ xs) (suc k) h none here =
     let rest : IsCut b xs (take k xs) (drop (suc k) xs) = first_cut b xs k (omega (arith, h)) (λ j low. none (suc j) (omega (arith, low))) here in
-    (both _ _ (is_other b x (λ e. none 0 (omega arith) (grind (arith, nat_tests, e)))) rest.0, ap (λ t. x ∷ t) rest.1)
+    (and_both _ _ (is_other b x (λ e. none 0 (omega arith) (grind (arith, nat_tests, e)))) rest.0, ap (λ t. x ∷ t) rest.1)
 
 byte_stands : (b : ℕ) (l r : List ℕ) → (length l < length (l ++ b ∷ r)) × (get_or (l ++ b ∷ r) (length l) 0 ≡ b)
 byte_stands b [] r = (omega arith, refl)
@@ -59,10 +48,6 @@ cut_same b text l m r s c d = cut_unique b l m r s c.0 d.0 (sym c.1 ∙ d.1)
 -- what follows given bytes is told by them
 pub after_same : (text prefix r s : List ℕ) → text ≡ prefix ++ r → text ≡ prefix ++ s → r ≡ s
 after_same text prefix r s e f = append_cancel_left prefix r s (sym e ∙ f)
-
-pub match_some : {X : Type 0} (P : Type 0) (Q : X → Type 0) (r : Option X) → MatchOption r P Q → IfSome r Q
-match_some P Q None h = tt
-match_some P Q (Some x) h = h
 
 pub match_each : {X : Type 0} (P : Type 0) (Q R : X → Type 0) (r : Option X) → (P → ⊥) → ((x : X) → Q x → R x) → MatchOption r P Q → MatchOption r ⊥ R
 match_each P Q R None f g h = f h

@@ -3,6 +3,7 @@ use Rattle.std.proofs.Common.{◌≡◌, ◌≢◌, ℕ, true, false, List, [], 
 use Rattle.std.specs.Prelude.{codes}
 use Rattle.std.specs.List.{list_all}
 use Rattle.std.specs.Fmt.{decimal}
+use Rattle.basis.proofs.Bools.{and_left, and_right, and_both}
 use Rattle.vast.specs.Words.{begins_name, is_in_name}
 use Rattle.report_text.specs.declared.report.Version.{Version}
 use Rattle.report_text.specs.declared.report.Version.TheVariants.{One, Two}
@@ -10,7 +11,6 @@ use Rattle.report_text.specs.ReportText.{version_number}
 use Rattle.vast.specs.Names.{has_letters_of_name}
 use Rattle.report_text.specs.Inner.Fronts.{lacks}
 use Rattle.report_text.specs.Inner.Headings.{IsNumberLine, label_line_before}
-use Rattle.report_text.proofs.FrontLemmas.{and_left, and_right, both}
 use Rattle.report_text.proofs.LineLemmas.{lacks_by}
 
 begins_in : (c : ℕ) → begins_name c ≡ true → is_in_name c ≡ true
@@ -18,7 +18,7 @@ begins_in c h = rw h refl
 
 name_in : (name : List ℕ) → has_letters_of_name name ≡ true → list_all is_in_name name ≡ true
 name_in [] h = absurd cc
-name_in (c ∷ cs) h = both _ _ (begins_in c (and_left _ _ h)) (and_right _ _ h)
+name_in (c ∷ cs) h = and_both _ _ (begins_in c (and_left _ _ h)) (and_right _ _ h)
 
 pub name_lacks : (b : ℕ) (name : List ℕ) → is_in_name b ≡ false → has_letters_of_name name ≡ true → lacks b name ≡ true
 name_lacks b name other h = lacks_by is_in_name b other name (name_in name h)

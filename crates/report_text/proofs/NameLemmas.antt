@@ -1,8 +1,9 @@
 -- Names kept as keys.
-use Rattle.std.proofs.Common.{◌≡◌, ℕ, ◌+◌, Bool, true, false, cond, ◌||◌, not, if◌then◌else◌, nat_lt, List, [], ◌∷◌, ◌++◌, map, length, position, Bor, Option, Some, None, refl, sym, ap, ◌∙◌, true≢false}
+use Rattle.std.proofs.Common.{◌≡◌, ℕ, ◌+◌, Bool, true, false, cond, ◌||◌, not, if◌then◌else◌, nat_lt, List, [], ◌∷◌, ◌++◌, map, length, position, Bor, Option, Some, None, refl, sym, ap, ◌∙◌}
 use Rattle.std.specs.List.{list_any, prefix_len}
 use Rattle.std.specs.Str.{bytes_eq}
 use Rattle.std.proofs.lemmas.List.{length-map, map-append}
+use Rattle.std.proofs.lemmas.Bool.{not-true}
 use Rattle.report_text.specs.Inner.Names.{is_among}
 
 abbrev pub texts : List (Bor (List ℕ)) → List (List ℕ)
@@ -25,15 +26,11 @@ position-texts p keys = λ i. found (prefix-texts (λ t. not (p t)) keys i) (sho
     shown : length keys ≡ length (texts keys)
     shown = sym (length-map keys (λ (key : Bor (List ℕ)). key.now))
 
-not_false : (b : Bool) → not b ≡ true → b ≡ false
-not_false true e = absurd (true≢false (sym e))
-not_false false e = refl
-
 -- the names after one was put in
 pub put_last : (keys new : List (Bor (List ℕ))) (key : Bor (List ℕ)) (names : List (List ℕ)) (added : Bool) → texts keys ≡ names → added ≡ not (list_any (λ (k : Bor (List ℕ)). bytes_eq key.now k.now) keys) → added ≡ true →
     new ≡ (if list_any (λ (k : Bor (List ℕ)). bytes_eq key.now k.now) keys then keys else keys ++ key ∷ []) → texts new ≡ names ++ key.now ∷ []
 put_last keys new key names added shows is new_one e =
-    let absent : list_any (λ (k : Bor (List ℕ)). bytes_eq key.now k.now) keys ≡ false = not_false _ (sym is ∙ new_one) in
+    let absent : list_any (λ (k : Bor (List ℕ)). bytes_eq key.now k.now) keys ≡ false = not-true _ (sym is ∙ new_one) in
     ap texts (e ∙ ap (λ b. if b then keys else keys ++ key ∷ []) absent) ∙ map-append (λ (k : Bor (List ℕ)). k.now) keys (key ∷ []) ∙ ap (λ t. t ++ key.now ∷ []) shows
 
 pub among_shown : (keys : List (Bor (List ℕ))) (names : List (List ℕ)) (name : List ℕ) (added : Bool) → texts keys ≡ names → added ≡ not (list_any (λ (k : Bor (List ℕ)). bytes_eq name k.now) keys) → added ≡ not (is_among names name)

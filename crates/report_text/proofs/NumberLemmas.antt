@@ -1,22 +1,16 @@
 -- Decimals of 64 bits, read.
 use Rattle.std.proofs.Common.{◌≡◌, ◌≢◌, ℕ, ◌^◌, ◌<◌, ◌≤◌, zero, suc, true, List, length, get_or, arith, ap, sym, ◌∙◌, IfSome, IfNone, Option, None, Some, Result, Ok, Err}
-use Rattle.std.specs.Str.{all_ascii_digits, IsUtf8}
+use Rattle.std.specs.Str.{all_ascii_digits}
 use Rattle.std.specs.Str.Parse.{digits_value, ParsesUnsigned}
 use Rattle.std.specs.Result.{OkIff, result_ok}
 use Rattle.std.specs.Fmt.{decimal}
+use Rattle.basis.proofs.Digits.{decimal_numerals}
 use Rattle.report_text.specs.Inner.Fronts.{IsNumber}
-use Rattle.std.proofs.lemmas.Str.Parse.{IsNumeralModel, numerals_by_value, tells_all_ascii_digits, parse_digits}
-use Rattle.std.proofs.lemmas.Fmt.{digits_decimal, digits_value-decimal, IsAscii-from_digits, decimal-digits_value, first_decimal, decimal_digit, decimal_nonempty, decimal_injective}
-use Rattle.std.proofs.lemmas.Str.{IsUtf8-from_ascii}
-
-own : IsNumeralModel (λ ds. all_ascii_digits ds ≡ true) (digits_value 10)
-own = numerals_by_value _ tells_all_ascii_digits
-
-pub digits_are_text : (ds : List ℕ) → all_ascii_digits ds ≡ true → IsUtf8 ds
-digits_are_text ds h = IsUtf8-from_ascii ds (IsAscii-from_digits ds (own.to ds h))
+use Rattle.std.proofs.lemmas.Str.Parse.{parse_digits}
+use Rattle.std.proofs.lemmas.Fmt.{digits_decimal, digits_value-decimal, decimal-digits_value, first_decimal, decimal_digit, decimal_nonempty, decimal_injective}
 
 pub decimal_digits : (n : ℕ) → n < 2 ^ 64 → all_ascii_digits (decimal n) ≡ true
-decimal_digits n h = digits_decimal own n h
+decimal_digits n h = digits_decimal decimal_numerals n h
 
 -- digits that begin with 0 and go on are no number's
 pub no_leading_zero : (ds : List ℕ) (n : ℕ) → 1 < length ds → get_or ds 0 0 ≡ 48 → n < 2 ^ 64 → ds ≡ decimal n → ⊥
@@ -27,7 +21,7 @@ no_leading_zero ds (suc n) l z h e =
     omega arith
 
 plain_digits : (ds : List ℕ) → all_ascii_digits ds ≡ true → 0 < length ds → (get_or ds 0 0 ≡ 48 → length ds ≡ 1) → digits_value 10 ds < 2 ^ 64 → decimal (digits_value 10 ds) ≡ ds
-plain_digits ds h some plain small = decimal-digits_value own ds h some plain small
+plain_digits ds h some plain small = decimal-digits_value decimal_numerals ds h some plain small
 
 abbrev pub Fits : Option ℕ → Type 0
 Fits None = Unit {0}
@@ -39,18 +33,18 @@ IsRead ds (Some n) = ds ≡ decimal n
 
 pub parsed : {E : Type 0} (ds : List ℕ) (r : Result ℕ E) → all_ascii_digits ds ≡ true → (get_or ds 0 0 ≡ 48 → length ds ≤ 1) → ParsesUnsigned 64 10 ds r → IsRead ds (result_ok r)
 parsed {E} ds (Ok x) h plain p =
-    let q : OkIff {E = E} (Ok x) ((0 < length ds) × (digits_value 10 ds < 2 ^ 64)) (digits_value 10 ds) = parse_digits own {E = E} 64 ds (Ok x) p h in
+    let q : OkIff {E = E} (Ok x) ((0 < length ds) × (digits_value 10 ds < 2 ^ 64)) (digits_value 10 ds) = parse_digits decimal_numerals {E = E} 64 ds (Ok x) p h in
     let some : 0 < length ds = q.0.0 in
     sym (plain_digits ds h some (λ z. let l : length ds ≤ 1 = plain z in omega arith) q.0.1) ∙ ap decimal (sym q.1)
 parsed {E} ds (Err e) h plain p = λ n small is.
-    let q : OkIff {E = E} (Err e) ((0 < length ds) × (digits_value 10 ds < 2 ^ 64)) (digits_value 10 ds) = parse_digits own {E = E} 64 ds (Err e) p h in
+    let q : OkIff {E = E} (Err e) ((0 < length ds) × (digits_value 10 ds < 2 ^ 64)) (digits_value 10 ds) = parse_digits decimal_numerals {E = E} 64 ds (Err e) p h in
     let some : 0 < length ds = rw is (decimal_nonempty n small) in
-    let worth : digits_value 10 ds ≡ n = rw is (digits_value-decimal own n small) in
+    let worth : digits_value 10 ds ≡ n = rw is (digits_value-decimal decimal_numerals n small) in
     q (some, omega arith)
 
 pub parsed_fits : {E : Type 0} (ds : List ℕ) (r : Result ℕ E) → all_ascii_digits ds ≡ true → ParsesUnsigned 64 10 ds r → Fits (result_ok r)
 parsed_fits {E} ds (Ok x) h p =
-    let q : OkIff {E = E} (Ok x) ((0 < length ds) × (digits_value 10 ds < 2 ^ 64)) (digits_value 10 ds) = parse_digits own {E = E} 64 ds (Ok x) p h in
+    let q : OkIff {E = E} (Ok x) ((0 < length ds) × (digits_value 10 ds < 2 ^ 64)) (digits_value 10 ds) = parse_digits decimal_numerals {E = E} 64 ds (Ok x) p h in
     omega (arith, q.0.1, q.1)
 parsed_fits {E} ds (Err e) h p = tt
 

@@ -9,7 +9,7 @@ use Rattle.std.proofs.lemmas.List.Sums.{position_or_len_is}
 use Rattle.std.proofs.lemmas.Option.{slice_get-get_or, get_or_from_slice_get}
 use Rattle.std.proofs.lemmas.Slice.Eq.{bytes_eq-Decides}
 use Rattle.std.proofs.lemmas.Bool.Decides.{nat_tests}
-use Rattle.basis.proofs.Lists.{place_within}
+use Rattle.basis.proofs.Lists.{place_within, of_mapped}
 use Rattle.sched_core.specs.LogText.{log_text}
 use Rattle.report_text.specs.Report.{Column, Race}
 use Rattle.report_text.specs.ReportText.{joined_by_space, name_at, race_text, races_text, value_lines}
@@ -18,7 +18,7 @@ use Rattle.report_text.specs.Inner.Columns.{Differ}
 use Rattle.report_text.specs.Inner.Races.{Shown, shown_line, IsShown, IsShownBefore, IsRaceLine, IsRaceTaken}
 use Rattle.report_text.specs.Inner.Lists.{Listed}
 use Rattle.report_text.proofs.EndLemmas.{less_trans}
-use Rattle.report_text.proofs.EndedLemmas.{part_at, whole_at}
+use Rattle.report_text.proofs.EndedLemmas.{part_at}
 use Rattle.report_text.proofs.ColumnLemmas.{no_test}
 
 pub shown_spelled : (shown : Shown) (rest : List ℕ) → shown_line shown ++ rest ≡ shown.0 ++ 32 ∷ (log_text shown.1 ++ 10 ∷ rest)
@@ -46,7 +46,7 @@ pub found_at : (columns : List Column) (names : List (List ℕ)) (name : List �
 found_at columns names name i shown e =
     let p = position-Some (bytes_eq name) names i [] e in
     let at : slice_get names i ≡ Some name = slice_get-get_or names i [] p.0 ∙ ap Some (sym ((bytes_eq-Decides name (get_or names i [])).0 p.1)) in
-    whole_at (λ c. c.name) columns i name (ap (λ ns. slice_get ns i) (sym shown) ∙ at)
+    of_mapped (λ c. c.name) columns i name (ap (λ ns. slice_get ns i) (sym shown) ∙ at)
 
 pub place_of : (columns : List Column) (names : List (List ℕ)) (name : List ℕ) (i : ℕ) (column : Column) → names ≡ map (λ c. c.name) columns → EachTwo Differ columns → slice_get columns i ≡ Some column → column.name ≡ name → position (bytes_eq name) names ≡ Some i
 place_of columns names name i column shown differ at is =
@@ -57,7 +57,7 @@ place_of columns names name i column shown differ at is =
     (λ j low. no_test (bytes_eq name (get_or names j [])) (name ≡ get_or names j []) (bytes_eq-Decides name (get_or names j []))
     (λ e.
     let there : slice_get names j ≡ Some name = slice_get-get_or names j [] (omega (arith, low, within)) ∙ ap Some (sym e) in
-    let x = whole_at (λ c. c.name) columns j name (ap (λ ns. slice_get ns j) (sym shown) ∙ there) in
+    let x = of_mapped (λ c. c.name) columns j name (ap (λ ns. slice_get ns j) (sym shown) ∙ there) in
     differ j i x.0 column low x.1 at (x.2 ∙ sym is)))
     (λ low. (bytes_eq-Decides name (get_or names i [])).1 (sym (get_or_from_slice_get names i name [] here))) in
     by (position_or_len (bytes_eq name) names) count within

@@ -1,5 +1,5 @@
 -- A report's text, line by line.
-use Rattle.std.proofs.Common.{◌≡◌, ℕ, ◌+◌, ◌≤◌, List, [], ◌∷◌, ◌++◌, map, length, slice_get, Some, zero, suc, arith, ap, refl, sym, ◌∙◌, append_assoc, length-append}
+use Rattle.std.proofs.Common.{◌≡◌, ℕ, ◌+◌, ◌≤◌, List, [], ◌∷◌, ◌++◌, map, length, slice_get, Some, zero, suc, arith, ap, refl, sym, ◌∙◌, append_assoc, length-append, le_trans}
 use Rattle.std.specs.Prelude.{codes}
 use Rattle.std.specs.List.{flat_map}
 use Rattle.std.specs.Fmt.{decimal}
@@ -91,9 +91,6 @@ grain_le : (version : Version) (grain : Grain) (y : List ℕ) → length y ≤ l
 grain_le One grain y = omega arith
 grain_le Two grain y = labelled_le (codes "grain ") (grain_word grain) y
 
-le_trans : (a b c : ℕ) → a ≤ b → b ≤ c → a ≤ c
-le_trans a b c p q = omega (arith, p, q)
-
 pub heading_le : (h : Heading) (y : List ℕ) → length y ≤ length (heading_before h y)
 heading_le h y =
     let t6 : List ℕ = label_line_before (codes "state ") (outcome_words h.outcome) y in
@@ -102,12 +99,12 @@ heading_le h y =
     let t3 : List ℕ = label_line_before (codes "depart ") (decimal h.depart) t4 in
     let t2 : List ℕ = label_line_before (codes "until ") (decimal h.until) t3 in
     let t1 : List ℕ = label_line_before (codes "top ") h.top t2 in
-    le_trans (length y) (length t6) _ (labelled_le (codes "state ") (outcome_words h.outcome) y)
-    (le_trans (length t6) (length t5) _ (grain_le h.version h.grain t6)
-    (le_trans (length t5) (length t4) _ (labelled_le (codes "steps ") (decimal h.steps) t5)
-    (le_trans (length t4) (length t3) _ (labelled_le (codes "depart ") (decimal h.depart) t4)
-    (le_trans (length t3) (length t2) _ (labelled_le (codes "until ") (decimal h.until) t3)
-    (le_trans (length t2) (length t1) _ (labelled_le (codes "top ") h.top t2)
+    le_trans {n = length y} {m = length t6} (labelled_le (codes "state ") (outcome_words h.outcome) y)
+    (le_trans {n = length t6} {m = length t5} (grain_le h.version h.grain t6)
+    (le_trans {n = length t5} {m = length t4} (labelled_le (codes "steps ") (decimal h.steps) t5)
+    (le_trans {n = length t4} {m = length t3} (labelled_le (codes "depart ") (decimal h.depart) t4)
+    (le_trans {n = length t3} {m = length t2} (labelled_le (codes "until ") (decimal h.until) t3)
+    (le_trans {n = length t2} {m = length t1} (labelled_le (codes "top ") h.top t2)
     (labelled_le (codes "vrace report ") (decimal (version_number h.version)) t1))))))
 
 pub items_le : {A : Type 0} (f : A → List ℕ) (xs : List A) → ((x : A) → 1 ≤ length (f x)) → length xs ≤ length (flat_map f xs)

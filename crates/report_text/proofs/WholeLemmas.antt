@@ -4,6 +4,7 @@ use Rattle.std.specs.Prelude.{codes}
 use Rattle.std.specs.List.{flat_map}
 use Rattle.std.specs.Fmt.{decimal}
 use Rattle.std.proofs.lemmas.List.{length-map}
+use Rattle.basis.proofs.Lists.{of_mapped}
 use Rattle.sched_core.specs.LogText.{log_text}
 use Rattle.std.proofs.lemmas.Option.{same_Some}
 use Rattle.report_text.specs.Report.{Column, End, Race, Report}
@@ -13,7 +14,7 @@ use Rattle.report_text.specs.Inner.Ends.{Ended, ended_text}
 use Rattle.report_text.specs.Inner.Headings.{Heading, heading_before, label_line_before}
 use Rattle.report_text.specs.Inner.Races.{shown_line}
 use Rattle.report_text.specs.Inner.Wholes.{IsHeadTaken, IsBodyTaken}
-use Rattle.report_text.proofs.EndedLemmas.{part_at, whole_at}
+use Rattle.report_text.proofs.EndedLemmas.{part_at}
 use Rattle.report_text.proofs.ColumnLemmas.{columns_spelled}
 use Rattle.report_text.proofs.RaceLemmas.{values_spelled, races_spelled}
 use Rattle.report_text.proofs.SpellingLemmas.{heading_of, body_before, report_spelled, ends_spelled, right_le, left_le, labelled_le, heading_le, items_le, item_le, line_some}
@@ -66,10 +67,10 @@ is_report h columns all races text mid head body = (
     head = record { top = head.heading.top; until = head.heading.until; depart = head.heading.depart; some_steps = head.heading.some_steps; few_steps = head.heading.few_steps; grain = head.heading.grain };
     columns = head.listed.0;
     names = head.listed.1;
-    ends = λ i x at. (let w = whole_at (λ e. e.0) all i x at in subst (IsEnd columns) w.2 (body.ends.0 i w.0 w.1).0);
+    ends = λ i x at. (let w = of_mapped (λ e. e.0) all i x at in subst (IsEnd columns) w.2 (body.ends.0 i w.0 w.1).0);
     ends_order = λ i j x y lt at there.
-        let v = whole_at (λ e. e.0) all i x at in
-        let w = whole_at (λ e. e.0) all j y there in
+        let v = of_mapped (λ e. e.0) all i x at in
+        let w = of_mapped (λ e. e.0) all j y there in
         let b : IsEndBefore v.0.0 w.0.0 = body.ends.1 i j v.0 w.0 lt v.1 w.1 in
         subst (λ k. IsEndBefore k y) v.2 (subst (λ k. IsEndBefore v.0.0 k) w.2 b);
     bytes = have_bytes all (λ i x at. (body.ends.0 i x at).1);

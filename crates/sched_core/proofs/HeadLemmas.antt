@@ -1,5 +1,5 @@
 -- The name of a grain before a log can be told from the log.
-use Rattle.std.proofs.Common.{◌≡◌, ℕ, ◌^◌, ◌<◌, true, List, [], ◌∷◌, ◌++◌, length, get_or, drop, arith, ap, refl, sym, subst, ◌∙◌, Option, None, Some, MatchOption, IfSome, IfNone}
+use Rattle.std.proofs.Common.{◌≡◌, ℕ, ◌^◌, ◌<◌, true, List, [], ◌∷◌, ◌++◌, length, get_or, drop, arith, ap, refl, sym, subst, ◌∙◌, Option, None, Some, MatchOption, IfNone}
 use Rattle.std.specs.Prelude.{codes}
 use Rattle.std.specs.Str.{all_ascii_digits}
 use Rattle.std.specs.Fmt.{decimal}
@@ -53,10 +53,6 @@ named_statement text rest Process log h e f =
     let other : get_or text 0 0 ≡ 112 = ap (λ t. get_or t 0 0) f in
     absurd (omega arith)
 named_statement text rest Statement log h e f = (refl, ap (drop 10) (sym e ∙ f))
-
-pub match_some : {X : Type 0} (P : Type 0) (Q : X → Type 0) (r : Option X) → MatchOption r P Q → IfSome r Q
-match_some P Q None h = tt
-match_some P Q (Some x) h = h
 
 pub match_none : {X : Type 0} (P : Type 0) (Q : X → Type 0) (r : Option X) → MatchOption r P Q → IfNone r P
 match_none P Q None h = h

@@ -1,29 +1,16 @@
 -- Facts about the decimals in a log's text.
-use Rattle.std.proofs.Common.{◌≡◌, ◌≢◌, ℕ, ◌+◌, ◌^◌, ◌<◌, ◌≤◌, ◌&&◌, zero, suc, Bool, true, false, List, [], ◌∷◌, ◌++◌, length, get_or, take, drop, arith, ap, refl, sym, subst, ◌∙◌, add-one, append_assoc, IfSome, IfNone, Option, None, Some, Result, Ok, Err}
+use Rattle.std.proofs.Common.{◌≡◌, ◌≢◌, ℕ, ◌+◌, ◌^◌, ◌<◌, ◌≤◌, zero, suc, true, false, List, [], ◌∷◌, ◌++◌, length, get_or, take, drop, arith, ap, refl, sym, subst, ◌∙◌, add-one, append_assoc, IfSome, IfNone, Option, None, Some, Result, Ok, Err}
 use Rattle.std.specs.Char.{is_ascii_digit}
-use Rattle.std.specs.Str.{all_ascii_digits, IsUtf8}
+use Rattle.std.specs.Str.{all_ascii_digits}
 use Rattle.std.specs.Str.Parse.{digits_value, ParsesUnsigned}
 use Rattle.std.specs.Result.{OkIff, result_ok}
 use Rattle.std.specs.Fmt.{decimal}
-use Rattle.std.proofs.lemmas.Str.Parse.{IsNumeralModel, numerals_by_value, tells_all_ascii_digits, parse_digits}
-use Rattle.std.proofs.lemmas.Fmt.{digits_decimal, digits_value-decimal, IsAscii-from_digits, decimal-digits_value, first_decimal, decimal_digit, decimal_nonempty, decimal_injective}
-use Rattle.std.proofs.lemmas.Str.{IsUtf8-from_ascii}
+use Rattle.std.proofs.lemmas.Str.Parse.{parse_digits}
+use Rattle.std.proofs.lemmas.Fmt.{digits_decimal, digits_value-decimal, decimal-digits_value, first_decimal, decimal_digit, decimal_nonempty, decimal_injective}
+use Rattle.basis.proofs.Bools.{and_left, and_right}
+use Rattle.basis.proofs.Digits.{decimal_numerals}
 use Rattle.sched_core.specs.LogText.{member_text}
 use Rattle.sched_core.specs.Inner.Reading.{StartsNoNumber, IsNumberFront, HasNoNumber}
-
-pub own : IsNumeralModel (λ ds. all_ascii_digits ds ≡ true) (digits_value 10)
-own = numerals_by_value _ tells_all_ascii_digits
-
-pub digits_are_text : (ds : List ℕ) → all_ascii_digits ds ≡ true → IsUtf8 ds
-digits_are_text ds h = IsUtf8-from_ascii ds (IsAscii-from_digits ds (own.to ds h))
-
-and_left : (a b : Bool) → (a && b) ≡ true → a ≡ true
-and_left true b h = refl
-and_left false b h = h
-
-and_right : (a b : Bool) → (a && b) ≡ true → b ≡ true
-and_right true b h = h
-and_right false b h = cc
 
 no_digit : (c : ℕ) (cs : List ℕ) → all_ascii_digits (c ∷ cs) ≡ true → is_ascii_digit c ≡ false → ⊥
 no_digit c cs h n = let e : is_ascii_digit c ≡ true = and_left _ _ h in cc
@@ -48,7 +35,7 @@ all_ascii_digits-more (x ∷ xs) (suc i) h d a =
     rw (add-one (suc i), first) (rw add-one at rest)
 
 pub decimal_digits : (n : ℕ) → n < 2 ^ 32 → all_ascii_digits (decimal n) ≡ true
-decimal_digits n h = digits_decimal own n (omega arith)
+decimal_digits n h = digits_decimal decimal_numerals n (omega arith)
 
 -- digits that begin with 0 and go on are no number's
 pub no_leading_zero : (ds : List ℕ) (n : ℕ) → 1 < length ds → get_or ds 0 0 ≡ 48 → n < 2 ^ 32 → ds ≡ decimal n → ⊥
@@ -60,7 +47,7 @@ no_leading_zero ds (suc n) l z h e =
 
 -- such digits are those of the number that they are worth
 pub plain_digits : (ds : List ℕ) → all_ascii_digits ds ≡ true → 0 < length ds → (get_or ds 0 0 ≡ 48 → length ds ≡ 1) → digits_value 10 ds < 2 ^ 32 → decimal (digits_value 10 ds) ≡ ds
-plain_digits ds h some plain small = decimal-digits_value own ds h some plain (omega arith)
+plain_digits ds h some plain small = decimal-digits_value decimal_numerals ds h some plain (omega arith)
 
 abbrev pub IsRead : List ℕ → Option ℕ → Type 0
 IsRead ds None = (n : ℕ) → n < 2 ^ 32 → ds ≢ decimal n
@@ -68,13 +55,13 @@ IsRead ds (Some n) = ds ≡ decimal n
 
 pub parsed : {E : Type 0} (ds : List ℕ) (r : Result ℕ E) → all_ascii_digits ds ≡ true → (get_or ds 0 0 ≡ 48 → length ds ≤ 1) → ParsesUnsigned 32 10 ds r → IsRead ds (result_ok r)
 parsed {E} ds (Ok x) h plain p =
-    let q : OkIff {E = E} (Ok x) ((0 < length ds) × (digits_value 10 ds < 2 ^ 32)) (digits_value 10 ds) = parse_digits own {E = E} 32 ds (Ok x) p h in
+    let q : OkIff {E = E} (Ok x) ((0 < length ds) × (digits_value 10 ds < 2 ^ 32)) (digits_value 10 ds) = parse_digits decimal_numerals {E = E} 32 ds (Ok x) p h in
     let some : 0 < length ds = q.0.0 in
     sym (plain_digits ds h some (λ z. let l : length ds ≤ 1 = plain z in omega arith) q.0.1) ∙ ap decimal (sym q.1)
 parsed {E} ds (Err e) h plain p = λ n small is.
-    let q : OkIff {E = E} (Err e) ((0 < length ds) × (digits_value 10 ds < 2 ^ 32)) (digits_value 10 ds) = parse_digits own {E = E} 32 ds (Err e) p h in
+    let q : OkIff {E = E} (Err e) ((0 < length ds) × (digits_value 10 ds < 2 ^ 32)) (digits_value 10 ds) = parse_digits decimal_numerals {E = E} 32 ds (Err e) p h in
     let some : 0 < length ds = rw is (decimal_nonempty n (omega arith)) in
-    let worth : digits_value 10 ds ≡ n = rw is (digits_value-decimal own n (omega arith)) in
+    let worth : digits_value 10 ds ≡ n = rw is (digits_value-decimal decimal_numerals n (omega arith)) in
     q (some, omega arith)
 
 pub read_some : (ds : List ℕ) (o : Option ℕ) → IsRead ds o → IfSome o (λ n. ds ≡ decimal n)

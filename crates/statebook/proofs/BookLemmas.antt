@@ -2,7 +2,7 @@
 use Rattle.std.proofs.Common.{◌≡◌, ℕ, ◌+◌, ◌<◌, ◌≤◌, zero, suc, Bool, true, false, ◌==◌, List, [], ◌∷◌, ◌++◌, length, get_or, slice_get, slice_set, map, position, Option, Some, None, IfSome, IfNone, is_some, arith, ap, refl, sym, ◌∙◌, subst, inl, inr, max, length-append, Vec}
 use Rattle.std.specs.List.{list_any, position_or_len}
 use Rattle.std.proofs.lemmas.List.Quantifiers.{position-Some}
-use Rattle.std.proofs.lemmas.Bool.{cases_lt}
+use Rattle.std.proofs.lemmas.Bool.{cases_lt, false_from_ne_true}
 use Rattle.std.proofs.lemmas.Bool.Decides.{nat_tests}
 use Rattle.std.specs.Cmp.{IsEquivalence}
 use Rattle.basis.proofs.Bools.{and_left, and_right, or_left, or_right}
@@ -143,13 +143,9 @@ kept-add {S} same b top e k new = record {
   ];
 }
 
-test_fails : (b : Bool) → (b ≡ true → ⊥) → b ≡ false
-test_fails true h = absurd (h refl)
-test_fails false h = refl
-
 -- an entry that no other dominates is equal to none
 pub not_alike : {S : Type 0} (same : S → S → Bool) → IsEquivalence same → (keys : List (Entry S)) (top : ℕ) (e v : Entry S) → v ≡ e → ((i : ℕ) (f : Entry S) → slice_get keys i ≡ Some f → f.budget ≤ top) → ((i : ℕ) (f : Entry S) → slice_get keys i ≡ Some f → f.budget ≤ top → Dominates same f e.state e.budget → ⊥) → (i : ℕ) (f : Entry S) → slice_get keys i ≡ Some f → alike same v f ≡ false
-not_alike {S} same eq keys top e v is bound none i f at = subst (λ (x : Entry S). alike same x f ≡ false) (sym is) (test_fails (alike same e f) (λ h.
+not_alike {S} same eq keys top e v is bound none i f at = subst (λ (x : Entry S). alike same x f ≡ false) (sym is) (false_from_ne_true (alike same e f) (λ h.
     none i f at (bound i f at) (record {
       state = eq.symm f.state e.state ∙ and_left (same e.state f.state) (e.budget == f.budget) h;
       budget = (let b : (e.budget == f.budget) ≡ true = and_right (same e.state f.state) (e.budget == f.budget) h in grind (arith, nat_tests));

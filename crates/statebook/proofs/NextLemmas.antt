@@ -1,6 +1,6 @@
 -- A run that goes on from an entry by a choice, and then by forced steps.
-use Rattle.std.proofs.Common.{◌≡◌, ◌≢◌, ℕ, ◌+◌, ◌-◌, ◌<◌, ◌≤◌, ◌==◌, zero, suc, true, false, if◌then◌else◌, List, [], ◌∷◌, ◌++◌, length, length-append, arith, ap, refl, sym, ◌∙◌, subst, add-one, below_more, inl, inr}
-use Rattle.std.proofs.lemmas.Bool.{cases_lt}
+use Rattle.std.proofs.Common.{◌≡◌, ℕ, ◌+◌, ◌-◌, ◌<◌, ◌≤◌, ◌==◌, zero, suc, true, false, if◌then◌else◌, List, [], ◌∷◌, ◌++◌, length, length-append, arith, ap, refl, sym, ◌∙◌, subst, add-one, below_more, inl, inr}
+use Rattle.std.proofs.lemmas.Bool.{cases_lt, ne_eqb}
 use Rattle.std.proofs.lemmas.Bool.Decides.{nat_tests}
 use Rattle.sched_core.specs.Inner.Reading.{next_from}
 use Rattle.sched_core.specs.Logs.{IsLog}
@@ -36,23 +36,20 @@ names_later : (log : List (ℕ × ℕ)) (n m : ℕ) → n ≤ m → NamesBelow l
 names_later [] n m h b = tt
 names_later (x ∷ log) n m h b = (omega (arith, h, b.0), names_later log n m h b.1)
 
-other_step : (m n : ℕ) → m ≢ n → (m == n) ≡ false
-other_step m n ne = grind (arith, nat_tests)
-
 -- a step that no member names takes choice 0
 unnamed : (log : List (ℕ × ℕ)) (n k : ℕ) → n ≤ k → NamesBelow log n → choice_at log k ≡ 0
 unnamed [] n k h b = refl
 unnamed (m ∷ log) n k h b =
-    let other : (m.0 == k) ≡ false = other_step m.0 k (λ e. omega (arith, e, h, b.0)) in
+    let other : (m.0 == k) ≡ false = ne_eqb m.0 k (λ e. omega (arith, e, h, b.0)) in
     rw other (unnamed log n k h b.1)
 
 push_before : (log : List (ℕ × ℕ)) (m : ℕ × ℕ) (k : ℕ) → k < m.0 → choice_at (log ++ m ∷ []) k ≡ choice_at log k
-push_before [] m k lt = rw (other_step m.0 k (λ e. omega (arith, e, lt))) refl
+push_before [] m k lt = rw (ne_eqb m.0 k (λ e. omega (arith, e, lt))) refl
 push_before (x ∷ log) m k lt = ap (λ c. if x.0 == k then x.1 else c) (push_before log m k lt)
 
 push_at : (log : List (ℕ × ℕ)) (n c : ℕ) → NamesBelow log n → choice_at (log ++ (n, c) ∷ []) n ≡ c
 push_at [] n c b = let same : (n == n) ≡ true = grind (arith, nat_tests) in rw same refl
-push_at (x ∷ log) n c b = rw (other_step x.0 n (λ e. omega (arith, e, b.0))) (push_at log n c b.1)
+push_at (x ∷ log) n c b = rw (ne_eqb x.0 n (λ e. omega (arith, e, b.0))) (push_at log n c b.1)
 
 push_names : (log : List (ℕ × ℕ)) (n c : ℕ) → NamesBelow log n → NamesBelow (log ++ (n, c) ∷ []) (suc n)
 push_names [] n c b = (omega arith, tt)

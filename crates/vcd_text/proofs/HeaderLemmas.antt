@@ -1,5 +1,5 @@
 -- Names without their scopes, and the lines of variables and scopes.
-use Rattle.std.proofs.Common.{◌≡◌, ◌<◌, ◌≤◌, ◌+◌, ◌-◌, ℕ, suc, Bool, cond, ◌==◌, List, [], ◌∷◌, ◌++◌, length, take, drop, drop-cons, get_or, min, refl, sym, ap, ◌∙◌, add-one, append_assoc, inl, inr, arith}
+use Rattle.std.proofs.Common.{◌≡◌, ◌<◌, ◌≤◌, ◌+◌, ◌-◌, ℕ, suc, Bool, cond, ◌==◌, List, [], ◌∷◌, ◌++◌, length, take, drop, min, refl, sym, ap, ◌∙◌, append_assoc, inl, inr, arith}
 use Rattle.std.specs.Prelude.{not, codes, decimal}
 use Rattle.std.specs.List.{after_last}
 use Rattle.std.proofs.lemmas.List.{take_min, drop_all}
@@ -158,7 +158,3 @@ variable_more text name more whole n i v vs is step so_far =
     ∙ ap (λ (x : List ℕ). (text ++ named_variable_line x v) ++ after) is
     ∙ append_assoc text (named_variable_line (code (n + i)) v) after
     ∙ so_far
-
--- what is left from a place on
-pub left_from : {A : Type 0} (xs : List A) (i : ℕ) (x : A) → x ≡ get_or xs i x → i < length xs → x ∷ drop (i + 1) xs ≡ drop i xs
-left_from xs i x is within = sym (drop-cons xs i x within ∙ ap (λ y. y ∷ drop (suc i) xs) (sym is) ∙ ap (λ (n : ℕ). x ∷ drop n xs) (sym (add-one i)))

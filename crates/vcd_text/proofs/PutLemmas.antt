@@ -1,5 +1,5 @@
 -- What one `write` makes of a writer, and what the rest of a text does then.
-use Rattle.std.proofs.Common.{◌≡◌, ◌<◌, ℕ, zero, suc, List, [], ◌∷◌, ◌++◌, length, take, drop, Option, None, Some, Ok, Err, Result, OnOk, IfErr, sym, ap, ◌∙◌, arith}
+use Rattle.std.proofs.Common.{◌≡◌, ◌<◌, ℕ, zero, suc, List, [], ◌∷◌, ◌++◌, length, take, drop, Option, None, Some, Ok, sym, ap, ◌∙◌, arith}
 use Rattle.std.specs.Io.KnownBytes.{Keeps, Appends}
 use Rattle.std.proofs.lemmas.List.{append-nil, take-append-drop}
 use Rattle.vcd_text.specs.declared.metered.Metered.{Metered}
@@ -54,13 +54,3 @@ rest_stops contents old new piece rest n some written count is m fault p =
 pub grows_done : {W : Type 0} (contents : W → Option (List ℕ)) (m : Metered W) (rest : List ℕ) → length rest ≡ 0 → Grows contents m m rest
 grows_done contents m [] e = grows_none contents m
 grows_done contents m (c ∷ cs) e = absurd (omega arith)
-
--- another fact of an answer that is Ok
-pub on_ok : {T E P Q : Type 0} (r : Result T E) → (P → Q) → OnOk r P → OnOk r Q
-on_ok (Ok t) f p = f p
-on_ok (Err e) f p = tt
-
--- another fact of its error
-pub on_err : {T E : Type 0} {P Q : E → Type 0} (r : Result T E) → ((e : E) → P e → Q e) → IfErr r P → IfErr r Q
-on_err (Ok t) f p = tt
-on_err (Err e) f p = f e p

@@ -1,11 +1,12 @@
 -- A reader of a dump knows the values at each slot's end.
-use Rattle.std.proofs.Common.{◌≡◌, ℕ, zero, suc, ◌+◌, Bool, true, false, cond, ◌&&◌, ◌==◌, List, [], ◌∷◌, ◌++◌, None, Some, length, map, reverse, set, take, refl, sym, ap, subst, ◌∙◌, append_assoc, length-append, add-one, arith}
+use Rattle.std.proofs.Common.{◌≡◌, ℕ, zero, suc, ◌+◌, Bool, true, false, cond, ◌&&◌, ◌==◌, List, [], ◌∷◌, ◌++◌, Some, length, map, reverse, set, take, refl, sym, ap, subst, ◌∙◌, append_assoc, length-append, add-one, arith}
 use Rattle.std.specs.Prelude.{codes, not, slice_get, slice_set, zip}
 use Rattle.std.specs.List.{list_all}
 use Rattle.std.proofs.Math.Seq.{set-append_seam}
 use Rattle.std.proofs.lemmas.Bool.Decides.{nat_tests}
 use Rattle.std.proofs.lemmas.List.{length-set}
 use Rattle.std.proofs.lemmas.List.Elements.{All-head, All-tail}
+use Rattle.std.proofs.lemmas.Option.{none-some}
 use Rattle.vbits.specs.declared.bit4.Bit4.{Bit4}
 use Rattle.vbits.specs.declared.bit4.Bit4.TheVariants.{Zero, One, X, Z}
 use Rattle.vbits.specs.Letters.{is_same}
@@ -236,9 +237,6 @@ module _ (marks : List Bool) where
 some_is : {A : Type 0} (x y : A) → Some x ≡ Some y → x ≡ y
 some_is x y e = cc
 
-none_is : {A : Type 0} (x : A) → None ≡ Some x → ⊥
-none_is x e = cc
-
 module _ (marks : List Bool) (count : ℕ) where
   abbrev pub HasCount : DumpSlot → Type 0
   HasCount slot = length slot.values ≡ count
@@ -262,7 +260,7 @@ module _ (marks : List Bool) (count : ℕ) where
   known_later : (later : List DumpSlot) (k : ℕ) (on : Bool) (before slot : DumpSlot) (values : List Vector) → length values ≡ count →
       HasCount before → AllHave count later → slice_get later k ≡ Some slot → KnowsIf marks on values before.values →
       KnowsIf marks (on_over on (take (suc k) later)) (values_after_pieces values (take (suc k) (later_pieces marks on before later))) slot.values
-  known_later [] k on before slot values many had all is knows = absurd (none_is slot is)
+  known_later [] k on before slot values many had all is knows = absurd (none-some slot is)
   known_later (next ∷ later) zero on before slot values many had all is knows =
       subst (λ (s : DumpSlot). KnowsIf marks (on_after on next.commands) (values_after_parts values (later_parts marks on before.values next)) s.values) (some_is next slot is)
       (later_told on before next values many had (All-head HasCount next later all) knows)
@@ -274,7 +272,7 @@ module _ (marks : List Bool) (count : ℕ) where
 
   known_at : (slots : List DumpSlot) (k : ℕ) (slot : DumpSlot) (values : List Vector) → length values ≡ count → AllHave count slots → slice_get slots k ≡ Some slot →
       KnowsIf marks (on_over true (take (suc k) slots)) (values_after_pieces values (take (suc k) (pieces marks slots))) slot.values
-  known_at [] k slot values many all is = absurd (none_is slot is)
+  known_at [] k slot values many all is = absurd (none-some slot is)
   known_at (first ∷ later) zero slot values many all is =
       subst (λ (s : DumpSlot). KnowsIf marks (on_after true first.commands) (values_after_parts values (start marks first).parts) s.values) (some_is first slot is)
       (start_told first values many (All-head HasCount first later all))

@@ -1,12 +1,12 @@
 -- Marks of scopes, and the start of a dump of what is marked.
 use Rattle.std.proofs.Common.{◌≡◌, ◌<◌, ◌+◌, ℕ, Bool, true, cond, List, [], ◌∷◌, ◌++◌, length, drop, get_or, append_assoc, sym, ap, ◌∙◌}
+use Rattle.basis.proofs.Lists.{left_from}
 use Rattle.vbits.specs.Vectors.{Vector}
 use Rattle.vdesign.specs.Design.{Scope, Design}
 use Rattle.vdesign.specs.declared.action.Action.{Action}
 use Rattle.vdesign.specs.declared.dump.DumpCommand.{DumpCommand}
 use Rattle.vcd_text.specs.DumpText.{has_start, header, is_selected, marks_in, scope_marks, variable_marks}
 use Rattle.vcd_text.specs.Sinks.{begun_text, start_text, started_text}
-use Rattle.vcd_text.proofs.HeaderLemmas.{left_from}
 
 -- one scope's mark more
 pub marks_more : (actions : List Action) (commands : List DumpCommand) (list more whole : List Bool) (s : Scope) (scopes : List Scope) (i : ℕ) → s ≡ get_or scopes i s →

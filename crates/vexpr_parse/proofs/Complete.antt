@@ -3,10 +3,10 @@ use Rattle.std.proofs.Common.{◌≡◌, ℕ, zero, suc, ◌+◌, ◌<◌, Bool,
 use Rattle.std.specs.List.{list_all}
 use Rattle.std.specs.Str.{bytes_eq}
 use Rattle.std.specs.Char.{is_ascii_digit}
-use Rattle.std.proofs.lemmas.Bool.{cases_Bool}
+use Rattle.std.proofs.lemmas.Bool.{cases_Bool, not-true}
 use Rattle.std.proofs.lemmas.List.{append-nil}
 use Rattle.std.proofs.lemmas.Bool.Decides.{nat_tests}
-use Rattle.basis.proofs.Bools.{and_left, and_right, and_both}
+use Rattle.basis.proofs.Bools.{and_left, and_right, and_both, clash}
 use Rattle.vast.specs.Words.{Text, is_name, is_number, is_time, begins_name, is_in_name, is_reserved}
 use Rattle.vast.specs.Expressions.{ExpressionTree, number, name, time, bit, part, parentheses, concatenation, replication, conversion, apply, combine, conditional, ExpressionTrees, none, first, spell_expression, spell_parts, spell_more_parts, fits_expression, fits_parts, depth, greatest_depth, rank, rank_of, unary_rank, unary_word, binary_word, conversion_word}
 use Rattle.vast.specs.declared.expression.UnaryOperator.{UnaryOperator}
@@ -21,10 +21,10 @@ use Rattle.vexpr_parse.specs.Readers.{got, Reader, front, is_front, and_then, go
 use Rattle.vexpr_parse.specs.Words.{beginning_of, unary_of, binary_of, is_ranked, is_joined, is_asked, ends_primary, ends_operators, ends}
 use Rattle.vexpr_parse.specs.Reading.{trees_in, one_more, parts, repeated, joined, braces, enclosed, part_of, index_lead, selected, primary_by, primary, operator_by, operator_lead, operator, branches, question, onward, expression_by, expression}
 use Rattle.vexpr_parse.specs.Lawful.{Rule}
-use Rattle.vexpr_parse.proofs.ReaderRules.{chosen, passed_over, same_text, text_same, true_or_false, then_got}
+use Rattle.vexpr_parse.proofs.ReaderRules.{chosen, passed_over, same_text, text_same, then_got}
 use Rattle.vexpr_parse.proofs.ReaderLoops.{turns_end, turns_on}
 use Rattle.vexpr_parse.proofs.Sound.{some_rank}
-use Rattle.vexpr_parse.proofs.ExpressionRules.{example, ranked_higher, ends_parts, not_joined, not_asked, not_true, operators_ended, primary_ended, unary_ends, more_eats, operator_eats, expression_rule}
+use Rattle.vexpr_parse.proofs.ExpressionRules.{example, ranked_higher, ends_parts, not_joined, not_asked, operators_ended, primary_ended, unary_ends, more_eats, operator_eats, expression_rule}
 
 -- what words begin
 
@@ -35,7 +35,7 @@ number_no_name : (word : Text) → is_number word ≡ true → is_name word ≡ 
 number_no_name [] e = refl
 number_no_name (c ∷ cs) e =
     elim (cases_Bool (begins_name c)) [
-      | inl holds ↦ absurd (true_or_false (is_ascii_digit c || (c == 39)) e (no_digit c holds))
+      | inl holds ↦ absurd (clash (is_ascii_digit c || (c == 39)) e (no_digit c holds))
       | inr fails ↦ ap (λ b. b && list_all is_in_name cs && not (is_reserved (c ∷ cs))) fails
     ]
 
@@ -172,7 +172,7 @@ whole_of : (tree : ExpressionTree) → nat_lt 0 (rank_of tree) ≡ true →
 whole_of tree positive spine = record { spine = spine; whole = whole }
   where
     no_level : (d : ℕ) → 0 < d → nat_le d 0 ≡ true → ⊥
-    no_level d p e = true_or_false (nat_le d 0) e (none d p)
+    no_level d p e = clash (nat_le d 0) e (none d p)
       where
         none : (d : ℕ) → 0 < d → nat_le d 0 ≡ false
         none d p = grind (arith, nat_tests)
@@ -247,7 +247,7 @@ leaf_complete_name : (letters : Text) → Complete (name letters)
 leaf_complete_name letters =
     primary_complete (name letters) refl
     (λ below rest fit within ended. led_to below letters rest start.Name (start_name letters fit)
-    ∙ passed_over (is_front (codes "[") (front rest)) _ _ (not_true (is_front (codes "[") (front rest)) ended))
+    ∙ passed_over (is_front (codes "[") (front rest)) _ _ (not-true (is_front (codes "[") (front rest)) ended))
 
 leaf_complete_time : (word : Text) → Complete (time word)
 leaf_complete_time word =
@@ -339,7 +339,7 @@ Each none = Unit {0}
 Each (first one more) = Complete one × Each more
 
 parts_end : (next : Option Text) → ends_parts next ≡ true → is_front (codes ",") next ≡ false
-parts_end next e = not_true (is_front (codes ",") next) (and_right (ends 0 next) (not (is_front (codes ",") next)) e)
+parts_end next e = not-true (is_front (codes ",") next) (and_right (ends 0 next) (not (is_front (codes ",") next)) e)
 
 -- what follows a part ends it: a comma, or what ends them all
 more_ended : (trees : ExpressionTrees) (rest : List Text) → ends 0 (front rest) ≡ true →
@@ -543,7 +543,7 @@ conditional_complete condition when_true when_false c t f = record {
         nat_le (depth (conditional condition when_true when_false)) levels ≡ true →
         ends 0 (front rest) ≡ true → expression levels 0 (spell_expression (conditional condition when_true when_false) ++ rest) ≡ got
         (conditional condition when_true when_false) rest
-    by_least zero rest fit within ended = absurd (true_or_false
+    by_least zero rest fit within ended = absurd (clash
         (nat_le (1 + max (depth condition) (max (depth when_true) (depth when_false))) 0) within (no_level _))
     by_least (suc below) rest fit within ended =
         let otherwise : List Text = spell_expression when_false ++ rest in

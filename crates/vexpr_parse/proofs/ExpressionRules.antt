@@ -2,6 +2,7 @@
 use Rattle.std.proofs.Common.{◌≡◌, ℕ, zero, suc, ◌<◌, Bool, true, false, ◌&&◌, not, nat_le, if◌then◌else◌, List, [], ◌∷◌, ◌++◌, Option, None, Some, refl, sym, ap, arith, subst, codes}
 use Rattle.std.specs.Str.{bytes_eq}
 use Rattle.std.proofs.lemmas.Bool.Decides.{nat_tests}
+use Rattle.std.proofs.lemmas.Bool.{not-true}
 use Rattle.basis.proofs.Bools.{and_left, and_right, and_both}
 use Rattle.vast.specs.Words.{Text, reserved_words}
 use Rattle.vast.specs.Expressions.{ExpressionTree, number, name, time, bit, part, parentheses, concatenation, replication, conversion, apply, combine, conditional, depth, rank, unary_rank}
@@ -30,15 +31,11 @@ operators_ended least first e = and_left (ends_operators least first) (not (is_a
 pub primary_ended : (least : ℕ) (first : Option Text) → ends_operators least first ≡ true → ends_primary first ≡ true
 primary_ended least first e = and_left (ends_primary first) (not (is_joined least first)) e
 
-pub not_true : (b : Bool) → not b ≡ true → b ≡ false
-not_true true e = let clash : false ≡ true = e in absurd cc
-not_true false e = refl
-
 pub not_joined : (least : ℕ) (first : Option Text) → ends_operators least first ≡ true → is_joined least first ≡ false
-not_joined least first e = not_true (is_joined least first) (and_right (ends_primary first) (not (is_joined least first)) e)
+not_joined least first e = not-true (is_joined least first) (and_right (ends_primary first) (not (is_joined least first)) e)
 
 pub not_asked : (least : ℕ) (first : Option Text) → ends least first ≡ true → is_asked least first ≡ false
-not_asked least first e = not_true (is_asked least first) (and_right (ends_operators least first) (not (is_asked least first)) e)
+not_asked least first e = not-true (is_asked least first) (and_right (ends_operators least first) (not (is_asked least first)) e)
 
 -- what no operator of a rank goes on from, none of a higher rank does
 pub ranked_higher : (least higher : ℕ) (first : Option Text) → nat_le least higher ≡ true → is_joined least first ≡ false →
@@ -181,7 +178,7 @@ module _ (read : Below) (r : (least : ℕ) → Rule (read least) (ends least) ex
   list_rule : (trees : List ExpressionTree) → Rule (turns (one_more read) (is_front (codes ",")) trees) ends_parts []
   list_rule trees =
       turns_rule (one_more read) (is_front (codes ",")) more_eats (ends 0) ends_parts (λ trees. (more_rule trees).lawful) tree_ended
-      (λ first e. not_true (is_front (codes ",") first) (and_right (ends 0 first) (not (is_front (codes ",") first)) e)) trees
+      (λ first e. not-true (is_front (codes ",") first) (and_right (ends 0 first) (not (is_front (codes ",") first)) e)) trees
 
   parts_rule : Rule (parts read) ends_parts (example ++ [])
   parts_rule =
@@ -289,7 +286,7 @@ module _ (below : ℕ) (read : Below) (rules : nat_le 1 below ≡ true → (leas
   named_rule letters =
       option_rule (is_front (codes "[")) (led (select_lead below read letters)) (name letters) ends_primary
       (led_eats (select_lead below read letters) ends_primary (select_leads letters))
-      (λ first e. not_true (is_front (codes "[") first) e) (led_sees (select_lead below read letters) ends_primary (select_leads letters))
+      (λ first e. not-true (is_front (codes "[") first) e) (led_sees (select_lead below read letters) ends_primary (select_leads letters))
 
   primary_leads_by : (word : Text) (b : Beginning) → IsLead ends_primary (primary_by below read word b)
   primary_leads_by word start.Number = rule_lead (got (number word)) ends_primary [] (got_rule (number word) ends_primary)

@@ -3,10 +3,10 @@ use Rattle.std.proofs.Common.{◌≡◌, ℕ, true, false, List, [], ◌∷◌, 
 use Rattle.std.specs.List.{list_all}
 use Rattle.std.specs.Str.{bytes_eq}
 use Rattle.std.proofs.lemmas.Bool.{cases_Bool}
-use Rattle.basis.proofs.Bools.{and_left, and_right}
+use Rattle.basis.proofs.Bools.{and_left, and_right, clash}
 use Rattle.vast.specs.Words.{Text}
 use Rattle.vexpr_parse.specs.Words.{written, begins_among}
-use Rattle.vexpr_parse.proofs.ReaderRules.{passed_over, true_or_false, same_text}
+use Rattle.vexpr_parse.proofs.ReaderRules.{passed_over, same_text}
 
 -- where all begin with one of these bytes, and a word doesn't, it is none of them
 pub written_none : {A : Type 0} (spell : A → Text) (all : List A) (bytes : List ℕ) (word : Text) →
@@ -21,7 +21,7 @@ written_none spell (one ∷ more) bytes word e f =
     differs =
         elim (cases_Bool (bytes_eq (spell one) word)) [
           | inl holds ↦
-              absurd (true_or_false (begins_among bytes word)
+              absurd (clash (begins_among bytes word)
               (sym (ap (begins_among bytes) (same_text (spell one) word holds))
               ∙ and_left (begins_among bytes (spell one)) (list_all (λ other. begins_among bytes (spell other)) more) e) f)
           | inr fails ↦ fails

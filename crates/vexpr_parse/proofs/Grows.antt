@@ -1,5 +1,5 @@
 -- With one level more: what was read or refused for good stays so, and a word that was refused for want of levels is passed.
-use Rattle.std.proofs.Common.{◌≡◌, ℕ, zero, suc, ◌+◌, ◌<◌, ◌≤◌, Bool, true, false, max, nat_le, nat_lt, if◌then◌else◌, List, [], ◌∷◌, ◌++◌, Option, None, Some, length, refl, sym, ap, ◌∙◌, arith, inl, inr, subst, codes}
+use Rattle.std.proofs.Common.{◌≡◌, ℕ, zero, suc, ◌+◌, ◌<◌, ◌≤◌, Bool, true, false, max, nat_le, nat_lt, if◌then◌else◌, List, [], ◌∷◌, ◌++◌, Option, None, Some, length, refl, sym, ap, ◌∙◌, arith, inl, inr, subst, codes, le_trans}
 use Rattle.std.specs.Str.{bytes_eq}
 use Rattle.std.proofs.lemmas.Bool.{cases_Bool}
 use Rattle.std.proofs.lemmas.Bool.Decides.{nat_tests}
@@ -27,9 +27,6 @@ Keeps read = (words : List Text) → length (rest_of (read words)) ≤ length wo
 no_more : (n : ℕ) → n ≤ n
 no_more n = omega arith
 
-at_most : (a b c : ℕ) → a ≤ b → b ≤ c → a ≤ c
-at_most a b c e f = omega arith
-
 one_fewer : (a b : ℕ) → a ≤ b → a ≤ suc b
 one_fewer a b e = omega arith
 
@@ -38,7 +35,7 @@ got_keep tree words = no_more (length words)
 
 pub then_keep : {A B : Type 0} (words : List Text) (a : Answer A) (next : A → Reader B) → length (rest_of a) ≤ length words →
     ((one : A) → Keeps (next one)) → length (rest_of (and_then a next)) ≤ length words
-then_keep words (got one left) next e k = at_most (length (rest_of (next one left))) (length left) (length words) (k one left) e
+then_keep words (got one left) next e k = le_trans {n = length (rest_of (next one left))} {m = length left} {k = length words} (k one left) e
 then_keep words (stop why left) next e k = e
 
 abbrev pub LeadKeeps : {A : Type 0} → Lead A → Type 0

@@ -1,5 +1,5 @@
 -- Which of the words that begin or join an expression a tree keeps: names, numbers and `$time`, and no others.
-use Rattle.std.proofs.Common.{◌≡◌, ℕ, Bool, true, false, if◌then◌else◌, List, [], ◌∷◌, ◌||◌, Option, None, Some, codes, drop, take, nat_le, ◌++◌, refl, sym, ap, subst, ◌∙◌}
+use Rattle.std.proofs.Common.{◌≡◌, ℕ, true, false, if◌then◌else◌, List, [], ◌∷◌, ◌||◌, Option, None, Some, codes, drop, take, nat_le, ◌++◌, refl, sym, ap, subst, ◌∙◌}
 use Rattle.std.specs.Str.{bytes_eq}
 use Rattle.vast.specs.Words.{Text, is_name, is_number, is_string, is_time, is_leaf}
 use Rattle.vast.specs.Expressions.{unary_word, binary_word}
@@ -14,7 +14,7 @@ use Rattle.vexpr_parse.specs.declared.beginning.Round.TheVariants as round
 use Rattle.vexpr_parse.specs.Readers.{front, is_front}
 use Rattle.vexpr_parse.specs.Words.{written, unary_of, unary_operators, binary_of, binary_operators, by_operator, beginning_of, is_asked}
 use Rattle.vexpr_parse.specs.Answers.{ranked, joining, ahead, leaf_here}
-use Rattle.basis.proofs.Bools.{and_right}
+use Rattle.basis.proofs.Bools.{and_right, by_if}
 use Rattle.std.proofs.lemmas.List.{append-nil}
 use Rattle.vast.specs.TokenTexts.{leaf_at, leaves_from}
 use Rattle.vast.specs.declared.token.Token.{Token}
@@ -23,10 +23,6 @@ use Rattle.vexpr_parse.specs.Texts.{words_of}
 use Rattle.vexpr_parse.specs.declared.cursor.Cursor.{Cursor}
 use Rattle.vexpr_parse.proofs.Cursors.{leaf_blank, no_leaf}
 use Rattle.vexpr_parse.proofs.ReaderRules.{same_text, chosen, passed_over}
-
-by_if : {B : Type 0} (P : B → Type 0) (test : Bool) (x y : B) → (test ≡ true → P x) → (test ≡ false → P y) → P (if test then x else y)
-by_if P true x y f g = f refl
-by_if P false x y f g = g refl
 
 -- what is written so is no leaf, where nothing that is written is one
 none_written : {A : Type 0} (spell : A → Text) (plain : (one : A) → is_leaf (spell one) ≡ false) (all : List A) (word : Text) (one : A) →

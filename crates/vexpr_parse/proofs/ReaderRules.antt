@@ -24,10 +24,6 @@ passed_over true a b e = elim (true_false e) [ ]
     true_false : true ≡ false → ⊥
     true_false e = cc
 
-pub true_or_false : (b : Bool) → b ≡ true → b ≡ false → ⊥
-true_or_false true p q = let clash : true ≡ false = q in cc
-true_or_false false p q = let clash : false ≡ true = p in cc
-
 pub same_text : (a b : Text) → bytes_eq a b ≡ true → a ≡ b
 same_text a b e = grind (arith, bytes_eq-Decides)
 

@@ -5,6 +5,7 @@ use Rattle.std.proofs.lemmas.Bool.{cases_Bool}
 use Rattle.std.proofs.lemmas.List.{append-nil}
 use Rattle.std.proofs.lemmas.Bool.Decides.{nat_tests}
 use Rattle.basis.proofs.Bools.{and_left, and_right, and_both}
+use Rattle.basis.proofs.Numbers.{one_within}
 use Rattle.vast.specs.Words.{Text, is_name, is_number, is_time}
 use Rattle.vast.specs.Expressions.{ExpressionTree, number, name, time, bit, part, parentheses, concatenation, replication, conversion, apply, combine, conditional, spell_expression, spell_parts, spell_more_parts, fits_expression, fits_parts, is_some_part, depth, greatest_depth, rank, rank_of, unary_rank, unary_word, binary_word, conversion_word}
 use Rattle.vast.specs.declared.expression.UnaryOperator.{UnaryOperator}
@@ -260,9 +261,6 @@ all_deeper b c d below e f g = grind (arith, nat_tests)
 
 greatest : (c d below : ℕ) → nat_le c below ≡ true → nat_le d below ≡ true → nat_le (max c d) below ≡ true
 greatest c d below e f = grind (arith, nat_tests)
-
-one_within : (below : ℕ) → nat_le 1 (suc below) ≡ true
-one_within below = grind (arith, nat_tests)
 
 -- lists
 

@@ -1,8 +1,9 @@
 -- Cases and their branches, of which one at most is a default.
-use Rattle.std.proofs.Common.{◌≡◌, ℕ, suc, ◌+◌, ◌<◌, Bool, true, false, ◌&&◌, ◌||◌, not, max, nat_le, if◌then◌else◌, List, [], ◌∷◌, ◌++◌, Option, None, Some, length, flat_map, refl, sym, ap, ◌∙◌, arith, subst, append_assoc, codes}
+use Rattle.std.proofs.Common.{◌≡◌, ℕ, suc, ◌+◌, ◌<◌, Bool, true, false, ◌&&◌, ◌||◌, not, max, nat_le, if◌then◌else◌, List, [], ◌∷◌, ◌++◌, Option, None, Some, length, flat_map, refl, sym, ap, ◌∙◌, arith, subst, append_assoc, codes, zero-lt-suc}
 use Rattle.std.specs.List.{list_all}
 use Rattle.std.proofs.lemmas.Bool.Decides.{nat_tests}
-use Rattle.basis.proofs.Bools.{and_left, and_right, and_both}
+use Rattle.basis.proofs.Bools.{and_left, and_right, and_both, and_false, and_assoc}
+use Rattle.basis.proofs.Lists.{longer}
 use Rattle.vast.specs.Words.{Text, reserved_words}
 use Rattle.vast.specs.Expressions.{ExpressionTree, ExpressionTrees, none, spell_expression, spell_parts, fits_expression, fits_parts, depth, greatest_depth}
 use Rattle.vast.specs.Expressions.{first as first_part}
@@ -18,19 +19,11 @@ use Rattle.vgrammar.specs.Parts.{Both, both, one_way, other_way, made, paired, m
 use Rattle.vgrammar.specs.Statements.{value, List_of, comma_list, word_only, has_default, Branch, branch_of, default_branch, branch, branches_in, Case, case_parts_of, branches, case_parts, ends_statement}
 use Rattle.vgrammar.proofs.Phrases.{Shape, Phrase, Example, Worded, Makes, From, AreLinked, always, of_these, made_phrase, past_shape, past_phrase, nothing_phrase, linked_shape, linked_phrase, paired_shape, before_phrase, paired_example, next_phrase}
 use Rattle.vgrammar.proofs.PhraseChoices.{maybe_shape, maybe_phrase, either_shape, either_phrase, Tested, ends_many, allows_all, many_shape, many_phrase}
-use Rattle.vgrammar.proofs.LevelFacts.{larger_two, two_up, and_true, and_false, and_assoc, pair_valid}
+use Rattle.vgrammar.proofs.LevelFacts.{larger_two, two_up, and_true, pair_valid}
 use Rattle.vgrammar.proofs.ValuePhrases.{value_shape, value_phrase, value_example, nothing_example, only_shape, only_phrase, only_example, comma_shape, comma_phrase, allows_each}
 use Rattle.vgrammar.proofs.WordPhrases.{refused_first, value_refuses}
 use Rattle.vgrammar.proofs.StatementShapes.{closes_statement, statement_shape, statement_closed, behind_condition, all_within, parts_spelled, parts_within}
 use Rattle.vgrammar.proofs.StatementPhrases.{guarded_shape, guarded_phrase, guarded_example}
-
-positive : (n : ℕ) → 0 < suc n
-positive n = omega arith
-
--- words that stand behind others
-longer : (words : List Text) (word : Text) (more : List Text) → 0 < length (words ++ word ∷ more)
-longer [] word more = positive (length more)
-longer (one ∷ words) word more = positive (length (words ++ word ∷ more))
 
 pub phrase_of_these : {A : Type 0} {read : Reader A} {ends : Ends} (s : Shape A) (valid : A → Bool) →
     ((tree : A) → valid tree ≡ s.valid tree) →
@@ -67,8 +60,8 @@ branch_closed (default colon body) next e = statement_closed body next e
 
 branch_worded : (tree : BranchTree) → 0 < length (spell_branch tree)
 branch_worded (labelled labels body) = longer (spell_parts labels) (codes ":") (spell_statement body)
-branch_worded (default true body) = positive _
-branch_worded (default false body) = positive _
+branch_worded (default true body) = zero-lt-suc _
+branch_worded (default false body) = zero-lt-suc _
 
 module _ (below : ℕ) (level : nat_le 1 below ≡ true) (read : Reader StatementTree)
     (p : Phrase read ends_statement (statement_shape below))
@@ -98,7 +91,7 @@ module _ (below : ℕ) (level : nat_le 1 below ≡ true) (read : Reader Statemen
       (past (codes "default") (paired (maybe colon_next (word_only (codes ":"))) read)) ends_statement Default
   new_default_phrase =
       past_phrase (codes "default")
-      (next_phrase (maybe_phrase colon_next (only_phrase (codes ":")) (λ tree v. positive _)
+      (next_phrase (maybe_phrase colon_next (only_phrase (codes ":")) (λ tree v. zero-lt-suc _)
       (λ tree v rest. refl)) p a_statement some
       (λ tree v rest c. ap not (no_colon tree v rest)))
       (paired_example no_colons a_statement)
@@ -157,7 +150,7 @@ module _ (below : ℕ) (level : nat_le 1 below ≡ true) (read : Reader Statemen
       (paired (comma_list (value below)) (past (codes ":") read)))
       ends_statement (Parts list)
   parts_phrase list =
-      either_phrase default_next (default_phrase (has_default list)) labelled_phrase (λ tree v. positive _) labelled_worded
+      either_phrase default_next (default_phrase (has_default list)) labelled_phrase (λ tree v. zero-lt-suc _) labelled_worded
       (λ tree v rest. refl)
       (refused_first default_next labelled_phrase labelled_worded refl
       (λ word words tree left is e. labels_refuse word

@@ -1,8 +1,10 @@
 -- Types, settings, connections and other parts of modules.
-use Rattle.std.proofs.Common.{◌≡◌, ℕ, suc, ◌<◌, Bool, true, false, ◌&&◌, not, List, [], ◌∷◌, ◌++◌, Option, None, Some, length, refl, sym, ap, ◌∙◌, arith, codes}
+use Rattle.std.proofs.Common.{◌≡◌, ℕ, suc, Bool, true, false, ◌&&◌, not, List, [], ◌∷◌, ◌++◌, Option, None, Some, length, refl, sym, ap, ◌∙◌, codes, zero-lt-suc}
 use Rattle.std.specs.List.{list_all}
 use Rattle.std.specs.Str.{bytes_eq}
-use Rattle.basis.proofs.Bools.{and_left, and_right, and_both}
+use Rattle.std.proofs.lemmas.Bool.{false_from_ne_true}
+use Rattle.basis.proofs.Bools.{and_left, and_right, and_both, clash}
+use Rattle.basis.proofs.Numbers.{one_within}
 use Rattle.vast.specs.Words.{Text, is_name, reserved_words}
 use Rattle.vast.specs.Expressions.{ExpressionTree}
 use Rattle.vast.specs.Modules.{RangeTree, TypeTree, ParameterType, integer, typed, SettingTree, DeclaredTree, spell_range, spell_signed, spell_type, spell_parameter_type, spell_setting, spell_declared, fits_value, fits_range, fits_type, fits_parameter_type, fits_setting, fits_declared, are_some}
@@ -16,18 +18,15 @@ use Rattle.vgrammar.specs.Statements.{word_only, List_of}
 use Rattle.vgrammar.specs.Modules.{free_value, range_of, range, type_of, type, parameter_type_of, parameter_type, setting_of, setting, declared_of, declared, ended}
 use Rattle.vgrammar.proofs.Phrases.{Shape, Phrase, Example, Opens, Makes, From, always, phrase_within, made_phrase, past_shape, past_phrase, past_example, nothing_phrase, paired_shape, paired_phrase, before_phrase, paired_example, free_phrase}
 use Rattle.vgrammar.proofs.PhraseChoices.{ends_maybe, maybe_shape, maybe_phrase, either_shape, either_open_phrase, allows_all}
-use Rattle.vgrammar.proofs.LevelFacts.{one_within, and_true}
+use Rattle.vgrammar.proofs.LevelFacts.{and_true}
 use Rattle.vgrammar.proofs.ValuePhrases.{value_shape, value_phrase, value_example, nothing_example, only_shape, only_phrase, only_example, comma_shape, comma_phrase, allows_each}
-use Rattle.vgrammar.proofs.WordPhrases.{clash, not_so, as_written}
+use Rattle.vgrammar.proofs.WordPhrases.{as_written}
 use Rattle.vgrammar.proofs.PartPhrases.{text_shape, a_name, named_phrase}
-
-positive : (n : ℕ) → 0 < suc n
-positive n = omega arith
 
 -- a name is no reserved word
 pub name_isnt : (text : Text) → is_name text ≡ false → (letters : Text) → is_name letters ≡ true → bytes_eq text letters ≡ false
 name_isnt text none letters is =
-    not_so (bytes_eq text letters) (λ e. clash (is_name letters) is (sym (ap is_name (same_text text letters e)) ∙ none))
+    false_from_ne_true (bytes_eq text letters) (λ e. clash (is_name letters) is (sym (ap is_name (same_text text letters e)) ∙ none))
 
 -- a name means nothing else
 pub name_means_not : {A : Type 0} (spell : A → Text) (all : List A) → ((tree : A) → is_name (spell tree) ≡ false) →
@@ -194,8 +193,8 @@ module _ (below : ℕ) where
   pub type_phrase : Phrase (type levels) ends_type type_shape
   type_phrase =
       made_phrase type_of type_shape back type_makes (λ tree next e. e)
-      (paired_phrase (maybe_phrase signed_next (only_phrase (codes "signed")) (λ tree v. positive _) (λ tree v rest. refl))
-      (maybe_phrase bracket (phrase_within not_signed range_phrase (λ next e. refl)) (λ tree v. positive _) (λ tree v rest. refl))
+      (paired_phrase (maybe_phrase signed_next (only_phrase (codes "signed")) (λ tree v. zero-lt-suc _) (λ tree v rest. refl))
+      (maybe_phrase bracket (phrase_within not_signed range_phrase (λ next e. refl)) (λ tree v. zero-lt-suc _) (λ tree v rest. refl))
       no_range opens (λ y v none next f. and_left (not_signed next) _ f))
     where
       no_range : Example (maybe_shape bracket not_signed range_shape)
@@ -240,10 +239,10 @@ module _ (below : ℕ) where
       (phrase_within ends_parameter_type type_phrase (λ next e. and_left (ends_type next) _ e))
       (λ tree next e. and_left (ends_type next) _ e)
       (λ tree next e. e))
-      (λ tree v. positive _) (λ tree words is e. no_integer (front words) e) (λ tree v rest. refl) fails)
+      (λ tree v. zero-lt-suc _) (λ tree words is e. no_integer (front words) e) (λ tree v rest. refl) fails)
     where
       no_integer : (next : Option Text) → ends_parameter_type next ≡ true → integer_next next ≡ false
-      no_integer next e = not_so (integer_next next)
+      no_integer next e = false_from_ne_true (integer_next next)
           (λ f. clash (not (integer_next next)) (and_right (ends_type next) _ e) (ap not f))
 
       by_parts : (sign : Bool) (bounds : Option RangeTree) (rest : List Text) → ends_parameter_type (front rest) ≡ true →
@@ -336,7 +335,7 @@ module _ (below : ℕ) where
       made_phrase declared_of declared_shape (λ tree v. record { parts = both tree.name tree.value; is = refl }) makes
       (λ tree next e. e)
       (free_phrase named_phrase
-      (maybe_phrase equals (past_phrase (codes "=") free_phrase_value free_example) (λ tree v. positive _) (λ tree v rest. refl))
+      (maybe_phrase equals (past_phrase (codes "=") free_phrase_value free_example) (λ tree v. zero-lt-suc _) (λ tree v rest. refl))
       (record { tree = None; valid = refl }))
     where
       makes : Makes declared_of DeclaredParts declared_shape []

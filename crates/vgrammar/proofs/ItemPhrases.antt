@@ -1,6 +1,8 @@
 -- Connections, instances and the items of modules.
-use Rattle.std.proofs.Common.{◌≡◌, ℕ, suc, ◌<◌, Bool, true, false, ◌&&◌, not, List, [], ◌∷◌, ◌++◌, Option, None, Some, length, flat_map, refl, sym, ap, ◌∙◌, arith, subst, codes}
-use Rattle.basis.proofs.Bools.{and_left, and_right, and_both}
+use Rattle.std.proofs.Common.{◌≡◌, ℕ, suc, ◌<◌, Bool, true, false, ◌&&◌, not, List, [], ◌∷◌, ◌++◌, Option, None, Some, length, flat_map, refl, sym, ap, ◌∙◌, subst, codes, zero-lt-suc}
+use Rattle.basis.proofs.Bools.{and_left, and_right, and_both, and_assoc}
+use Rattle.basis.proofs.Numbers.{one_within}
+use Rattle.basis.proofs.Lists.{longer}
 use Rattle.vast.specs.Words.{Text, is_name, reserved_words}
 use Rattle.vast.specs.Expressions.{ExpressionTree, spell_expression}
 use Rattle.vast.specs.Statements.{StatementTree, empty}
@@ -18,20 +20,13 @@ use Rattle.vgrammar.specs.Statements.{named, word_only, List_of, comma_list, sta
 use Rattle.vgrammar.specs.Modules.{free_value, type, parameter_type, setting, declared, Value, value_in, connection_of, connection, Connections, connections_of, connections, instance_of, instance_behind, overrides, ended, net_of, local_of, Parameters, Variables, Instances, Item, item_of, item_parts, item}
 use Rattle.vgrammar.proofs.Phrases.{Shape, Phrase, Example, Worded, Opens, Makes, From, always, phrase_within, made_phrase, past_shape, past_phrase, past_example, nothing_phrase, worded_shape, worded_phrase, paired_shape, before_phrase, paired_example, free_phrase, next_phrase}
 use Rattle.vgrammar.proofs.PhraseChoices.{ends_maybe, maybe_shape, maybe_phrase, either_shape, either_phrase, either_tested, either_worded, Tested, allows_all}
-use Rattle.vgrammar.proofs.LevelFacts.{one_within, and_true, and_assoc}
+use Rattle.vgrammar.proofs.LevelFacts.{and_true}
 use Rattle.vgrammar.proofs.ValuePhrases.{nothing_example, only_shape, only_phrase, comma_shape, comma_phrase, allows_each}
 use Rattle.vgrammar.proofs.WordPhrases.{as_written, refused_first, value_refuses}
 use Rattle.vgrammar.proofs.PartPhrases.{text_shape, a_name, named_phrase}
 use Rattle.vgrammar.proofs.StatementShapes.{closes_statement, statement_shape, statement_closed}
 use Rattle.vgrammar.proofs.StatementLevels.{statement_phrase}
 use Rattle.vgrammar.proofs.HeadPhrases.{name_isnt, name_means_not, Free, free_phrase_value, free_example, ends_type, type_shape, type_phrase, ends_parameter_type, parameter_type_shape, parameter_type_phrase, name_ends_type, setting_shape, setting_phrase, a_setting, declared_shape, declared_phrase, a_declared, ended_shape, ended_phrase, ended_example, some_valid}
-
-positive : (n : ℕ) → 0 < suc n
-positive n = omega arith
-
-longer : (words : List Text) (word : Text) (more : List Text) → 0 < length (words ++ word ∷ more)
-longer [] word more = positive (length more)
-longer (one ∷ words) word more = positive (length (words ++ word ∷ more))
 
 abbrev close : Option Text → Bool
 close = is_front (codes ")")
@@ -151,7 +146,7 @@ module _ (below : ℕ) where
 
   value_in_phrase : Phrase (value_in levels) always ValueIn
   value_in_phrase =
-      either_phrase close (only_phrase (codes ")")) enclosed_phrase (λ tree v. positive _) enclosed_worded (λ tree v rest. refl)
+      either_phrase close (only_phrase (codes ")")) enclosed_phrase (λ tree v. zero-lt-suc _) enclosed_worded (λ tree v rest. refl)
       (refused_first close enclosed_phrase enclosed_worded refl refuses)
     where
       refuses : (word : Text) (words : List Text) (tree : Both ExpressionTree (Unit {0})) (left : List Text) → close (Some word)
@@ -267,14 +262,14 @@ module _ (below : ℕ) where
       made_phrase connections_of connections_shape back makes (λ tree next e. refl)
       (past_phrase (codes "(")
       (either_phrase dot by_name_phrase
-      (either_phrase close (only_phrase (codes ")")) by_order_phrase (λ tree v. positive _) by_order_worded (λ tree v rest. refl)
+      (either_phrase close (only_phrase (codes ")")) by_order_phrase (λ tree v. zero-lt-suc _) by_order_worded (λ tree v rest. refl)
       (by_order_not (codes ")") no_beginnings.0))
-      by_name_worded (either_worded (only_shape (codes ")")) ByOrder (λ tree v. positive _) by_order_worded) by_name_dot
+      by_name_worded (either_worded (only_shape (codes ")")) ByOrder (λ tree v. zero-lt-suc _) by_order_worded) by_name_dot
       (either_tested dot false (only_shape (codes ")")) ByOrder (λ tree v rest. refl) (by_order_not (codes ".") no_beginnings.1)))
       (record { tree = other_way (one_way tt); valid = refl }))
     where
       by_name_worded : Worded ByName
-      by_name_worded (both (both tree more) end) v = positive _
+      by_name_worded (both (both tree more) end) v = zero-lt-suc _
 
       by_name_dot : Tested dot true ByName
       by_name_dot (both (both tree more) end) v rest = refl
@@ -353,7 +348,7 @@ module _ (below : ℕ) where
   Overrides = maybe_shape hash always (past_shape (codes "#") connections_shape)
 
   overrides_phrase : Phrase (overrides levels) (ends_maybe hash always) Overrides
-  overrides_phrase = maybe_phrase hash (past_phrase (codes "#") connections_phrase no_connections) (λ tree v. positive _)
+  overrides_phrase = maybe_phrase hash (past_phrase (codes "#") connections_phrase no_connections) (λ tree v. zero-lt-suc _)
       (λ tree v rest. refl)
 
   -- Each kind of item
@@ -397,18 +392,18 @@ module _ (below : ℕ) where
   InstancesShape = paired_shape (text_shape is_name) (paired_shape Overrides InstanceList)
 
   settings_worded : Worded Settings
-  settings_worded (both (both tree more) end) v = positive _
+  settings_worded (both (both tree more) end) v = zero-lt-suc _
 
   declared_worded : Worded Declared
   declared_worded (both (both tree more) end) v = by_value tree.value
     where
       by_value : (o : Option ExpressionTree) → 0 < length ((spell_value tree.name o
           ++ flat_map (λ other. codes "," ∷ spell_declared other) more) ++ codes ";" ∷ [])
-      by_value None = positive _
-      by_value (Some one) = positive _
+      by_value None = zero-lt-suc _
+      by_value (Some one) = zero-lt-suc _
 
   instance_list_worded : Worded InstanceList
-  instance_list_worded (both (both tree more) end) v = positive _
+  instance_list_worded (both (both tree more) end) v = zero-lt-suc _
 
   a_type : Example (type_shape below)
   a_type = record { tree = record { signed = false; range = None }; valid = refl }
@@ -514,28 +509,28 @@ module _ (below : ℕ) where
   variables_not test none (both kind more) v rest = none kind
 
   instances_worded : Worded InstancesShape
-  instances_worded (both letters more) v = positive _
+  instances_worded (both letters more) v = zero-lt-suc _
 
   variables_worded : Worded VariablesShape
-  variables_worded (both kind more) v = positive _
+  variables_worded (both kind more) v = zero-lt-suc _
 
   parameters_worded : Worded ParametersShape
-  parameters_worded (both local more) v = positive _
+  parameters_worded (both local more) v = zero-lt-suc _
 
   from_always_worded : Worded FromAlways
-  from_always_worded = either_worded (past_shape (codes "always") Body) InstancesShape (λ tree v. positive _) instances_worded
+  from_always_worded = either_worded (past_shape (codes "always") Body) InstancesShape (λ tree v. zero-lt-suc _) instances_worded
 
   from_initial_worded : Worded FromInitial
-  from_initial_worded = either_worded (past_shape (codes "initial") Body) FromAlways (λ tree v. positive _) from_always_worded
+  from_initial_worded = either_worded (past_shape (codes "initial") Body) FromAlways (λ tree v. zero-lt-suc _) from_always_worded
 
   from_assign_worded : Worded FromAssign
-  from_assign_worded = either_worded (past_shape (codes "assign") Settings) FromInitial (λ tree v. positive _) from_initial_worded
+  from_assign_worded = either_worded (past_shape (codes "assign") Settings) FromInitial (λ tree v. zero-lt-suc _) from_initial_worded
 
   from_event_worded : Worded FromEvent
-  from_event_worded = either_worded (past_shape (codes "event") Names) FromAssign (λ tree v. positive _) from_assign_worded
+  from_event_worded = either_worded (past_shape (codes "event") Names) FromAssign (λ tree v. zero-lt-suc _) from_assign_worded
 
   from_integer_worded : Worded FromInteger
-  from_integer_worded = either_worded (past_shape (codes "integer") Declared) FromEvent (λ tree v. positive _) from_event_worded
+  from_integer_worded = either_worded (past_shape (codes "integer") Declared) FromEvent (λ tree v. zero-lt-suc _) from_event_worded
 
   from_variables_worded : Worded FromVariables
   from_variables_worded = either_worded VariablesShape FromInteger variables_worded from_integer_worded
@@ -580,16 +575,16 @@ module _ (below : ℕ) where
       (either_phrase (is_front (codes "assign")) (loose (past_phrase (codes "assign") settings_phrase settings_example))
       (either_phrase (is_front (codes "initial")) (past_phrase (codes "initial") body_phrase a_body)
       (either_phrase (is_front (codes "always")) (past_phrase (codes "always") body_phrase a_body) (loose instances_phrase)
-      (λ tree v. positive _) instances_worded (λ tree v rest. refl) (not_named (codes "always") no_names.0))
-      (λ tree v. positive _) from_always_worded (λ tree v rest. refl)
+      (λ tree v. zero-lt-suc _) instances_worded (λ tree v rest. refl) (not_named (codes "always") no_names.0))
+      (λ tree v. zero-lt-suc _) from_always_worded (λ tree v rest. refl)
       (from_always_not (is_front (codes "initial")) refl (not_named (codes "initial") no_names.1)))
-      (λ tree v. positive _) from_initial_worded (λ tree v rest. refl)
+      (λ tree v. zero-lt-suc _) from_initial_worded (λ tree v rest. refl)
       (from_initial_not (is_front (codes "assign")) refl
       (from_always_not (is_front (codes "assign")) refl (not_named (codes "assign") no_names.2))))
-      (λ tree v. positive _) from_assign_worded (λ tree v rest. refl)
+      (λ tree v. zero-lt-suc _) from_assign_worded (λ tree v rest. refl)
       (from_assign_not (is_front (codes "event")) refl (from_initial_not (is_front (codes "event")) refl
       (from_always_not (is_front (codes "event")) refl (not_named (codes "event") no_names.3)))))
-      (λ tree v. positive _) from_event_worded (λ tree v rest. refl)
+      (λ tree v. zero-lt-suc _) from_event_worded (λ tree v rest. refl)
       (from_event_not (is_front (codes "integer")) refl
       (from_assign_not (is_front (codes "integer")) refl (from_initial_not (is_front (codes "integer")) refl
       (from_always_not (is_front (codes "integer")) refl (not_named (codes "integer") no_names.4))))))

@@ -1,7 +1,7 @@
 -- Levels of trees, and truth values in another order.
 use Rattle.std.proofs.Common.{◌≡◌, ℕ, suc, ◌+◌, ◌<◌, ◌≤◌, Bool, true, false, ◌&&◌, max, nat_le, refl, ap, ◌∙◌, arith}
 use Rattle.std.proofs.lemmas.Bool.Decides.{nat_tests}
-use Rattle.basis.proofs.Bools.{and_left, and_right, and_both, same_truth}
+use Rattle.basis.proofs.Bools.{and_left, and_right, and_both, same_truth, and_false}
 
 pub one_up : (d n : ℕ) → nat_le (1 + d) (suc n) ≡ nat_le d n
 one_up d n = same_truth (nat_le (1 + d) (suc n)) (nat_le d n) (down d n) (up d n)
@@ -30,9 +30,6 @@ larger_two c d n =
 pub two_up : (c d n : ℕ) → nat_le (1 + max c d) (suc n) ≡ (nat_le c n && nat_le d n)
 two_up c d n = one_up (max c d) n ∙ larger_two c d n
 
-pub one_within : (n : ℕ) → nat_le 1 (suc n) ≡ true
-one_within n = grind (arith, nat_tests)
-
 pub none_within : (d : ℕ) → nat_le (1 + d) 0 ≡ true → ⊥
 none_within d e = true_false (nat_le (1 + d) 0) e (none d)
   where
@@ -54,14 +51,6 @@ within_more d n m e f = grind (arith, nat_tests)
 pub and_true : (a : Bool) → (a && true) ≡ a
 and_true true = refl
 and_true false = refl
-
-pub and_false : (a : Bool) → (a && false) ≡ false
-and_false true = refl
-and_false false = refl
-
-pub and_assoc : (a b c : Bool) → ((a && b) && c) ≡ (a && (b && c))
-and_assoc true b c = refl
-and_assoc false b c = refl
 
 -- two that fit and are within the levels
 pub pair_valid : (f g p q : Bool) → ((f && g) && (p && q)) ≡ ((f && p) && (g && q))

@@ -1,10 +1,10 @@
 -- With three levels more: modules and whole texts.
 use Rattle.std.proofs.Common.{ℕ, suc, not, codes}
+use Rattle.basis.proofs.Numbers.{one_within}
 use Rattle.vexpr_parse.specs.Readers.{Reader, is_front}
 use Rattle.vgrammar.specs.Starts.{is_meant}
 use Rattle.vgrammar.specs.Statements.{statement}
 use Rattle.vgrammar.specs.Modules.{free_value, range_of, range, type_of, type, parameter_type_of, parameter_type, setting_of, setting, declared_of, declared, value_in, connection_of, connection, connections_of, connections, instance_of, instance_behind, overrides, ended, net_of, local_of, item_of, item_parts, item, first_parameter_of, head_parameter_of, first_parameter, head_parameter, head_parameters, direction_of, direction, is_direction, first_port_of, port_of, first_port, port, ports_of, ports, head_list_of, module_of, module_tree, is_some_word, source}
-use Rattle.vgrammar.proofs.LevelFacts.{one_within}
 use Rattle.vgrammar.proofs.Growth.{up, Growth, past_growth, made_growth, paired_growth, worded_growth, either_growth, maybe_growth, many_growth}
 use Rattle.vgrammar.proofs.PartGrowth.{value_growth, only_growth, comma_growth, named_word}
 use Rattle.vgrammar.proofs.StatementGrowth.{statement_growth}

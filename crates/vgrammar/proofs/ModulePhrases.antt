@@ -1,8 +1,9 @@
 -- Heads of modules, modules and whole texts.
-use Rattle.std.proofs.Common.{◌≡◌, ℕ, suc, ◌<◌, Bool, true, false, ◌&&◌, not, List, [], ◌∷◌, ◌++◌, Option, None, Some, length, flat_map, refl, sym, ap, ◌∙◌, arith, subst, codes}
+use Rattle.std.proofs.Common.{◌≡◌, ℕ, suc, ◌<◌, Bool, true, false, ◌&&◌, not, List, [], ◌∷◌, ◌++◌, Option, None, Some, length, flat_map, refl, sym, ap, ◌∙◌, subst, codes, zero-lt-suc}
 use Rattle.std.specs.List.{list_all}
 use Rattle.std.specs.Str.{bytes_eq}
-use Rattle.basis.proofs.Bools.{and_left, and_right, and_both}
+use Rattle.std.proofs.lemmas.Bool.{false_from_ne_true}
+use Rattle.basis.proofs.Bools.{and_left, and_right, and_both, clash, and_assoc}
 use Rattle.vast.specs.Words.{Text, is_name, reserved_words}
 use Rattle.vast.specs.Statements.{listed, in_parentheses}
 use Rattle.vast.specs.Modules.{RangeTree, TypeTree, ParameterType, typed, SettingTree, DirectionTree, input, output, PortTree, HeadParameter, ItemTree, parameters, declaration, variables, integers, events, assignments, initial, always as always_item, instances, ModuleTree, SourceTree, spell_range, spell_signed, spell_type, spell_direction, spell_port, spell_head_parameter, spell_module, fits_type, fits_direction, fits_port, is_directed, fits_ports, fits_head_parameter, is_kind, fits_head_parameters, fits_item, fits_module, net_word}
@@ -19,15 +20,12 @@ use Rattle.vgrammar.specs.Statements.{word_only, List_of, ends_statement}
 use Rattle.vgrammar.specs.Modules.{type, parameter_type, setting, net_of, item, first_parameter_of, head_parameter_of, first_parameter, head_parameter, head_parameters, Direction, direction_of, direction, is_direction, first_port_of, port_of, first_port, port, Ports, ports_of, ports, head_list_of, Module, module_of, module_tree, is_some_word, source}
 use Rattle.vgrammar.proofs.Phrases.{Shape, Phrase, Example, Worded, Opens, Makes, From, always, phrase_within, made_phrase, past_shape, past_phrase, past_example, nothing_phrase, paired_shape, paired_phrase, before_phrase, paired_example, free_phrase, next_phrase}
 use Rattle.vgrammar.proofs.PhraseChoices.{ends_maybe, maybe_shape, maybe_phrase, either_shape, either_phrase, Tested, ends_many, allows_all, many_shape, many_phrase}
-use Rattle.vgrammar.proofs.LevelFacts.{and_true, and_assoc}
+use Rattle.vgrammar.proofs.LevelFacts.{and_true}
 use Rattle.vgrammar.proofs.ValuePhrases.{nothing_example, only_shape, only_phrase, comma, list_phrase, allows_each}
-use Rattle.vgrammar.proofs.WordPhrases.{clash, not_so, refused_first}
+use Rattle.vgrammar.proofs.WordPhrases.{refused_first}
 use Rattle.vgrammar.proofs.PartPhrases.{text_shape, a_name, named_phrase}
 use Rattle.vgrammar.proofs.HeadPhrases.{name_isnt, name_means_not, phrase_closing, ends_type, type_phrase, ends_parameter_type, parameter_type_shape, parameter_type_phrase, name_ends_type, setting_shape, setting_phrase, a_setting}
 use Rattle.vgrammar.proofs.ItemPhrases.{net_shape, net_phrase, item_shape, item_phrase}
-
-positive : (n : ℕ) → 0 < suc n
-positive n = omega arith
 
 no_list : (b : Bool) → (false && b) ≡ true → ⊥
 no_list b e = let none : false ≡ true = e in cc
@@ -47,7 +45,7 @@ ends_direction next = ends_type next && not (net_next next)
 no_wire : (next : Option Text) → not (net_next next) ≡ true → not (wire_next next) ≡ true
 no_wire None e = refl
 no_wire (Some word) e =
-    ap not (not_so (bytes_eq (codes "wire") word)
+    ap not (false_from_ne_true (bytes_eq (codes "wire") word)
     (λ f. false_true (subst (λ w. not (net_next (Some w)) ≡ true) (sym (same_text (codes "wire") word f)) e)))
   where
     false_true : false ≡ true → ⊥
@@ -138,7 +136,7 @@ module _ (below : ℕ) where
   a_type = record { tree = typed (record { signed = false; range = None }); valid = refl }
 
   setting_worded : Worded (setting_shape below)
-  setting_worded tree v = positive _
+  setting_worded tree v = zero-lt-suc _
 
   typed_setting : Phrase (paired (parameter_type levels) (setting levels)) (ends 0)
       (paired_shape (parameter_type_shape below) (setting_shape below))
@@ -182,7 +180,7 @@ module _ (below : ℕ) where
       made_phrase head_parameter_of head_shape (λ tree v. record { parts = both tree.kind tree.setting; is = refl }) makes
       (λ tree next e. e)
       (next_phrase (maybe_phrase parameter_next (past_phrase (codes "parameter") (parameter_type_phrase below) a_type)
-      (λ tree v. positive _)
+      (λ tree v. zero-lt-suc _)
       (λ tree v rest. refl)) (setting_phrase below) (a_setting below) setting_worded opens)
     where
       opens : Opens (ends_maybe parameter_next ends_parameter_type) (setting_shape below)
@@ -304,7 +302,7 @@ module _ (below : ℕ) where
       (paired (maybe wire_next (word_only (codes "wire"))) (type levels))) ends_direction InputParts
   input_phrase =
       past_phrase (codes "input")
-      (paired_phrase (maybe_phrase wire_next (only_phrase (codes "wire")) (λ tree v. positive _)
+      (paired_phrase (maybe_phrase wire_next (only_phrase (codes "wire")) (λ tree v. zero-lt-suc _)
       (λ tree v rest. refl)) last_type_phrase
       plain_type
       (type_opens (λ next. not (wire_next next)) refl refl (λ next e. no_wire next (and_right (ends_type next) _ e)))
@@ -315,7 +313,7 @@ module _ (below : ℕ) where
       (paired (maybe net_next (worded net_of)) (type levels))) ends_direction OutputParts
   output_phrase =
       past_phrase (codes "output")
-      (paired_phrase (maybe_phrase net_next net_phrase (λ tree v. positive 0) begins) last_type_phrase plain_type
+      (paired_phrase (maybe_phrase net_next net_phrase (λ tree v. zero-lt-suc 0) begins) last_type_phrase plain_type
       (type_opens (λ next. not (net_next next)) refl refl (λ next e. and_right (ends_type next) _ e))
       (λ y v none next e. and_right (ends_type next) _ e))
       (paired_example no_net_part plain_type)
@@ -335,7 +333,7 @@ module _ (below : ℕ) where
   direction_phrase : Phrase (direction levels) ends_direction direction_shape
   direction_phrase =
       made_phrase direction_of direction_shape back makes (λ tree next e. e)
-      (either_phrase (is_front (codes "input")) input_phrase output_phrase (λ tree v. positive _) (λ tree v. positive _)
+      (either_phrase (is_front (codes "input")) input_phrase output_phrase (λ tree v. zero-lt-suc _) (λ tree v. zero-lt-suc _)
       (λ tree v rest. refl)
       (λ tree v rest. refl))
     where
@@ -385,7 +383,7 @@ module _ (below : ℕ) where
   first_port_phrase : Phrase (first_port levels) always first_port_shape
   first_port_phrase =
       made_phrase first_port_of first_port_shape back makes (λ tree next e. refl)
-      (next_phrase direction_phrase named_phrase a_name (λ letters v. positive 0)
+      (next_phrase direction_phrase named_phrase a_name (λ letters v. zero-lt-suc 0)
       (λ letters v rest c. name_ends_direction letters v))
     where
       by_direction : (tree : PortTree) (o : Option DirectionTree) → tree.direction ≡ o → is_directed o ≡ true →
@@ -418,14 +416,14 @@ module _ (below : ℕ) where
   port_phrase =
       made_phrase port_of port_shape (λ tree v. record { parts = both tree.direction tree.name; is = refl }) makes
       (λ tree next e. refl)
-      (next_phrase (maybe_phrase is_direction direction_phrase some begins) named_phrase a_name (λ letters v. positive 0)
+      (next_phrase (maybe_phrase is_direction direction_phrase some begins) named_phrase a_name (λ letters v. zero-lt-suc 0)
       (λ letters v rest c. and_both (ends_direction (Some letters)) (not (is_direction (Some letters)))
       (name_ends_direction letters v)
       (ap not (no_direction letters v))))
     where
       some : Worded direction_shape
-      some (input wire tree) v = positive _
-      some (output kind tree) v = positive _
+      some (input wire tree) v = zero-lt-suc _
+      some (output kind tree) v = zero-lt-suc _
 
       begins : Tested is_direction true direction_shape
       begins (input wire tree) v rest = refl
@@ -475,7 +473,7 @@ module _ (below : ℕ) where
       (either_phrase close (only_phrase (codes ")"))
       (before_phrase (codes ")") (list_phrase first_port_phrase port_phrase a_port refl)
       (nothing_phrase always) nothing_example refl)
-      (λ tree v. positive _) some (λ tree v rest. refl) not_close)
+      (λ tree v. zero-lt-suc _) some (λ tree v rest. refl) not_close)
       (record { tree = one_way tt; valid = refl }))
     where
       some : Worded PortList
@@ -483,9 +481,9 @@ module _ (below : ℕ) where
         where
           by_direction : (o : Option DirectionTree) → 0 < length (((spell_direction o ++ tree.name ∷ [])
               ++ flat_map (λ other. codes "," ∷ spell_port other) more) ++ codes ")" ∷ [])
-          by_direction None = positive _
-          by_direction (Some (input wire kind)) = positive _
-          by_direction (Some (output kind way)) = positive _
+          by_direction None = zero-lt-suc _
+          by_direction (Some (input wire kind)) = zero-lt-suc _
+          by_direction (Some (output kind way)) = zero-lt-suc _
 
       not_close : Tested close false PortList
       not_close (both (both tree more) end) v rest =
@@ -521,14 +519,14 @@ module _ (below : ℕ) where
           closes (other_way (both list end)) next = refl
 
   pub item_worded : Worded (item_shape below)
-  item_worded (parameters local kind list) v = positive _
-  item_worded (declaration (variables kind tree) list) v = positive _
-  item_worded (declaration integers list) v = positive _
-  item_worded (events list) v = positive _
-  item_worded (assignments list) v = positive _
-  item_worded (initial body) v = positive _
-  item_worded (always_item body) v = positive _
-  item_worded (instances letters tree list) v = positive _
+  item_worded (parameters local kind list) v = zero-lt-suc _
+  item_worded (declaration (variables kind tree) list) v = zero-lt-suc _
+  item_worded (declaration integers list) v = zero-lt-suc _
+  item_worded (events list) v = zero-lt-suc _
+  item_worded (assignments list) v = zero-lt-suc _
+  item_worded (initial body) v = zero-lt-suc _
+  item_worded (always_item body) v = zero-lt-suc _
+  item_worded (instances letters tree list) v = zero-lt-suc _
 
   -- a word that begins no item
   no_item : (text : Text) → ((words : List Text) → item levels (text ∷ words) ≡ stop NoTree (text ∷ words)) →
@@ -590,7 +588,7 @@ module _ (below : ℕ) where
       (word_only (codes "endmodule"))))) always PortsPart
   ports_part_phrase =
       before_phrase (codes ";")
-      (maybe_phrase opening ports_phrase (λ tree v. positive _) (λ tree v rest. refl)) items_phrase no_items refl
+      (maybe_phrase opening ports_phrase (λ tree v. zero-lt-suc _) (λ tree v rest. refl)) items_phrase no_items refl
 
   pub module_phrase : Phrase (module_tree levels) always module_shape
   module_phrase =
@@ -599,15 +597,15 @@ module _ (below : ℕ) where
       (λ tree next e. refl)
       (past_phrase (codes "module")
       (free_phrase named_phrase
-      (next_phrase (maybe_phrase hash (past_phrase (codes "#") heads_phrase heads_example) (λ tree v. positive _)
+      (next_phrase (maybe_phrase hash (past_phrase (codes "#") heads_phrase heads_example) (λ tree v. zero-lt-suc _)
       (λ tree v rest. refl))
       ports_part_phrase ports_example some opens)
       (paired_example no_head ports_example))
       (paired_example a_name (paired_example no_head ports_example)))
     where
       some : Worded PortsPart
-      some (both None body) v = positive _
-      some (both (Some list) body) v = positive _
+      some (both None body) v = zero-lt-suc _
+      some (both (Some list) body) v = zero-lt-suc _
 
       opens : Opens (ends_maybe hash always) PortsPart
       opens (both None body) v rest c = refl
@@ -657,5 +655,5 @@ module _ (below : ℕ) where
   source_phrase =
       many_phrase is_some_word (λ list. module_tree levels) always module_shape (λ list. fits_module levels)
       (λ list. module_phrase)
-      (λ list tree v. positive _)
+      (λ list tree v. zero-lt-suc _)
       (λ list tree rest v. refl) (λ list tree rest v. refl)

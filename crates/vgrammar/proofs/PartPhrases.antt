@@ -1,8 +1,10 @@
 -- Delays, event controls, arguments and what is dumped, behind their first words.
-use Rattle.std.proofs.Common.{◌≡◌, ℕ, suc, ◌<◌, Bool, true, false, ◌&&◌, not, nat_le, List, [], ◌∷◌, ◌++◌, Option, None, Some, length, flat_map, refl, sym, ap, ◌∙◌, arith, codes}
+use Rattle.std.proofs.Common.{◌≡◌, ℕ, suc, ◌<◌, Bool, true, false, ◌&&◌, not, nat_le, List, [], ◌∷◌, ◌++◌, Option, None, Some, length, flat_map, refl, sym, ap, ◌∙◌, codes, zero-lt-suc}
 use Rattle.std.specs.List.{list_all}
 use Rattle.std.specs.Str.{bytes_eq}
-use Rattle.basis.proofs.Bools.{and_left, and_both}
+use Rattle.std.proofs.lemmas.Bool.{false_from_ne_true}
+use Rattle.basis.proofs.Bools.{and_left, and_both, clash}
+use Rattle.basis.proofs.Numbers.{one_within}
 use Rattle.vast.specs.Words.{Text, is_name, is_number, is_string, reserved_words}
 use Rattle.vast.specs.Expressions.{ExpressionTree, spell_expression, fits_expression, depth}
 use Rattle.vast.specs.Statements.{DelayTree, by_number, by_name, by_value, in_parentheses, spell_delay, delay_depth, fits_delay, TermTree, FurtherTerm, EventTree, by_event, by_any, by_any_enclosed, by_terms, edge_word, spell_edge, spell_term, spell_further_term, fits_event, fits_further_term, ArgumentTree, quoted, printed, spell_argument, argument_depth, fits_argument, SelectionTree, spell_path, fits_path}
@@ -16,12 +18,9 @@ use Rattle.vgrammar.specs.Starts.{is_word, edge_of, comma_of, comma_word, is_mea
 use Rattle.vgrammar.specs.Statements.{value, named, numbered, List_of, comma_list, word_only, Amount, delay_of, amount, optional_delay, term_of, term, further_of, further_term, Terms, Event, event_of, enclosed_event, control, argument_of, argument, Arguments, arguments, path_of, path, Selection, selection_of, selection}
 use Rattle.vgrammar.proofs.Phrases.{Shape, Phrase, Example, Worded, Makes, From, always, phrase_within, made_phrase, past_shape, past_phrase, nothing_phrase, worded_shape, worded_phrase, paired_shape, before_phrase, paired_example, free_phrase, next_phrase}
 use Rattle.vgrammar.proofs.PhraseChoices.{ends_maybe, maybe_shape, maybe_phrase, either_shape, either_phrase, Tested, allows_all, many_shape, many_phrase}
-use Rattle.vgrammar.proofs.LevelFacts.{one_within, and_true}
+use Rattle.vgrammar.proofs.LevelFacts.{and_true}
 use Rattle.vgrammar.proofs.ValuePhrases.{value_shape, value_phrase, value_example, value_worded, nothing_example, word_if_phrase, only_shape, only_phrase, only_example, comma, comma_shape, more_behind, comma_phrase, allows_each}
-use Rattle.vgrammar.proofs.WordPhrases.{clash, not_so, name_no_number, as_written, refused_first, value_refuses, string_is_other}
-
-positive : (n : ℕ) → 0 < suc n
-positive n = omega arith
+use Rattle.vgrammar.proofs.WordPhrases.{name_no_number, as_written, refused_first, value_refuses, string_is_other}
 
 -- Words
 
@@ -78,14 +77,14 @@ module _ (below : ℕ) (level : nat_le 1 below ≡ true) where
       (past (codes "(") (paired (value below) (word_only (codes ")")))))) always AmountParts
   amount_parts_phrase =
       either_phrase (is_word is_number) numbered_phrase
-      (either_phrase (is_word is_name) named_phrase enclosed_phrase (λ tree v. positive 0) (λ tree v. positive _)
+      (either_phrase (is_word is_name) named_phrase enclosed_phrase (λ tree v. zero-lt-suc 0) (λ tree v. zero-lt-suc _)
       (λ tree v rest. v)
       (λ tree v rest. refl))
-      (λ tree v. positive 0) some (λ tree v rest. v) no_number
+      (λ tree v. zero-lt-suc 0) some (λ tree v rest. v) no_number
     where
       some : Worded (either_shape (text_shape is_name) Enclosed)
-      some (one_way letters) v = positive 0
-      some (other_way tree) v = positive _
+      some (one_way letters) v = zero-lt-suc 0
+      some (other_way tree) v = zero-lt-suc _
 
       no_number : Tested (is_word is_number) false (either_shape (text_shape is_name) Enclosed)
       no_number (one_way letters) v rest = name_no_number letters v
@@ -129,7 +128,7 @@ module _ (below : ℕ) (level : nat_le 1 below ≡ true) where
   pub optional_delay_phrase : Phrase (optional_delay below) (ends_maybe (is_front (codes "#")) always)
       (maybe_shape (is_front (codes "#")) always (past_shape (codes "#") (amount_shape below)))
   optional_delay_phrase = maybe_phrase (is_front (codes "#")) (past_phrase (codes "#") amount_phrase amount_example)
-      (λ tree v. positive _) (λ tree v rest. refl)
+      (λ tree v. zero-lt-suc _) (λ tree v rest. refl)
 
 -- Event controls
 
@@ -185,8 +184,8 @@ term_phrase : Phrase term always term_shape
 term_phrase =
     made_phrase term_of term_shape (λ tree v. record { parts = both tree.edge tree.name; is = refl }) term_makes
     (λ tree next e. refl)
-    (next_phrase (maybe_phrase (is_meant edge_of) edge_phrase (λ kind v. positive 0) begins) named_phrase a_name
-    (λ letters v. positive 0)
+    (next_phrase (maybe_phrase (is_meant edge_of) edge_phrase (λ kind v. zero-lt-suc 0) begins) named_phrase a_name
+    (λ letters v. zero-lt-suc 0)
     (λ letters v rest c. ap not (no_edge letters v)))
   where
     begins : Tested (is_meant edge_of) true edge_shape
@@ -248,7 +247,7 @@ terms_phrase =
     before_phrase (codes ")")
     (free_phrase term_phrase
     (many_phrase further (λ list. further_term) always further_shape (λ list. fits_further_term) (λ list. further_phrase)
-    (λ list tree v. positive _) (λ list tree rest v. begins tree.by_comma) (λ list tree rest v. refl))
+    (λ list tree v. zero-lt-suc _) (λ list tree rest v. begins tree.by_comma) (λ list tree rest v. refl))
     (record { tree = []; valid = refl }))
     (nothing_phrase always) nothing_example refl
   where
@@ -266,13 +265,13 @@ abbrev star : Option Text → Bool
 star = is_front (codes "*")
 
 no_star : (letters : Text) → is_name letters ≡ true → bytes_eq (codes "*") letters ≡ false
-no_star letters is = not_so (bytes_eq (codes "*") letters)
+no_star letters is = false_from_ne_true (bytes_eq (codes "*") letters)
     (λ e. clash (is_name letters) is (sym (ap is_name (same_text (codes "*") letters e))))
 
 enclosed_event_phrase : Phrase enclosed_event always enclosed_event_shape
 enclosed_event_phrase =
     either_phrase star (past_phrase (codes "*") (only_phrase (codes ")")) (only_example (codes ")"))) terms_phrase
-    (λ tree v. positive _)
+    (λ tree v. zero-lt-suc _)
     some (λ tree v rest. refl) no_stars
   where
     some : Worded terms_shape
@@ -280,8 +279,8 @@ enclosed_event_phrase =
       where
         by_edge : (kind : Option Edge) →
             0 < length (((spell_edge kind ++ tree.name ∷ []) ++ flat_map spell_further_term more) ++ codes ")" ∷ [])
-        by_edge None = positive _
-        by_edge (Some kind) = positive _
+        by_edge None = zero-lt-suc _
+        by_edge (Some kind) = zero-lt-suc _
 
     no_stars : Tested star false terms_shape
     no_stars (both (both tree more) end) v rest = by_edge tree.edge
@@ -336,8 +335,8 @@ control_phrase =
     (either_phrase (is_word is_name) named_phrase
     (either_phrase star (only_phrase (codes "*"))
     (past_phrase (codes "(") enclosed_event_phrase (record { tree = other_way terms_example.tree; valid = terms_example.valid }))
-    (λ tree v. positive _) (λ tree v. positive _) (λ tree v rest. refl) (λ tree v rest. refl))
-    (λ tree v. positive 0) some (λ tree v rest. v) no_name)
+    (λ tree v. zero-lt-suc _) (λ tree v. zero-lt-suc _) (λ tree v rest. refl) (λ tree v rest. refl))
+    (λ tree v. zero-lt-suc 0) some (λ tree v rest. v) no_name)
   where
     back : (tree : EventTree) → fits_event tree ≡ true → From event_of tree
     back (by_event letters) v = record { parts = one_way letters; is = refl }
@@ -346,8 +345,8 @@ control_phrase =
     back (by_terms tree more) v = record { parts = other_way (other_way (other_way (both (both tree more) tt))); is = refl }
 
     some : Worded (either_shape (only_shape (codes "*")) (past_shape (codes "(") enclosed_event_shape))
-    some (one_way end) v = positive _
-    some (other_way tree) v = positive _
+    some (one_way end) v = zero-lt-suc _
+    some (other_way tree) v = zero-lt-suc _
 
     no_name : Tested (is_word is_name) false (either_shape (only_shape (codes "*")) (past_shape (codes "(") enclosed_event_shape))
     no_name (one_way end) v rest = refl
@@ -388,7 +387,7 @@ module _ (below : ℕ) (level : nat_le 1 below ≡ true) where
   argument_phrase =
       made_phrase argument_of (argument_shape below) back argument_makes (λ tree next e. e)
       (either_phrase (is_word is_string) (phrase_within (ends 0) (word_if_phrase is_string) (λ next e. refl)) (value_phrase below)
-      (λ tree v. positive 0) (value_worded below) (λ tree v rest. v)
+      (λ tree v. zero-lt-suc 0) (value_worded below) (λ tree v rest. v)
       (refused_first (is_word is_string) (value_phrase below) (value_worded below) refl
       (λ word words tree left is e. value_refuses below word (string_is_other word is) words tree left e)))
     where

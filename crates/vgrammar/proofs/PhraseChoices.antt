@@ -1,6 +1,6 @@
 -- What readers made of others read, continued: what may be left out, one or another, one behind the other, where levels are left.
 use Rattle.std.proofs.Common.{◌≡◌, ℕ, zero, suc, ◌<◌, Bool, true, false, ◌&&◌, not, nat_le, if◌then◌else◌, List, [], ◌∷◌, ◌++◌, Option, None, Some, length, flat_map, refl, sym, ap, ◌∙◌, arith, inl, inr, subst, append_assoc}
-use Rattle.std.proofs.lemmas.Bool.{cases_Bool}
+use Rattle.std.proofs.lemmas.Bool.{cases_Bool, not-true}
 use Rattle.std.proofs.lemmas.List.{append-nil}
 use Rattle.basis.proofs.Bools.{and_left, and_right, and_both}
 use Rattle.vast.specs.Words.{Text}
@@ -11,10 +11,6 @@ use Rattle.vexpr_parse.proofs.ReaderRules.{chosen, passed_over, stop_got, got_tr
 use Rattle.vexpr_parse.proofs.ReaderLoops.{option_rule, choose_sees, turns_end, turns_on, turns_rule}
 use Rattle.vgrammar.specs.Parts.{Either, one_way, other_way, made, one_behind, many, maybe, either, roomy}
 use Rattle.vgrammar.proofs.Phrases.{Shape, Sound, Complete, Phrase, same_got, Worded, sound_eats, lawful_within, Makes, made_lawful, made_sound, made_complete}
-
-pub not_true : (b : Bool) → not b ≡ true → b ≡ false
-not_true true e = let clash : false ≡ true = e in absurd cc
-not_true false e = refl
 
 pub made_eats : {A B : Type 0} (make : A → B) (read : Reader A) → Eats read → Eats (made make read)
 made_eats make read eats words tree left e =
@@ -68,7 +64,7 @@ maybe_phrase {A = A} test {read = read} {ends = ends} {s = s} p some tests = rec
 }
   where
     not_tested : (first : Option Text) → ends_maybe test ends first ≡ true → test first ≡ false
-    not_tested first e = not_true (test first) (and_right (ends first) (not (test first)) e)
+    not_tested first e = not-true (test first) (and_right (ends first) (not (test first)) e)
 
     makes : Makes Some s (maybe_shape test ends s) []
     makes = record { spelled = λ tree. refl; valid = λ tree. refl; closes = λ tree first e. e; stops = λ tree first e. e }
@@ -280,7 +276,7 @@ module _ {A : Type 0} (test : Option Text → Bool) (read : List A → Reader A)
   ended first e = and_left (ends first) (not (test first)) e
 
   not_tested : (first : Option Text) → ends_many test ends first ≡ true → test first ≡ false
-  not_tested first e = not_true (test first) (and_right (ends first) (not (test first)) e)
+  not_tested first e = not-true (test first) (and_right (ends first) (not (test first)) e)
 
   many_lawful : Lawful (many test read) (ends_many test ends)
   many_lawful =

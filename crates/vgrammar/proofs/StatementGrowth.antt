@@ -1,6 +1,7 @@
 -- With three levels more: what was read as a statement or refused for good stays so, and a word that was refused for
 -- want of levels is passed.
 use Rattle.std.proofs.Common.{◌≡◌, ℕ, zero, suc, ◌<◌, ◌≤◌, Bool, true, false, ◌||◌, not, nat_le, if◌then◌else◌, List, [], ◌∷◌, Option, None, Some, length, refl, arith, codes}
+use Rattle.basis.proofs.Numbers.{one_within}
 use Rattle.vast.specs.Words.{Text, is_name, is_number, is_string}
 use Rattle.vast.specs.Expressions.{ExpressionTree}
 use Rattle.vast.specs.Statements.{StatementTree, BranchTree, DelayTree, forever}
@@ -14,7 +15,6 @@ use Rattle.vgrammar.specs.declared.start.StatementStart.TheVariants as start
 use Rattle.vgrammar.specs.Parts.{Both, both, made, paired, worded, maybe, roomy}
 use Rattle.vgrammar.specs.Starts.{start_of, begins_target, is_target, is_some_meaning, meant_if, sign_of}
 use Rattle.vgrammar.specs.Statements.{value, word_only, optional_delay, assignment_of, assignment_parts, assignment, target_lead, target, guarded, if_of, guarded_of, setting, for_of, delayed_of, event_body_of, block_of, has_default, branch_of, default_branch, branch, case_parts_of, case_parts, arguments, print_of, optional_print_of, dump_file_of, dump_vars_of, dump_of, end_of, trigger_of, statement_by, lead_by, statement, ends_statement}
-use Rattle.vgrammar.proofs.LevelFacts.{one_within}
 use Rattle.vgrammar.proofs.PartPhrases.{arguments_inner_phrase, arguments_phrase}
 use Rattle.vgrammar.proofs.StatementPhrases.{signed_phrase, assignment_phrase}
 use Rattle.vgrammar.proofs.StatementLevels.{statement_phrase, statement_leads}

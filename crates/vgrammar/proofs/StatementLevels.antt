@@ -2,7 +2,8 @@
 use Rattle.std.proofs.Common.{◌≡◌, ℕ, zero, suc, ◌+◌, ◌<◌, Bool, true, false, ◌&&◌, max, nat_le, if◌then◌else◌, List, [], ◌∷◌, ◌++◌, Option, None, Some, length, refl, sym, ap, ◌∙◌, arith, inl, inr, subst, append_assoc, codes}
 use Rattle.std.proofs.lemmas.Bool.{cases_Bool}
 use Rattle.std.proofs.lemmas.Bool.Decides.{nat_tests}
-use Rattle.basis.proofs.Bools.{and_left, and_right, or_left, or_right, or_first}
+use Rattle.basis.proofs.Bools.{and_left, and_right, or_left, or_right, or_first, clash}
+use Rattle.basis.proofs.Numbers.{one_within}
 use Rattle.vast.specs.Words.{Text, is_name, is_string, reserved_words}
 use Rattle.vast.specs.Expressions.{ExpressionTree, fits_expression, depth}
 use Rattle.vast.specs.Statements.{TargetTree, whole, bit, part, joined, TaskTree, print, dump_file, dump_vars, dump, end_run, StatementTree, empty, block, assign, nonblocking, trigger, if_true, if_else, case_of, while_true, repeat_times, forever, for_loop, wait_for, delay, event, task, StatementTrees, no_statement, first_statement, BranchTree, BranchTrees, no_branch, first_branch, spell_target, spell_statement, target_depth, statement_depth, fits_target, fits_statement}
@@ -25,10 +26,10 @@ use Rattle.vgrammar.specs.Statements.{Assignment, assignment_of, assignment_part
 use Rattle.vgrammar.proofs.Phrases.{Shape, Sound, Phrase, Makes, always, sound_eats, phrase_within, made_lawful, made_sound, made_complete, same_got}
 use Rattle.vgrammar.proofs.PhraseChoices.{Tested}
 use Rattle.vgrammar.proofs.PhraseLeads.{LeadSound, led_sound, if_sound, room_sound, made_lead_sound, made_lead, roomy_lead}
-use Rattle.vgrammar.proofs.LevelFacts.{one_up, larger_two, two_up, one_within, some_level}
+use Rattle.vgrammar.proofs.LevelFacts.{one_up, larger_two, two_up, some_level}
 use Rattle.vgrammar.proofs.ValuePhrases.{only_phrase, only_example}
 use Rattle.vgrammar.proofs.TargetPhrases.{target_deep}
-use Rattle.vgrammar.proofs.WordPhrases.{clash, as_written, refused_first}
+use Rattle.vgrammar.proofs.WordPhrases.{as_written, refused_first}
 use Rattle.vgrammar.proofs.PartPhrases.{selection_shape}
 use Rattle.vgrammar.proofs.StatementShapes.{closes_statement, statement_shape, statement_closed, statement_worded, statement_deep}
 use Rattle.vgrammar.proofs.StatementPhrases as parts

@@ -1,5 +1,5 @@
 -- Statements round others, behind their first words.
-use Rattle.std.proofs.Common.{◌≡◌, ℕ, suc, ◌+◌, ◌<◌, Bool, true, false, ◌&&◌, not, max, nat_le, List, [], ◌∷◌, ◌++◌, Option, None, Some, length, flat_map, refl, sym, ap, ◌∙◌, arith, subst, codes}
+use Rattle.std.proofs.Common.{◌≡◌, ℕ, suc, ◌+◌, ◌<◌, Bool, true, false, ◌&&◌, not, max, nat_le, List, [], ◌∷◌, ◌++◌, Option, None, Some, length, flat_map, refl, sym, ap, ◌∙◌, arith, subst, codes, zero-lt-suc}
 use Rattle.std.proofs.lemmas.List.{append-nil}
 use Rattle.std.proofs.lemmas.Bool.Decides.{nat_tests}
 use Rattle.basis.proofs.Bools.{and_left, and_right, and_both}
@@ -24,9 +24,6 @@ use Rattle.vgrammar.proofs.TargetPhrases.{target_shape, target_phrase, target_ex
 use Rattle.vgrammar.proofs.WordPhrases.{as_written, refused_first, value_refuses}
 use Rattle.vgrammar.proofs.PartPhrases.{text_shape, a_name, named_phrase, amount_shape, amount_behind, amount_phrase, amount_example, optional_delay_phrase, event_words, event_shape, control_phrase}
 use Rattle.vgrammar.proofs.StatementShapes.{closes_statement, statement_shape, statement_closed, behind_condition, two_valid, three_valid, else_valid, for_valid, all_within}
-
-positive : (n : ℕ) → 0 < suc n
-positive n = omega arith
 
 abbrev pub else_next : Option Text → Bool
 else_next = is_front (codes "else")
@@ -142,8 +139,8 @@ module _ (below : ℕ) (level : nat_le 1 below ≡ true) where
   right_side_worded (both tree end) v = longer (spell_expression tree) (value_worded below tree (and_left _ true v))
     where
       longer : (words : List Text) → 0 < length words → 0 < length (words ++ codes ";" ∷ [])
-      longer [] e = positive _
-      longer (word ∷ words) e = positive _
+      longer [] e = zero-lt-suc _
+      longer (word ∷ words) e = zero-lt-suc _
 
   no_hash : Tested hash false (right_side_shape below)
   unfolding beginning_of unary_of reserved_words
@@ -185,7 +182,7 @@ module _ (below : ℕ) (level : nat_le 1 below ≡ true) where
   assignment_phrase = next_phrase (target_phrase below) signed_phrase signed_example some opens
     where
       some : Worded (paired_shape sign_shape (paired_shape (delay_part_shape below) (right_side_shape below)))
-      some (both later more) v = positive _
+      some (both later more) v = zero-lt-suc _
 
       opens : Opens ends_primary (paired_shape sign_shape (paired_shape (delay_part_shape below) (right_side_shape below)))
       opens (both true more) v rest c = refl
@@ -255,7 +252,7 @@ module _ (below : ℕ) (read : Reader StatementTree) (p : Phrase read ends_state
   branches_phrase level =
       phrase_within ends_statement
       (linked_phrase Otherwise (λ x. Otherwise.valid) p
-      (λ x. maybe_phrase else_next (past_phrase (codes "else") p (inner_example level)) (λ tree v. positive _)
+      (λ x. maybe_phrase else_next (past_phrase (codes "else") p (inner_example level)) (λ tree v. zero-lt-suc _)
       (λ tree v rest. refl))
       None (λ x. refl) valid_if (λ rest e. and_left (ends_statement (front rest)) _ e)
       (λ x y v none next e. and_left (ends_statement next) _ e) join split)

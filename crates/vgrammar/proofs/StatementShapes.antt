@@ -2,6 +2,7 @@
 use Rattle.std.proofs.Common.{◌≡◌, ℕ, suc, ◌+◌, ◌<◌, Bool, true, false, ◌&&◌, not, max, nat_le, List, [], ◌∷◌, ◌++◌, Option, length, flat_map, refl, sym, ap, ◌∙◌, arith, append_assoc, codes}
 use Rattle.std.specs.List.{list_all}
 use Rattle.std.proofs.lemmas.Bool.Decides.{nat_tests}
+use Rattle.basis.proofs.Bools.{and_false, and_assoc}
 use Rattle.vast.specs.Words.{Text}
 use Rattle.vast.specs.Expressions.{ExpressionTree, spell_expression, spell_more_parts, fits_expression, fits_parts, depth, greatest_depth}
 use Rattle.vast.specs.Statements.{whole, bit, part, joined, by_number, by_name, by_value, by_event, by_any, by_any_enclosed, by_terms, print, dump_file, dump_vars, dump, end_run, StatementTree, empty, block, assign, nonblocking, trigger, if_true, if_else, case_of, while_true, repeat_times, forever, for_loop, wait_for, delay, event, task, spell_condition, spell_statement, statement_depth, fits_statement, ends_in_if}
@@ -10,7 +11,7 @@ use Rattle.vexpr_parse.specs.Reading.{trees_in}
 use Rattle.vexpr_parse.specs.Lawful.{Ends}
 use Rattle.vgrammar.specs.Statements.{ends_statement}
 use Rattle.vgrammar.proofs.Phrases.{Shape}
-use Rattle.vgrammar.proofs.LevelFacts.{larger_two, two_up, and_true, and_false, and_assoc, pair_valid, triple_valid}
+use Rattle.vgrammar.proofs.LevelFacts.{larger_two, two_up, and_true, pair_valid, triple_valid}
 
 abbrev pub closes_statement : StatementTree → Ends
 closes_statement tree next = not (ends_in_if tree && is_front (codes "else") next)

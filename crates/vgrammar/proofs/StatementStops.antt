@@ -1,6 +1,7 @@
 -- Reading of statements stops at the place from which the words begin none.
 use Rattle.std.proofs.Common.{◌≡◌, ℕ, zero, suc, ◌+◌, ◌*◌, ◌≤◌, nat_le, List, [], ◌∷◌, ◌++◌, refl, sym, ap, ◌∙◌, arith, subst}
 use Rattle.basis.proofs.Bools.{and_left, and_right, and_both}
+use Rattle.basis.proofs.Numbers.{one_within}
 use Rattle.vast.specs.Words.{Text}
 use Rattle.vast.specs.Statements.{empty, statement_depth, fits_statement}
 use Rattle.vexpr_parse.specs.declared.stop.Stop.TheVariants.{NoTree}
@@ -13,7 +14,7 @@ use Rattle.vgrammar.specs.StatementPlaces.{BeginsOne, BeginsNone, StopsAtPlace, 
 use Rattle.vgrammar.proofs.Phrases.{Example}
 use Rattle.vgrammar.proofs.Growth.{up, phrase_keep}
 use Rattle.vgrammar.proofs.PhrasePlaces.{IsBegun, stopped, passed}
-use Rattle.vgrammar.proofs.LevelFacts.{one_within, within_more}
+use Rattle.vgrammar.proofs.LevelFacts.{within_more}
 use Rattle.vgrammar.proofs.StatementShapes.{statement_shape}
 use Rattle.vgrammar.proofs.StatementLevels.{statement_phrase}
 use Rattle.vgrammar.proofs.StatementReads.{read_whole}

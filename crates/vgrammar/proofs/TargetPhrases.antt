@@ -1,9 +1,10 @@
 -- What assignments write to, and delays.
-use Rattle.std.proofs.Common.{◌≡◌, ℕ, zero, suc, ◌+◌, ◌<◌, Bool, true, false, ◌&&◌, max, nat_le, if◌then◌else◌, List, [], ◌∷◌, ◌++◌, Option, None, Some, flat_map, refl, sym, ap, ◌∙◌, arith, subst, codes}
+use Rattle.std.proofs.Common.{◌≡◌, ℕ, zero, suc, ◌+◌, ◌<◌, Bool, true, false, ◌&&◌, max, nat_le, if◌then◌else◌, List, [], ◌∷◌, ◌++◌, Option, None, Some, flat_map, refl, sym, ap, ◌∙◌, arith, subst, codes, zero-lt-suc}
 use Rattle.std.specs.List.{list_all}
 use Rattle.std.specs.Str.{bytes_eq}
 use Rattle.std.proofs.lemmas.Bool.Decides.{nat_tests}
 use Rattle.basis.proofs.Bools.{and_left, and_right, and_both}
+use Rattle.basis.proofs.Numbers.{one_within}
 use Rattle.vast.specs.Words.{Text, is_name, reserved_words}
 use Rattle.vast.specs.Expressions.{ExpressionTree, fits_expression, depth}
 use Rattle.vast.specs.Statements.{TargetTree, whole, bit, part, joined, TargetTrees, none, first as first_target, spell_target, spell_more_targets, target_depth, greatest_target_depth, fits_target, fits_targets}
@@ -17,11 +18,8 @@ use Rattle.vgrammar.specs.Statements.{value, List_of, comma_list, word_only, Sel
 use Rattle.vgrammar.proofs.Phrases.{Shape, Complete, Phrase, Example, Opens, Makes, always, phrase_within, past_shape, past_phrase, nothing_phrase, paired_shape, paired_phrase, before_phrase, paired_example}
 use Rattle.vgrammar.proofs.PhraseChoices.{ends_maybe, maybe_shape, maybe_phrase, either_shape, either_phrase, roomy_phrase}
 use Rattle.vgrammar.proofs.PhraseLeads.{LeadSound, led_sound, if_sound, room_sound, made_lead_sound, made_lead, led_complete, roomy_lead}
-use Rattle.vgrammar.proofs.LevelFacts.{one_up, two_up, larger_two, one_within, none_within, and_true, pair_valid, some_level}
+use Rattle.vgrammar.proofs.LevelFacts.{one_up, two_up, larger_two, none_within, and_true, pair_valid, some_level}
 use Rattle.vgrammar.proofs.ValuePhrases.{value_shape, value_phrase, value_example, value_level, nothing_example, only_shape, only_phrase, only_example, comma_shape, comma_phrase, allows_each}
-
-positive : (n : ℕ) → 0 < suc n
-positive n = omega arith
 
 no_truth : false ≡ true → ⊥
 no_truth e = cc
@@ -50,7 +48,7 @@ module _ (below : ℕ) (level : nat_le 1 below ≡ true) where
   unfolding binary_of
   select_phrase =
       paired_phrase (value_phrase below)
-      (either_phrase (is_front (codes ":")) right_phrase (only_phrase (codes "]")) (λ tree v. positive _) (λ tree v. positive _)
+      (either_phrase (is_front (codes ":")) right_phrase (only_phrase (codes "]")) (λ tree v. zero-lt-suc _) (λ tree v. zero-lt-suc _)
       (λ tree v rest. refl) (λ tree v rest. refl))
       (record { tree = other_way tt; valid = refl }) opens links
     where
@@ -90,7 +88,7 @@ opened_phrase : (below : ℕ) →
 opened_phrase below =
     maybe_phrase bracket
     (roomy_phrase below 1 (λ level. past_phrase (codes "[") (select_phrase below level) (select_example below level)) deep closed)
-    (λ tree v. positive _) (λ tree v rest. refl)
+    (λ tree v. zero-lt-suc _) (λ tree v rest. refl)
   where
     deep : (tree : Select) → (opened_shape below).valid tree ≡ true → nat_le 1 below ≡ true
     deep (both tree behind) v = value_level below tree (and_left _ _ v)

@@ -1,7 +1,8 @@
 -- Calls of system tasks, behind their first words.
-use Rattle.std.proofs.Common.{◌≡◌, ℕ, suc, ◌+◌, ◌<◌, Bool, true, ◌&&◌, nat_le, List, [], ◌∷◌, ◌++◌, Option, None, Some, length, refl, sym, ap, ◌∙◌, arith, codes}
+use Rattle.std.proofs.Common.{◌≡◌, ℕ, suc, ◌+◌, ◌<◌, Bool, true, ◌&&◌, nat_le, List, [], ◌∷◌, ◌++◌, Option, None, Some, length, refl, sym, ap, ◌∙◌, arith, codes, zero-lt-suc}
 use Rattle.std.specs.List.{list_all}
 use Rattle.basis.proofs.Bools.{and_left, and_right}
+use Rattle.basis.proofs.Numbers.{one_within}
 use Rattle.vast.specs.Words.{Text, is_number, is_string}
 use Rattle.vast.specs.Statements.{ArgumentTree, quoted, printed, SelectionTree, StatementTree, print_word, dump_word, end_word, argument_depth, arguments_depth, fits_argument, fits_print, fits_selection, spell_statement}
 use Rattle.vast.specs.declared.statement.Dumping.{Dumping}
@@ -14,13 +15,10 @@ use Rattle.vgrammar.specs.Parts.{Both, both, paired, maybe, roomy}
 use Rattle.vgrammar.specs.Statements.{word_only, Arguments, arguments, print_of, optional_print_of, dump_file_of, dump_file_parts, selection, dump_vars_of, dump_of, end_of, end_parts}
 use Rattle.vgrammar.proofs.Phrases.{Shape, Phrase, Example, Makes, always, past_shape, past_phrase, past_example, nothing_phrase, paired_shape, before_phrase, paired_example, free_phrase}
 use Rattle.vgrammar.proofs.PhraseChoices.{maybe_shape, maybe_phrase, roomy_phrase}
-use Rattle.vgrammar.proofs.LevelFacts.{one_up, one_within, and_true, some_level}
+use Rattle.vgrammar.proofs.LevelFacts.{one_up, and_true, some_level}
 use Rattle.vgrammar.proofs.ValuePhrases.{nothing_example, word_if_phrase, only_shape, only_phrase, only_example, comma_shape, allows_each}
 use Rattle.vgrammar.proofs.PartPhrases.{text_shape, a_number, numbered_phrase, argument_shape, arguments_phrase, arguments_example, selection_shape, selection_phrase}
 use Rattle.vgrammar.proofs.StatementShapes.{closes_statement, statement_shape, all_within}
-
-positive : (n : ℕ) → 0 < suc n
-positive n = omega arith
 
 abbrev open_next : Option Text → Bool
 open_next = is_front (codes "(")
@@ -125,7 +123,7 @@ module _ (below : ℕ) where
       (optional_shape Arg)
   optional_print_phrase =
       optional_phrase (roomy_phrase below 1 (λ level. arguments_phrase below level) arguments_level closed)
-      (λ tree v. positive _) (λ tree v rest. refl)
+      (λ tree v. zero-lt-suc _) (λ tree v rest. refl)
     where
       closed : (tree : Arguments) (next : Option Text) → always next ≡ true → Arg.closes tree next ≡ true
       closed (both list end) next e = refl
@@ -197,7 +195,7 @@ module _ (below : ℕ) where
 
   pub dump_vars_phrase : Phrase (paired (maybe open_next selection) (word_only (codes ";"))) always
       (optional_shape selection_shape)
-  dump_vars_phrase = optional_phrase selection_phrase (λ tree v. positive _) (λ tree v rest. refl)
+  dump_vars_phrase = optional_phrase selection_phrase (λ tree v. zero-lt-suc _) (λ tree v rest. refl)
 
   pub dump_vars_makes : Makes dump_vars_of (optional_shape selection_shape) Out (codes "$dumpvars" ∷ [])
   dump_vars_makes = record {
@@ -242,7 +240,7 @@ module _ (below : ℕ) where
       optional_phrase
       (past_phrase (codes "(") (free_phrase numbered_phrase (only_phrase (codes ")")) (only_example (codes ")")))
       (paired_example a_number (only_example (codes ")"))))
-      (λ tree v. positive _) (λ tree v rest. refl)
+      (λ tree v. zero-lt-suc _) (λ tree v rest. refl)
 
   pub end_makes : (stop_it : Bool) → Makes (end_of stop_it) (optional_shape number_shape) Out (end_word stop_it ∷ [])
   end_makes stop_it = record {

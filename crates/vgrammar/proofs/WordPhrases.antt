@@ -3,6 +3,7 @@ use Rattle.std.proofs.Common.{◌≡◌, ℕ, zero, suc, ◌<◌, Bool, true, fa
 use Rattle.std.specs.Str.{bytes_eq}
 use Rattle.std.specs.Char.{is_ascii_digit}
 use Rattle.std.proofs.lemmas.Bool.Decides.{nat_tests}
+use Rattle.std.proofs.lemmas.Bool.{false_from_ne_true}
 use Rattle.basis.proofs.Bools.{and_left}
 use Rattle.vast.specs.Words.{Text, is_name, is_number, is_string, begins_name, is_reserved}
 use Rattle.vast.specs.Expressions.{ExpressionTree}
@@ -15,14 +16,6 @@ use Rattle.vexpr_parse.proofs.ReaderRules.{same_text, stop_got}
 use Rattle.vgrammar.specs.Statements.{value}
 use Rattle.vgrammar.proofs.Phrases.{Shape, Phrase, Worded}
 use Rattle.vgrammar.proofs.PhraseChoices.{Tested}
-
-pub clash : (b : Bool) → b ≡ true → b ≡ false → ⊥
-clash true p q = let no : true ≡ false = q in cc
-clash false p q = let no : false ≡ true = p in cc
-
-pub not_so : (b : Bool) → (b ≡ true → ⊥) → b ≡ false
-not_so true f = absurd (f refl)
-not_so false f = refl
 
 pub name_no_number : (word : Text) → is_name word ≡ true → is_number word ≡ false
 name_no_number [] e = refl
@@ -59,7 +52,7 @@ refused_first test {read = read} {s = s} p some end refuses tree v rest = by_wor
       where
         below_zero : 0 < 0 → ⊥
         below_zero e = omega (arith, e)
-    by_words (word ∷ words) e f = not_so (test (Some word)) (λ g. refuses word (words ++ []) tree [] g f)
+    by_words (word ∷ words) e f = false_from_ne_true (test (Some word)) (λ g. refuses word (words ++ []) tree [] g f)
 
 -- an expression begins with no word that begins none
 pub value_refuses : (n : ℕ) (word : Text) → beginning_of word ≡ start.Other → (words : List Text) (tree : ExpressionTree)

@@ -1,10 +1,10 @@
 -- What begins with a digit: a plain number, or a size and a based number.
-use Rattle.std.proofs.Common.{◌≡◌, ◌≢◌, ℕ, zero, suc, ◌+◌, ◌-◌, ◌<◌, ◌≤◌, Bool, true, false, cond, ◌&&◌, ◌||◌, not, nat_eq, List, [], ◌∷◌, ◌++◌, None, Some, length, take, drop, get_or, nat_le, refl, sym, ◌∙◌, ap, subst, arith, inl, inr}
+use Rattle.std.proofs.Common.{◌≡◌, ◌≢◌, ℕ, zero, suc, ◌+◌, ◌-◌, ◌<◌, ◌≤◌, true, false, cond, ◌&&◌, ◌||◌, not, nat_eq, List, [], ◌∷◌, ◌++◌, None, Some, length, take, drop, get_or, nat_le, refl, sym, ◌∙◌, ap, subst, arith, inl, inr}
 use Rattle.std.specs.List.{list_all, before_first, after_first, position_or_len}
 use Rattle.std.proofs.Math.Seq.{take-append_seam, take-append-add, drop-append_seam, drop-append-add}
 use Rattle.std.proofs.lemmas.Bool.{eqb-true, ne_eqb, cases_Bool}
 use Rattle.std.proofs.lemmas.List.{length-append}
-use Rattle.basis.proofs.Bools.{and_left, and_right}
+use Rattle.basis.proofs.Bools.{and_left, and_right, and_false}
 use Rattle.vlex.specs.declared.bytes.Set.TheVariants.{Words, Decimals}
 use Rattle.vlex.specs.declared.bytes.Lead.TheVariants as lead
 use Rattle.vlex.specs.declared.form.Form.TheVariants.{Token}
@@ -15,10 +15,6 @@ use Rattle.vlex.specs.Forms.{only_if, form_of, form_by, number_form, is_size, is
 use Rattle.vlex.specs.Inner.{IsLongest}
 use Rattle.vlex.specs.Lexed.{IsFront, IsStuck, is_free}
 use Rattle.vlex.proofs.Pieces.{IsLongestForm, front_of_longest, stuck_if_barred}
-
-pub and_false : (b : Bool) → (b && false) ≡ false
-and_false true = refl
-and_false false = refl
 
 -- a digit is no apostrophe
 decimal_not_apostrophe : (d : ℕ) → is_in Decimals d ≡ true → nat_eq d 39 ≡ false

@@ -2,6 +2,7 @@
 use Rattle.std.proofs.Common.{◌≡◌, ◌≢◌, ℕ, zero, suc, ◌+◌, ◌<◌, ◌≤◌, true, false, ◌&&◌, ◌||◌, not, nat_eq, List, [], ◌∷◌, length, take, get_or, refl, sym, ◌∙◌, ap, arith}
 use Rattle.std.specs.List.{list_all, prefix_len}
 use Rattle.std.proofs.lemmas.Bool.{ne_eqb}
+use Rattle.basis.proofs.Bools.{and_false}
 use Rattle.vlex.specs.declared.bytes.Set.TheVariants.{Blanks, Words}
 use Rattle.vlex.specs.declared.bytes.Lead.{Lead}
 use Rattle.vlex.specs.declared.bytes.Lead.TheVariants as lead
@@ -13,7 +14,7 @@ use Rattle.vlex.specs.Inner.{IsLongest, Never}
 use Rattle.vlex.specs.Lexed.{IsFront, IsStuck, is_free}
 use Rattle.vlex.proofs.Runs.{run_longest}
 use Rattle.vlex.proofs.Pieces.{piece_by, barred_by, stuck_by}
-use Rattle.vlex.proofs.Sizes.{free_based, and_false}
+use Rattle.vlex.proofs.Sizes.{free_based}
 
 told_by : (c : ℕ) (l : Lead) → lead_of c ≡ l → (cs : List ℕ) → form_of (c ∷ cs) ≡ form_by l c cs
 told_by c l e cs = ap (λ k. form_by k c cs) e

@@ -5,9 +5,10 @@ use Rattle.std.specs.Cmp.Lexicographic.{pointwise}
 use Rattle.std.specs.Int.{bit_at, bit_not, trailing_zeros, w128}
 use Rattle.std.proofs.lemmas.Bool.Decides.{nat_tests}
 use Rattle.std.proofs.lemmas.Nat.Bits.{bit_at_set_same, bit_at_set_other, bit_at_clear_same, bit_at_clear_other, bit_at-zero, bit_at-lt, bit_at-trailing_zeros, same_from_bits_below}
+use Rattle.std.proofs.lemmas.Bool.{ltb-false}
 use Rattle.vmodel.specs.ProcessSets.{has, listed, members, rises}
 use Rattle.vmodel.specs.Queue.{with_process, without_process}
-use Rattle.vmodel.proofs.ProcessLemmas.{less, equal, more, compared, with_less, with_same, with_more, without_same, without_other, same, rises_from, rises_lower, rises_parts, is_lt, not_lt, lt_true, lt_false}
+use Rattle.vmodel.proofs.ProcessLemmas.{less, equal, more, compared, with_less, with_same, with_more, without_same, without_other, same, rises_from, rises_lower, rises_parts, is_lt, not_lt, lt_true}
 
 pub listed_none : (f : ℕ → Bool) (from : ℕ) → listed f zero from ≡ []
 unfolding listed
@@ -217,14 +218,14 @@ low_alike low high word n h = by (nat_lt n 128) refl
   where
     by : (b : Bool) → nat_lt n 128 ≡ b → has word high n ≡ has low high n
     by true is = let lt = lt_true n 128 is in has_low word high n lt ∙ h lt ∙ sym (has_low low high n lt)
-    by false is = let le = lt_false n 128 is in has_high word high n le ∙ sym (has_high low high n le)
+    by false is = let le = ltb-false n 128 is in has_high word high n le ∙ sym (has_high low high n le)
 
 high_alike : (low high word n : ℕ) → (128 ≤ n → (bit_at word (n - 128) == 1) ≡ (bit_at high (n - 128) == 1)) → has low word n ≡ has low high n
 high_alike low high word n h = by (nat_lt n 128) refl
   where
     by : (b : Bool) → nat_lt n 128 ≡ b → has low word n ≡ has low high n
     by true is = let lt = lt_true n 128 is in has_low low word n lt ∙ sym (has_low low high n lt)
-    by false is = let le = lt_false n 128 is in has_high low word n le ∙ h le ∙ sym (has_high low high n le)
+    by false is = let le = ltb-false n 128 is in has_high low word n le ∙ h le ∙ sym (has_high low high n le)
 
 pub set_low : (low high p : ℕ) → p < 128 → SetOne low high (bit_or low (1 * 2 ^ p % 2 ^ 128)) high p
 set_low low high p lt = record {
@@ -296,7 +297,7 @@ bit_none p = by (nat_lt p 128) refl
   where
     by : (b : Bool) → nat_lt p 128 ≡ b → has 0 0 p ≡ false
     by true is = has_low 0 0 p (lt_true p 128 is) ∙ ap (λ b. b == 1) (bit_at-zero p)
-    by false is = has_high 0 0 p (lt_false p 128 is) ∙ ap (λ b. b == 1) (bit_at-zero (p - 128))
+    by false is = has_high 0 0 p (ltb-false p 128 is) ∙ ap (λ b. b == 1) (bit_at-zero (p - 128))
 
 listed_nothing : (f : ℕ → Bool) (count from : ℕ) → ((n : ℕ) → f n ≡ false) → listed f count from ≡ []
 listed_nothing f zero from h = listed_none f from
@@ -345,7 +346,7 @@ members_some low high p few is = by (nat_lt p 128) refl
   where
     by : (b : Bool) → nat_lt p 128 ≡ b → 1 ≤ length (members low high)
     by true lt = omega (arith, members_shorter low high _ _ p few is (clear_low low high p (lt_true p 128 lt)))
-    by false le = omega (arith, members_shorter low high _ _ p few is (clear_high low high p (lt_false p 128 le) few))
+    by false le = omega (arith, members_shorter low high _ _ p few is (clear_high low high p (ltb-false p 128 le) few))
 
 -- without it there is one less
 pub length_without : (low high p : ℕ) → p < 256 → has low high p ≡ true → length (members low high) ≡ suc (length (without_process p (members low high)))
@@ -358,7 +359,7 @@ length_without low high p few is = by (nat_lt p 128) refl
 
     by : (b : Bool) → nat_lt p 128 ≡ b → length (members low high) ≡ suc (length (without_process p (members low high)))
     by true lt = from _ _ (clear_low low high p (lt_true p 128 lt))
-    by false le = from _ _ (clear_high low high p (lt_false p 128 le) few)
+    by false le = from _ _ (clear_high low high p (ltb-false p 128 le) few)
 
 -- ---- the lowest number
 
@@ -407,7 +408,7 @@ lowest_high low high none some fits =
     before : (n : ℕ) → n < 128 + trailing_zeros w128 high → (b : Bool) → nat_lt n 128 ≡ b → has 0 high n ≡ false
     before n lt true is = has_none_low high n (lt_true n 128 is)
     before n lt false is =
-        let le : 128 ≤ n = lt_false n 128 is in
+        let le : 128 ≤ n = ltb-false n 128 is in
         has_high 0 high n le ∙ bit_isnt (bit_at high (n - 128)) ((bit_at-trailing_zeros w128 high some fits).2 (n - 128) (omega (arith, lt, le)))
 
 pub lowest_none : (low high : ℕ) → low ≡ 0 → high ≡ 0 → None ≡ slice_get (members low high) 0

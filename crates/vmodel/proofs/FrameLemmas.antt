@@ -1,9 +1,10 @@
 -- Lists of frames are the same where they are read backwards.
-use Rattle.std.proofs.Common.{◌≡◌, Bool, true, false, ◌&&◌, List, [], ◌∷◌, ◌++◌, length, reverse, take, refl, sym, ap, ◌∙◌, arith}
+use Rattle.std.proofs.Common.{◌≡◌, Bool, ◌&&◌, List, [], ◌∷◌, ◌++◌, length, reverse, take, refl, sym, ap, ◌∙◌, arith}
 use Rattle.std.specs.Cmp.Lexicographic.{pointwise}
 use Rattle.std.proofs.lemmas.List.{reverse-reverse, length-take-le}
 use Rattle.std.proofs.lemmas.Bool.Decides.{Decides-like, same_from_decides}
 use Rattle.std.specs.Arc.{arc_slice_items}
+use Rattle.basis.proofs.Bools.{and_assoc}
 use Rattle.vmodel.specs.declared.continuation.Continuation.{Continuation}
 use Rattle.vmodel.specs.InnerContinuation.{IsWhole, continuation_frames}
 use Rattle.vmodel.specs.declared.process.Frame.{Frame}
@@ -18,10 +19,6 @@ same_backwards xs ys =
     (λ h. ap reverse h)
     (list_tells frame_same frames_tell (reverse xs) (reverse ys)))
 
-and_all : (a b c : Bool) → ((a && b) && c) ≡ (a && (b && c))
-and_all true b c = refl
-and_all false b c = refl
-
 -- two parts of the same length and what stands behind them
 same_parts : (cs ds xs ys : List Frame) → length cs ≡ length ds →
     (pointwise frame_same cs ds && pointwise frame_same xs ys) ≡ pointwise frame_same (cs ++ xs) (ds ++ ys)
@@ -29,7 +26,7 @@ same_parts [] [] xs ys len = refl
 same_parts [] (b ∷ ds) xs ys len = absurd (omega (arith, len))
 same_parts (a ∷ cs) [] xs ys len = absurd (omega (arith, len))
 same_parts (a ∷ cs) (b ∷ ds) xs ys len =
-    and_all (frame_same a b) (pointwise frame_same cs ds) (pointwise frame_same xs ys)
+    and_assoc (frame_same a b) (pointwise frame_same cs ds) (pointwise frame_same xs ys)
     ∙ ap (λ rest. frame_same a b && rest) (same_parts cs ds xs ys (omega (arith, len)))
 
 pub parts_backwards : (cs ds xs ys : List Frame) → length cs ≡ length ds →

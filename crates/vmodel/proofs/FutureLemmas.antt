@@ -1,13 +1,14 @@
 -- The future in order of time: more is put to what a time holds.
 use Rattle.std.proofs.Common.{◌≡◌, ℕ, suc, ◌<◌, ◌≤◌, List, [], ◌∷◌, insert, get_or, refl, sym, ap, subst, ◌∙◌, arith}
 use Rattle.std.specs.Prelude.{slice_get, slice_set}
+use Rattle.std.proofs.lemmas.Bool.{ne_eqb}
 use Rattle.vmodel.specs.Queue.{Later, empty_slot, later_at}
 use Rattle.vmodel.specs.Inner.{place_of_time, SomeIs, NoneIs}
-use Rattle.vmodel.proofs.ProcessLemmas.{less, equal, more, compared, is_lt, not_lt, same, differs}
+use Rattle.vmodel.proofs.ProcessLemmas.{less, equal, more, compared, is_lt, not_lt, same}
 
 module _ (t : ℕ) (put : Later → Later) where
   pub earlier : (e : ℕ × Later) (es : List (ℕ × Later)) → e.0 < t → later_at t put (e ∷ es) ≡ e ∷ later_at t put es
-  earlier e es lt = rw (not_lt t e.0 (omega arith), differs t e.0 (omega arith))
+  earlier e es lt = rw (not_lt t e.0 (omega arith), ne_eqb t e.0 (omega arith))
 
   pub here : (e : ℕ × Later) (es : List (ℕ × Later)) → t ≡ e.0 → later_at t put (e ∷ es) ≡ (e.0, put e.1) ∷ es
   here e es is = rw (not_lt t e.0 (omega arith), same t e.0 is)

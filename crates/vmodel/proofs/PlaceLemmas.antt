@@ -1,10 +1,11 @@
 -- In how many places a process stands, and which lists rise.
 use Rattle.std.proofs.Common.{◌≡◌, ◌≢◌, ◌⊎◌, inl, inr, ℕ, suc, ◌+◌, ◌≤◌, List, [], ◌∷◌, Option, Some, None, option_to_list, refl, sym, ap, subst, ◌∙◌, arith}
 use Rattle.std.proofs.lemmas.Bool.Decides.{eqb_tells}
+use Rattle.std.proofs.lemmas.Bool.{ne_eqb}
 use Rattle.vmodel.specs.declared.part.Part.{Part}
 use Rattle.vmodel.specs.Queue.{Later, with_process, without_process, empty_slot, slot_with_sleeper, slot_with_update, later_at}
 use Rattle.vmodel.specs.Kept.{RisesFrom, FutureFrom, count_in, asleep}
-use Rattle.vmodel.proofs.ProcessLemmas.{less, equal, more, compared, same, differs, with_less, with_same, with_more, without_other, without_same}
+use Rattle.vmodel.proofs.ProcessLemmas.{less, equal, more, compared, same, with_less, with_same, with_more, without_other, without_same}
 use Rattle.vmodel.proofs.FutureLemmas.{earlier, here, sooner}
 
 pub alike : (p q : ℕ) → (p ≡ q) ⊎ (p ≢ q)
@@ -16,7 +17,7 @@ count-same : (p q : ℕ) (qs : List ℕ) → p ≡ q → count_in p (q ∷ qs) �
 count-same p q qs e = rw (same p q e)
 
 pub count-other : (p q : ℕ) (qs : List ℕ) → p ≢ q → count_in p (q ∷ qs) ≡ count_in p qs
-count-other p q qs ne = rw (differs p q ne)
+count-other p q qs ne = rw (ne_eqb p q ne)
 
 pub count-self : (p : ℕ) (qs : List ℕ) → count_in p (p ∷ qs) ≡ suc (count_in p qs)
 count-self p qs = count-same p p qs refl

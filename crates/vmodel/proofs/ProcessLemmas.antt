@@ -2,6 +2,7 @@
 use Rattle.std.proofs.Common.{◌≡◌, ◌≢◌, ℕ, zero, suc, ◌+◌, ◌<◌, ◌≤◌, Bool, true, false, ◌&&◌, ◌==◌, nat_le, nat_lt, List, [], ◌∷◌, length, drop, get_or, Some, refl, ap, ◌∙◌, arith}
 use Rattle.std.specs.Prelude.{slice_get}
 use Rattle.std.proofs.lemmas.Bool.Decides.{nat_tests}
+use Rattle.std.proofs.lemmas.Bool.{ltb-false, ne_eqb}
 use Rattle.vmodel.specs.ProcessSets.{rises}
 use Rattle.vmodel.specs.Queue.{with_process, without_process}
 
@@ -46,9 +47,6 @@ rises_lower low lower (p ∷ ps) h le =
 pub lt_true : (a b : ℕ) → nat_lt a b ≡ true → a < b
 lt_true a b e = grind (arith, nat_tests)
 
-pub lt_false : (a b : ℕ) → nat_lt a b ≡ false → b ≤ a
-lt_false a b e = grind (arith, nat_tests)
-
 pub is_lt : (a b : ℕ) → a < b → nat_lt a b ≡ true
 is_lt a b h = grind (arith, nat_tests)
 
@@ -58,9 +56,6 @@ not_lt a b h = grind (arith, nat_tests)
 pub same : (a b : ℕ) → a ≡ b → (a == b) ≡ true
 same a b h = grind (arith, nat_tests)
 
-pub differs : (a b : ℕ) → a ≢ b → (a == b) ≡ false
-differs a b h = grind (arith, nat_tests)
-
 -- the three cases of `with_process`
 pub with_less : (p q : ℕ) (qs : List ℕ) → p < q → with_process p (q ∷ qs) ≡ p ∷ q ∷ qs
 with_less p q qs lt = rw (is_lt p q lt)
@@ -69,10 +64,10 @@ pub with_same : (p q : ℕ) (qs : List ℕ) → p ≡ q → with_process p (q �
 with_same p q qs e = rw (not_lt p q (omega arith), same p q e)
 
 pub with_more : (p q : ℕ) (qs : List ℕ) → q < p → with_process p (q ∷ qs) ≡ q ∷ with_process p qs
-with_more p q qs lt = rw (not_lt p q (omega arith), differs p q (omega arith))
+with_more p q qs lt = rw (not_lt p q (omega arith), ne_eqb p q (omega arith))
 
 pub without_other : (p q : ℕ) (qs : List ℕ) → p ≢ q → without_process p (q ∷ qs) ≡ q ∷ without_process p qs
-without_other p q qs ne = rw (differs p q ne)
+without_other p q qs ne = rw (ne_eqb p q ne)
 
 pub without_same : (p q : ℕ) (qs : List ℕ) → p ≡ q → without_process p (q ∷ qs) ≡ without_process p qs
 without_same p q qs e = rw (same p q e)
@@ -96,7 +91,7 @@ compared p q = by_tests (nat_lt p q) (nat_lt q p) refl refl
     by_tests : (a b : Bool) → nat_lt p q ≡ a → nat_lt q p ≡ b → Compared p q
     by_tests true b ea eb = less (lt_true p q ea)
     by_tests false true ea eb = more (lt_true q p eb)
-    by_tests false false ea eb = equal (omega (arith, lt_false p q ea, lt_false q p eb))
+    by_tests false false ea eb = equal (omega (arith, ltb-false p q ea, ltb-false q p eb))
 
 pub rises-without : (p low : ℕ) (qs : List ℕ) → rises low qs ≡ true → rises low (without_process p qs) ≡ true
 rises-without p low [] h = refl

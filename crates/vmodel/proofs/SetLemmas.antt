@@ -5,9 +5,10 @@ use Rattle.std.proofs.Math.Nat.{pow-suc, div-add-mod, add-mul, mul_assoc}
 use Rattle.std.proofs.lemmas.Nat.{mod-mul-add, div-mul-add}
 use Rattle.std.proofs.lemmas.Bool.Decides.{nat_tests}
 use Rattle.std.proofs.lemmas.Nat.Bits.{bit_at-suc, bit_at_lowest, bit_at_cat_low, bit_at_cat_high}
+use Rattle.std.proofs.lemmas.Bool.{ltb-false}
 use Rattle.vmodel.specs.ProcessSets.{has, listed, members, number_of}
 use Rattle.vmodel.proofs.BitLemmas.{listed_none, listed_when, listed_unless, members_are, has_low, has_high}
-use Rattle.vmodel.proofs.ProcessLemmas.{lt_true, lt_false}
+use Rattle.vmodel.proofs.ProcessLemmas.{lt_true}
 
 below_two : (n k : ℕ) → n < 2 ^ suc k → n / 2 < 2 ^ k
 below_two n k lt = omega (arith, lt, pow-suc 2 k, div-add-mod n 2)
@@ -75,7 +76,7 @@ both_halves low high few many =
         by : (b : Bool) → nat_lt i 128 ≡ b → has low high i ≡ (bit_at (high * 2 ^ 128 + low) i == 1)
         by true is = let below = lt_true i 128 is in
             has_low low high i below ∙ ap (λ b. b == 1) (sym (bit_at_cat_low high 128 low i below))
-        by false is = let above = lt_false i 128 is in
+        by false is = let above = ltb-false i 128 is in
             has_high low high i above ∙ ap (λ b. b == 1) (sym (bit_at_cat_high high 128 low i few above))
 
 pub low_half : (low high : ℕ) → low < 2 ^ 128 → high < 2 ^ 128 → low ≡ number_of (members low high) % 2 ^ 128

@@ -7,6 +7,7 @@ use Rattle.std.specs.Str.{bytes_eq}
 use Rattle.std.specs.Cmp.Lexicographic.{nat_list_eq_equiv}
 use Rattle.std.proofs.lemmas.List.{map-append, drop_all}
 use Rattle.std.proofs.lemmas.Option.{same_Some}
+use Rattle.basis.proofs.Lists.{drop_at_place}
 use Rattle.vast.specs.Words.{Text}
 use Rattle.vast.specs.NumberedWords.{Word}
 use Rattle.vast.specs.NumberedExpressions.{ExpressionTree}
@@ -61,14 +62,8 @@ is_none (Some x) e = absurd (true≢false e)
 
 -- ---- places of a list
 
-drop_here : {A : Type 0} (xs : List A) (i : ℕ) (x : A) → slice_get xs i ≡ Some x → drop i xs ≡ x ∷ drop (suc i) xs
-drop_here [] zero x e = absurd cc
-drop_here [] (suc i) x e = absurd cc
-drop_here (y ∷ ys) zero x e = ap (λ z. z ∷ ys) (same_Some y x e)
-drop_here (y ∷ ys) (suc i) x e = drop_here ys i x e
-
 pub drop_got : {A : Type 0} (xs : List A) (i : ℕ) (x : A) → slice_get xs i ≡ Some x → drop i xs ≡ x ∷ drop (i + 1) xs
-drop_got xs i x e = drop_here xs i x e ∙ ap (λ (n : ℕ). x ∷ drop n xs) (sym (add-one i))
+drop_got xs i x e = drop_at_place xs i x e ∙ ap (λ (n : ℕ). x ∷ drop n xs) (sym (add-one i))
 
 take_here : {A : Type 0} (xs : List A) (i : ℕ) (x : A) → slice_get xs i ≡ Some x → take (suc i) xs ≡ take i xs ++ x ∷ []
 take_here [] zero x e = absurd cc

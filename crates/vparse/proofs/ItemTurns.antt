@@ -1,5 +1,5 @@
 -- What the loops over items and over modules go on from.
-use Rattle.std.proofs.Common.{◌≡◌, ℕ, suc, ◌<◌, Bool, true, false, not, List, [], ◌∷◌, ◌++◌, Option, codes, map, refl, sym, ◌∙◌, arith}
+use Rattle.std.proofs.Common.{◌≡◌, Bool, true, false, not, List, [], ◌∷◌, ◌++◌, Option, codes, map, refl, sym, ◌∙◌, zero-lt-suc}
 use Rattle.vast.specs.Words.{Text}
 use Rattle.vast.specs.Modules.{ItemTree, ModuleTree}
 use Rattle.vast.specs.ModuleTrees.{item_tree, module_tree}
@@ -37,11 +37,8 @@ module _ (text words : List Text) (seen : Bool) (is : seen ≡ not (is_front (co
   pub items_ended : seen ≡ false → (list : List ModuleItem) → items_from (map (item_tree text) list) words ≡ got (map (item_tree text) list) words
   items_ended here list = no_more within (λ list. item) (λ list. item_eats) (map (item_tree text) list) words (sym is ∙ here)
 
-positive : (n : ℕ) → 0 < suc n
-positive n = omega arith
-
 pub module_eats : Eats module_reader
-module_eats = sound_eats module_reader (module_shape 63) (module_phrase 63).sound (λ tree v. positive _)
+module_eats = sound_eats module_reader (module_shape 63) (module_phrase 63).sound (λ tree v. zero-lt-suc _)
 
 pub source_is : (words : List Text) → modules_from [] words ≡ source words
 unfolding with_levels.source

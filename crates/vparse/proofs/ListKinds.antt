@@ -1,5 +1,6 @@
 -- What stands in the lists of modules leaves fewer words where it is read.
-use Rattle.std.proofs.Common.{◌≡◌, ℕ, suc, ◌<◌, ◌≤◌, Option, None, Some, List, [], ◌∷◌, ◌++◌, length, arith}
+use Rattle.std.proofs.Common.{◌≡◌, ℕ, ◌<◌, ◌≤◌, Option, None, Some, List, [], length, arith, zero-lt-suc}
+use Rattle.basis.proofs.Lists.{longer}
 use Rattle.vast.specs.Words.{Text, is_name}
 use Rattle.vast.specs.TokenTexts.{token_text}
 use Rattle.vast.specs.Expressions.{ExpressionTree}
@@ -25,13 +26,6 @@ use Rattle.vgrammar.proofs.HeadPhrases.{Free, free_phrase_value, setting_shape, 
 use Rattle.vgrammar.proofs.ItemPhrases.{connection_shape, connection_phrase, instance_shape, instance_phrase}
 use Rattle.vgrammar.proofs.ModulePhrases.{head_shape, head_parameter_phrase, port_shape, port_phrase}
 
-positive : (n : ℕ) → 0 < suc n
-positive n = omega arith
-
-longer : (words : List Text) (word : Text) (more : List Text) → 0 < length (words ++ word ∷ more)
-longer [] word more = positive (length more)
-longer (one ∷ words) word more = positive (length (words ++ word ∷ more))
-
 no_more_words : {A : Type 0} (read : Reader A) → Eats read → (words left : List Text) (tree : A) → read words ≡ got tree left → length left ≤ length words
 no_more_words read eats words left tree e = weaker (length left) (length words) (eats words tree left e)
   where
@@ -39,23 +33,23 @@ no_more_words read eats words left tree e = weaker (length left) (length words) 
     weaker a b e = omega arith
 
 pub setting_eats : Eats setting
-setting_eats = sound_eats setting (setting_shape 63) (setting_phrase 63).sound (λ tree v. positive _)
+setting_eats = sound_eats setting (setting_shape 63) (setting_phrase 63).sound (λ tree v. zero-lt-suc _)
 
 pub declared_eats : Eats declared
 declared_eats = sound_eats declared (declared_shape 63) (declared_phrase 63).sound (λ tree v. some tree.name tree.value)
   where
     some : (letters : Text) (value : Option ExpressionTree) → 0 < length (trees.spell_value letters value)
-    some letters None = positive _
-    some letters (Some value) = positive _
+    some letters None = zero-lt-suc _
+    some letters (Some value) = zero-lt-suc _
 
 pub named_eats : Eats named
-named_eats = sound_eats named (text_shape is_name) named_phrase.sound (λ tree v. positive _)
+named_eats = sound_eats named (text_shape is_name) named_phrase.sound (λ tree v. zero-lt-suc _)
 
 pub connection_eats : Eats connection
-connection_eats = sound_eats connection (connection_shape 63) (connection_phrase 63).sound (λ tree v. positive _)
+connection_eats = sound_eats connection (connection_shape 63) (connection_phrase 63).sound (λ tree v. zero-lt-suc _)
 
 pub instance_eats : Eats instance_behind
-instance_eats = sound_eats instance_behind (instance_shape 63) (instance_phrase 63).sound (λ tree v. positive _)
+instance_eats = sound_eats instance_behind (instance_shape 63) (instance_phrase 63).sound (λ tree v. zero-lt-suc _)
 
 pub head_eats : Eats head_parameter
 head_eats = sound_eats head_parameter (head_shape 63) (head_parameter_phrase 63).sound (λ tree v. longer (trees.spell_kind tree.kind) tree.setting.name _)

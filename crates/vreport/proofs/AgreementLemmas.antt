@@ -1,7 +1,7 @@
 -- Two explorations that miss nothing list the same ends and the same races.
 use Rattle.std.proofs.Common.{◌≡◌, ℕ, ◌≤◌, List, length, map, slice_get, Some, option_map, sym, ap, ◌∙◌, subst, arith}
 use Rattle.std.proofs.lemmas.Option.{slice_get-map}
-use Rattle.basis.proofs.Lists.{listed_place}
+use Rattle.basis.proofs.Lists.{listed_place, of_mapped}
 use Rattle.statebook.specs.declared.limits.Limits.{Limits}
 use Rattle.vbits.specs.Vectors.{Vector}
 use Rattle.vmodel.specs.declared.history.Cause.{Cause}
@@ -12,7 +12,6 @@ use Rattle.report_text.specs.Report.{Race, Report}
 use Rattle.vreport.specs.Agreement.{ExhaustedAgree, HasEnd, HasRaced, IsPartOf}
 use Rattle.vreport.specs.Reports.{IsExploration, report_race, report_value}
 use Rattle.vreport.specs.Values.{report_digits}
-use Rattle.vreport.proofs.MappedLemmas.{of_mapped}
 
 -- what two or more values of a race show, each by a run of so many departures
 shows : (setting : Setting) (limits : Limits) (depart : ℕ) → limits.depart ≡ depart → (race : found.Race) → found.IsRace setting limits race → (i : ℕ) (s : Vector × List (ℕ × ℕ)) → slice_get race.values i ≡ Some s →

@@ -1,6 +1,7 @@
 -- The entries of a machine's exploration are entries of the rules of its setting.
 use Rattle.std.proofs.Common.{◌≡◌, ℕ, ◌<◌, ◌≤◌, ◌==◌, ◌||◌, Bool, true, false, not, List, slice_get, map, Some, refl, sym, ap, ◌∙◌, subst}
 use Rattle.std.proofs.lemmas.List.{length-map}
+use Rattle.basis.proofs.Lists.{of_mapped}
 use Rattle.sched_core.specs.Rules.{stands}
 use Rattle.statebook.specs.ExplorerCore.{IsEntry}
 use Rattle.statebook.specs.Stations.{is_station}
@@ -15,7 +16,6 @@ use Rattle.vmodel.specs.SameLaws.{states_tell}
 use Rattle.vmachine.specs.declared.machine_state.MachineState.{MachineState}
 use Rattle.vmachine.specs.Machines.{Stands, machine_rules}
 use Rattle.vreport.proofs.EndLemmas.{Alike, AllStand, RunThere}
-use Rattle.vreport.proofs.MappedLemmas.{of_mapped}
 
 -- what the law of machines says of a setting
 pub record KnowsMachine (setting : Setting) : Type 0 where

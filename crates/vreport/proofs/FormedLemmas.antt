@@ -2,7 +2,7 @@
 use Rattle.std.proofs.Common.{◌≡◌, ◌≢◌, ℕ, ◌≤◌, true, List, [], ◌∷◌, map, slice_get, Some, option_map, sym, ap, ◌∙◌, subst, arith}
 use Rattle.std.proofs.lemmas.List.{length-map}
 use Rattle.std.proofs.lemmas.Option.{slice_get-map, same_Some}
-use Rattle.basis.proofs.Lists.{listed_place}
+use Rattle.basis.proofs.Lists.{listed_place, of_mapped}
 use Rattle.statebook.specs.declared.limits.Limits.{Limits}
 use Rattle.explore.specs.declared.findings.Findings.{Findings}
 use Rattle.vbits.specs.Vectors.{Vector}
@@ -24,7 +24,7 @@ use Rattle.vreport.specs.Reports.{IsHeadOf, ShowsRaces, report_race, report_valu
 use Rattle.vreport.specs.Truth.{column_of}
 use Rattle.vreport.specs.Written.{AreDumps}
 use Rattle.vreport.proofs.LineLemmas.{its_variable, shaped_line, shaped_value}
-use Rattle.vreport.proofs.MappedLemmas.{each_mapped, of_mapped, two_mapped}
+use Rattle.vreport.proofs.MappedLemmas.{each_mapped, two_mapped}
 use Rattle.vreport.proofs.TextOrderLemmas.{text_less}
 
 -- each value of a state has the length and the sign of its variable

@@ -1,7 +1,6 @@
 -- Lists that are mapped, one thing after another.
-use Rattle.std.proofs.Common.{◌≡◌, ℕ, zero, suc, ◌+◌, ◌<◌, List, [], ◌∷◌, ◌++◌, length, map, drop, get_or, slice_get, Some, refl, sym, ap, ◌∙◌, subst, inl, inr, append_assoc}
-use Rattle.std.proofs.lemmas.Option.{same_Some}
-use Rattle.basis.proofs.Lists.{last_or_before, left_from}
+use Rattle.std.proofs.Common.{◌≡◌, ℕ, ◌+◌, ◌<◌, List, [], ◌∷◌, ◌++◌, length, map, drop, get_or, sym, ap, ◌∙◌, subst, inl, inr, append_assoc}
+use Rattle.basis.proofs.Lists.{last_or_before, left_from, of_mapped}
 use Rattle.report_text.specs.WellFormed.{Each, EachTwo}
 
 each_more : {A : Type 0} (P : A → Type 0) (xs : List A) (y : A) → Each P xs → P y → Each P (xs ++ y ∷ [])
@@ -15,12 +14,6 @@ mapped_more f P now next xs i x y is within items made p (so_far, each) = (
       ∙ ap (λ zs. now ++ map f zs) (left_from xs i x is within) ∙ so_far,
   subst (Each P) (sym items) (each_more P now y each p),
 )
-
--- what stands in a mapped list
-pub of_mapped : {A B : Type 0} (f : A → B) (xs : List A) (i : ℕ) (y : B) → slice_get (map f xs) i ≡ Some y → (x : A) × (slice_get xs i ≡ Some x) × (f x ≡ y)
-of_mapped f [] i y at = absurd cc
-of_mapped f (x ∷ xs) zero y at = (x, refl, same_Some (f x) y at)
-of_mapped f (x ∷ xs) (suc i) y at = of_mapped f xs i y at
 
 pub each_mapped : {A B : Type 0} (f : A → B) (P : B → Type 0) (xs : List A) → Each (λ x. P (f x)) xs → Each P (map f xs)
 each_mapped f P xs each = λ i y at. (let (x, there, is) = of_mapped f xs i y at in subst P is (each i x there))

@@ -6,10 +6,11 @@ use Rattle.std.specs.Ordering.{nat_cmp, is_lt, is_eq, ordering_then, ordering_re
 use Rattle.std.specs.List.Sorted.{IsSorted}
 use Rattle.std.specs.declared.cmp.Ordering.{Ordering}
 use Rattle.std.specs.declared.cmp.Ordering.TheVariants.{Less, Equal, Greater}
-use Rattle.std.proofs.lemmas.Cmp.{nat_cmp_total, nat_list_cmp_total, on_total, then_total, ranked, tied_itself}
+use Rattle.std.proofs.lemmas.Cmp.{nat_cmp_total, nat_list_cmp_total, on_total, then_total, tied_itself}
 use Rattle.std.proofs.lemmas.Map.Text.{is_eq-slice_cmp}
 use Rattle.std.proofs.lemmas.Slice.Eq.{bytes_eq-Decides}
 use Rattle.std.proofs.lemmas.Option.{slice_get_within, get_or_from_slice_get}
+use Rattle.basis.proofs.Numbers.{equal_numbers, less_numbers}
 use Rattle.vreport.specs.declared.row.Row.{Row}
 use Rattle.vreport.specs.Inner.{AreSortedRows, IsNotAfter, key_cmp}
 
@@ -72,12 +73,6 @@ row_total =
     then_total (on_total (λ (r : Row). r.time) nat_cmp_total) (then_total (on_total (λ (r : Row). r.cause) nat_cmp_total)
     (then_total (on_total (λ (r : Row). r.line.items) nat_list_cmp_total)
     (then_total (on_total (λ (r : Row). r.departures) nat_cmp_total) (on_total (λ (r : Row). r.place) nat_cmp_total))))
-
-equal_numbers : (a b : ℕ) → nat_cmp a b ≡ Equal → a ≡ b
-equal_numbers a b e = rw e at (ranked a b (nat_cmp a b) refl)
-
-less_numbers : (a b : ℕ) → nat_cmp a b ≡ Less → a < b
-less_numbers a b e = rw e at (ranked a b (nat_cmp a b) refl)
 
 equal_lines : (a b : List ℕ) → slice_cmp nat_cmp a b ≡ Equal → a ≡ b
 equal_lines a b e = (bytes_eq-Decides a b).0 (sym (is_eq-slice_cmp a b) ∙ ap is_eq e)

@@ -1,8 +1,7 @@
 -- The ends that are listed are those of runs, and where the findings are all, they are all.
 use Rattle.std.proofs.Common.{◌≡◌, ℕ, ◌≤◌, ◌⊎◌, true, List, length, slice_get, Some, refl, sym, ap, ◌∙◌, subst, inl, inr, le_refl, arith}
-use Rattle.std.specs.List.{Contains}
-use Rattle.std.proofs.lemmas.Option.{same_Some, slice_get-get_or}
-use Rattle.basis.proofs.Lists.{place_within}
+use Rattle.std.proofs.lemmas.Option.{same_Some}
+use Rattle.basis.proofs.Lists.{place_within, at_contains}
 use Rattle.sched_core.specs.Rules.{IsRun, stands}
 use Rattle.statebook.specs.Covered.{IsCovered}
 use Rattle.statebook.specs.declared.limits.Limits.{Limits}
@@ -31,9 +30,6 @@ RunHere setting = (log : List (ℕ × ℕ)) (n : ℕ) → IsRun (rules_of settin
 
 abbrev pub MarkAlike : Setting → Type 0
 MarkAlike setting = (s : MachineState) (t : State) → Stands setting s t → (machine_rules setting).mark s ≡ (rules_of setting).mark t
-
-at_contains : {X : Type 0} (xs : List X) (x : X) → Contains xs x → (i : ℕ) × (slice_get xs i ≡ Some x)
-at_contains xs x has = (has.0, slice_get-get_or xs has.0 x has.1 ∙ ap Some has.2)
 
 module _ (setting : Setting) (alike : Alike setting) (all : AllStand setting) (there : RunThere setting) (limits : Limits)
     (marks : List (MachineState × List (ℕ × ℕ))) (rows : List Row) (ends : List ReportEnd) (are : AreEnds setting limits marks rows ends) where

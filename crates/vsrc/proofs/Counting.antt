@@ -86,11 +86,8 @@ file_start-le start (b ∷ bs) at le =
     cond_both (nat_lt b at) (file_start (b + 1) bs at) start (λ s. s ≤ at)
     (λ before. file_start-le (b + 1) bs at (omega (arith, ltb-true b at before))) (λ _. le)
 
-no_less : (a b : ℕ) → nat_lt a b ≡ false → b ≤ a
-no_less a b h = omega (arith, ltb-false a b h)
-
 later_borders : (b : ℕ) (bs : List ℕ) (at : ℕ) → IsNonDecreasing (b ∷ bs) → nat_lt b at ≡ false → count_below bs at ≡ 0
-later_borders b bs at rise after = none_below at bs (λ k d within. omega (arith, no_less b at after, rises-head b bs rise k d within))
+later_borders b bs at rise after = none_below at bs (λ k d within. omega (arith, ltb-false b at after, rises-head b bs rise k d within))
 
 -- without a border before the place the file begins at the start
 pub file_start-none : (start : ℕ) (borders : List ℕ) (at : ℕ) → count_below borders at ≡ 0 → file_start start borders at ≡ start

@@ -2,20 +2,16 @@
 use Rattle.std.proofs.Common.{◌≡◌, ◌≢◌, ℕ, suc, ◌+◌, ◌-◌, ◌<◌, ◌≤◌, Bool, true, false, ◌&&◌, nat_eq, List, [], ◌∷◌, Option, Some, None, length, drop, get_or, refl, sym, ◌∙◌, ap, arith, unwrap_or, drop-cons}
 use Rattle.std.proofs.Math.ListN.{drop_of_length-le}
 use Rattle.std.specs.List.{position_or_len}
-use Rattle.std.proofs.lemmas.Bool.{ne_eqb}
+use Rattle.std.proofs.lemmas.Bool.{ne_eqb, false_from_ne_true}
 use Rattle.std.proofs.lemmas.List.Sums.{position_or_len_is}
 use Rattle.memchr.specs.Find.{IsFirstByte}
 use Rattle.vsrc.specs.Outside.{further, block_end, string_end}
 
-not_true : (b : Bool) → (b ≡ true → ⊥) → b ≡ false
-not_true true no_case = absurd (no_case refl)
-not_true false no_case = refl
-
 -- what `memchr` answers, with the length in the place of None
 pub position_of_first : (test : ℕ → Bool) (xs : List ℕ) (r : Option ℕ) → IsFirstByte test xs r → unwrap_or r (length xs) ≡ position_or_len test xs
-position_of_first test xs None h = sym (position_or_len_is test xs (length xs) 0 (omega arith) (λ k low. not_true _ (h k (omega arith) low)) (λ low. absurd (omega arith)))
+position_of_first test xs None h = sym (position_or_len_is test xs (length xs) 0 (omega arith) (λ k low. false_from_ne_true _ (h k (omega arith) low)) (λ low. absurd (omega arith)))
 position_of_first test xs (Some k) h =
-    sym (position_or_len_is test xs k 0 (omega (arith, h.0.high)) (λ j low. not_true _ (h.0.before j (omega arith) low)) (λ low. h.1))
+    sym (position_or_len_is test xs k 0 (omega (arith, h.0.high)) (λ j low. false_from_ne_true _ (h.0.before j (omega arith) low)) (λ low. h.1))
 
 -- what is left from a place on begins with the byte there
 pub drop_here : (text : List ℕ) (at : ℕ) → at < length text → drop at text ≡ get_or text at 0 ∷ drop (at + 1) text

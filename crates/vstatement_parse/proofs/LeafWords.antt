@@ -1,6 +1,7 @@
 -- Which of the words that statements are told by a tree keeps: names, numbers and strings, and no others.
 use Rattle.std.specs.Str.{bytes_eq}
 use Rattle.std.proofs.Common.{◌≡◌, Bool, true, false, ◌||◌, if◌then◌else◌, List, [], ◌∷◌, None, Some, codes, refl, ap, subst, ◌∙◌}
+use Rattle.basis.proofs.Bools.{by_if}
 use Rattle.vast.specs.Words.{Text, reserved_words, is_name, is_number, is_string, is_time, is_leaf}
 use Rattle.vast.specs.declared.token.Token.{Token}
 use Rattle.vast.specs.declared.statement.CaseKind.TheVariants as case_kind
@@ -99,10 +100,6 @@ start_word_plain (start.Dump dumping.All) = refl
 start_word_plain (start.Dump dumping.Flush) = refl
 start_word_plain (start.End true) = refl
 start_word_plain (start.End false) = refl
-
-by_if : {B : Type 0} (P : B → Type 0) (test : Bool) (x y : B) → (test ≡ true → P x) → (test ≡ false → P y) → P (if test then x else y)
-by_if P true x y f g = f refl
-by_if P false x y f g = g refl
 
 among_starts : (all : List StatementStart) (word : Text) (kind : StatementStart) → written start_word all word ≡ Some kind → is_leaf word ≡ false
 among_starts [] word kind e = absurd (nothing e)

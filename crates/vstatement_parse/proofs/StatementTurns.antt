@@ -1,6 +1,7 @@
 -- What the code that reads lists in statements goes on from.
 use Rattle.std.specs.Str.{bytes_eq}
 use Rattle.std.proofs.Common.{◌≡◌, ℕ, zero, suc, nat_le, ◌<◌, arith, length, Bool, true, false, if◌then◌else◌, codes, Result, subst, List, [], ◌∷◌, map, Vec, Global, refl, sym, ap, ◌∙◌}
+use Rattle.basis.proofs.Numbers.{one_within}
 use Rattle.vast.specs.Words.{Text, is_name}
 use Rattle.vast.specs.Statements.{block, first_statement, ArgumentTree, quoted, printed, spell_argument}
 use Rattle.vast.specs.StatementTrees.{statement_tree, statement_trees, event_tree}
@@ -24,7 +25,6 @@ use Rattle.vgrammar.proofs.Phrases.{sound_eats}
 use Rattle.vgrammar.proofs.PartPhrases.{further_shape, further_phrase, text_shape, named_phrase, path_shape, path_phrase, argument_shape, argument_phrase}
 use Rattle.vgrammar.proofs.StatementShapes.{statement_shape, statement_worded}
 use Rattle.vgrammar.proofs.StatementLevels.{statement_phrase}
-use Rattle.vgrammar.proofs.LevelFacts.{one_within}
 use Rattle.vgrammar.proofs.ValuePhrases.{value_worded}
 
 pub further_eats : Eats further_term

@@ -1,7 +1,7 @@
 use Rattle.std.proofs.Common.{◌≤◌, ◌++◌, ◌∷◌, ◌∙◌, refl, ap, arith}
 use Rattle.std.specs.Fmt.{decimal}
+use Rattle.basis.proofs.Bools.{and_both}
 use Rattle.vast.specs.Names.{is_path}
-use Rattle.report_text.proofs.FrontLemmas.{both}
 use Rattle.report_text.proofs.ColumnLemmas.{path_lacks, column_spelled}
 use Rattle.report_text.proofs.columns.column_line.Goals as goal
 
@@ -14,7 +14,7 @@ returns-clause-each c = λ column rest ok h.
     let wide = c.narrow.ensures high ∙ n.0 in (
       λ i. record { name = w.0 i; width = wide i },
       (
-        c.require-2.ensures.ok ∙ both _ _ (c.require.ensures.ok ∙ both _ _ n.1.0 (c.is_path.ensures ∙ ap is_path w.0 ∙ h.0.0)) (c.is_width.ensures.1 (low, high)),
+        c.require-2.ensures.ok ∙ and_both _ _ (c.require.ensures.ok ∙ and_both _ _ n.1.0 (c.is_path.ensures ∙ ap is_path w.0 ∙ h.0.0)) (c.is_width.ensures.1 (low, high)),
         c.require-2.ensures.rest ∙ c.require.ensures.rest ∙ n.1.1,
       ),
     )

@@ -1,9 +1,9 @@
 use Rattle.std.proofs.Common.{◌≡◌, ◌+◌, ◌++◌, ◌∷◌, [], ◌∙◌, ◌&&◌, true, ap, sym, subst, arith, length, length-append, map}
+use Rattle.basis.proofs.Bools.{and_right}
 use Rattle.report_text.specs.Report.{Column}
 use Rattle.report_text.specs.ReportText.{column_line}
 use Rattle.report_text.specs.WellFormed.{IsColumn}
 use Rattle.report_text.specs.Inner.Columns.{Differ}
-use Rattle.report_text.proofs.FrontLemmas.{and_right}
 use Rattle.report_text.proofs.ListLemmas.{HasRead, has_all, has_lost}
 use Rattle.report_text.proofs.ColumnLemmas.{column_step, columns_spelled, names_more}
 use Rattle.report_text.proofs.columns.read_columns.Goals as goal

@@ -1,6 +1,7 @@
 use Rattle.std.proofs.lemmas.Bool.Decides.{Decides-eqb}
 use Rattle.std.proofs.lemmas.Slice.Eq.{strip_prefix_is}
-use Rattle.report_text.proofs.FrontLemmas.{after_same, match_some, match_each}
+use Rattle.basis.proofs.Options.{match_some}
+use Rattle.report_text.proofs.FrontLemmas.{after_same, match_each}
 use Rattle.report_text.proofs.front.after.Goals as goal
 
 pub returns-clause-read : goal.returns-clause-read

@@ -1,6 +1,7 @@
 use Rattle.std.proofs.Common.{◌≡◌, ◌≤◌, arith, length, get_or}
 use Rattle.std.specs.Result.{result_ok}
-use Rattle.report_text.proofs.NumberLemmas.{digits_are_text, no_leading_zero, parsed, read_some, read_none, IsRead, Fits, parsed_fits}
+use Rattle.basis.proofs.Digits.{digits_are_text}
+use Rattle.report_text.proofs.NumberLemmas.{no_leading_zero, parsed, read_some, read_none, IsRead, Fits, parsed_fits}
 use Rattle.report_text.proofs.front.plain_value.Goals as goal
 use Rattle.report_text.proofs.front.plain_value.Goals.{else-digits-gt1-via-then-digits-gt1+else-digits-eq48, else-digits-gt1-via-else-digits-gt1}
 

@@ -1,11 +1,11 @@
 use Rattle.std.proofs.Common.{◌≡◌, ◌∙◌, ◌==◌, ◌&&◌, true, false, List, [], ℕ, ap, sym, subst, map, length}
 use Rattle.basis.proofs.Lists.{empty_from_test}
+use Rattle.basis.proofs.Bools.{and_left, and_right, and_both}
 use Rattle.report_text.specs.Report.{Report}
 use Rattle.report_text.specs.WellFormed.{IsColumn, IsNoReportText, IsReportText}
 use Rattle.report_text.specs.Inner.Columns.{Differ}
 use Rattle.report_text.specs.Inner.Lists.{Listed}
 use Rattle.report_text.specs.Inner.Wholes.{IsHeadTaken, IsBodyTaken}
-use Rattle.report_text.proofs.FrontLemmas.{and_left, and_right, both}
 use Rattle.report_text.proofs.SpellingLemmas.{heading_of, body_before}
 use Rattle.report_text.proofs.WholeLemmas.{is_report, read_from, same_report}
 use Rattle.report_text.proofs.read.read_report.Goals as goal
@@ -39,7 +39,7 @@ returns-then-not-is_ok-2-clause-ill_formed c = λ r dumps is e.
     let b = c.in_ok-ends.ensures.each f.all r.races [] w.2.0
     (subst (λ t. IsBodyTaken c.deref.result.now t f.all r.races []) (sym w.2.1) (subst (λ cs. IsBodyTaken cs (body_before r dumps) f.all r.races []) (sym columns) f.body)) in
     let lost : c.require.new.self.ok ≡ false = sym c.is_ok-2.ensures ∙ c.if-not-is_ok-2.true in
-    let fine : c.require.new.self.ok ≡ true = c.require.ensures.ok ∙ both _ _ b.3.0 (c.is_done.ensures ∙ ap (λ t. length t == 0) b.3.1) in
+    let fine : c.require.new.self.ok ≡ true = c.require.ensures.ok ∙ and_both _ _ b.3.0 (c.is_done.ensures ∙ ap (λ t. length t == 0) b.3.1) in
     absurd cc
 
 pub returns-then-not-is_ok-2-clause-accepts : goal.returns-then-not-is_ok-2-clause-accepts

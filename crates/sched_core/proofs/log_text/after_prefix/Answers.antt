@@ -1,6 +1,7 @@
 use Rattle.std.proofs.lemmas.Bool.Decides.{Decides-eqb}
 use Rattle.std.proofs.lemmas.Slice.Eq.{strip_prefix_is}
-use Rattle.sched_core.proofs.HeadLemmas.{match_some, match_none}
+use Rattle.basis.proofs.Options.{match_some}
+use Rattle.sched_core.proofs.HeadLemmas.{match_none}
 use Rattle.sched_core.proofs.log_text.after_prefix.Goals as goal
 
 pub returns-clause-some : goal.returns-clause-some

@@ -1,7 +1,8 @@
 use Rattle.std.proofs.Common.{◌++◌, ◌+◌, drop, ap, ◌∙◌, List, ℕ}
+use Rattle.basis.proofs.Lists.{left_from}
 use Rattle.vdesign.specs.Design.{Variable}
 use Rattle.vcd_text.specs.DumpText.{named_variable_line, variable_lines}
-use Rattle.vcd_text.proofs.HeaderLemmas.{name_more, variable_more, left_from}
+use Rattle.vcd_text.proofs.HeaderLemmas.{name_more, variable_more}
 use Rattle.vcd_text.proofs.header.put_variables.Goals as goal
 
 pub loop-variable-preserved : goal.loop-variable-preserved

@@ -1,8 +1,8 @@
 use Rattle.std.proofs.Common.{◌++◌, ◌-◌, cond, [], sym, ap, ◌∙◌, List, ℕ, Bool}
+use Rattle.basis.proofs.Results.{on_ok}
 use Rattle.vdesign.specs.Design.{Scope}
 use Rattle.vcd_text.specs.DumpText.{closings, scope_line, scope_text}
 use Rattle.vcd_text.proofs.HeaderLemmas.{written_put}
-use Rattle.vcd_text.proofs.PutLemmas.{on_ok}
 use Rattle.vcd_text.proofs.header.put_written.Goals as goal
 
 pub returns-clause-lines : goal.returns-clause-lines

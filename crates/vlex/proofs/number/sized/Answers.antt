@@ -1,8 +1,9 @@
 use Rattle.std.proofs.Common.{◌≡◌, ◌+◌, ◌∷◌, ◌&&◌, refl, ◌∙◌, sym, ap, length}
+use Rattle.basis.proofs.Bools.{and_false}
 use Rattle.vlex.specs.declared.bytes.Lead.TheVariants as lead
 use Rattle.vlex.specs.Forms.{is_size, is_based}
 use Rattle.vlex.proofs.Pieces.{not_open}
-use Rattle.vlex.proofs.Sizes.{all_digits, and_false, unsized, sized_number, barred_number}
+use Rattle.vlex.proofs.Sizes.{all_digits, unsized, sized_number, barred_number}
 use Rattle.vlex.proofs.number.sized.Goals as goal
 use Rattle.std.proofs.Common.{take}
 
