@@ -149,8 +149,8 @@ fn mix_updates(digest: u64, updates: &VecDeque<Parts>) -> u64
 fn mix_time(digest: u64, entry: &Future) -> u64
     ensures { result ≡ digest_of_time digest entry.now }
 {
-    let with_woken = mix_set(mix(digest, entry.time), &entry.processes);
-    mix_updates(with_woken, &entry.updates)
+    let with_processes = mix_set(mix(digest, entry.time), &entry.processes);
+    mix_updates(with_processes, &entry.updates)
 }
 
 fn mix_future(first: u64, future: &[Future]) -> u64

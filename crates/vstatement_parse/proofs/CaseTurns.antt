@@ -32,7 +32,7 @@ use Rattle.vgrammar.proofs.StatementLevels.{statement_phrase, statement_refuses}
 use Rattle.vgrammar.proofs.CasePhrases.{branch_shape, allow, branch_phrase}
 use Rattle.vstatement_parse.specs.Gives.{Answered}
 use Rattle.vstatement_parse.proofs.StatementTurns.{twice, level_of}
-use Rattle.vstatement_parse.specs.Cases.{labels_within, labelled_at, default_at, branch_at, branch_behind, not_endcase, branches_from, branches_behind, case_behind, case_inner, case_whole, case_at}
+use Rattle.vstatement_parse.specs.Cases.{labels_within, labelled_at, default_at, branch_at, later_branch, not_endcase, branches_from, later_branches, case_behind, case_inner, case_whole, case_at}
 
 -- labels
 
@@ -96,30 +96,30 @@ module _ (below : ℕ) (words : List Text) where
       else made other_way (paired (comma_list (value below)) (past (codes ":") (statement below))) words) (λ parts. got (branch_of parts))
 
   default_is : (seen : Bool) → is_front (codes "default") (front words) ≡ true → seen ≡ false →
-      branch_behind below seen words ≡ default_at below words
+      later_branch below seen words ≡ default_at below words
   default_is seen here new =
       ap (λ b. by_default b seen) here ∙ ap (λ s. by_default true s) new
       ∙ twice one_way branch_of (past (codes "default") (paired (maybe (is_front (codes ":")) (word_only (codes ":"))) (statement below)) words)
 
-  no_default : (seen : Bool) → is_front (codes "default") (front words) ≡ false → branch_behind below seen words ≡ labelled_at below words
+  no_default : (seen : Bool) → is_front (codes "default") (front words) ≡ false → later_branch below seen words ≡ labelled_at below words
   no_default seen here =
       ap (λ b. by_default b seen) here
       ∙ twice other_way branch_of (paired (comma_list (value below)) (past (codes ":") (statement below)) words)
       ∙ labelled_is below words
 
   pub second_default : (here seen : Bool) → here ≡ is_front (codes "default") (front words) → here ≡ true →
-      seen ≡ true → branch_behind below seen words ≡ stop NoTree words
+      seen ≡ true → later_branch below seen words ≡ stop NoTree words
   second_default here seen is met old = ap (λ b. by_default b seen) (sym is ∙ met) ∙ ap (λ s. by_default true s) old
 
   pub gives_default : (text : List Text) (left : List Text) (result : Result BranchWords (OrMemory Stop)) (here seen : Bool) →
       here ≡ is_front (codes "default") (front words) → here ≡ true → seen ≡ false →
-      Answered (branch_tree text) (default_at below words) left result → Answered (branch_tree text) (branch_behind below seen words) left result
+      Answered (branch_tree text) (default_at below words) left result → Answered (branch_tree text) (later_branch below seen words) left result
   gives_default text left result here seen is met new given =
       subst (λ a. Answered (branch_tree text) a left result) (sym (default_is seen (sym is ∙ met) new)) given
 
   pub gives_labelled : (text : List Text) (left : List Text) (result : Result BranchWords (OrMemory Stop)) (here seen : Bool) →
       here ≡ is_front (codes "default") (front words) → here ≡ false →
-      Answered (branch_tree text) (labelled_at below words) left result → Answered (branch_tree text) (branch_behind below seen words) left result
+      Answered (branch_tree text) (labelled_at below words) left result → Answered (branch_tree text) (later_branch below seen words) left result
   gives_labelled text left result here seen is none given =
       subst (λ a. Answered (branch_tree text) a left result) (sym (no_default seen (sym is ∙ none))) given
 
@@ -140,11 +140,11 @@ module _ (below : ℕ) (words : List Text) where
       of_labels (stop why after) e = absurd (stop_got e)
 
   pub default_seen : (seen here : Bool) (tree : BranchTree) (left : List Text) → here ≡ is_front (codes "default") (front words) →
-      branch_behind below seen words ≡ got tree left → here ≡ is_default tree
+      later_branch below seen words ≡ got tree left → here ≡ is_default tree
   default_seen seen here tree left is e = is ∙ sym (by_parts (is_front (codes "default") (front words)) seen tree left e)
 
   pub first_seen : (here : Bool) (tree : BranchTree) (left : List Text) → here ≡ is_front (codes "default") (front words) →
-      branch_behind below false words ≡ got tree left → here ≡ has_default (tree ∷ [])
+      later_branch below false words ≡ got tree left → here ≡ has_default (tree ∷ [])
   first_seen here tree left is e = default_seen false here tree left is e ∙ or_none (is_default tree)
     where
       or_none : (b : Bool) → b ≡ (b || false)
@@ -198,7 +198,7 @@ pub record IsSoFar (text : List Text) (below : ℕ) (items : List BranchWords) (
   pub seen_is : seen ≡ has_default (map (branch_tree text) items)
 
 pub so_far_first : (text : List Text) (below : ℕ) (one : BranchWords) (items : List BranchWords) (seen : Bool) (words : List Text) →
-    items ≡ one ∷ [] → seen ≡ has_default (branch_tree text one ∷ []) → IsSoFar text below items seen words (branches_behind below (branch_tree text one) words)
+    items ≡ one ∷ [] → seen ≡ has_default (branch_tree text one ∷ []) → IsSoFar text below items seen words (later_branches below (branch_tree text one) words)
 so_far_first text below one items seen words is e = record {
   branches = ap (λ ts. branches_from below (map (branch_tree text) ts) words) is;
   seen_is = e ∙ ap (λ ts. has_default (map (branch_tree text) ts)) (sym is);
@@ -207,12 +207,12 @@ so_far_first text below one items seen words is e = record {
 pub so_far_more : (text : List Text) (below : ℕ) → 0 < below → (words : List Text) → not_endcase (front words) ≡ true →
     (items after : List BranchWords) (one : BranchWords) (left : List Text) (all : Answer (List BranchTree)) (seen here both_seen : Bool) →
     after ≡ items ++ one ∷ [] → here ≡ is_front (codes "default") (front words) → both_seen ≡ (seen || here) →
-    branch_behind below seen words ≡ got (branch_tree text one) left → IsSoFar text below items seen words all →
+    later_branch below seen words ≡ got (branch_tree text one) left → IsSoFar text below items seen words all →
     IsSoFar text below after both_seen left all
 so_far_more text below some words here items after one left all seen this both_seen same is or e before = record {
   branches = ap (λ ts. branches_from below ts left) trees
       ∙ sym (one_more not_endcase (branch_at below) (branch_eats below some) (map (branch_tree text) items) words (branch_tree text one) left here
-      (ap (λ s. branch_behind below s words) (sym before.seen_is) ∙ e))
+      (ap (λ s. later_branch below s words) (sym before.seen_is) ∙ e))
       ∙ before.branches;
   seen_is = or ∙ ap (λ s. s || this) before.seen_is
       ∙ ap (λ b. has_default (map (branch_tree text) items) || b) (default_seen below words seen this (branch_tree text one) left is e)
@@ -223,18 +223,18 @@ so_far_more text below some words here items after one left all seen this both_s
     trees = ap (map (branch_tree text)) same ∙ map-append (branch_tree text) items (one ∷ [])
 
 pub branch_fewer : (text : List Text) (below : ℕ) → 0 < below → (items : List BranchWords) (seen : Bool) (words : List Text) (all : Answer (List BranchTree)) →
-    IsSoFar text below items seen words all → (tree : BranchTree) (left : List Text) → branch_behind below seen words ≡ got tree left →
+    IsSoFar text below items seen words all → (tree : BranchTree) (left : List Text) → later_branch below seen words ≡ got tree left →
     length left < length words
 branch_fewer text below some items seen words all before tree left e =
-    branch_eats below some (map (branch_tree text) items) words tree left (ap (λ s. branch_behind below s words) (sym before.seen_is) ∙ e)
+    branch_eats below some (map (branch_tree text) items) words tree left (ap (λ s. later_branch below s words) (sym before.seen_is) ∙ e)
 
 pub so_far_stopped : (text : List Text) (below : ℕ) → 0 < below → (items : List BranchWords) (seen : Bool) (words : List Text) (all : Answer (List BranchTree)) →
     IsSoFar text below items seen words all → (ends : Bool) → ends ≡ is_front (codes "endcase") (front words) → ends ≡ false →
-    (why : Stop) (left : List Text) → branch_behind below seen words ≡ stop why left → all ≡ stop why left
+    (why : Stop) (left : List Text) → later_branch below seen words ≡ stop why left → all ≡ stop why left
 so_far_stopped text below some items seen words all before ends is none why left e =
     sym before.branches
     ∙ stopped_at not_endcase (branch_at below) (branch_eats below some) (map (branch_tree text) items) words left why (ap not (sym is ∙ none))
-    (ap (λ s. branch_behind below s words) (sym before.seen_is) ∙ e)
+    (ap (λ s. later_branch below s words) (sym before.seen_is) ∙ e)
 
 pub so_far_ended : (text : List Text) (below : ℕ) → 0 < below → (items : List BranchWords) (seen : Bool) (words : List Text) (all : Answer (List BranchTree)) →
     IsSoFar text below items seen words all → (ends : Bool) → ends ≡ is_front (codes "endcase") (front words) → ends ≡ true →
@@ -274,7 +274,7 @@ module _ (below : ℕ) (x : BranchTree) where
   rounds_first zero list words = refl
   rounds_first (suc fuel) list words = by_test fuel (rounds_first fuel) list words (not_endcase (front words))
 
-  first_too : (words : List Text) → branches_behind below x words ≡ with_first (many not_endcase behind words)
+  first_too : (words : List Text) → later_branches below x words ≡ with_first (many not_endcase behind words)
   first_too words = rounds_first (suc (length words)) [] words
 
 -- the whole case
@@ -322,7 +322,7 @@ module _ (below : ℕ) (kind : CaseKind) where
     by_first : (a : Answer BranchTree) →
         and_then (and_then (and_then a (λ one. made (both one) (many not_endcase (λ list. branch_at below (one ∷ list)))))
         (λ list. made (both list) (word_only (codes "endcase")))) (λ list. got (case_parts_of kind (both tree list)))
-        ≡ and_then (and_then a (λ one left. and_then (branches_behind below one left) (λ all. past (codes "endcase") (got all))))
+        ≡ and_then (and_then a (λ one left. and_then (later_branches below one left) (λ all. past (codes "endcase") (got all))))
         (λ all. got (of_all all))
     by_first (got one left) =
         by_more one (many not_endcase (λ list. branch_at below (one ∷ list)) left)

@@ -42,8 +42,8 @@ default_at below =
     (past (codes "default") (paired (maybe (is_front (codes ":")) (word_only (codes ":"))) (statement below)))
 
 -- a branch, by whether a default stands before it
-abbrev pub branch_behind : ℕ → Bool → Reader BranchTree
-branch_behind below seen =
+abbrev pub later_branch : ℕ → Bool → Reader BranchTree
+later_branch below seen =
     made branch_of (either (is_front (codes "default")) (default_branch (statement below) seen)
     (paired (comma_list (value below)) (past (codes ":") (statement below))))
 
@@ -61,14 +61,14 @@ not_endcase next = not (is_front (codes "endcase") next)
 abbrev pub branches_from : ℕ → List BranchTree → Reader (List BranchTree)
 branches_from below = turns (one_behind (branch_at below)) not_endcase
 
-abbrev pub branches_behind : ℕ → BranchTree → Reader (List BranchTree)
-branches_behind below one = branches_from below (one ∷ [])
+abbrev pub later_branches : ℕ → BranchTree → Reader (List BranchTree)
+later_branches below one = branches_from below (one ∷ [])
 
 -- with the word that ends them
 abbrev pub branches_within : ℕ → Reader (List BranchTree)
 branches_within below words =
     and_then (branch_at below [] words)
-    (λ one left. and_then (branches_behind below one left) (λ all. past (codes "endcase") (got all)))
+    (λ one left. and_then (later_branches below one left) (λ all. past (codes "endcase") (got all)))
 
 -- behind the first word of a case
 abbrev pub case_behind : ℕ → CaseKind → ExpressionTree → Reader StatementTree

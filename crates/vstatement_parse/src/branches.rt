@@ -5,7 +5,7 @@ ghost use Rattle.vast.specs.Leaves.{branch_leaves};
 ghost use Rattle.vexpr_parse.specs.Readers.{front, is_front};
 ghost use Rattle.vast.specs.StatementTrees.{branch_tree};
 ghost use Rattle.vstatement_parse.specs.Gives.{Gives, ReadsStatements, KeepsStatements};
-ghost use Rattle.vstatement_parse.specs.Cases.{all_branches, branch_behind, branches_behind, branches_within as branches_within_at, default_at, labelled_at, all_branch_leaves};
+ghost use Rattle.vstatement_parse.specs.Cases.{all_branches, later_branch, later_branches, branches_within as branches_within_at, default_at, labelled_at, all_branch_leaves};
 ghost use Rattle.vgrammar.specs.Statements.{has_default};
 ghost use Rattle.vexpr_parse.specs.Answers.{ahead, Keeps, KeepsBehind};
 ghost use Rattle.vexpr_parse.specs.Texts.{words_of};
@@ -76,7 +76,7 @@ fn read_branch<F: Fn(&mut Cursor) -> Result<Statement, OrMemory<Stop>>>(
     requires callable { F.IsAlwaysCallable read.now }
     requires reads { ReadsStatements tokens.now below (F.post read.now) }
     requires keeps { KeepsStatements tokens.now (F.post read.now) }
-    ensures gives { Gives branch_tree (branch_behind below seen)
+    ensures gives { Gives branch_tree (later_branch below seen)
         tokens.now cursor.old cursor.new result }
     ensures kept { IfOk result (Keeps branch_leaves tokens.now cursor.old cursor.new) }
 {
@@ -120,7 +120,7 @@ fn more_branches<F: Fn(&mut Cursor) -> Result<Statement, OrMemory<Stop>>>(
     requires reads { ReadsStatements tokens.now below (F.post read.now) }
     requires keeps { KeepsStatements tokens.now (F.post read.now) }
     ensures gives { Gives all_branches
-        (branches_behind below (branch_tree (words_of tokens.now) first))
+        (later_branches below (branch_tree (words_of tokens.now) first))
         tokens.now cursor.old cursor.new result }
     ensures kept { IfOk result (KeepsBehind (branch_leaves first) all_branch_leaves
         tokens.now cursor.old cursor.new) }
