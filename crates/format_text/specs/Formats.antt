@@ -8,7 +8,7 @@ use Rattle.format_text.specs.declared.run.FormatState.TheVariants.{Outside, Behi
 
 -- ---- the letters of a string, of what stands between its quotes (3.6.3, table 3-1)
 
--- what a letter behind a backslash stands for: `\n` and `\t`; `\\` and `\"` stand for themselves
+-- what a letter after a backslash stands for: `\n` and `\t`; `\\` and `\"` stand for themselves
 abbrev pub escaped_letter : ℕ → ℕ
 escaped_letter c = if c == 110 then 10 else if c == 116 then 9 else c
 
@@ -31,7 +31,7 @@ letters_of is_escaped (c ∷ cs) = letters_read is_escaped c ++ letters_of (esca
 abbrev pub is_letter : ℕ → ℕ → ℕ → Bool
 is_letter small large c = c == small || c == large
 
--- b, h, d, t behind `%`
+-- b, h, d, t after `%`
 abbrev pub form_of : ℕ → Option Form
 form_of c =
     if is_letter 98 66 c then Some Binary
@@ -40,7 +40,7 @@ form_of c =
     else if is_letter 116 84 c then Some Time
     else None
 
--- d, t behind `%0`
+-- d, t after `%0`
 abbrev pub short_form_of : ℕ → Option Form
 short_form_of c = if is_letter 100 68 c then Some ShortDecimal else if is_letter 116 84 c then Some ShortTime else None
 
@@ -49,7 +49,7 @@ form_at Outside c = None
 form_at Behind c = form_of c
 form_at Shortened c = short_form_of c
 
--- ---- the front of a format: letters that are printed, the first form, if there is one, and what stands behind it
+-- ---- the front of a format: letters that are printed, the first form, if there is one, and what stands after it
 
 pub record Run : Type 0 where
   pub letters : List ℕ
@@ -60,7 +60,7 @@ abbrev pub run_with_form : List ℕ → Option Form → List ℕ → Option Run
 run_with_form letters None rest = None
 run_with_form letters (Some form) rest = Some (record { letters = letters; form = Some form; rest = rest })
 
--- letters so far, and those that are left: read outside of a form, behind a `%` (37), or behind `%0` (48); `%%` prints `%`
+-- letters so far, and those that are left: read outside of a form, after a `%` (37), or after `%0` (48); `%%` prints `%`
 abbrev pub run_by : FormatState → List ℕ → List ℕ → Option Run
 run_by Outside run [] = Some (record { letters = run; form = None; rest = [] })
 run_by Behind run [] = None

@@ -43,7 +43,7 @@ abbrev pub both_pieces : Option (List Piece) → Option (List Piece) → Option 
 both_pieces None later = None
 both_pieces (Some front) later = behind front later
 
--- the pieces of what is left of a format and of the arguments behind it, from left to right
+-- the pieces of what is left of a format and of the arguments after it, from left to right
 abbrev pub pieces_by : List ℕ → List Argument → Option (List Piece)
 pieces_by format [] = last_pieces (run_of format)
 pieces_by format (string letters ∷ arguments) = both_pieces (last_pieces (run_of format)) (pieces_by (letters_of false letters) arguments)
@@ -65,11 +65,11 @@ pub record Printed : Type 0 where
 abbrev pub pieces_with : Printed → List Argument → Option (List Piece)
 pieces_with printed arguments = behind printed.pieces (pieces_by printed.format arguments)
 
--- with whatever arguments behind it, a line has the pieces that it would have had; or, with this argument, none
+-- with whatever arguments after it, a line has the pieces that it would have had; or, with this argument, none
 abbrev pub TakesArgument : Printed → Argument → Bool → Printed → Type 0
 TakesArgument old argument true new = (arguments : List Argument) → pieces_with new arguments ≡ pieces_with old (argument ∷ arguments)
 TakesArgument old argument false new = (arguments : List Argument) → pieces_with old (argument ∷ arguments) ≡ None
 
--- all arguments but those that are left were taken: with them behind it, a line has the pieces of all
+-- all arguments but those that are left were taken: with them after it, a line has the pieces of all
 abbrev pub HasTakenAllBut : Printed → List Argument → List Argument → Type 0
 HasTakenAllBut printed left arguments = pieces_with printed left ≡ pieces_of arguments

@@ -9,7 +9,7 @@ use std::alloc::Global;
 use std::marker::Model;
 use vdesign::print::Form;
 
-/// The front of a format: the letters before its first form, that form, if there is one, and what stands behind it. A clause sees it
+/// The front of a format: the letters before its first form, that form, if there is one, and what stands after it. A clause sees it
 /// as the record `Run` of specs/Formats.antt.
 #[derive(Drop)]
 pub(crate) struct Run<'a> {
@@ -26,7 +26,7 @@ impl<'a> Model for Run<'a> {
     ghost view = { λ r. record { letters = r.letters.items; form = r.form; rest = r.rest.now } };
 }
 
-/// Where a reading stands: outside of a form, behind a `%`, or behind `%0`.
+/// Where a reading stands: outside of a form, after a `%`, or after `%0`.
 #[derive(Clone, Copy, Debug, PartialEq, Eq)]
 pub(crate) enum FormatState {
     Outside,

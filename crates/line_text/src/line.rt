@@ -66,7 +66,7 @@ fn put_pieces(
     Ok(())
 }
 
-/// Puts a line behind the text, with its line feed: what its pieces show at this moment (17.1.1). The error is want of memory, E901;
+/// Puts a line after the text, with its line feed: what its pieces show at this moment (17.1.1). The error is want of memory, E901;
 /// nothing is said of the text then.
 pub fn put_line(
     text: &mut Vec<u8>,
@@ -110,7 +110,7 @@ fn put_watched_of(
     }
 }
 
-/// Puts behind others the values that a monitor of this line watches: those of all arguments but a bare `$time` (17.1.3). The error is
+/// Puts after others the values that a monitor of this line watches: those of all arguments but a bare `$time` (17.1.3). The error is
 /// want of memory, E901; nothing is said of the values then.
 pub fn put_watched(
     values: &mut Vec<Vec4>,

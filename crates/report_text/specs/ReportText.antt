@@ -78,7 +78,7 @@ end_text end =
     line (codes "end " ++ joined_by_space (decimal end.time) (joined_by_space (cause_word end.cause) (joined_by_space (log_text end.log) (decimal end.bytes))))
     ++ line end.line
 
--- each end with its dump behind it
+-- each end with its dump after it
 abbrev pub ends_text : List End → List (List ℕ) → List ℕ
 ends_text [] dumps = []
 ends_text (end ∷ ends) [] = end_text end ++ ends_text ends []

@@ -33,7 +33,7 @@ impl<'t> Names<'t> {
         }
     }
 
-    /// Adds a name behind the others, and tells whether it is none of them. The error is want of memory, E901.
+    /// Adds a name after the others, and tells whether it is none of them. The error is want of memory, E901.
     pub fn add(&mut self, name: &'t [u8]) -> Result<bool, NoMemory>
         ensures new { IfOk result (λ added. added ≡ not (is_among self.old name.now)) }
         ensures put { IfOk result (λ added. added ≡ true → self.new ≡ self.old ++ name.now ∷ []) }

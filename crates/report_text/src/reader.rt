@@ -101,7 +101,7 @@ impl<'a> Reader<'a> {
         bytes
     }
 
-    /// Takes a number of 64 bits and the byte behind it, which is no digit.
+    /// Takes a number of 64 bits and the byte after it, which is no digit.
     pub fn number(&mut self, byte: u8) -> u64
         requires { is_ascii_digit byte ≡ false }
         ensures read { HasTaken self.old self.new (IsNumberFront byte) result }

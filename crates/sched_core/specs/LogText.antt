@@ -12,7 +12,7 @@ use Rattle.sched_core.specs.declared.log.LogHead.TheVariants.{Plain, Process, St
 abbrev pub member_text : ℕ × ℕ → List ℕ
 member_text m = decimal m.0 ++ (58 ∷ decimal m.1)
 
--- the members after one, each behind a comma
+-- the members after one, each after a comma
 abbrev pub more_text : List (ℕ × ℕ) → List ℕ
 more_text [] = []
 more_text (m ∷ log) = 44 ∷ (member_text m ++ more_text log)

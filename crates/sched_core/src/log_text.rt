@@ -192,7 +192,7 @@ pub fn write_log(alloc: Global, log: &Log) -> Result<Vec<u8>, NoMemory>
     Ok(text)
 }
 
-/// The text of the log behind the name of its grain, if it has one. The error is want of memory,
+/// The text of the log after the name of its grain, if it has one. The error is want of memory,
 /// E901.
 pub fn write_named_log(alloc: Global, head: LogHead, log: &Log) -> Result<Vec<u8>, NoMemory>
     ensures { IfOk result (λ text. text.items ≡ named_log_text head log.now) }

@@ -351,7 +351,7 @@ fn lines_of(
     Ok(text)
 }
 
-/// Takes a step. The answer is its line, and that of the slot end behind it; none where there is no such choice. The values
+/// Takes a step. The answer is its line, and that of the slot end after it; none where there is no such choice. The values
 /// before the step are copied, as the step may write any of them.
 pub(crate) fn step(
     alloc: Global,

@@ -17,7 +17,7 @@ fn digit(letter: Bit4) -> u8
     }
 }
 
-/// Puts all binary digits of a value behind the text, leftmost first, `x` and `z` in lower case (17.1.1.4). The error is want of
+/// Puts all binary digits of a value after the text, leftmost first, `x` and `z` in lower case (17.1.1.4). The error is want of
 /// memory, E901; nothing is said of the text then.
 pub fn put_binary(text: &mut Vec<u8>, value: Vec4) -> Result<(), NoMemory>
     ensures { OnOk result (text.new.items ≡ text.old.items ++ spec.binary value) }

@@ -93,7 +93,7 @@ fn put_right(text: &mut Vec<u8>, places: usize, shown: &[u8]) -> Result<(), NoMe
     Ok(())
 }
 
-/// Puts a value behind the text, in decimal digits, signed values with a minus; where a bit is unknown it is one letter, as of a
+/// Puts a value after the text, in decimal digits, signed values with a minus; where a bit is unknown it is one letter, as of a
 /// hexadecimal digit. The error is want of memory, E901; nothing is said of the text then.
 pub fn put_short_decimal(text: &mut Vec<u8>, value: Vec4) -> Result<(), NoMemory>
     ensures { OnOk result (text.new.items ≡ text.old.items ++ spec.short_decimal value) }
@@ -110,7 +110,7 @@ pub fn put_decimal(text: &mut Vec<u8>, value: Vec4) -> Result<(), NoMemory>
     put_right(text, places(value), &shown)
 }
 
-/// Puts a time behind the text: the value, in units of which `factor` make one of its own. The error is E901, as there.
+/// Puts a time after the text: the value, in units of which `factor` make one of its own. The error is E901, as there.
 pub fn put_short_time(text: &mut Vec<u8>, value: Vec4, factor: u64) -> Result<(), NoMemory>
     ensures { OnOk result (text.new.items ≡ text.old.items ++ spec.short_time factor value) }
 {

@@ -38,7 +38,7 @@ fn group(value: Vec4, n: u32) -> Vec4
     value.select(high, 4 * n)
 }
 
-/// Puts a value behind the text, in hexadecimal digits in lower case, bits taken by fours from the right: a digit of x alone is `x`, of
+/// Puts a value after the text, in hexadecimal digits in lower case, bits taken by fours from the right: a digit of x alone is `x`, of
 /// z alone `z`, of some x `X`, else of some z `Z` (17.1.1.4). The error is want of memory, E901; nothing is said of the text then.
 pub fn put_hexadecimal(text: &mut Vec<u8>, value: Vec4) -> Result<(), NoMemory>
     ensures { OnOk result (text.new.items ≡ text.old.items ++ spec.hexadecimal value) }

@@ -1,5 +1,5 @@
 // Values as printed lines show them (IEEE 1364-2005, 17.1.1): binary, hexadecimal, decimal, and as a time. In go four-state vectors;
-// out come letters, put behind a text.
+// out come letters, put after a text.
 // The law: what is put is the definition of its name in specs/ValueText.antt.
 #![tactic(auto)]
 

@@ -296,7 +296,7 @@ abbrev pub is_kind : Option ParameterType → Bool
 is_kind None = false
 is_kind (Some type) = true
 
--- the first parameter stands behind the word
+-- the first parameter stands after the word
 abbrev pub fits_head_parameters : ℕ → List HeadParameter → Bool
 fits_head_parameters levels [] = false
 fits_head_parameters levels (parameter ∷ more) =

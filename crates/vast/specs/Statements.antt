@@ -31,12 +31,12 @@ pub data DelayOf (W : Type 0) : Type 0 where
   by_name : W → DelayOf W
   by_value : ExpressionOf W → DelayOf W
 
--- one of the terms of an event control: a name, behind posedge or negedge or by itself
+-- one of the terms of an event control: a name, after posedge or negedge or by itself
 pub record TermOf (W : Type 0) : Type 0 where
   pub edge : Option Edge
   pub name : W
 
--- a further term, behind a comma or behind or
+-- a further term, after a comma or after or
 pub record FurtherOf (W : Type 0) : Type 0 where
   pub by_comma : Bool
   pub term : TermOf W
@@ -53,7 +53,7 @@ pub data ArgumentOf (W : Type 0) : Type 0 where
   quoted : W → ArgumentOf W  -- "letters"
   printed : ExpressionOf W → ArgumentOf W
 
--- 18.1.2: levels, and the paths of names behind them
+-- 18.1.2: levels, and the paths of names after them
 pub record SelectionOf (W : Type 0) : Type 0 where
   pub levels : W
   pub paths : List (List W)
@@ -375,7 +375,7 @@ abbrev mutual
 
 -- What stands as the grammar lets it
 
--- an if without else stands at its end, so that an else behind it would belong to that
+-- an if without else stands at its end, so that an else after it would belong to that
 abbrev pub ends_in_if : StatementTree → Bool
 ends_in_if empty = false
 ends_in_if (block statements) = false

@@ -17,7 +17,7 @@ fn conversion_word(signed: bool) -> &'static [u8]
     if signed { b"$signed" } else { b"$unsigned" }
 }
 
-/// Puts the words of an expression behind the others.
+/// Puts the words of an expression after the others.
 #[cycle(spelling)]
 pub fn put_expression<'t>(
     out: &mut Vec<Spelling<'t>>,

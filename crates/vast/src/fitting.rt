@@ -126,7 +126,7 @@ fn modules_fit(words: &[&[u8]], modules: &[ModuleTree]) -> bool
 }
 
 /// Whether the tree stands as the grammar lets it, so that it derives the words that it spells: names in their places, operands
-/// that hold tightly enough, each `else` behind the nearest `if`, one default at most, 64 levels at most. It takes no memory.
+/// that hold tightly enough, each `else` after the nearest `if`, one default at most, 64 levels at most. It takes no memory.
 pub fn fits(words: &[&[u8]], text: &TextTree) -> bool
     ensures { result ≡ fits_tree 64 (source_tree (texts words.now) text.now) }
 {

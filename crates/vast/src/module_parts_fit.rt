@@ -160,7 +160,7 @@ fn each_parameter_fits(words: &[&[u8]], parameters: &[HeadParameter], levels: u3
     true
 }
 
-/// Whether the parameters of a module's head stand so: the first stands behind the word.
+/// Whether the parameters of a module's head stand so: the first stands after the word.
 pub fn head_parameters_fit(words: &[&[u8]], parameters: &[HeadParameter], levels: u32) -> bool
     ensures { result ≡ fits_head_parameters levels
         (map (head_parameter (texts words.now)) parameters.now) }

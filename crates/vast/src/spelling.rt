@@ -13,7 +13,7 @@ pub struct Spelling<'t> {
     pub text: &'t [u8],
 }
 
-/// Puts a word behind the others.
+/// Puts a word after the others.
 pub fn put<'t>(out: &mut Vec<Spelling<'t>>, text: &'t [u8]) -> Result<(), NoMemory>
     ensures { Puts out.old out.new result (text.now ∷ []) }
 {

@@ -88,7 +88,7 @@ pub struct Term {
     pub name: Token,
 }
 
-/// A further term of an event control, behind a comma or behind `or` (9.7.3).
+/// A further term of an event control, after a comma or after `or` (9.7.3).
 #[derive(Clone, Copy, Debug)]
 pub struct FurtherTerm {
     pub by_comma: bool,

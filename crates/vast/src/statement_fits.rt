@@ -1,4 +1,4 @@
-// Whether a statement stands as the grammar lets it: names in their places, each `else` behind the nearest `if`, one default at
+// Whether a statement stands as the grammar lets it: names in their places, each `else` after the nearest `if`, one default at
 // most in a case, nothing too deep.
 
 ghost use Rattle.std.specs.Prelude.{◌≡◌, List, nat_le};

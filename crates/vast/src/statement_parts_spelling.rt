@@ -18,7 +18,7 @@ use crate::statement::{
 use crate::token::Token;
 use basis::NoMemory;
 
-/// Puts the words of a target behind the others.
+/// Puts the words of a target after the others.
 #[cycle(targets)]
 pub fn put_target<'t>(
     out: &mut Vec<Spelling<'t>>,

@@ -99,7 +99,7 @@ fn put_for_head<'t>(
     put(out, b")")
 }
 
-/// Puts the words of a statement behind the others.
+/// Puts the words of a statement after the others.
 #[cycle(statements)]
 pub fn put_statement<'t>(
     out: &mut Vec<Spelling<'t>>,

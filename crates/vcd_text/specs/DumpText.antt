@@ -268,7 +268,7 @@ pub record Piece : Type 0 where
   pub time : ℕ
   pub parts : List Part
 
--- all values of the variables that are marked, behind a command's word
+-- all values of the variables that are marked, after a command's word
 abbrev pub all_at : List ℕ → List Bool → List Vector → Part
 all_at word marks values = record { word = word; told = selected_values 0 marks values }
 
@@ -347,7 +347,7 @@ abbrev pub nonempty_pieces : List Piece → List Piece
 nonempty_pieces [] = []
 nonempty_pieces (p ∷ ps) = if is_nothing (piece_text p) then nonempty_pieces ps else p ∷ nonempty_pieces ps
 
--- each behind its time, and last the time of the run's end, unless the last one stands there (docs/FORMATS.md)
+-- each after its time, and last the time of the run's end, unless the last one stands there (docs/FORMATS.md)
 abbrev pub body : List Piece → ℕ → List ℕ
 body [] end = []
 body (p ∷ []) end = time_line p.time ++ piece_text p ++ (if p.time == end then [] else time_line end)

@@ -1,11 +1,11 @@
-// What takes texts, one behind another.
+// What takes texts, one after another.
 
 ghost use Rattle.std.specs.Prelude.{ℕ, List, OnOk, IfErr};
 ghost use Rattle.vcd_text.specs.ByteSinks.{IsByteSink, Stopped};
 
 use basis::OrMemory;
 
-/// What takes texts, one behind another: a writer, what counts them, or what compares them with a text.
+/// What takes texts, one after another: a writer, what counts them, or what compares them with a text.
 pub trait ByteSink {
     type Fault: Drop;
 

@@ -72,7 +72,7 @@ plain_constant ds = record { value = with_sign (of_number 32 (spelled_number ds)
 abbrev pub is_marked : Text → Bool
 is_marked text = first_byte text == 115 || first_byte text == 83
 
--- the base and what stands behind it
+-- the base and what stands after it
 abbrev pub without_mark : Text → Text
 without_mark text = if is_marked text then drop 1 text else text
 
@@ -83,7 +83,7 @@ is_unknown_at value place = is_unknown (get_or value.letters place Zero)
 abbrev pub spreads_by : Text → Bool → Vector → Bool
 spreads_by size marked value = (length size == 0) && not marked && is_unknown_at value 31
 
--- a size, or none, and what stands behind the apostrophe
+-- a size, or none, and what stands after the apostrophe
 abbrev pub based_constant : Text → Text → Constant
 based_constant size text =
     let value = based_value (size_of size) (first_byte (without_mark text)) (drop 1 (without_mark text)) in

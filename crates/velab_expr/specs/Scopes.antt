@@ -14,7 +14,7 @@ use Rattle.velab_expr.specs.declared.scope.Meaning.TheVariants.{Variable, Parame
 use Rattle.velab_expr.specs.declared.scope.Operand.{Operand}
 use Rattle.velab_expr.specs.declared.scope.Operand.TheVariants as operand
 
--- The names of an instance, or of the top: those of its variables, so many, and behind them others, parameters, named events and
+-- The names of an instance, or of the top: those of its variables, so many, and after them others, parameters, named events and
 -- instances, with what they stand for. So many of the others stand before the place that is looked at. Its variables are numbered from
 -- `first` on, and `events` is what the next named event goes by. `top` is the name of the top.
 pub record Scope : Type 0 where

@@ -39,7 +39,7 @@ term_by edge name (Some Instance) = refused Kind (Some name)
 abbrev pub lower_term : Scope → Edge → Word → Result (List Term) ElabFault
 lower_term scope edge name = term_by edge name (meaning_of scope name)
 
--- behind a comma or behind `or`: both say the same (9.7.4)
+-- after a comma or after `or`: both say the same (9.7.4)
 abbrev pub lower_further : Scope → List FurtherTerm → Result (List Term) ElabFault
 lower_further scope [] = Ok []
 lower_further scope (further ∷ more) =
@@ -128,7 +128,7 @@ read_by_items text.none = []
 read_by_items (text.first item more) = names_in item ++ read_by_items more
 
 -- The names that a statement reads, in the order of the text. The terms of an event control and the condition of a `wait` in it
--- aren't read; the statements behind them are.
+-- aren't read; the statements after them are.
 abbrev mutual
   pub read_by : StatementTree → List Word
   read_by empty = []

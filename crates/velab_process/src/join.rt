@@ -208,7 +208,7 @@ fn lower_joins(
     Ok(())
 }
 
-/// A process for each port that is connected, in the order of the ports, behind the processes that there are. `outer` are the names
+/// A process for each port that is connected, in the order of the ports, after the processes that there are. `outer` are the names
 /// where the instance stands, `inner` its own, `connections` what its ports are connected to, `whose` the token of its name. E303 or E310
 /// where a name that is connected is wrong, E305 where an output isn't connected to a name alone, E306 or E307 where what is constant in
 /// a connection is wrong; E901.

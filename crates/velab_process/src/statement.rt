@@ -931,7 +931,7 @@ fn lower_items(
 }
 
 /// A process for each `initial`, each `always`, each net that an `assign` drives and each name that is declared with a value, in the order of the
-/// text, behind those that there are. `scope` is that of the first item. Errors: E303, E306, E307, E310, E901.
+/// text, after those that there are. `scope` is that of the first item. Errors: E303, E306, E307, E310, E901.
 pub fn put_processes(
     alloc: Global,
     tokens: &Tokens<'_>,

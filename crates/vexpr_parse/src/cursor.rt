@@ -16,7 +16,7 @@ use vast::operators::rank;
 use vast::token::Token;
 use vlex::Tokens;
 
-/// A place between two tokens, and the words that are left behind it.
+/// A place between two tokens, and the words that are left after it.
 #[derive(Clone, Copy, Debug)]
 pub struct Cursor {
     at: u32,
@@ -37,7 +37,7 @@ impl Cursor {
         Cursor { at: 0 }
     }
 
-    /// The place before the token of this number, or behind the last token where there are no more than so many.
+    /// The place before the token of this number, or after the last token where there are no more than so many.
     pub fn at(tokens: &Tokens<'_>, number: usize) -> Cursor
         ensures { ahead tokens.now result ≡ drop number (words_of tokens.now) }
     {

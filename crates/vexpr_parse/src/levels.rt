@@ -66,7 +66,7 @@ fn of_rank(
     )
 }
 
-/// The longest expression at the front of the words, of so many levels at most, one or more. The cursor is left behind
+/// The longest expression at the front of the words, of so many levels at most, one or more. The cursor is left after
 /// it, or at the first word with which the words before it begin none: of any depth (`NoTree`), or only for want of a
 /// level (`TooDeep`). Want of memory leaves it anywhere.
 pub fn expression(

@@ -22,7 +22,7 @@ pub enum StatementStart {
     If,
     /// `case`, `casez` or `casex`
     Case(CaseKind),
-    /// A statement behind an expression in parentheses.
+    /// A statement after an expression in parentheses.
     Guarded(Guard),
     /// `forever`
     Forever,

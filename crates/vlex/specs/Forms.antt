@@ -26,15 +26,15 @@ abbrev pub is_whole : Option ℕ → List ℕ → Bool
 is_whole None bytes = false
 is_whole (Some len) bytes = len == length bytes
 
--- Comments (3.3): what stands behind /* ends with the first */
+-- Comments (3.3): what stands after /* ends with the first */
 abbrev pub ends_block : List ℕ → Bool
 ends_block bytes = is_whole (block_end bytes) bytes
 
--- Strings (3.6): what stands behind the opening quote ends with the closing one, on the same line.
+-- Strings (3.6): what stands after the opening quote ends with the closing one, on the same line.
 abbrev pub ends_string : List ℕ → Bool
 ends_string bytes = is_whole (string_end bytes) bytes
 
--- behind a backslash stands n, t, a backslash or a quote (3.6.3)
+-- after a backslash stands n, t, a backslash or a quote (3.6.3)
 abbrev pub has_good_escapes : List ℕ → Bool
 has_good_escapes [] = true
 has_good_escapes (c ∷ []) = not (c == 92)
@@ -55,11 +55,11 @@ spelled_number = fold with_digit 0
 abbrev pub is_size : List ℕ → Bool
 is_size digits = list_all (is_in Decimals) digits && nat_le 1 (spelled_number digits) && nat_le (spelled_number digits) 64
 
--- behind a first digit other than _ stand digits of the same base
+-- after a first digit other than _ stand digits of the same base
 abbrev pub digits_from : Set → ℕ → Option Set
 digits_from set first = if is_in set first && not (first == 95) then Some set else None
 
--- what may stand behind a base letter and a first digit; x, z and ? stand alone in base d
+-- what may stand after a base letter and a first digit; x, z and ? stand alone in base d
 abbrev pub digits_after : ℕ → ℕ → Option Set
 digits_after base first =
     if base == 98 || base == 66 then digits_from Binaries first
@@ -78,7 +78,7 @@ is_base_and_digits [] = false
 is_base_and_digits (base ∷ []) = false
 is_base_and_digits (base ∷ first ∷ digits) = are_in (digits_after base first) digits
 
--- what stands behind the apostrophe: s or not, then base and digits
+-- what stands after the apostrophe: s or not, then base and digits
 abbrev pub is_based : List ℕ → Bool
 is_based [] = false
 is_based (c ∷ cs) = if c == 115 || c == 83 then is_base_and_digits cs else is_base_and_digits (c ∷ cs)
@@ -99,7 +99,7 @@ is_double a b = list_any (λ symbol. bytes_eq symbol (a ∷ b ∷ []))
 abbrev pub is_triple : ℕ → ℕ → ℕ → Bool
 is_triple a b c = list_any (λ symbol. bytes_eq symbol (a ∷ b ∷ c ∷ [])) (codes "===" ∷ codes "!==" ∷ codes "<<<" ∷ codes ">>>" ∷ [])
 
--- a mark alone, or with the bytes behind it
+-- a mark alone, or with the bytes after it
 abbrev pub is_symbol : ℕ → List ℕ → Bool
 is_symbol a [] = true
 is_symbol a (b ∷ []) = is_double a b
@@ -114,7 +114,7 @@ slash_form (c ∷ cs) =
     else if c == 42 then only_if (ends_block cs) Comment
     else None
 
--- the form of a first byte of this lead and of what stands behind it
+-- the form of a first byte of this lead and of what stands after it
 abbrev pub form_by : Lead → ℕ → List ℕ → Option Form
 form_by lead.Blank c cs = only_if (list_all (is_in Blanks) cs) Blank
 form_by lead.Letter c cs = only_if (list_all (is_in Words) cs) (Token Name)

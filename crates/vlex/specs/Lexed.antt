@@ -17,8 +17,8 @@ pub record Piece : Type 0 where
   pub kind : TokenKind
   pub text : List ℕ
 
--- what may not stand at once behind: an apostrophe behind a plain number, a letter, digit, _ or $
--- behind a based one, / or * behind a slash
+-- what may not follow at once: an apostrophe after a plain number, a letter, digit, _ or $
+-- after a based one, / or * after a slash
 abbrev pub is_barred : Form → ℕ → ℕ → Bool
 is_barred (Token Plain) first c = c == 39
 is_barred (Token Based) first c = is_in Words c

@@ -26,7 +26,7 @@ kind_at t index = option_map (λ piece. piece.kind) (slice_get (pieces_of t) ind
 abbrev pub text_at : Tokenized → ℕ → Option (List ℕ)
 text_at t index = option_map (λ piece. piece.text) (slice_get (pieces_of t) index)
 
--- where a token begins; behind the last one, where the text ends
+-- where a token begins; after the last one, where the text ends
 abbrev pub start_of : Tokenized → ℕ → ℕ
 start_of t index = unwrap_or (option_map (λ span. span.start) (slice_get t.spans index)) (length t.source.text)
 

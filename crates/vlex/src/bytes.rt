@@ -91,7 +91,7 @@ pub fn lead_of(byte: u8) -> Lead
     }
 }
 
-/// The byte at the index, and 0 behind the last one.
+/// The byte at the index, and 0 after the last one.
 pub fn byte_at(bytes: &[u8], index: usize) -> u8
     ensures { result ≡ slice_index bytes.now index }
 {

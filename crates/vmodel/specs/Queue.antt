@@ -39,7 +39,7 @@ abbrev pub slot_with_sleeper : Option ℕ → Later → Later
 slot_with_sleeper None slot = slot
 slot_with_sleeper (Some p) slot = record slot { processes = with_process p slot.processes }
 
--- 11.4: the same with one more update, behind the others
+-- 11.4: the same with one more update, after the others
 abbrev pub slot_with_update : List Part → Later → Later
 slot_with_update parts slot = record slot { updates = slot.updates ++ parts ∷ [] }
 

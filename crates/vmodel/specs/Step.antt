@@ -64,11 +64,11 @@ quiet = record {
 abbrev pub post_after : ℕ → List Part → Post
 post_after delay parts = record { after = delay; parts = parts }
 
--- at these places in turn, then at what stood behind
+-- at these places in turn, then at what came after
 abbrev pub frames : List ℕ → List Frame → List Frame
 frames places after = map Executing places ++ after
 
--- a `repeat` at a place with so many turns left, before what stands behind it; where none is left it has ended
+-- a `repeat` at a place with so many turns left, before what stands after it; where none is left it has ended
 abbrev pub turns_left : ℕ → ℕ → List Frame → List Frame
 turns_left place zero after = after
 turns_left place (suc n) after = Repeating place (suc n) ∷ after
@@ -86,7 +86,7 @@ command_of switch.Off = command.Off
 command_of switch.On = command.On
 command_of switch.All = command.All
 
--- what an action at a place does at a moment, of a process that has `after` left behind it
+-- what an action at a place does at a moment, of a process that has `after` left to do then
 abbrev pub execute : ℕ → Action → List Frame → Environment → StepResult
 -- 9.2.1: `targets = value` writes
 execute place (Assign targets value) after now = record { continuation = after; effect = record quiet { wrote = assigned_parts now targets value } }
@@ -106,12 +106,12 @@ execute place (Test condition when_true otherwise) after now =
 -- 9.5: `case (value) ..`
 execute place (Case kind value branches otherwise) after now =
     record { continuation = frames (places_of_case now kind value branches otherwise) after; effect = quiet }
--- 9.6: `while (condition) ..` tests once more behind its body
+-- 9.6: `while (condition) ..` tests once more after its body
 execute place (While condition body) after now =
     record { continuation = if holds now condition then frames body (Executing place ∷ after) else after; effect = quiet }
 -- 9.6: `repeat (count) ..` takes its count
 execute place (Repeat count body) after now = record { continuation = turns_left place (turns_of now count) after; effect = quiet }
--- 9.6: `forever ..` comes again behind its body
+-- 9.6: `forever ..` comes again after its body
 execute place (Forever body) after now = record { continuation = frames body (Executing place ∷ after); effect = quiet }
 -- 9.7.1: `#amount` suspends, and the body comes after it
 execute place (Delay amount body) after now = record { continuation = frames body after; effect = record quiet { disposition = Delayed (delay_of now amount) } }
@@ -137,7 +137,7 @@ execute place Finish after now = record { continuation = after; effect = record 
 execute place Stop after now = record { continuation = after; effect = record quiet { cause = Some Stopped } }
 
 -- 9.6: what the start of a turn of the action at a place does, where so many turns are left: the body comes, and then the turns
--- that are left behind this one. No other action than `repeat` has turns
+-- that are left after this one. No other action than `repeat` has turns
 abbrev pub execute_turn : ℕ → ℕ → Action → List Frame → StepResult
 execute_turn place n (Repeat count body) after = record { continuation = frames body (turns_left place (n - 1) after); effect = quiet }
 execute_turn place n _ after = record { continuation = Repeating place n ∷ after; effect = quiet }
@@ -190,7 +190,7 @@ reschedule p Runnable goes q = goes_on p goes q
 reschedule p (Delayed d) goes q = leaves p (sleeps d goes q)
 reschedule p (Waiting place) goes q = leaves p q
 
--- 11.4: an update stands behind those posted before for its time, which is the current time, or later after a delay
+-- 11.4: an update stands after those posted before for its time, which is the current time, or later after a delay
 abbrev pub posts_after : ℕ → List Part → Queue → Queue
 posts_after zero parts q = record q { posted = q.posted ++ parts ∷ [] }
 posts_after (suc d) parts q = later (suc d) (slot_with_update parts) q
@@ -199,7 +199,7 @@ abbrev pub posts : Option Post → Queue → Queue
 posts None q = q
 posts (Some post) q = posts_after post.after post.parts q
 
--- 11.3, 17.1.2: a monitor event stands behind those created before
+-- 11.3, 17.1.2: a monitor event stands after those created before
 abbrev pub with_strobe : Option ℕ → Queue → Queue
 with_strobe strobed q = record q { strobes = q.strobes ++ option_to_list strobed }
 
@@ -416,6 +416,6 @@ end_items design s monitors = before_end (strobe_items design s monitors) (slot_
 abbrev pub items_of : Design → Transition → List Item
 items_of design transition = shown_items design transition.state transition.effect.shown ++ end_items design transition.state transition.monitors
 
--- what stood before still stands, and behind it are the first, if any, of those that were to come
+-- what stood before still stands, and after it are the first, if any, of those that were to come
 abbrev pub HasFront : List Item → List Item → List Item → Type 0
 HasFront old coming new = (n : ℕ) × (new ≡ old ++ take n coming)

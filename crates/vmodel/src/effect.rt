@@ -182,7 +182,7 @@ fn print_effect(when: When, place: usize) -> Effect
     }
 }
 
-/// What an action does: the places that come next, what comes behind them before the rest, and all else.
+/// What an action does: the places that come next, what comes after them, before the rest, and all else.
 #[derive(Drop)]
 pub struct Execution<'d> {
     pub next: &'d [usize],

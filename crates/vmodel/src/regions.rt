@@ -106,7 +106,7 @@ impl Queue {
         Ok(())
     }
 
-    /// The update is posted behind the others of its time. After want of memory the queue is as it was.
+    /// The update is posted after the others of its time. After want of memory the queue is as it was.
     fn post(&mut self, post: &Post) -> Result<(), NoMemory>
         ensures ok { OnOk result (self.new ≡ posts_update (Some post.now) self.old) }
         ensures err { OnErr result (self.new ≡ self.old) }

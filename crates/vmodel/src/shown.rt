@@ -126,8 +126,8 @@ fn put_end(
     Ok(())
 }
 
-/// Puts behind others what a step gives to the history, in order: what it showed at once, and where the state after it is a slot end
-/// the lines of the monitor events and the slot end. Where memory is short, the others still stand, and behind them come the first of
+/// Puts after others what a step gives to the history, in order: what it showed at once, and where the state after it is a slot end
+/// the lines of the monitor events and the slot end. Where memory is short, the others still stand, and after them come the first of
 /// these at most.
 pub fn put_items(
     items: &mut Vec<Item>,
@@ -147,7 +147,7 @@ pub fn put_items(
     put_end(items, design, state, monitors)
 }
 
-/// Puts behind others the slot end of a state, where it is one. Where memory is short, the others stand as they were.
+/// Puts after others the slot end of a state, where it is one. Where memory is short, the others stand as they were.
 pub fn put_slot_end(items: &mut Vec<Item>, state: &State) -> Result<(), NoMemory>
     ensures ok { OnOk result (items.new.items ≡ items.old.items ++ slot_end_of state.now) }
     ensures err { OnErr result (items.new.items ≡ items.old.items) }

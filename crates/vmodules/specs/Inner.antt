@@ -42,7 +42,7 @@ unit_tree words = option_map (λ unit. module_tree words unit.now)
 abbrev pub IsTold : Option Word → ℕ → Type 0
 IsTold word number = option_map (λ (w : Word). w.number) word ≡ Some number
 
--- the names behind which words were put
+-- the names, with words put after them
 abbrev pub with_words : List Text → List Word → List Text
 with_words names words = names ++ letters_of words
 

@@ -51,7 +51,7 @@ impl<'t> Names<'t> {
         self.set.len()
     }
 
-    /// Adds a name behind the others where it is new, and tells whether it was.
+    /// Adds a name after the others where it is new, and tells whether it was.
     pub fn add(&mut self, text: &'t [u8]) -> Result<bool, NoMemory>
         ensures new { IfOk result (λ new. new ≡ not (is_declared self.old text.now)) }
         ensures added { IfOk result (λ new.
@@ -63,7 +63,7 @@ impl<'t> Names<'t> {
         Ok(added)
     }
 
-    /// Adds a new name, the token of this number, behind the others.
+    /// Adds a new name, the token of this number, after the others.
     pub fn add_new(&mut self, text: &'t [u8], at: u32) -> Result<(), OrMemory<Doubled>>
         ensures added { OnOk result (self.new ≡ self.old ++ text.now ∷ []) }
         ensures unique { has_double self.new ≡ false }

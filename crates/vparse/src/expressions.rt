@@ -46,7 +46,7 @@ fn fault(tokens: &Tokens<'_>, at: usize, cursor: &Cursor, why: Stop) -> SyntaxFa
     }
 }
 
-/// The longest expression that begins at the token of this number, from 0, and the number of the token behind it (IEEE 1364-2005,
+/// The longest expression that begins at the token of this number, from 0, and the number of the token after it (IEEE 1364-2005,
 /// A.8.3). It nests 64 levels deep at most, and keeps its names, its numbers and each `$time` by their own numbers. The words are read
 /// one by one and never given back: where the first of them that can't follow those before it, or the text's end, comes before an
 /// expression ends, as in `a + ;`, it decides of the fault: E203 where it could follow with more levels, else E202 where the word stands

@@ -9,7 +9,7 @@ use std::alloc::Global;
 use vexpr_parse::{Cursor, Stop};
 use vlex::Tokens;
 
-/// What stands behind the first one, a comma before each, with the first one.
+/// What stands after the first one, a comma before each, with the first one.
 pub fn list_behind<T: Drop, F: Fn(&mut Cursor) -> Result<T, OrMemory<Stop>>>(
     alloc: Global,
     read: &F,
@@ -32,7 +32,7 @@ pub fn list_behind<T: Drop, F: Fn(&mut Cursor) -> Result<T, OrMemory<Stop>>>(
     Ok(list)
 }
 
-/// What stands behind the first one, with the first one, up to this very word, which is passed.
+/// What stands after the first one, with the first one, up to this very word, which is passed.
 pub fn list_until<T: Drop, F: Fn(&mut Cursor) -> Result<T, OrMemory<Stop>>>(
     alloc: Global,
     read: &F,

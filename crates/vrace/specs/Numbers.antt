@@ -46,7 +46,7 @@ number_of Write = 902
 number_of Read = 903
 number_of TooLong = 904
 
--- what is told behind the number: the place where one is known, or the item of a report
+-- what is told after the number: the place where one is known, or the item of a report
 abbrev pub detail_of : Fault → Detail
 detail_of (NotEnded at) = Place at
 detail_of (BadToken at) = Place at
@@ -77,6 +77,6 @@ detail_text Nothing = []
 detail_text (Place at) = place_text at.0
 detail_text (Item item) = codes " at " ++ decimal item
 
--- a fault is shown as `E`, its number, and what is told behind it
+-- a fault is shown as `E`, its number, and what is told after it
 abbrev pub fault_text : Fault → List ℕ
 fault_text fault = codes "E" ++ decimal (number_of fault) ++ detail_text (detail_of fault)

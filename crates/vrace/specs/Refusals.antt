@@ -43,7 +43,7 @@ IsDesignless text top = (scale : Timescale) (design : Design) → IsDesignOf tex
 abbrev pub HasRefusal : Source → SyntaxFault → Type 0
 HasRefusal source fault = (tokens : Tokenized) × AreTokens source tokens × IsRefusal tokens fault
 
--- where the word of this number stands, or the text's end behind the last
+-- where the word of this number stands, or the text's end after the last
 abbrev pub word_place : Tokenized → ℕ → Option Place
 word_place tokens number =
     if nat_le number (length (words_of tokens)) then Some (place_of tokens.source (start_of tokens number)) else None

@@ -56,7 +56,7 @@ pub enum Fault {
     BadToken(At),
     /// A directive is ill formed, not first on its line, or without its open conditional.
     Directive(At),
-    /// The name behind a backtick has no macro.
+    /// The name after a backtick has no macro.
     NoMacro(At),
     /// Macros or conditionals nest too deep, or the text or the number of uses grows too large.
     TooLarge(At),
@@ -98,7 +98,7 @@ pub enum Fault {
     TooLong,
 }
 
-/// What is told behind a number.
+/// What is told after a number.
 #[derive(Clone, Copy, Debug, PartialEq, Eq)]
 pub enum Detail {
     /// Nothing.
@@ -141,7 +141,7 @@ impl Fault {
         }
     }
 
-    /// What is told behind the number.
+    /// What is told after the number.
     pub fn detail(&self) -> Detail
         ensures { result ≡ detail_of self.now }
     {

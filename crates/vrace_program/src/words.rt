@@ -236,7 +236,7 @@ pub fn workers_of(matches: &ArgMatches<'_>) -> u64 {
     matches.get_one::<u64>("workers").unwrap_or(0)
 }
 
-/// What the words behind `replay` and `explore` ask for alike.
+/// What the words after `replay` and `explore` ask for alike.
 pub fn request_of<'a>(alloc: Global, matches: &ArgMatches<'a>) -> Result<Request<'a>, NoMemory> {
     let files = files_of(alloc, matches)?;
     let grain = match matches.get_str("grain") {

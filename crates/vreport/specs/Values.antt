@@ -7,7 +7,7 @@ use Rattle.vcd_text.specs.DumpText.{dump_digits}
 abbrev pub report_digits : Vector → List ℕ
 report_digits v = dump_digits v
 
--- the values after one, each behind a space
+-- the values after one, each after a space
 abbrev pub more_values : List Vector → List ℕ
 more_values [] = []
 more_values (v ∷ vs) = 32 ∷ (report_digits v ++ more_values vs)

@@ -118,7 +118,7 @@ fn put_races<O: ByteSink>(
     Ok(())
 }
 
-/// Writes the text of a report to the byte sink, and behind each end its dump: the one that is held, else that of the run under
+/// Writes the text of a report to the byte sink, and after each end its dump: the one that is held, else that of the run under
 /// its log, which is run again and written slot by slot. E901 where memory was refused; else a fault is the byte sink's. Then a
 /// front of the text stands written.
 pub fn write_report<O: ByteSink>(

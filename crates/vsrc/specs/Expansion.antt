@@ -1,22 +1,22 @@
 -- *trusted*: What directives and macros make of the files: a text and a timescale, or a fault (IEEE 1364-2005, clause 19).
 --
 -- The files are joined, with a line feed between each two (`joined`). Then one walk goes over them, piece by piece
--- (`step`). A piece is a comment, a string, a backtick with the name behind it, or one byte more. What is known between
+-- (`step`). A piece is a comment, a string, a backtick with the name after it, or one byte more. What is known between
 -- two pieces is a `State`: the place, whether the line is fresh there, the macros, the open conditionals, the timescale,
 -- and what was made.
 --
 -- Comments, strings and bytes stay as they are (`passed`), backticks in comments and strings too. A comment ends with its
 -- line or with the first */, a string with its quote or its line (`stretch_len`).
 --
--- A name behind a backtick is a directive if it is a word of one (`directive_of`), and else the use of a macro. A
--- directive stands first on its line, behind blanks alone: only a line feed outside comments makes a line fresh, and any
+-- A name after a backtick is a directive if it is a word of one (`directive_of`), and else the use of a macro. A
+-- directive stands first on its line, after blanks alone: only a line feed outside comments makes a line fresh, and any
 -- piece but a blank ends that, a directive and a use too. E110 is for one that isn't first, is ill formed, or is without
 -- its open conditional, and for a backtick without a name. What a directive takes of its line is left out of the text,
--- and what stands behind that is read as any text (`obeyed`):
---   define          its name, blanks, and the rest of the line, which goes on behind a backslash. Comments to the end of
+-- and what stands after that is read as any text (`obeyed`):
+--   define          its name, blanks, and the rest of the line, which goes on after a backslash. Comments to the end of
 --                   the line are cut (`macro_text`). No word of a directive is given a text, and none with a
---                   parenthesis at once behind it.
---   undef, ifdef, ifndef, elsif, default_nettype        a name behind blanks of the same line
+--                   parenthesis at once after it.
+--   undef, ifdef, ifndef, elsif, default_nettype        a name after blanks of the same line
 --   timescale       two lengths of time and a slash, blanks between or not
 --   else, endif     nothing
 --

@@ -16,11 +16,11 @@ pub enum Part {
     Read,
     /// It is skipped, and none was read before it.
     Sought,
-    /// It is skipped, and so are those behind it.
+    /// It is skipped, and so are those after it.
     Past,
 }
 
-/// A conditional that is open: where its word stands, its part, and whether that is the one behind `else`.
+/// A conditional that is open: where its word stands, its part, and whether that is the one after `else`.
 #[derive(Clone, Copy)]
 pub struct Open {
     pub at: usize,
@@ -91,7 +91,7 @@ impl Opens {
         Ok(())
     }
 
-    /// Begins the next part of the innermost one. E110 where none is open, or the part behind `else` is.
+    /// Begins the next part of the innermost one. E110 where none is open, or the part after `else` is.
     pub fn turn(&mut self, holds: bool, last: bool, at: usize) -> Result<(), OrMemory<Refusal>>
         ensures ok { OnOk result (turned holds last at self.old ≡ Ok self.new) }
         ensures err { IfFault result (λ refusal. turned holds last at self.old ≡ Err refusal) }

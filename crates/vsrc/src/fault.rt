@@ -7,7 +7,7 @@ use crate::expanded::Place;
 pub enum SrcFault {
     /// E110: a directive is ill formed, not first on its line, or without its open conditional.
     Directive { place: Place },
-    /// E111: the name behind a backtick has no macro.
+    /// E111: the name after a backtick has no macro.
     NoMacro { place: Place },
     /// E112: macros or conditionals nest too deep, or the text or the number of uses grows too large.
     Growth { place: Place },

@@ -7,7 +7,7 @@ use crate::outside::stretch_len;
 use basis::NoMemory;
 use std::alloc::Global;
 
-/// The text that a definition gives its name, from the first byte behind the name that isn't a blank on; and how many
+/// The text that a definition gives its name, from the first byte after the name that isn't a blank on; and how many
 /// bytes of the files it takes: a line that ends in a backslash goes on with the next one. Comments to the end of their
 /// line are cut.
 pub fn macro_text(alloc: Global, behind: &[u8]) -> Result<Vec<u8>, NoMemory>
@@ -18,7 +18,7 @@ pub fn macro_text(alloc: Global, behind: &[u8]) -> Result<Vec<u8>, NoMemory>
     without_comments(alloc, &lines)
 }
 
-/// How far the rest of the line goes, with each line behind one that ends in a backslash.
+/// How far the rest of the line goes, with each line after one that ends in a backslash.
 pub fn lines_len(text: &[u8]) -> usize
     ensures value { result ≡ lines_len text.now }
     ensures within { result ≤ length text.now }

@@ -63,7 +63,7 @@ impl<'t> Table<'t> {
     }
 }
 
-/// Whether the name behind a backtick may be a macro's.
+/// Whether the name after a backtick may be a macro's.
 pub fn may_be_macro(name: &[u8]) -> bool
     ensures { result ≡ may_be_macro name.now }
 {

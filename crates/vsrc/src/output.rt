@@ -50,7 +50,7 @@ impl Output {
         }
     }
 
-    /// Puts bytes of the joined files behind the text; they stand there from `at` on. Refused where the text gets too long.
+    /// Puts bytes of the joined files after the text; they stand there from `at` on. Refused where the text gets too long.
     pub fn put_copied(&mut self, bytes: &[u8], at: usize) -> Result<(), OrMemory<Refusal>>
         requires { at + length bytes.now ≤ text_limit }
         ensures ok { OnOk result (put_copied bytes.now at self.old ≡ Ok self.new) }
@@ -64,7 +64,7 @@ impl Output {
         Ok(())
     }
 
-    /// Puts bytes that a macro gave behind the text, for a use at `at`. Refused where the text gets too long.
+    /// Puts bytes that a macro gave after the text, for a use at `at`. Refused where the text gets too long.
     pub fn put_given(&mut self, bytes: &[u8], at: usize) -> Result<(), OrMemory<Refusal>>
         requires { at ≤ text_limit }
         ensures ok { OnOk result (put_given bytes.now at self.old ≡ Ok self.new) }

@@ -11,7 +11,7 @@ use basis::OrMemory;
 pub enum Why {
     /// E110: a directive is ill formed, not first on its line, or without its open conditional.
     Directive,
-    /// E111: the name behind a backtick has no macro.
+    /// E111: the name after a backtick has no macro.
     Macro,
     /// E112: macros or conditionals nest too deep, or the text or the number of uses grows too large.
     Limit,

@@ -75,7 +75,7 @@ pub fn name_len(text: &[u8]) -> usize
     word_len(text)
 }
 
-/// The name behind blanks of the same line, if there is one, and how many bytes both take.
+/// The name after blanks of the same line, if there is one, and how many bytes both take.
 pub fn name_behind(text: &[u8]) -> Option<(&[u8], usize)>
     ensures value { named_of result ≡ name_behind text.now }
     ensures within { IfSome result (λ found. found.1 ≤ length text.now) }

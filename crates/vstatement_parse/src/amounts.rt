@@ -15,7 +15,7 @@ use vast::words::{is_name, is_number};
 use vexpr_parse::{Cursor, Stop};
 use vlex::Tokens;
 
-/// What stands behind `#`.
+/// What stands after `#`.
 #[tactic(auto, using(crate::proofs::LeafWords::number_leaf, crate::proofs::LeafWords::name_leaf))]
 pub fn amount(
     alloc: Global,

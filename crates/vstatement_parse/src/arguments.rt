@@ -79,7 +79,7 @@ fn more_arguments(
     Ok(list)
 }
 
-/// The arguments behind the parenthesis, up to the next one.
+/// The arguments after the parenthesis, up to the next one.
 pub fn arguments(
     alloc: Global,
     tokens: &Tokens<'_>,

@@ -89,7 +89,7 @@ pub fn assignment(
     }
 }
 
-/// What stands behind `->`, the token of this number (9.7.3).
+/// What stands after `->`, the token of this number (9.7.3).
 pub fn trigger(
     tokens: &Tokens<'_>,
     cursor: &mut Cursor,

@@ -57,7 +57,7 @@ fn within<F: Fn(&mut Cursor) -> Result<Statement, OrMemory<Stop>>>(
     Ok(list)
 }
 
-/// What stands behind `begin`.
+/// What stands after `begin`.
 pub fn block<F: Fn(&mut Cursor) -> Result<Statement, OrMemory<Stop>>>(
     alloc: Global,
     read: &F,

@@ -137,7 +137,7 @@ fn more_branches<F: Fn(&mut Cursor) -> Result<Statement, OrMemory<Stop>>>(
     Ok(branches)
 }
 
-/// The branches, and `endcase` behind them.
+/// The branches, and `endcase` after them.
 #[tactic(auto, using(crate::proofs::CaseTurns::first_seen, crate::proofs::LeafWords::endcase_plain))]
 pub fn branches_within<F: Fn(&mut Cursor) -> Result<Statement, OrMemory<Stop>>>(
     alloc: Global,

@@ -1,4 +1,4 @@
-// Statements behind `case` (IEEE 1364-2005, 9.5).
+// Statements after `case` (IEEE 1364-2005, 9.5).
 
 ghost use Rattle.std.specs.Prelude.{List, ◌≡◌, ◌<◌, ◌++◌, IfOk};
 ghost use Rattle.vexpr_parse.specs.Answers.{Keeps};
@@ -60,7 +60,7 @@ fn behind_word<F: Fn(&mut Cursor) -> Result<Statement, OrMemory<Stop>>>(
     Ok(of_branches(at, kind, value, branches))
 }
 
-/// What stands behind `case`, `casez` or `casex`, the token of this number.
+/// What stands after `case`, `casez` or `casex`, the token of this number.
 pub fn selected<F: Fn(&mut Cursor) -> Result<Statement, OrMemory<Stop>>>(
     alloc: Global,
     read: &F,

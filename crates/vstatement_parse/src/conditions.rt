@@ -1,4 +1,4 @@
-// Statements behind `if` (IEEE 1364-2005, 9.4).
+// Statements after `if` (IEEE 1364-2005, 9.4).
 
 ghost use Rattle.std.specs.Prelude.{List, ◌≡◌, ◌<◌, IfOk, ◌++◌};
 ghost use Rattle.vast.specs.Leaves.{if_some, statement_leaves, boxed_leaves};
@@ -19,7 +19,7 @@ use vast::statement::Statement;
 use vexpr_parse::{Cursor, Stop};
 use vlex::Tokens;
 
-/// The statement of an `if`, and that behind its `else`.
+/// The statement of an `if`, and that after its `else`.
 #[derive(Drop)]
 pub struct Choice {
     pub body: Box<Statement>,
@@ -111,7 +111,7 @@ fn chosen(at: u32, condition: Box<Expression>, choice: Choice) -> Statement
     }
 }
 
-/// What stands behind `if`, the token of this number.
+/// What stands after `if`, the token of this number.
 pub fn conditional<F: Fn(&mut Cursor) -> Result<Statement, OrMemory<Stop>>>(
     alloc: Global,
     read: &F,

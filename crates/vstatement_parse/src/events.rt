@@ -108,7 +108,7 @@ fn begins_name(tokens: &Tokens<'_>, cursor: &Cursor) -> bool
     }
 }
 
-/// What is waited for, behind `@`.
+/// What is waited for, after `@`.
 pub fn control(
     alloc: Global,
     tokens: &Tokens<'_>,
@@ -128,7 +128,7 @@ pub fn control(
     }
 }
 
-/// What stands behind `@`, the token of this number.
+/// What stands after `@`, the token of this number.
 pub fn waiting<F: Fn(&mut Cursor) -> Result<Statement, OrMemory<Stop>>>(
     alloc: Global,
     read: &F,

@@ -1,4 +1,4 @@
-// Statements round others, behind their first words (IEEE 1364-2005, 9.4 to 9.7).
+// Statements round others, after their first words (IEEE 1364-2005, 9.4 to 9.7).
 
 ghost use Rattle.std.specs.Prelude.{List, ◌≡◌, ◌<◌, ◌++◌, IfOk};
 ghost use Rattle.vexpr_parse.specs.Answers.{Keeps};
@@ -47,7 +47,7 @@ fn around(guard: Guard, at: u32, value: Box<Expression>, body: Box<Statement>) -
     }
 }
 
-/// What stands behind `while`, `repeat` or `wait`, the token of this number (9.6 and 9.7.6).
+/// What stands after `while`, `repeat` or `wait`, the token of this number (9.6 and 9.7.6).
 pub fn guarded<F: Fn(&mut Cursor) -> Result<Statement, OrMemory<Stop>>>(
     alloc: Global,
     read: &F,
@@ -72,7 +72,7 @@ pub fn guarded<F: Fn(&mut Cursor) -> Result<Statement, OrMemory<Stop>>>(
     Ok(around(guard, at, value, body))
 }
 
-/// What stands behind `forever`, the token of this number (9.6).
+/// What stands after `forever`, the token of this number (9.6).
 pub fn forever<F: Fn(&mut Cursor) -> Result<Statement, OrMemory<Stop>>>(
     alloc: Global,
     read: &F,
@@ -92,7 +92,7 @@ pub fn forever<F: Fn(&mut Cursor) -> Result<Statement, OrMemory<Stop>>>(
     Ok(Statement::Forever { at, body })
 }
 
-/// What stands behind `#`, the token of this number (9.7.1).
+/// What stands after `#`, the token of this number (9.7.1).
 pub fn delayed<F: Fn(&mut Cursor) -> Result<Statement, OrMemory<Stop>>>(
     alloc: Global,
     read: &F,

@@ -55,7 +55,7 @@ fn more_labels(
     Ok(labels)
 }
 
-/// The labels, and the colon behind them.
+/// The labels, and the colon after them.
 pub fn labels(
     alloc: Global,
     tokens: &Tokens<'_>,

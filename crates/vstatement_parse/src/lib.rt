@@ -1,5 +1,5 @@
 // The tokens of a statement to its tree. In: a cursor over the tokens, and how many levels there are. Out: the tree that the
-// definitions of the crate `vgrammar` read of them, with the cursor behind it, or where and why they read none.
+// definitions of the crate `vgrammar` read of them, with the cursor after it, or where and why they read none.
 #![tactic(auto)]
 
 pub mod amounts;

@@ -1,4 +1,4 @@
-// Statements behind `for` (IEEE 1364-2005, 9.6).
+// Statements after `for` (IEEE 1364-2005, 9.6).
 
 ghost use Rattle.std.specs.Prelude.{List, ◌≡◌, ◌<◌, IfOk, ◌++◌};
 ghost use Rattle.vast.specs.Leaves.{statement_leaves};
@@ -20,7 +20,7 @@ use vast::statement::Statement;
 use vexpr_parse::{Cursor, Stop};
 use vlex::Tokens;
 
-/// What is written behind each turn, and the statement of the turns.
+/// What is written after each turn, and the statement of the turns.
 #[derive(Drop)]
 pub struct Step {
     pub next: Setting,
@@ -93,7 +93,7 @@ fn looped(at: u32, first: Setting, going: Going) -> Statement
     }
 }
 
-/// What stands behind `for`, the token of this number.
+/// What stands after `for`, the token of this number.
 pub fn counted<F: Fn(&mut Cursor) -> Result<Statement, OrMemory<Stop>>>(
     alloc: Global,
     read: &F,

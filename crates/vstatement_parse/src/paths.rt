@@ -1,4 +1,4 @@
-// What is dumped, behind `$dumpvars` (IEEE 1364-2005, 18.1.2).
+// What is dumped, after `$dumpvars` (IEEE 1364-2005, 18.1.2).
 
 ghost use Rattle.std.specs.Prelude.{◌≡◌, codes, IfOk, ◌∷◌, []};
 ghost use Rattle.vast.specs.Leaves.{path_leaves, selection_leaves, if_some, statement_leaves};
@@ -152,7 +152,7 @@ fn optional_selection(
     }
 }
 
-/// What stands behind `$dumpvars`, the token of this number.
+/// What stands after `$dumpvars`, the token of this number.
 pub fn dump_vars(
     alloc: Global,
     tokens: &Tokens<'_>,

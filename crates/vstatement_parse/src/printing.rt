@@ -1,4 +1,4 @@
-// Printing tasks, behind their names (IEEE 1364-2005, 17.1).
+// Printing tasks, after their names (IEEE 1364-2005, 17.1).
 
 ghost use Rattle.std.specs.Prelude.{◌≡◌, ◌<◌, IfOk};
 ghost use Rattle.vast.specs.Leaves.{statement_leaves};
@@ -92,7 +92,7 @@ fn monitored(
     })
 }
 
-/// What stands behind `$display` or `$strobe`, the token of this number (17.1.1 and 17.1.2).
+/// What stands after `$display` or `$strobe`, the token of this number (17.1.1 and 17.1.2).
 pub fn print(
     alloc: Global,
     tokens: &Tokens<'_>,
@@ -108,7 +108,7 @@ pub fn print(
     printed(alloc, tokens, cursor, below, at, kind)
 }
 
-/// What stands behind `$monitor`, the token of this number (17.1.3).
+/// What stands after `$monitor`, the token of this number (17.1.3).
 pub fn monitor(
     alloc: Global,
     tokens: &Tokens<'_>,

@@ -190,7 +190,7 @@ fn no_level(tokens: &Tokens<'_>, cursor: &Cursor) -> Stop
     }
 }
 
-/// A statement of so many levels at most (clause 9 and A.6.4). The cursor is left behind it, or at the first word with
+/// A statement of so many levels at most (clause 9 and A.6.4). The cursor is left after it, or at the first word with
 /// which the words before it begin none: of any depth (`NoTree`), or only for want of a level (`TooDeep`). Want of memory
 /// leaves it anywhere.
 #[cycle(statements)]

@@ -1,4 +1,4 @@
-// Calls of system tasks, behind their names (IEEE 1364-2005, clauses 17 and 18).
+// Calls of system tasks, after their names (IEEE 1364-2005, clauses 17 and 18).
 
 ghost use Rattle.std.specs.Prelude.{◌≡◌, IfOk};
 ghost use Rattle.vexpr_parse.specs.Answers.{Keeps};
@@ -13,7 +13,7 @@ use vast::token::Token;
 use vexpr_parse::{Cursor, Stop};
 use vlex::Tokens;
 
-/// What stands behind `$dumpon` and the like, the token of this number (18.1.3).
+/// What stands after `$dumpon` and the like, the token of this number (18.1.3).
 pub fn dump(
     tokens: &Tokens<'_>,
     cursor: &mut Cursor,
@@ -30,7 +30,7 @@ pub fn dump(
     })
 }
 
-/// What stands behind `$dumpfile`, the token of this number (18.1.1).
+/// What stands after `$dumpfile`, the token of this number (18.1.1).
 pub fn dump_file(
     tokens: &Tokens<'_>,
     cursor: &mut Cursor,
@@ -67,7 +67,7 @@ fn optional_number(
     }
 }
 
-/// What stands behind `$stop` or `$finish`, the token of this number (17.4).
+/// What stands after `$stop` or `$finish`, the token of this number (17.4).
 pub fn end_run(
     tokens: &Tokens<'_>,
     cursor: &mut Cursor,

@@ -59,7 +59,7 @@ fn comma(tokens: &Tokens<'_>, cursor: &mut Cursor) -> Result<bool, OrMemory<Stop
     }
 }
 
-/// A further name, behind a comma or `or`.
+/// A further name, after a comma or `or`.
 pub fn further_term(tokens: &Tokens<'_>, cursor: &mut Cursor) -> Result<FurtherTerm, OrMemory<Stop>>
     ensures gives { Gives further_tree reading.further_term
         tokens.now cursor.old cursor.new result }

@@ -1,4 +1,4 @@
-// Expressions, with the word behind them.
+// Expressions, with the word after them.
 
 ghost use Rattle.std.specs.Prelude.{◌≡◌, ◌<◌, false, codes, IfOk};
 ghost use Rattle.vexpr_parse.specs.Answers.{Keeps};
@@ -30,7 +30,7 @@ pub fn value(
     Ok(Box::new(alloc, found.tree)?)
 }
 
-/// An expression, and this very word behind it.
+/// An expression, and this very word after it.
 pub fn ended(
     alloc: Global,
     tokens: &Tokens<'_>,

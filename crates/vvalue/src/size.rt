@@ -103,7 +103,7 @@ fn own_repeated(count: u32, operand: SizeAndSign) -> SizeAndSign
 }
 
 /// The size and the sign that the expression has by itself that these nodes begin with, and the nodes
-/// behind it.
+/// after it.
 pub fn own<'n>(nodes: &'n [Node], environment: &Environment<'_>) -> (SizeAndSign, &'n [Node])
     ensures exact { IsOfFirst nodes.now (spec.own environment.now) result.0 }
     ensures rest { AreBehindFirst nodes.now result.1.now }

@@ -281,7 +281,7 @@ fn of_repeated<'n>(
     (fitted_value(repeated_value(count, value), here), behind)
 }
 
-/// The value, where it stands, of the expression that these nodes begin with, and the nodes behind it.
+/// The value, where it stands, of the expression that these nodes begin with, and the nodes after it.
 #[cycle(values)]
 pub fn value_of<'n>(
     nodes: &'n [Node],
