@@ -69,6 +69,7 @@ ports_open drivers scope p more = by (lower_port drivers scope p)
     by (Ok one) = refl
     by (Err fault) = refl
 
+-- the fault of a first list is that of both
 module _ {A : Type 0} (done : List A) where
   pub first_refused : (a b : Result (List A) ElabFault) (fault : ElabFault) → behind done a ≡ Err fault → behind done (a >>= λ front. b >>= λ others. Ok (front ++ others)) ≡ Err fault
   first_refused (Ok x) b fault is = absurd cc

@@ -26,7 +26,8 @@ use Rattle.vhierarchy.specs.Instances.{barring, Part, Context, scope_of, few_eno
 use Rattle.vhierarchy.specs.Inner.{nets_driven, own_variables}
 use Rattle.vhierarchy.specs.declared.context.Context.{Context as ProgramContext}
 use Rattle.vhierarchy.specs.declared.instantiation.Instantiation.{Instantiation as ProgramInstantiation}
-use Rattle.vhierarchy.proofs.StepLemmas.{barred, first_refused, first_fault}
+use Rattle.velab_declaration.proofs.VariableLemmas.{first_refused as front_refused}
+use Rattle.vhierarchy.proofs.StepLemmas.{barred, first_refused}
 
 -- ---- names
 
@@ -103,7 +104,7 @@ module _ (words : List Text) (told : ProgramContext) (ports : List PortForm) (in
     of_items = lower_variables (drivers driven) scope (map (item_tree words) two)
 
     pub ports_refused : (e : OrMemory ElabFault) → Refuses e (behind before of_ports) → Refuses e (behind before all)
-    ports_refused = still_refused (behind before of_ports) (behind before all) (λ fault is. ap (behind before) all_is ∙ first_fault before of_ports of_items fault is)
+    ports_refused = still_refused (behind before of_ports) (behind before all) (λ fault is. ap (behind before) all_is ∙ front_refused before of_ports of_items fault is)
 
     pub variables_are : (middle : List Variable) → behind before of_ports ≡ Ok middle → behind middle of_items ≡ behind before all
     variables_are middle put = goes_behind before of_ports of_items middle put ∙ ap (behind before) (sym all_is)

@@ -51,7 +51,3 @@ module _ {A F : Type 0} (done : List A) where
   pub behind_both : (front : List A) (answer : Result (List A) F) → behind (done ++ front) answer ≡ behind done (answer >>= λ others. Ok (front ++ others))
   behind_both front (Ok others) = ap Ok (append_assoc done front others)
   behind_both front (Err fault) = refl
-
-  pub first_fault : (a b : Result (List A) F) (fault : F) → behind done a ≡ Err fault → behind done (a >>= λ front. b >>= λ others. Ok (front ++ others)) ≡ Err fault
-  first_fault (Ok x) b fault is = absurd cc
-  first_fault (Err other) b fault is = let same : other ≡ fault = cc in ap Err same
