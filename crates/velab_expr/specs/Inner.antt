@@ -14,7 +14,7 @@ use Rattle.vast.specs.declared.module.ModuleItem.{ModuleItem}
 use Rattle.vast.specs.declared.module.Bounds.{Bounds as Written}
 use Rattle.velab_expr.specs.Scopes.{Scope}
 use Rattle.velab_expr.specs.Literals.{digit_letters}
-use Rattle.velab_expr.specs.Ranges.{bounds_of, span}
+use Rattle.velab_expr.specs.Ranges.{span}
 use Rattle.velab_expr.specs.Symbols.{Symbol, symbols_by}
 
 -- the letters of 64 bits after those of one digit more came in on the right
@@ -32,7 +32,3 @@ symbols_in words items = flat_map symbols_by (map (item_tree words) items)
 -- the scopes of paths, each with so many levels
 abbrev pub all_chosen : List Text → ℕ → List Path → List Chosen
 all_chosen words levels paths = map (λ names. chosen_of levels (dotted_path names)) (map (path_tree words) paths)
-
--- the bounds of a range, where there is one
-abbrev pub written_bounds : List Text → Scope → Option Written → Option Bounds
-written_bounds words scope range = option_map (bounds_of scope) (option_map (range_tree words) range)

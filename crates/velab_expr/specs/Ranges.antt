@@ -9,7 +9,7 @@ use Rattle.velab_expr.specs.declared.fault.Rule.TheVariants as rule
 use Rattle.velab_expr.specs.FirstWords.{first_in}
 use Rattle.velab_expr.specs.Scopes.{Scope}
 use Rattle.velab_expr.specs.Constants.{bound_in}
-use Rattle.velab_expr.specs.Answers.{◌>>=◌, required, found, fault_of, value_or}
+use Rattle.velab_expr.specs.Answers.{◌>>=◌, required, found}
 use Rattle.velab_expr.specs.Resolved.{lower_value}
 
 -- rising or falling
@@ -34,10 +34,3 @@ lower_range scope range =
 abbrev pub lower_bounds : Scope → Option RangeTree → Result (Option Bounds) ElabFault
 lower_bounds scope None = Ok None
 lower_bounds scope (Some range) = lower_range scope range >>= λ bounds. Ok (Some bounds)
-
--- the same in two parts, as stages above take them
-abbrev pub bounds_of : Scope → RangeTree → Bounds
-bounds_of scope range = value_or (record { left = 0; right = 0 }) (lower_range scope range)
-
-abbrev pub broken_range : Scope → Option RangeTree → Option ElabFault
-broken_range scope range = fault_of (lower_bounds scope range)

@@ -9,7 +9,7 @@ use Rattle.vdesign.specs.Expressions.{ExpressionTree, constant, variable, bit, b
 use Rattle.vdesign.specs.declared.expression.Bounds.{Bounds}
 use Rattle.vvalue.specs.Value.{part_of, part_size}
 use Rattle.vvalue.specs.Flaws.{is_part, flaw_of}
-use Rattle.velab_expr.specs.Answers.{◌>>=◌, required, provided, unflawed, fault_of, value_or}
+use Rattle.velab_expr.specs.Answers.{◌>>=◌, required, provided, unflawed}
 use Rattle.velab_expr.specs.Literals.{constant_of}
 use Rattle.velab_expr.specs.FirstWords.{first_in, first_among}
 use Rattle.velab_expr.specs.Scopes.{Scope, lower_name}
@@ -108,17 +108,3 @@ lower_constant scope tree = lower true scope tree >>= λ e. unflawed (flaw_of no
 
 abbrev pub lower_value : Scope → text.ExpressionTree → Result Vector ElabFault
 lower_value scope tree = lower true scope tree >>= measured (first_in tree)
-
--- ---- the same in two parts, as stages above take them: what stands there, and the fault
-
-abbrev pub resolved : Scope → text.ExpressionTree → ExpressionTree
-resolved scope tree = value_or no_parts (lower_expression scope tree)
-
-abbrev pub resolved_constant : Scope → text.ExpressionTree → ExpressionTree
-resolved_constant scope tree = value_or no_parts (lower_constant scope tree)
-
-abbrev pub broken_expression : Scope → text.ExpressionTree → Option ElabFault
-broken_expression scope tree = fault_of (lower_expression scope tree)
-
-abbrev pub broken_constant : Scope → text.ExpressionTree → Option ElabFault
-broken_constant scope tree = fault_of (lower_constant scope tree)

@@ -6,7 +6,7 @@ use Rattle.vast.specs.Words.{Text}
 use Rattle.vast.specs.NumberedWords.{Word}
 use Rattle.vdesign.specs.declared.expression.Bounds.{Bounds}
 use Rattle.vvalue.specs.Value.{whole_bounds}
-use Rattle.velab_expr.specs.Answers.{refused, required, fault_of, value_or}
+use Rattle.velab_expr.specs.Answers.{refused, required}
 use Rattle.velab_expr.specs.declared.fault.ElabFault.{ElabFault}
 use Rattle.velab_expr.specs.declared.fault.Rule.TheVariants.{Unknown, Constant, Kind}
 use Rattle.velab_expr.specs.declared.scope.Meaning.{Meaning}
@@ -86,17 +86,3 @@ event_by name (Some Instance) = refused Kind (Some name)
 
 abbrev pub lower_event : Scope → Word → Result ℕ ElabFault
 lower_event scope name = event_by name (meaning_of scope name)
-
--- ---- the same in two parts, as stages above take them: the number, 0 where there is none, and the fault
-
-abbrev pub number_of : Scope → Word → ℕ
-number_of scope name = value_or 0 (lower_variable scope name)
-
-abbrev pub broken_variable : Scope → Word → Option ElabFault
-broken_variable scope name = fault_of (lower_variable scope name)
-
-abbrev pub event_of : Scope → Word → ℕ
-event_of scope name = value_or 0 (lower_event scope name)
-
-abbrev pub broken_event : Scope → Word → Option ElabFault
-broken_event scope name = fault_of (lower_event scope name)

@@ -7,7 +7,7 @@ use Rattle.vast.specs.NumberedWords.{Word}
 use Rattle.vast.specs.NumberedStatements.{SelectionTree}
 use Rattle.vdesign.specs.declared.dump.Chosen.{Chosen}
 use Rattle.velab_expr.specs.Literals.{constant_of}
-use Rattle.velab_expr.specs.Answers.{◌>>=◌, found, fault_of, value_or}
+use Rattle.velab_expr.specs.Answers.{◌>>=◌, found}
 use Rattle.velab_expr.specs.Scopes.{Scope}
 use Rattle.velab_expr.specs.declared.fault.ElabFault.{ElabFault}
 use Rattle.velab_expr.specs.declared.fault.Rule.TheVariants.{Kind}
@@ -34,11 +34,3 @@ abbrev pub lower_selection : Scope → Option SelectionTree → Result (List Cho
 lower_selection scope None = Ok []
 lower_selection scope (Some selection) =
     found (levels_in selection.levels) Kind (Some selection.levels) >>= λ levels. Ok (chosen_by scope.top levels selection.paths)
-
--- ---- the same in two parts, as stages above take them
-
-abbrev pub selection_of : Scope → Option SelectionTree → List Chosen
-selection_of scope selection = value_or [] (lower_selection scope selection)
-
-abbrev pub broken_selection : Scope → Option SelectionTree → Option ElabFault
-broken_selection scope selection = fault_of (lower_selection scope selection)

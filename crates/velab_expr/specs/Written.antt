@@ -8,7 +8,7 @@ use Rattle.vdesign.specs.declared.action.Target.{Target}
 use Rattle.vdesign.specs.declared.action.Target.TheVariants.{Whole, Bit, Part}
 use Rattle.vdesign.specs.declared.expression.Bounds.{Bounds}
 use Rattle.velab_expr.specs.declared.fault.ElabFault.{ElabFault}
-use Rattle.velab_expr.specs.Answers.{◌>>=◌, fault_of, value_or}
+use Rattle.velab_expr.specs.Answers.{◌>>=◌}
 use Rattle.velab_expr.specs.Scopes.{Scope, lower_variable}
 use Rattle.velab_expr.specs.Constants.{part_bounds}
 use Rattle.velab_expr.specs.Resolved.{lower_expression, lower_value}
@@ -39,11 +39,3 @@ first_token (written.Whole name) = name.number
 first_token (written.Bit name index) = name.number
 first_token (written.Part name left right) = name.number
 first_token (Joined' at shape row) = at
-
--- ---- the same in two parts, as stages above take them
-
-abbrev pub row_of : Scope → TargetTree → List Target
-row_of scope target = value_or [] (lower_target scope target)
-
-abbrev pub broken_target : Scope → TargetTree → Option ElabFault
-broken_target scope target = fault_of (lower_target scope target)

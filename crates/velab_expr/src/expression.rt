@@ -311,12 +311,6 @@ pub fn expression_of(
 ) -> Result<Expression, OrMemory<ElabFault>>
     ensures gives { Gives result
         (lower_expression scope.now (text.tree_of (words_of tokens.now) expression.now)) }
-    ensures ok { IfOk result (λ e.
-        e ≡ spec.resolved scope.now (text.tree_of (words_of tokens.now) expression.now)) }
-    ensures right { OnOk result (spec.broken_expression scope.now
-        (text.tree_of (words_of tokens.now) expression.now) ≡ None) }
-    ensures err { IfFault result (IsBroken (spec.broken_expression scope.now
-        (text.tree_of (words_of tokens.now) expression.now))) }
 {
     let mut nodes = Vec::new(alloc);
     put_expression(alloc, scope, false, tokens, expression, &mut nodes)?;
@@ -332,12 +326,6 @@ pub fn expression_of_name(
 ) -> Result<Expression, OrMemory<ElabFault>>
     ensures gives { Gives result
         (lower_expression scope.now (written.name (numbered (words_of tokens.now) name))) }
-    ensures ok { IfOk result (λ e. e ≡ spec.resolved scope.now
-        (written.name (numbered (words_of tokens.now) name))) }
-    ensures right { OnOk result (spec.broken_expression scope.now
-        (written.name (numbered (words_of tokens.now) name)) ≡ None) }
-    ensures err { IfFault result (IsBroken (spec.broken_expression scope.now
-        (written.name (numbered (words_of tokens.now) name)))) }
 {
     let operand = operand_of(scope, false, tokens, name)?;
     let mut nodes = Vec::new(alloc);
@@ -354,12 +342,6 @@ pub fn constant_expression(
 ) -> Result<Expression, OrMemory<ElabFault>>
     ensures gives { Gives result
         (lower_constant scope.now (text.tree_of (words_of tokens.now) expression.now)) }
-    ensures ok { IfOk result (λ e.
-        e ≡ spec.resolved_constant scope.now (text.tree_of (words_of tokens.now) expression.now)) }
-    ensures right { OnOk result (spec.broken_constant scope.now
-        (text.tree_of (words_of tokens.now) expression.now) ≡ None) }
-    ensures err { IfFault result (IsBroken (spec.broken_constant scope.now
-        (text.tree_of (words_of tokens.now) expression.now))) }
 {
     let mut nodes = Vec::new(alloc);
     put_expression(alloc, scope, true, tokens, expression, &mut nodes)?;

@@ -1,13 +1,11 @@
 // Ranges: the bounds that vectors are declared with (IEEE 1364-2005, 4.3.1).
 ghost use Rattle.std.specs.Prelude.{◌≡◌, ◌≤◌, None, option_map, IfOk, OnOk};
-ghost use Rattle.basis.specs.Reasons.{IfFault};
 ghost use Rattle.vast.specs.NumberedTrees.{tree_of};
 ghost use Rattle.vast.specs.NumberedTrees.{range_tree};
 ghost use Rattle.vexpr_parse.specs.Texts.{words_of};
 ghost use Rattle.velab_expr.specs.Answers.{Gives};
 ghost use Rattle.velab_expr.specs.Ranges as spec;
-ghost use Rattle.velab_expr.specs.Inner.{written_bounds, IsNarrow};
-ghost use Rattle.velab_expr.specs.Rules.{IsBroken};
+ghost use Rattle.velab_expr.specs.Inner.{IsNarrow};
 
 use crate::constant::bound_in;
 use crate::expression::worth;
@@ -83,13 +81,7 @@ pub fn range_bounds(
 ) -> Result<Option<Bounds>, OrMemory<ElabFault>>
     ensures gives { Gives result (spec.lower_bounds scope.now
         (option_map (range_tree (words_of tokens.now)) range.now)) }
-    ensures ok { IfOk result (λ bounds. bounds ≡ written_bounds (words_of tokens.now) scope.now
-        range.now) }
     ensures few { IfOk result IsNarrow }
-    ensures right { OnOk result (spec.broken_range scope.now
-        (option_map (range_tree (words_of tokens.now)) range.now) ≡ None) }
-    ensures err { IfFault result (IsBroken (spec.broken_range scope.now
-        (option_map (range_tree (words_of tokens.now)) range.now))) }
 {
     match range {
         None => Ok(None),

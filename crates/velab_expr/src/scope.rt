@@ -1,14 +1,11 @@
 // What a module's names stand for (IEEE 1364-2005, 4.10, 12.1.2, 12.7).
 
 ghost use Rattle.std.specs.Prelude.{◌≡◌, ◌≤◌, List, Some, None, IfOk, OnOk};
-ghost use Rattle.basis.specs.Reasons.{IfFault};
 ghost use Rattle.vast.specs.NumberedWords.{numbered};
 ghost use Rattle.vast.specs.Words.{Text};
 ghost use Rattle.vexpr_parse.specs.Texts.{words_of};
 ghost use Rattle.velab_expr.specs.Answers.{Gives};
-ghost use Rattle.velab_expr.specs.Rules.{IsBroken};
 ghost use Rattle.velab_expr.specs.Scopes as spec;
-ghost use Rattle.velab_expr.specs.Scopes.{broken_variable, broken_event};
 
 use crate::fault::{ElabFault, Rule};
 use basis::OrMemory;
@@ -202,12 +199,6 @@ pub fn number_of(
 ) -> Result<u32, OrMemory<ElabFault>>
     ensures gives { Gives result
         (spec.lower_variable scope.now (numbered (words_of tokens.now) token)) }
-    ensures ok { IfOk result (λ n. n ≡ spec.number_of scope.now
-        (numbered (words_of tokens.now) token)) }
-    ensures right { OnOk result
-        (broken_variable scope.now (numbered (words_of tokens.now) token) ≡ None) }
-    ensures err { IfFault result
-        (IsBroken (broken_variable scope.now (numbered (words_of tokens.now) token))) }
 {
     match meaning_of(scope, tokens, token) {
         None => Err(OrMemory::Fault(ElabFault {
@@ -238,12 +229,6 @@ pub fn event_of(
 ) -> Result<usize, OrMemory<ElabFault>>
     ensures gives { Gives result
         (spec.lower_event scope.now (numbered (words_of tokens.now) token)) }
-    ensures ok { IfOk result (λ n. n ≡ spec.event_of scope.now
-        (numbered (words_of tokens.now) token)) }
-    ensures right { OnOk result
-        (broken_event scope.now (numbered (words_of tokens.now) token) ≡ None) }
-    ensures err { IfFault result
-        (IsBroken (broken_event scope.now (numbered (words_of tokens.now) token))) }
 {
     match meaning_of(scope, tokens, token) {
         None => Err(OrMemory::Fault(ElabFault {

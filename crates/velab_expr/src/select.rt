@@ -2,14 +2,13 @@
 
 ghost use Rattle.std.specs.Prelude.{◌≡◌, ◌++◌, ◌∷◌, List, None, map, option_map, IfOk, OnOk};
 ghost use Rattle.std.specs.List.{flat_map};
-ghost use Rattle.basis.specs.Reasons.{IfFault};
 ghost use Rattle.vast.specs.NumberedTrees.{path_tree, selection_tree};
 ghost use Rattle.vast.specs.NumberedWords.{numbered};
 ghost use Rattle.vexpr_parse.specs.Texts.{words_of};
 ghost use Rattle.velab_expr.specs.Inner.{all_chosen};
 ghost use Rattle.vast.specs.Words.{Text as TextLetters};
 ghost use Rattle.velab_expr.specs.Answers.{Gives};
-ghost use Rattle.velab_expr.specs.Rules.{number_in, IsBroken};
+ghost use Rattle.velab_expr.specs.Rules.{number_in};
 ghost use Rattle.velab_expr.specs.Selections as spec;
 
 use crate::fault::{ElabFault, Rule};
@@ -111,12 +110,6 @@ pub fn selection_of(
 ) -> Result<Selection, OrMemory<ElabFault>>
     ensures gives { Gives result (spec.lower_selection scope.now
         (option_map (selection_tree (words_of tokens.now)) selection.now)) }
-    ensures ok { IfOk result (λ list. list ≡ spec.selection_of scope.now
-        (option_map (selection_tree (words_of tokens.now)) selection.now)) }
-    ensures right { OnOk result (spec.broken_selection scope.now
-        (option_map (selection_tree (words_of tokens.now)) selection.now) ≡ None) }
-    ensures err { IfFault result (IsBroken (spec.broken_selection scope.now
-        (option_map (selection_tree (words_of tokens.now)) selection.now))) }
 {
     match selection {
         None => Ok(Selection::everything(alloc)),

@@ -1,14 +1,12 @@
 // What assignments write to (IEEE 1364-2005, 5.1.14, 5.2.1, 6.2).
 
 ghost use Rattle.std.specs.Prelude.{◌≡◌, None, IfOk, OnOk};
-ghost use Rattle.basis.specs.Reasons.{IfFault};
 ghost use Rattle.vast.specs.NumberedTrees.{tree_of as text_tree};
 ghost use Rattle.vast.specs.NumberedTrees.{target_tree, target_trees};
 ghost use Rattle.vexpr_parse.specs.Texts.{words_of};
 ghost use Rattle.velab_expr.specs.Answers.{Gives, Makes, behind};
-ghost use Rattle.velab_expr.specs.Rules.{IsBroken};
 ghost use Rattle.velab_expr.specs.Written as spec;
-ghost use Rattle.velab_expr.specs.Written.{lower_target, lower_targets, row_of, broken_target};
+ghost use Rattle.velab_expr.specs.Written.{lower_target, lower_targets};
 
 use crate::constant::part_bounds;
 use crate::expression::{expression_of, worth};
@@ -109,12 +107,6 @@ pub fn targets_of(
 ) -> Result<Targets, OrMemory<ElabFault>>
     ensures gives { Gives result
         (lower_target scope.now (target_tree (words_of tokens.now) target.now)) }
-    ensures ok { IfOk result (λ targets.
-        targets ≡ row_of scope.now (target_tree (words_of tokens.now) target.now)) }
-    ensures right { OnOk result
-        (broken_target scope.now (target_tree (words_of tokens.now) target.now) ≡ None) }
-    ensures err { IfFault result
-        (IsBroken (broken_target scope.now (target_tree (words_of tokens.now) target.now))) }
 {
     let mut list = Vec::new(alloc);
     put_target(alloc, scope, tokens, target, &mut list)?;

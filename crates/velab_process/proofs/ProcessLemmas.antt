@@ -2,7 +2,6 @@
 use Rattle.std.proofs.Common.{◌≡◌, ◌<◌, ℕ, ◌+◌, map, List, [], ◌∷◌, ◌++◌, length, drop, get_or, Result, Ok, Err, OnOk, refl, sym, ap, ◌∙◌, append_assoc, length-append, ◌^◌, arith}
 use Rattle.std.specs.Prelude.{Option, Some, None}
 use Rattle.std.specs.List.{cons_option, flat_map}
-use Rattle.basis.specs.Reasons.{IfFault}
 use Rattle.basis.specs.declared.memory.OrMemory.{OrMemory}
 use Rattle.basis.specs.declared.memory.OrMemory.TheVariants.{Fault, Memory}
 use Rattle.vast.specs.Words.{Text}
@@ -12,14 +11,13 @@ use Rattle.vast.specs.declared.module.Declared.{Declared}
 use Rattle.vast.specs.declared.module.NetKind.{NetKind}
 use Rattle.vast.specs.declared.module.ModuleItem.{ModuleItem}
 use Rattle.velab_expr.specs.declared.fault.ElabFault.{ElabFault}
-use Rattle.velab_expr.specs.Answers.{◌>>=◌, Makes, fault_of, value_or}
-use Rattle.velab_expr.specs.Rules.{IsBroken}
+use Rattle.velab_expr.specs.Answers.{◌>>=◌, Makes}
 use Rattle.velab_expr.specs.Scopes.{Scope, at}
 use Rattle.velab_expr.specs.Symbols.{symbols_by}
 use Rattle.velab_expr.proofs.ListLemmas.{drop_at}
 use Rattle.velab_process.specs.Statements.{Table, Lowered, with_places_before}
 use Rattle.velab_process.specs.Processes.{ProcessTree, Processes, with_begins_before, lower_process, lower_processes, process_of}
-use Rattle.velab_process.specs.Inner.{starts_in, processes_of_item, processes_of, AreLowered}
+use Rattle.velab_process.specs.Inner.{starts_in, processes_of_item, processes_of}
 
 -- a process, or several, and then what stands behind on the table that they leave
 module _ (before : List (List ℕ)) where
@@ -103,27 +101,3 @@ fewer_given words items i x within is known small =
     let opens = ap (λ (l : List ModuleItem). length (flat_map symbols_by (map (item_tree words) l))) (drop_at items i x within is) in
     let both = length-append (symbols_by (item_tree words x)) (flat_map symbols_by (map (item_tree words) (drop (i + 1) items))) in
     omega (arith, small, opens, both)
-
--- ---- an answer in two parts
-
-module _ {T : Type 0} (before : List (List ℕ)) (filler : Processes) (after : Table) (begins : List (List ℕ)) where
-  pub lowered_by : (result : Result T (OrMemory ElabFault)) (answer : Result Processes ElabFault) → Makes result (record { table = after; begins = begins }) (with_begins_before before answer) →
-      OnOk result (AreLowered (value_or filler answer) before after begins)
-  lowered_by (Ok t) (Ok p) is =
-      let same : record { table = p.table; begins = before ++ p.begins } ≡ record { table = after; begins = begins } = cc in
-      record { table = sym (ap (λ (q : Processes). q.table) same); begins = sym (ap (λ (q : Processes). q.begins) same) }
-  lowered_by (Ok t) (Err fault) is = absurd cc
-  lowered_by (Err e) answer is = tt
-
-  pub right_by : (result : Result T (OrMemory ElabFault)) (answer : Result Processes ElabFault) → Makes result (record { table = after; begins = begins }) (with_begins_before before answer) →
-      OnOk result (fault_of answer ≡ None)
-  right_by (Ok t) (Ok p) is = refl
-  right_by (Ok t) (Err fault) is = absurd cc
-  right_by (Err e) answer is = tt
-
-  pub broken_by : (result : Result T (OrMemory ElabFault)) (answer : Result Processes ElabFault) → Makes result (record { table = after; begins = begins }) (with_begins_before before answer) →
-      IfFault result (IsBroken (fault_of answer))
-  broken_by (Ok t) answer is = tt
-  broken_by (Err (Fault f)) (Ok p) is = absurd cc
-  broken_by (Err (Fault f)) (Err fault) is = ap Some cc
-  broken_by (Err (Memory m)) answer is = tt

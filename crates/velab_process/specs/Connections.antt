@@ -8,7 +8,7 @@ use Rattle.vdesign.specs.declared.action.Action.{Action}
 use Rattle.velab_expr.specs.declared.fault.ElabFault.{ElabFault}
 use Rattle.vdesign.specs.declared.action.Action.TheVariants.{ContinuousAssign}
 use Rattle.velab_expr.specs.declared.fault.Rule.TheVariants.{Ports}
-use Rattle.velab_expr.specs.Answers.{◌>>=◌, refused, fault_of, value_or}
+use Rattle.velab_expr.specs.Answers.{◌>>=◌, refused}
 use Rattle.velab_expr.specs.Rules.{number_in}
 use Rattle.velab_expr.specs.Scopes.{Scope, lower_variable}
 use Rattle.velab_expr.specs.Resolved.{lower_expression}
@@ -66,12 +66,3 @@ lower_joins whose outer inner connections table [] = Ok (record { table = table;
 lower_joins whose outer inner connections table (p ∷ more) =
     lower_join whose outer inner table p (value_for connections p.name.letters) >>= λ front.
     with_begins_before front.begins (lower_joins whose outer inner connections front.table more)
-
--- ---- the same in two parts, as stages above take them
-
-abbrev pub lowered_joins : Word → Scope → Scope → List NamedConnection → Table → List Port → Processes
-lowered_joins whose outer inner connections table ports =
-    value_or (record { table = table; begins = [] }) (lower_joins whose outer inner connections table ports)
-
-abbrev pub broken_joins : Word → Scope → Scope → List NamedConnection → Table → List Port → Option ElabFault
-broken_joins whose outer inner connections table ports = fault_of (lower_joins whose outer inner connections table ports)

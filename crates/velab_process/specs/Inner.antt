@@ -25,7 +25,7 @@ use Rattle.velab_expr.specs.FirstWords.{first_in}
 use Rattle.velab_expr.specs.Resolved.{lower_expression}
 use Rattle.velab_process.specs.Statements.{Table, Lowered, lowered_action, with_places_before, lower_assignment, lower_statement}
 use Rattle.velab_process.specs.Processes.{Processes, lower_processes, lower_items, process_trees_by, ProcessTree, process_of, driven_by}
-use Rattle.velab_process.specs.Connections.{lower_join, lower_joins, lowered_joins, broken_joins}
+use Rattle.velab_process.specs.Connections.{lower_join, lower_joins}
 
 -- ---- what a call says of places
 
@@ -70,23 +70,6 @@ joins_of words whose outer inner connections table ports =
 abbrev pub join_of : List Text → Token → Scope → Scope → List ConnectionEntry → Table → PortForm → Result Processes ElabFault
 join_of words whose outer inner connections table port =
     lower_join (numbered words whose) outer inner table (port_form words port) (value_for (entries_tree words connections) (port_form words port).name.letters)
-
--- the same in two parts, as stages above take them
-abbrev pub lowered_joins_of : List Text → Token → Scope → Scope → List ConnectionEntry → Table → List PortForm → Processes
-lowered_joins_of words whose outer inner connections table ports =
-    lowered_joins (numbered words whose) outer inner (entries_tree words connections) table (map (port_form words) ports)
-
-abbrev pub broken_joins_of : List Text → Token → Scope → Scope → List ConnectionEntry → Table → List PortForm → Option ElabFault
-broken_joins_of words whose outer inner connections table ports =
-    broken_joins (numbered words whose) outer inner (entries_tree words connections) table (map (port_form words) ports)
-
--- what processes are made to is put behind others
-pub record AreLowered (what : Processes) (before : List (List ℕ)) (table_after : Table) (begins_after : List (List ℕ)) : Type 0 where
-  pub table : table_after ≡ what.table
-  pub begins : begins_after ≡ before ++ what.begins
-
-abbrev pub HaveLowered : {A B T E : Type 0} → Result T E → Processes → Vec (List ℕ) A → Table → Vec (List ℕ) B → Type 0
-HaveLowered result what before table after = OnOk result (AreLowered what before.items table after.items)
 
 -- ---- lines
 

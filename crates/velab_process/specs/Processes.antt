@@ -11,7 +11,7 @@ use Rattle.vast.specs.declared.module.NetKind.TheVariants as net
 use Rattle.vdesign.specs.declared.action.Action.TheVariants.{ContinuousAssign}
 use Rattle.velab_expr.specs.declared.fault.ElabFault.{ElabFault}
 use Rattle.velab_expr.specs.Symbols.{behind_item}
-use Rattle.velab_expr.specs.Answers.{◌>>=◌, fault_of, value_or}
+use Rattle.velab_expr.specs.Answers.{◌>>=◌}
 use Rattle.velab_expr.specs.Scopes.{Scope, lower_variable}
 use Rattle.velab_expr.specs.Resolved.{lower_expression}
 use Rattle.velab_process.specs.Waits.{any_of, names_in}
@@ -78,11 +78,3 @@ abbrev pub lower_items : Scope → Table → List ItemTree → Result Processes 
 lower_items scope table [] = Ok (record { table = table; begins = [] })
 lower_items scope table (item ∷ more) =
     lower_processes scope table (process_trees_by item) >>= λ front. with_begins_before front.begins (lower_items (behind_item scope item) front.table more)
-
--- ---- the same in two parts, as stages above take them
-
-abbrev pub lowered_items : Scope → Table → List ItemTree → Processes
-lowered_items scope table items = value_or (record { table = table; begins = [] }) (lower_items scope table items)
-
-abbrev pub broken_items_from : Scope → Table → List ItemTree → Option ElabFault
-broken_items_from scope table items = fault_of (lower_items scope table items)

@@ -1,18 +1,16 @@
 // Port connections: each is a continuous assignment, into an instance or out of it (IEEE 1364-2005, 12.3.9.2).
 
 ghost use Rattle.std.specs.Prelude.{◌≡◌, [], ◌∷◌, None, Some, Ok, option_map, List, map, OnOk};
-ghost use Rattle.basis.specs.Reasons.{IfFault};
 ghost use Rattle.vast.specs.Words.{Text};
 ghost use Rattle.vast.specs.NumberedTrees.{tree_of as text_tree};
 ghost use Rattle.vast.specs.NumberedWords.{numbered};
 ghost use Rattle.vexpr_parse.specs.Texts.{words_of};
 ghost use Rattle.vmodules.specs.Inner.{port_form, value_tree};
 ghost use Rattle.velab_expr.specs.Answers.{Gives, Makes};
-ghost use Rattle.velab_expr.specs.Rules.{IsBroken};
 ghost use Rattle.velab_process.specs.Processes.{with_begins_before};
 ghost use Rattle.velab_process.specs.Connections as spec;
 ghost use Rattle.velab_process.specs.Connections.{lower_input, lower_output, lower_connection};
-ghost use Rattle.velab_process.specs.Inner.{name_of, joins_of, join_of, lowered_joins_of, broken_joins_of, HaveLowered};
+ghost use Rattle.velab_process.specs.Inner.{name_of, joins_of, join_of};
 
 use crate::statement::{Table, put};
 use crate::wait::{condition_terms, name_terms};
@@ -226,12 +224,6 @@ pub fn put_joins(
     ensures makes { Makes result (record { table = table.new; begins = into.new.items })
         (with_begins_before into.old.items (joins_of (words_of tokens.now) whose outer.now inner.now
         connections.now table.old ports.now)) }
-    ensures ok { HaveLowered result (lowered_joins_of (words_of tokens.now) whose outer.now
-        inner.now connections.now table.old ports.now) into.old table.new into.new }
-    ensures right { OnOk result (broken_joins_of (words_of tokens.now) whose outer.now inner.now
-        connections.now table.old ports.now ≡ None) }
-    ensures err { IfFault result (IsBroken (broken_joins_of (words_of tokens.now) whose outer.now
-        inner.now connections.now table.old ports.now)) }
 {
     lower_joins(
         alloc,

@@ -1,15 +1,13 @@
 // Processes: what statements have to do, their names resolved (clause 9).
 ghost use Rattle.std.specs.Prelude.{None, Some, ◌≡◌, ◌<◌, ◌≤◌, ◌+◌, ◌^◌, [], ◌++◌, ◌∷◌, Ok, true, false, length, map, option_map, List, OnOk};
-ghost use Rattle.basis.specs.Reasons.{IfFault};
 ghost use Rattle.velab_expr.specs.Answers.{Gives, Makes, behind};
 ghost use Rattle.velab_expr.specs.Inner.{symbols_in};
-ghost use Rattle.velab_expr.specs.Rules.{IsBroken};
 ghost use Rattle.velab_process.specs.Prints.{when_of};
 ghost use Rattle.velab_process.specs.Statements as spec;
 ghost use Rattle.velab_process.specs.Statements.{at_next, with_places_before, with_branches_before, lower_amount, lower_own_amount, lower_label, lower_labels, lower_statement};
 ghost use Rattle.velab_process.specs.Processes as processes;
-ghost use Rattle.velab_process.specs.Processes.{procedural, continuous, with_begins_before, lower_processes, lowered_items, broken_items_from};
-ghost use Rattle.velab_process.specs.Inner.{Begins, HaveLowered, lower_loop as spec_loop, starts_in, drives_in, processes_of_item, processes_of};
+ghost use Rattle.velab_process.specs.Processes.{procedural, continuous, with_begins_before, lower_processes};
+ghost use Rattle.velab_process.specs.Inner.{Begins, lower_loop as spec_loop, starts_in, drives_in, processes_of_item, processes_of};
 ghost use Rattle.vast.specs.Words.{Text};
 ghost use Rattle.vast.specs.NumberedTrees.{tree_of as text_tree, trees_of};
 ghost use Rattle.vast.specs.NumberedTrees.{target_tree, delay_tree, argument_tree, task_tree, statement_tree, statement_trees, branch_tree, branch_trees};
@@ -944,12 +942,6 @@ pub fn put_processes(
     ensures makes { Makes result (record { table = table.new; begins = into.new.items })
         (with_begins_before into.old.items
         (processes_of (words_of tokens.now) scope.now table.old items.now)) }
-    ensures ok { HaveLowered result (lowered_items scope.now table.old
-        (map (item_tree (words_of tokens.now)) items.now)) into.old table.new into.new }
-    ensures right { OnOk result (broken_items_from scope.now table.old
-        (map (item_tree (words_of tokens.now)) items.now) ≡ None) }
-    ensures err { IfFault result (IsBroken (broken_items_from scope.now table.old
-        (map (item_tree (words_of tokens.now)) items.now))) }
 {
     lower_items(alloc, tokens, scope, items, table, into)
 }
