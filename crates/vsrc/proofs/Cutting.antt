@@ -1,12 +1,11 @@
 -- Macros by the index of their names, and texts that are cut into pieces.
-use Rattle.std.proofs.Common.{◌≡◌, ℕ, zero, suc, ◌+◌, ◌<◌, ◌≤◌, nat_lt, Bool, true, false, not, cond, List, [], ◌∷◌, ◌++◌, length, take, drop, slice_get, get_or, position, Option, None, Some, is_some, IfSome, Vec, Bor, Result, Err, refl, sym, ◌∙◌, ap, arith, subst, true≢false}
+use Rattle.std.proofs.Common.{◌≡◌, ℕ, zero, suc, ◌+◌, ◌<◌, nat_lt, Bool, true, false, not, cond, List, [], ◌∷◌, ◌++◌, length, take, drop, slice_get, get_or, position, Option, None, Some, is_some, IfSome, Vec, Bor, Result, Err, refl, sym, ◌∙◌, ap, arith, subst, true≢false}
 use Rattle.std.specs.List.{position_or_len}
 use Rattle.std.specs.Map.{lookup, keys_of}
 use Rattle.std.specs.Option.{option_and_then, option_copied}
 use Rattle.std.specs.Str.{bytes_eq}
 use Rattle.std.specs.Cmp.Lexicographic.{nat_list_eq_equiv, bytes_decides}
 use Rattle.std.proofs.lemmas.Option.{same_Some, none-some}
-use Rattle.std.proofs.Math.ListN.{drop_of_length-le}
 use Rattle.std.proofs.lemmas.List.{drop-drop, length-drop}
 use Rattle.std.proofs.lemmas.Bool.{ltb-true}
 use Rattle.indexmap.specs.IndexMap.{insert_entry}
@@ -20,7 +19,7 @@ use Rattle.vsrc.specs.Outside.{stretch_len}
 use Rattle.vsrc.specs.Words.{name_len}
 use Rattle.vsrc.specs.Macros.{Macros, Made, looked_up, piece, piece_len, put_given, redefined, refused_at, used}
 use Rattle.vsrc.proofs.MacroText.{used_none, used_some}
-use Rattle.vsrc.specs.Pieces.{AreCut, EachIsCut, IsCut, IsCutIfAny, IsKind, IsPiece, Keeps, Leads, begins_use, found_text, macros_of, names_of, of_text, text_of, texts_of, used_name}
+use Rattle.vsrc.specs.Pieces.{head_of, next_of, is_use, uses_in, AreUses, AreCut, EachIsCut, IsCut, IsCutIfAny, IsKind, IsPiece, Keeps, Leads, begins_use, found_text, macros_of, names_of, of_text, text_of, texts_of, used_name}
 
 -- ---- pieces
 
@@ -30,38 +29,87 @@ pub leads_on : (names : List (List ℕ)) (text rest : List ℕ) (pieces : List P
 leads_on names text rest [] piece is here = (subst (λ (t : List ℕ). IsPiece names t piece) (sym is) here, ap (drop piece.len) is)
 leads_on names text rest (p ∷ ps) piece leads here = (leads.0, leads_on names (drop p.len text) rest ps piece leads.1 here)
 
-leads_here : (names : List (List ℕ)) (rest end : List ℕ) (pieces : List Piece) (next : ℕ) (default : Piece) → next < length pieces
-    → Leads names rest (drop next pieces) end → IsPiece names rest (get_or pieces next default) × Leads names (drop (get_or pieces next default).len rest) (drop (suc next) pieces) end
-leads_here names rest end [] next default within leads = absurd (omega arith)
-leads_here names rest end (p ∷ ps) zero default within leads = leads
-leads_here names rest end (p ∷ ps) (suc next) default within leads = leads_here names rest end ps next default (omega (arith, within)) leads
+uses_append : (ps qs : List Piece) → uses_in (ps ++ qs) ≡ uses_in ps ++ uses_in qs
+uses_append [] qs = refl
+uses_append (p ∷ ps) qs = by (is_use p.kind) refl (uses_append ps qs)
+  where
+    by : (b : Bool) → is_use p.kind ≡ b → uses_in (ps ++ qs) ≡ uses_in ps ++ uses_in qs → uses_in (p ∷ (ps ++ qs)) ≡ uses_in (p ∷ ps) ++ uses_in qs
+    by true y on = rw y (ap (λ l. p ∷ l) on)
+    by false y on = rw y on
 
--- the next of the pieces that are left
-pub leads_next : (names : List (List ℕ)) (text end : List ℕ) (from : ℕ) (pieces : List Piece) (next : ℕ) (default : Piece) → next < length pieces
-    → Leads names (drop from text) (drop next pieces) end
-    → IsPiece names (drop from text) (get_or pieces next default) × Leads names (drop (from + (get_or pieces next default).len) text) (drop (next + 1) pieces) end
-leads_next names text end from pieces next default within leads =
-    let here = leads_here names (drop from text) end pieces next default within leads in
-    let on : suc next ≡ next + 1 = omega arith in
-    let piece : Piece = get_or pieces next default in (
-      here.0,
-      subst (λ (r : List ℕ). Leads names r (drop (next + 1) pieces) end) (drop-drop piece.len from text)
-          (subst (λ n. Leads names (drop piece.len (drop from text)) (drop n pieces) end) on here.1),
-    )
+-- what the next of the uses is, where some are left
+next_use : (uses left : List Piece) (next : ℕ) (p default : Piece) → drop next uses ≡ p ∷ left
+    → (next < length uses) × ((get_or uses next default ≡ p) × (drop (suc next) uses ≡ left))
+next_use [] left zero p default is = absurd (omega (arith, ap length is))
+next_use [] left (suc next) p default is = absurd (omega (arith, ap length is))
+next_use (u ∷ us) left zero p default is = (omega arith, (ap (λ l. get_or l 0 default) is, ap (drop 1) is))
+next_use (u ∷ us) left (suc next) p default is =
+    let on = next_use us left next p default is in
+    (omega (arith, on.0), on.1)
 
--- where a piece is left, so is text
-pub leads_more : (names : List (List ℕ)) (text end : List ℕ) (from : ℕ) (pieces : List Piece) (next : ℕ) (default : Piece) → next < length pieces
-    → Leads names (drop from text) (drop next pieces) end → from < length text
-leads_more names text end from pieces next default within leads =
-    let here : IsPiece names (drop from text) (get_or pieces next default) = (leads_next names text end from pieces next default within leads).0 in
-    omega (arith, here.some, here.within, length-drop from text)
+-- what stands at the head of what is left of a text, with its uses
+pub record Head (names : List (List ℕ)) (rest : List ℕ) (uses : List Piece) (next : ℕ) : Type 0 where
+  pub within : begins_use rest ≡ true → next < length uses
+  pub here : IsPiece names rest (head_of rest uses next)
+  pub left : AreUses names (drop (head_of rest uses next).len rest) (drop (next_of rest next) uses) []
 
--- no piece is left
-pub leads_end : (names : List (List ℕ)) (text : List ℕ) (from : ℕ) (pieces : List Piece) (next : ℕ) → length pieces ≤ next
-    → Leads names (drop from text) (drop next pieces) [] → length text ≤ from
-leads_end names text from pieces next end leads =
-    let none : drop from text ≡ [] = subst (λ (ps : List Piece). Leads names (drop from text) ps []) (drop_of_length-le pieces end) leads in
-    omega (arith, length-drop from text, ap length none)
+pub head_is : (names : List (List ℕ)) (rest : List ℕ) (uses : List Piece) (next : ℕ) → 0 < length rest → AreUses names rest (drop next uses) [] → Head names rest uses next
+head_is names [] uses next some are = absurd (omega arith)
+head_is names (c ∷ cs) uses next some ([], leads) = absurd (omega (arith, ap length leads.0))
+head_is names (c ∷ cs) uses next some (p ∷ ps, leads) = by p.kind refl
+  where
+    at_use : begins_use (c ∷ cs) ≡ true → is_use p.kind ≡ true → Head names (c ∷ cs) uses next
+    at_use there counts =
+        let more : uses_in (p ∷ ps) ≡ p ∷ uses_in ps = rw counts refl in
+        let on = next_use uses (uses_in ps) next p (record { len = 0; kind = Kept }) (leads.1 ∙ more) in
+        let same : head_of (c ∷ cs) uses next ≡ p = rw there on.1.0 in
+        let step : suc next ≡ next_of (c ∷ cs) next = rw there (omega arith) in
+        record {
+          within = λ _. on.0;
+          here = subst (λ (h : Piece). IsPiece names (c ∷ cs) h) (sym same) leads.0.0;
+          left = subst (λ (h : Piece). AreUses names (drop h.len (c ∷ cs)) (drop (next_of (c ∷ cs) next) uses) []) (sym same)
+              (ps, (leads.0.1, ap (λ n. drop n uses) (sym step) ∙ on.1.1));
+        }
+
+    kept : begins_use (c ∷ cs) ≡ false → is_use p.kind ≡ false → p.kind ≡ Kept → Head names (c ∷ cs) uses next
+    kept plain counts is =
+        let more : uses_in (p ∷ ps) ≡ uses_in ps = rw counts refl in
+        let len : p.len ≡ stretch_len (c ∷ cs) = leads.0.0.value ∙ ap (λ b. cond b (1 + name_len cs) (stretch_len (c ∷ cs))) plain in
+        let same : head_of (c ∷ cs) uses next ≡ p = rw plain (λ i. record { len = sym len i; kind = sym is i }) in
+        let step : next ≡ next_of (c ∷ cs) next = rw plain refl in
+        record {
+          within = λ there. absurd (true≢false (sym there ∙ plain));
+          here = subst (λ (h : Piece). IsPiece names (c ∷ cs) h) (sym same) leads.0.0;
+          left = subst (λ (h : Piece). AreUses names (drop h.len (c ∷ cs)) (drop (next_of (c ∷ cs) next) uses) []) (sym same)
+              (ps, (leads.0.1, ap (λ n. drop n uses) (sym step) ∙ leads.1 ∙ more));
+        }
+
+    by : (k : Kind) → p.kind ≡ k → Head names (c ∷ cs) uses next
+    by Kept is = kept (subst (IsKind names (c ∷ cs)) is leads.0.0.kind) (ap is_use is) is
+    by (Use index) is = at_use (subst (IsKind names (c ∷ cs)) is leads.0.0.kind).0 (ap is_use is)
+    by Refused is = at_use (subst (IsKind names (c ∷ cs)) is leads.0.0.kind).0 (ap is_use is)
+
+-- and where that is told from the whole text
+pub step_is : (names : List (List ℕ)) (text rest : List ℕ) (from : ℕ) (uses : List Piece) (next : ℕ) → rest ≡ drop from text → from < length text
+    → AreUses names (drop from text) (drop next uses) [] → Head names rest uses next
+step_is names text rest from uses next is within are =
+    subst (λ (r : List ℕ). Head names r uses next) (sym is) (head_is names (drop from text) uses next (omega (arith, length-drop from text)) are)
+
+-- a turn: the piece at the head, and the uses behind it
+pub record Turn (names : List (List ℕ)) (text rest : List ℕ) (from : ℕ) (uses : List Piece) (head : Piece) (after : ℕ) : Type 0 where
+  pub here : IsPiece names rest head
+  pub left : AreUses names (drop (from + head.len) text) (drop after uses) []
+
+pub turn_is : (names : List (List ℕ)) (text rest : List ℕ) (from : ℕ) (uses : List Piece) (next : ℕ) (head : Piece) (after : ℕ) → rest ≡ drop from text → from < length text
+    → AreUses names (drop from text) (drop next uses) [] → head ≡ head_of rest uses next → after ≡ next_of rest next → Turn names text rest from uses head after
+turn_is names text rest from uses next head after is within are e f =
+    let h : Head names rest uses next = step_is names text rest from uses next is within are in
+    record {
+      here = subst (λ (p : Piece). IsPiece names rest p) (sym e) h.here;
+      left = subst (λ (r : List ℕ). AreUses names r (drop after uses) []) (ap (drop head.len) is ∙ drop-drop head.len from text)
+          (subst (λ n. AreUses names (drop head.len rest) (drop n uses) []) (sym f)
+          (subst (λ (p : Piece). AreUses names (drop p.len rest) (drop (next_of rest next) uses) []) (sym e) h.left));
+    }
 
 -- names that stay at their indices
 module _ (old new : List (List ℕ)) (grown : (index : ℕ) (name : List ℕ) → slice_get old index ≡ Some name → slice_get new index ≡ Some name) where
@@ -79,7 +127,7 @@ module _ (old new : List (List ℕ)) (grown : (index : ℕ) (name : List ℕ) �
 
   cut_grown : (found : Option Macro) → IsCutIfAny old found → IsCutIfAny new found
   cut_grown None is = tt
-  cut_grown (Some found) is = leads_grown found.text.items [] found.pieces.items is
+  cut_grown (Some found) is = (is.0, (leads_grown found.text.items [] is.0 is.1.0, is.1.1))
 
   each_grown : {A : Type 0} (es : List (Vec ℕ A × Option Macro)) → EachIsCut old es → EachIsCut new es
   each_grown [] each = tt
@@ -192,15 +240,20 @@ pub keeps_on : {A : Type 0} {old mid new : List (Vec ℕ A × Option Macro)} →
 keeps_on a b = record { same = b.same ∙ a.same; grown = λ index name at. b.grown index name (a.grown index name at); cut = λ each. b.cut (a.cut each) }
 
 -- a piece more
-pub cut_next : {A : Type 0} (mid new : List (Vec ℕ A × Option Macro)) (text rest : List ℕ) (from : ℕ) (pieces more : List Piece) (piece : Piece)
-    → rest ≡ drop from text → Keeps mid new → IsPiece (names_of new) rest piece → more ≡ pieces ++ piece ∷ [] → Leads (names_of mid) text pieces (drop from text)
-    → Leads (names_of new) text more (drop (from + piece.len) text)
-cut_next mid new text rest from pieces more piece is keeps here put leads =
-    let grown : Leads (names_of new) text pieces (drop from text) = leads_grown (names_of mid) (names_of new) keeps.grown text (drop from text) pieces leads in
+pub cut_next : {A : Type 0} (mid new : List (Vec ℕ A × Option Macro)) (text rest : List ℕ) (from : ℕ) (uses more : List Piece) (piece : Piece)
+    → rest ≡ drop from text → Keeps mid new → IsPiece (names_of new) rest piece → more ≡ uses ++ uses_in (piece ∷ []) → AreUses (names_of mid) text uses (drop from text)
+    → AreUses (names_of new) text more (drop (from + piece.len) text)
+cut_next mid new text rest from uses more piece is keeps here put are =
+    let pieces : List Piece = are.0 in
+    let grown : Leads (names_of new) text pieces (drop from text) = leads_grown (names_of mid) (names_of new) keeps.grown text (drop from text) pieces are.1.0 in
     let on : Leads (names_of new) text (pieces ++ piece ∷ []) (drop piece.len (drop from text)) =
-    leads_on (names_of new) text (drop from text) pieces piece grown (subst (λ (r : List ℕ). IsPiece (names_of new) r piece) is here) in
-    subst (λ (ps : List Piece). Leads (names_of new) text ps (drop (from + piece.len) text)) (sym put)
-    (subst (λ (r : List ℕ). Leads (names_of new) text (pieces ++ piece ∷ []) r) (drop-drop piece.len from text) on)
+    leads_on (names_of new) text (drop from text) pieces piece grown (subst (λ (r : List ℕ). IsPiece (names_of new) r piece) is here) in (
+      pieces ++ piece ∷ [],
+      (
+        subst (λ (r : List ℕ). Leads (names_of new) text (pieces ++ piece ∷ []) r) (drop-drop piece.len from text) on,
+        put ∙ ap (λ l. l ++ uses_in (piece ∷ [])) are.1.1 ∙ sym (uses_append pieces (piece ∷ [])),
+      ),
+    )
 
 -- ---- names by their index
 

@@ -1,5 +1,5 @@
--- *internal*: The macros that are defined, by the index of their names, and their texts cut into pieces.
-use Rattle.std.specs.Prelude.{◌≡◌, ℕ, zero, suc, ◌==◌, ◌<◌, ◌≤◌, Bool, true, false, if◌then◌else◌, nat_le, List, [], ◌∷◌, length, take, drop, map, slice_get, Option, None, Some, option_map, option_and_then, Vec, Result, Err}
+-- *internal*: The macros that are defined, by the index of their names, and the uses in their texts.
+use Rattle.std.specs.Prelude.{◌≡◌, ℕ, zero, suc, ◌+◌, ◌==◌, ◌<◌, ◌≤◌, Bool, true, false, if◌then◌else◌, nat_le, List, [], ◌∷◌, length, take, drop, map, slice_get, slice_index_or, Option, None, Some, option_map, option_and_then, Vec, Result, Err}
 use Rattle.std.specs.Map.{lookup}
 use Rattle.std.specs.Str.{bytes_eq}
 use Rattle.std.specs.Borrow.{Bor}
@@ -9,6 +9,7 @@ use Rattle.vsrc.specs.declared.pieces.Kind.{Kind}
 use Rattle.vsrc.specs.declared.pieces.Kind.TheVariants.{Kept, Use, Refused}
 use Rattle.vsrc.specs.declared.pieces.Piece.{Piece}
 use Rattle.vsrc.specs.declared.pieces.Macro.{Macro}
+use Rattle.vsrc.specs.Outside.{stretch_len}
 use Rattle.vsrc.specs.Words.{name_len}
 use Rattle.vsrc.specs.Macros.{Macros, Made, counted, given, may_be_macro, piece_len, refused_at, use_limit, used}
 
@@ -46,6 +47,29 @@ abbrev pub Leads : List (List ℕ) → List ℕ → List Piece → List ℕ → 
 Leads names text [] rest = text ≡ rest
 Leads names text (piece ∷ pieces) rest = IsPiece names text piece × Leads names (drop piece.len text) pieces rest
 
+-- the uses among pieces
+abbrev pub is_use : Kind → Bool
+is_use Kept = false
+is_use (Use index) = true
+is_use Refused = true
+
+abbrev pub uses_in : List Piece → List Piece
+uses_in [] = []
+uses_in (piece ∷ pieces) = if is_use piece.kind then piece ∷ uses_in pieces else uses_in pieces
+
+-- these are the uses in the text before the rest
+abbrev pub AreUses : List (List ℕ) → List ℕ → List Piece → List ℕ → Type 0
+AreUses names text uses rest = (pieces : List Piece) × (Leads names text pieces rest × (uses ≡ uses_in pieces))
+
+-- the piece at the head of what is left of a text, where the uses from `next` on are those in it
+abbrev pub head_of : List ℕ → List Piece → ℕ → Piece
+head_of rest uses next =
+    if begins_use rest then slice_index_or uses next (record { len = 0; kind = Kept })
+    else record { len = stretch_len rest; kind = Kept }
+
+abbrev pub next_of : List ℕ → ℕ → ℕ
+next_of rest next = if begins_use rest then next + 1 else next
+
 -- ---- the table
 
 -- the names, each at its index
@@ -75,9 +99,9 @@ by_name texts name = option_and_then (λ text. text) (lookup (bytes_eq name) tex
 abbrev pub macros_of : {A : Type 0} → List (Vec ℕ A × Option Macro) → Macros
 macros_of entries = by_name (texts_of entries)
 
--- a macro's pieces are those of its text
+-- a macro's uses are those in its text
 abbrev pub IsCut : List (List ℕ) → Macro → Type 0
-IsCut names found = Leads names found.text.items found.pieces.items []
+IsCut names found = AreUses names found.text.items found.uses.items []
 
 abbrev pub IsCutIfAny : List (List ℕ) → Option Macro → Type 0
 IsCutIfAny names None = Unit {0}

@@ -7,7 +7,9 @@ ghost use Rattle.vsrc.specs.Macros.{used, piece};
 ghost use Rattle.vsrc.specs.Pieces.{by_name, names_of, macros_of, of_text, AreCut, IsCut, IsPiece};
 
 use crate::output::Output;
-use crate::pieces::{Kind, Macro, Piece, Texts, cut, macro_at, macro_by, may_be_macro, set};
+use crate::pieces::{
+    Kind, Macro, Piece, Texts, cut, head_of, macro_at, macro_by, may_be_macro, set,
+};
 use crate::refusal::{Refusal, Why, refuse};
 use basis::{NoMemory, OrMemory};
 use indexmap::IndexMap;
@@ -48,8 +50,8 @@ impl Table {
         ensures { OnOk result
             (by_name self.new ≡ redefined name.now (Some text.items) (by_name self.old)) }
     {
-        let pieces = cut(alloc, &mut self.texts, &text)?;
-        set(alloc, &mut self.texts, name, Some(Macro { text, pieces }))
+        let uses = cut(alloc, &mut self.texts, &text)?;
+        set(alloc, &mut self.texts, name, Some(Macro { text, uses }))
     }
 
     /// Takes the name's text away, if it has one.
@@ -119,14 +121,15 @@ fn put_macro(
     }
     made.count();
     let text = found.text.as_slice();
-    let pieces = found.pieces.as_slice();
+    let uses = found.uses.as_slice();
     let mut from = 0;
     let mut next = 0;
-    while next < pieces.len() {
-        let piece = pieces[next];
-        put_piece(texts, piece, text.split_at(from).1, at, levels - 1, made)?;
-        from += piece.len;
-        next += 1;
+    while from < text.len() {
+        let rest = text.split_at(from).1;
+        let (head, after) = head_of(rest, uses, next);
+        put_piece(texts, head, rest, at, levels - 1, made)?;
+        from += head.len;
+        next = after;
     }
     Ok(())
 }

@@ -1,8 +1,8 @@
-// The texts of macros, cut into pieces where they are defined, so that no use looks at a name in them again.
+// The uses in the texts of macros, found where those are defined, so that no use looks at a name in a text again.
 
-ghost use Rattle.std.specs.Prelude.{◌≡◌, ◌<◌, ℕ, List, length, is_some, slice_get, [], None, Some, IfOk, OnOk, IfSome};
+ghost use Rattle.std.specs.Prelude.{◌≡◌, ◌<◌, ◌++◌, ◌∷◌, ℕ, List, true, length, is_some, slice_get, [], None, Some, IfOk, OnOk, IfSome};
 ghost use Rattle.vsrc.specs.Macros.{may_be_macro, redefined};
-ghost use Rattle.vsrc.specs.Pieces.{names_of, macros_of, text_of, found_text, AreCut, IsCut, IsCutIfAny, IsPiece, IsUse, Keeps, Leads};
+ghost use Rattle.vsrc.specs.Pieces.{names_of, macros_of, text_of, found_text, begins_use, head_of, is_use, next_of, uses_in, AreCut, AreUses, IsCut, IsCutIfAny, IsPiece, IsUse, Keeps};
 
 use crate::outside::stretch_len;
 use crate::words::{directive_of, name_len};
@@ -28,11 +28,11 @@ pub struct Piece {
     pub kind: Kind,
 }
 
-/// A macro: its text, and the pieces of that.
+/// A macro: its text, and the uses in that.
 #[derive(Drop)]
 pub struct Macro {
     pub text: Vec<u8>,
-    pub pieces: Vec<Piece>,
+    pub uses: Vec<Piece>,
 }
 
 /// The macros by their names. A name keeps its index, also where it has no macro.
@@ -93,21 +93,68 @@ pub fn set(
     Ok(())
 }
 
-/// Cuts a macro's text into pieces.
+/// The piece at the head of what is left of a text, and the index of the next of the uses that are left.
+pub fn head_of(rest: &[u8], uses: &[Piece], next: usize) -> (Piece, usize)
+    requires some { 0 < length rest.now }
+    requires within { begins_use rest.now ≡ true → next < length uses.now }
+    ensures head { result.0 ≡ head_of rest.now uses.now next }
+    ensures next { result.1 ≡ next_of rest.now next }
+{
+    if begins_use(rest) {
+        return (uses[next], next + 1);
+    }
+    let head = Piece {
+        len: stretch_len(rest),
+        kind: Kind::Kept,
+    };
+    (head, next)
+}
+
+// Whether a backtick stands at the head.
+fn begins_use(rest: &[u8]) -> bool
+    ensures { result ≡ begins_use rest.now }
+{
+    if rest.is_empty() {
+        return false;
+    }
+    rest[0] == b'`'
+}
+
+/// The uses in a macro's text.
 #[tactic(auto, using(crate::proofs::Cutting::keeps_on))]
 pub fn cut(alloc: Global, texts: &mut Texts, text: &[u8]) -> Result<Vec<Piece>, NoMemory>
     ensures keeps { Keeps texts.old.entries texts.new.entries }
-    ensures cut { IfOk result (λ pieces.
-        Leads (names_of texts.new.entries) text.now pieces.items []) }
+    ensures cut { IfOk result (λ uses. AreUses (names_of texts.new.entries) text.now uses.items []) }
 {
-    let mut pieces = Vec::new(alloc);
+    let mut uses = Vec::new(alloc);
     let mut from = 0;
     while from < text.len() {
         let piece = piece_of(alloc, texts, text.split_at(from).1)?;
-        pieces.push(piece)?;
+        add(&mut uses, piece)?;
         from += piece.len;
     }
-    Ok(pieces)
+    Ok(uses)
+}
+
+// Adds a piece to the uses where it is one.
+fn add(uses: &mut Vec<Piece>, piece: Piece) -> Result<(), NoMemory>
+    ensures { OnOk result (uses.new.items ≡ uses.old.items ++ uses_in (piece ∷ [])) }
+{
+    if !is_use(piece.kind) {
+        return Ok(());
+    }
+    uses.push(piece)?;
+    Ok(())
+}
+
+fn is_use(kind: Kind) -> bool
+    ensures { result ≡ is_use kind }
+{
+    match kind {
+        Kind::Kept => false,
+        Kind::Use(_) => true,
+        Kind::Refused => true,
+    }
 }
 
 // The piece at the head of what is left of a text.
