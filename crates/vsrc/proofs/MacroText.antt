@@ -1,15 +1,12 @@
--- What an expansion makes: places in a row, macros as a function, and pieces of macro text.
-use Rattle.std.proofs.Common.{◌≡◌, ℕ, zero, suc, ◌+◌, ◌-◌, ◌<◌, ◌≤◌, nat_le, Bool, true, false, cond, List, [], ◌∷◌, ◌++◌, length, drop, map, Option, Result, Ok, Err, Vec, Bor, refl, sym, ◌∙◌, ap, arith, append_assoc}
+-- What an expansion makes: places in a row, and pieces of macro text.
+use Rattle.std.proofs.Common.{◌≡◌, ℕ, zero, suc, ◌+◌, ◌-◌, ◌<◌, ◌≤◌, nat_le, true, false, List, [], ◌∷◌, ◌++◌, length, drop, map, Result, Ok, Err, refl, sym, ◌∙◌, ap, arith, append_assoc}
 use Rattle.std.proofs.Math.ListN.{drop_of_length-le}
 use Rattle.std.proofs.lemmas.List.{drop-drop}
 use Rattle.std.specs.List.{range_with_len}
-use Rattle.std.specs.Str.{bytes_eq}
-use Rattle.std.specs.Option.{option_map}
-use Rattle.std.specs.Map.{lookup}
 use Rattle.vsrc.specs.declared.refusal.Refusal.{Refusal}
 use Rattle.vsrc.specs.declared.refusal.Why.TheVariants.{Limit}
-use Rattle.vsrc.specs.Macros.{Macros, Made, and_then, counted, given, piece, piece_len, redefined, refused_at, text_for, use_limit, used}
-use Rattle.vsrc.specs.Inner.{macros_of}
+use Rattle.vsrc.specs.Macros.{Macros, Made, and_then, counted, given, piece, piece_len, refused_at, text_for, use_limit, used}
+use Rattle.vsrc.specs.Pieces.{of_text}
 use Rattle.vsrc.proofs.Stretches.{drop_here}
 
 -- ---- places in a row
@@ -24,21 +21,6 @@ pub same_next : (xs whole bytes : List ℕ) (at i : ℕ) → i < length bytes �
     → (xs ++ at ∷ []) ++ map (λ (byte : ℕ). at) (drop (i + 1) bytes) ≡ whole
 same_next xs whole bytes at i within h =
     append_assoc xs (at ∷ []) _ ∙ ap (λ l. xs ++ map (λ (byte : ℕ). at) l) (sym (drop_here bytes i within)) ∙ h
-
--- ---- macros as a function
-
-map_cond : {A B : Type 0} (f : A → B) (b : Bool) (x y : Option A) → option_map f (cond b x y) ≡ cond b (option_map f x) (option_map f y)
-map_cond f true x y = refl
-map_cond f false x y = refl
-
--- a table that changed at one name
-pub redefined_by : {A : Type 0} (old new : List (Bor (List ℕ) × Vec ℕ A)) (key : Bor (List ℕ)) (text : Option (Vec ℕ A))
-    → ((q : Bor (List ℕ)) → lookup (λ k. bytes_eq q.now k.now) new ≡ cond (bytes_eq key.now q.now) text (lookup (λ k. bytes_eq q.now k.now) old))
-    → macros_of new ≡ redefined key.now (option_map (λ v. v.items) text) (macros_of old)
-redefined_by {A} old new key text h = λ i name. same name i
-  where
-    same : (name : List ℕ) → macros_of new name ≡ redefined key.now (option_map (λ v. v.items) text) (macros_of old) name
-    same name = ap (option_map (λ v. v.items)) (h (record key { now = name })) ∙ map_cond (λ v. v.items) (bytes_eq key.now name) text _
 
 -- ---- uses
 
@@ -95,32 +77,37 @@ gives_stop nested at text rest from made refusal whole within is made_next g = g
     go (suc n) enough same =
         sym same ∙ ap (λ l. given nested at (suc n) l made) (sym is) ∙ ap (λ r. and_then r (given nested at n (drop (piece_len rest) rest))) made_next
 
+pub used_is : (levels : ℕ) (macros : Macros) (at : ℕ) (name : List ℕ) (made : Made)
+    → used levels macros at name made ≡ and_then (text_for macros at name) (λ text. of_text levels macros at text made)
+unfolding used of_text
+used_is zero macros at name made = refl
+used_is (suc levels) macros at name made = refl
+
 pub used_none : (levels : ℕ) (macros : Macros) (at : ℕ) (name : List ℕ) (made : Made) (refusal : Refusal) → text_for macros at name ≡ Err refusal
     → used levels macros at name made ≡ Err refusal
-unfolding used
-used_none zero macros at name made refusal none = rw none refl
-used_none (suc levels) macros at name made refusal none = rw none refl
+used_none levels macros at name made refusal none =
+    used_is levels macros at name made ∙ ap (λ r. and_then r (λ text. of_text levels macros at text made)) none
 
-pub used_deep : (levels : ℕ) (macros : Macros) (at : ℕ) (name text : List ℕ) (made : Made) → levels ≡ 0 → text_for macros at name ≡ Ok text
-    → used levels macros at name made ≡ Err (refused_at at Limit)
-unfolding used
-used_deep zero macros at name text made none some = rw some refl
-used_deep (suc levels) macros at name text made none some = absurd (omega arith)
+pub used_some : (levels : ℕ) (macros : Macros) (at : ℕ) (name text : List ℕ) (made : Made) → text_for macros at name ≡ Ok text
+    → used levels macros at name made ≡ of_text levels macros at text made
+used_some levels macros at name text made some =
+    used_is levels macros at name made ∙ ap (λ r. and_then r (λ text. of_text levels macros at text made)) some
 
-pub used_up : (levels : ℕ) (macros : Macros) (at : ℕ) (name text : List ℕ) (made : Made) → text_for macros at name ≡ Ok text → nat_le use_limit made.uses ≡ true
-    → used levels macros at name made ≡ Err (refused_at at Limit)
-unfolding used
-used_up zero macros at name text made some full = rw some refl
-used_up (suc levels) macros at name text made some full = rw (some, full) refl
+pub of_text_deep : (levels : ℕ) (macros : Macros) (at : ℕ) (text : List ℕ) (made : Made) → levels ≡ 0 → of_text levels macros at text made ≡ Err (refused_at at Limit)
+unfolding of_text
+of_text_deep zero macros at text made none = refl
+of_text_deep (suc levels) macros at text made none = absurd (omega arith)
 
-pub used_gives : (levels : ℕ) (macros : Macros) (at : ℕ) (name text : List ℕ) (made : Made) → 0 < levels → text_for macros at name ≡ Ok text → nat_le use_limit made.uses ≡ false
-    → given (used (levels - 1) macros at) at (length text) text (counted made) ≡ used levels macros at name made
-unfolding used
-used_gives zero macros at name text made more some room = absurd (omega arith)
-used_gives (suc levels) macros at name text made more some room =
+pub of_text_full : (levels : ℕ) (macros : Macros) (at : ℕ) (text : List ℕ) (made : Made) → nat_le use_limit made.uses ≡ true
+    → of_text levels macros at text made ≡ Err (refused_at at Limit)
+unfolding of_text
+of_text_full zero macros at text made full = refl
+of_text_full (suc levels) macros at text made full = rw full refl
+
+pub of_text_gives : (levels : ℕ) (macros : Macros) (at : ℕ) (text : List ℕ) (made : Made) → 0 < levels → nat_le use_limit made.uses ≡ false
+    → given (used (levels - 1) macros at) at (length text) text (counted made) ≡ of_text levels macros at text made
+unfolding of_text
+of_text_gives zero macros at text made more room = absurd (omega arith)
+of_text_gives (suc levels) macros at text made more room =
     let less : suc levels - 1 ≡ levels = omega arith in
-    ap (λ n. given (used n macros at) at (length text) text (counted made)) less ∙ sym (go (text_for macros at name) some)
-  where
-    go : (r : Result (List ℕ) Refusal) → r ≡ Ok text
-        → and_then r (λ (t : List ℕ). cond (nat_le use_limit made.uses) (Err (refused_at at Limit)) (given (used levels macros at) at (length t) t (counted made))) ≡ given (used levels macros at) at (length text) text (counted made)
-    go r e = rw (e, room) refl
+    ap (λ n. given (used n macros at) at (length text) text (counted made)) less ∙ sym (rw room refl)

@@ -1,7 +1,5 @@
 -- *internal*: What the code keeps and its inner functions answer.
-use Rattle.std.specs.Prelude.{◌≡◌, ℕ, ◌+◌, ◌<◌, List, length, drop, slice_index, Option, Some, option_map, Vec, Result, Ok, Err}
-use Rattle.std.specs.Map.{lookup}
-use Rattle.std.specs.Str.{bytes_eq}
+use Rattle.std.specs.Prelude.{◌≡◌, ℕ, ◌+◌, ◌<◌, List, length, drop, slice_index, Option, Some, option_map}
 use Rattle.std.specs.List.Sorted.{IsNonDecreasing}
 use Rattle.std.specs.Borrow.{Bor}
 use Rattle.vsrc.specs.Source.{text_limit}
@@ -9,8 +7,6 @@ use Rattle.vsrc.specs.Words.{Named}
 use Rattle.basis.specs.declared.timescale.Span.{Span}
 use Rattle.basis.specs.declared.timescale.Timescale.{Timescale}
 use Rattle.vsrc.specs.Timescales.{Spanned, Timed}
-use Rattle.vsrc.specs.Macros.{Macros}
-use Rattle.vsrc.specs.declared.refusal.Refusal.{Refusal}
 use Rattle.vsrc.specs.Outside.{further, string_end}
 use Rattle.vsrc.specs.declared.fault.SrcFault.{SrcFault}
 use Rattle.vsrc.specs.declared.fault.SrcFault.TheVariants.{Growth}
@@ -53,16 +49,3 @@ spanned_of = option_map (λ found. record { span = found.0; len = found.1 })
 
 abbrev pub timed_of : Option (Timescale × ℕ) → Option Timed
 timed_of = option_map (λ found. record { timescale = found.0; len = found.1 })
-
--- the bytes of a macro's text that was found
-abbrev pub text_of : Option (Bor (List ℕ)) → Option (List ℕ)
-text_of = option_map (λ text. text.now)
-
--- what the entries of a table say of a name
-abbrev pub macros_of : {A : Type 0} → List (Bor (List ℕ) × Vec ℕ A) → Macros
-macros_of entries name = option_map (λ text. text.items) (lookup (λ key. bytes_eq name key.now) entries)
-
--- the text that was found for a name
-abbrev pub found_text : Result (Bor (List ℕ)) Refusal → Result (List ℕ) Refusal
-found_text (Ok text) = Ok text.now
-found_text (Err refusal) = Err refusal

@@ -8,5 +8,6 @@ pub mod Conditionals
 pub mod Walk
 pub mod Expansion
 pub mod Inner
+pub mod Pieces
 pub mod Walking
 pub mod Laws

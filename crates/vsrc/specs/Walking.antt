@@ -3,14 +3,14 @@ use Rattle.std.specs.Prelude.{◌≡◌, ℕ, Result, Ok}
 use Rattle.vsrc.specs.declared.walk.Walk.{Walk}
 use Rattle.vsrc.specs.declared.refusal.Refusal.{Refusal}
 use Rattle.vsrc.specs.Walk.{State, Done}
-use Rattle.vsrc.specs.Inner.{macros_of}
+use Rattle.vsrc.specs.Pieces.{by_name}
 
 -- what the code's walk knows
 abbrev pub state_of : Walk → State
 state_of walk = record {
   at = walk.at;
   fresh = walk.fresh;
-  macros = macros_of walk.macros.texts.entries;
+  macros = by_name walk.macros;
   opens = walk.opens;
   timescale = walk.timescale;
   made = walk.made;

@@ -12,6 +12,7 @@ mod macro_text;
 mod macros;
 mod output;
 mod outside;
+mod pieces;
 mod refusal;
 mod timescale;
 mod walk;

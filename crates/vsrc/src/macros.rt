@@ -1,33 +1,44 @@
 // The macros that are defined, and what their uses make (IEEE 1364-2005, 19.3).
 
-ghost use Rattle.std.specs.Prelude.{◌≡◌, ◌≤◌, ◌<◌, length, IfOk, OnOk, Ok, Err};
+ghost use Rattle.std.specs.Prelude.{◌≡◌, ◌≤◌, ◌<◌, length, OnOk, Ok, Err};
 ghost use Rattle.basis.specs.Reasons.{IfFault};
 ghost use Rattle.vsrc.specs.Source.{text_limit};
-ghost use Rattle.vsrc.specs.Macros.{may_be_macro, text_for, used, piece, piece_len};
-ghost use Rattle.vsrc.specs.Inner.{macros_of, found_text};
+ghost use Rattle.vsrc.specs.Macros.{used, piece};
+ghost use Rattle.vsrc.specs.Pieces.{by_name, names_of, macros_of, of_text, AreCut, IsCut, IsPiece};
 
 use crate::output::Output;
-use crate::outside::stretch_len;
+use crate::pieces::{
+    Kind, Macro, Piece, Texts, cut, head_of, macro_at, macro_by, may_be_macro, set,
+};
 use crate::refusal::{Refusal, Why, refuse};
-use crate::words::{directive_of, name_len};
 use basis::{NoMemory, OrMemory};
 use indexmap::IndexMap;
 use std::alloc::Global;
+use std::marker::Model;
 
 /// The macros that are defined, by the bytes of their names.
 #[derive(Drop)]
-pub struct Table<'t> {
-    texts: IndexMap<&'t [u8], Vec<u8>>,
+pub struct Table {
+    texts: Texts,
 }
 
-impl<'t> Table<'t> {
-    ghost use Rattle.std.specs.Prelude.{Option, None, Some};
+impl Model for Table {
+    ghost use Rattle.vsrc.specs.Pieces.{Texts, texts_of, AreCut};
+
+    ghost Value = { Texts };
+
+    ghost view = { λ t. texts_of t.texts.entries };
+
+    ghost invariant = { λ t. AreCut t.texts.entries };
+}
+
+impl Table {
+    ghost use Rattle.std.specs.Prelude.{None, Some, is_some};
     ghost use Rattle.vsrc.specs.Macros.{no_macros, redefined};
-    ghost use Rattle.vsrc.specs.Inner.{text_of};
 
     /// No macros.
     pub fn new(alloc: Global) -> Self
-        ensures { macros_of result.texts.entries ≡ no_macros }
+        ensures { by_name result ≡ no_macros }
     {
         Table {
             texts: IndexMap::new(alloc),
@@ -35,84 +46,73 @@ impl<'t> Table<'t> {
     }
 
     /// Gives the name a text, in place of the one that it may have.
-    pub fn define(&mut self, name: &'t [u8], text: Vec<u8>) -> Result<(), NoMemory>
+    pub fn define(&mut self, alloc: Global, name: &[u8], text: Vec<u8>) -> Result<(), NoMemory>
         ensures { OnOk result
-            (macros_of self.new.texts.entries ≡ redefined name.now (Some text.items)
-            (macros_of self.old.texts.entries)) }
+            (by_name self.new ≡ redefined name.now (Some text.items) (by_name self.old)) }
     {
-        self.texts.insert(name, text)?;
-        Ok(())
+        let uses = cut(alloc, &mut self.texts, &text)?;
+        set(alloc, &mut self.texts, name, Some(Macro { text, uses }))
     }
 
     /// Takes the name's text away, if it has one.
-    pub fn undefine(&mut self, name: &'t [u8])
-        ensures { macros_of self.new.texts.entries ≡ redefined name.now None
-            (macros_of self.old.texts.entries) }
+    pub fn undefine(&mut self, alloc: Global, name: &[u8]) -> Result<(), NoMemory>
+        ensures { OnOk result
+            (by_name self.new ≡ redefined name.now None (by_name self.old)) }
     {
-        let _text = self.texts.swap_remove(&name);
+        set(alloc, &mut self.texts, name, None)
     }
 
-    /// The text of the name, where it has one.
-    pub fn text<'s>(&'s self, name: &'s [u8]) -> Option<&'s [u8]>
-        ensures { text_of result ≡ macros_of self.now.texts.entries name.now }
+    /// Whether the name has a text.
+    pub fn has(&self, name: &[u8]) -> bool
+        ensures { result ≡ is_some (by_name self.now name.now) }
     {
-        match self.texts.get(&name) {
-            None => None,
-            Some(text) => Some(text.as_slice()),
-        }
-    }
-}
-
-/// Whether the name after a backtick may be a macro's.
-pub fn may_be_macro(name: &[u8]) -> bool
-    ensures { result ≡ may_be_macro name.now }
-{
-    if name.is_empty() {
-        return false;
-    }
-    directive_of(name).is_none()
-}
-
-// The text of a name behind a backtick, for a use at `at`.
-fn text_for<'s>(table: &'s Table<'s>, name: &'s [u8], at: usize) -> Result<&'s [u8], Refusal>
-    ensures { found_text result ≡ text_for (macros_of table.now.texts.entries) at name.now }
-{
-    if !may_be_macro(name) {
-        return Err(Refusal {
-            why: Why::Directive,
-            at,
-        });
-    }
-    match table.text(name) {
-        None => Err(Refusal {
-            why: Why::Macro,
-            at,
-        }),
-        Some(text) => Ok(text),
+        macro_by(&self.texts, name).is_some()
     }
 }
 
 /// Puts what a use of the name makes, for a use at `at` with so many levels left: its text, with each use in it
 /// expanded in turn. E110 where the name is none, or a directive's; E111 where it has no macro; E112 where macros
 /// nest too deep, or uses or text get too many.
-#[cycle(uses)]
-pub fn put_use<'s>(
-    table: &'s Table<'s>,
-    name: &'s [u8],
+pub fn put_use(
+    table: &Table,
+    name: &[u8],
     at: usize,
     levels: u32,
     made: &mut Output,
 ) -> Result<(), OrMemory<Refusal>>
     requires { at ≤ text_limit }
-    ensures ok { OnOk result
-        (used levels (macros_of table.now.texts.entries) at name.now made.old ≡ Ok made.new) }
+    ensures ok { OnOk result (used levels (by_name table.now) at name.now made.old ≡ Ok made.new) }
     ensures err { IfFault result (λ refusal.
-        used levels (macros_of table.now.texts.entries) at name.now made.old ≡ Err refusal) }
+        used levels (by_name table.now) at name.now made.old ≡ Err refusal) }
 {
-    let text = match text_for(table, name, at) {
-        Ok(text) => text,
-        Err(refusal) => return Err(OrMemory::Fault(refusal)),
+    if !may_be_macro(name) {
+        return Err(refuse(Why::Directive, at));
+    }
+    let Some(found) = macro_by(&table.texts, name) else {
+        return Err(refuse(Why::Macro, at));
     };
+    put_macro(&table.texts, found, at, levels, made)
+}
+
+// Puts what a use of the macro makes.
+#[cycle(uses)]
+fn put_macro(
+    texts: &Texts,
+    found: &Macro,
+    at: usize,
+    levels: u32,
+    made: &mut Output,
+) -> Result<(), OrMemory<Refusal>>
+    requires place { at ≤ text_limit }
+    requires texts { AreCut texts.now.entries }
+    requires found { IsCut (names_of texts.now.entries) found.now }
+    ensures ok { OnOk result
+        (of_text levels (macros_of texts.now.entries) at found.now.text.items made.old ≡ Ok
+        made.new) }
+    ensures err { IfFault result (λ refusal.
+        of_text levels (macros_of texts.now.entries) at found.now.text.items made.old ≡ Err
+        refusal) }
+{
     if levels == 0 {
         return Err(refuse(Why::Limit, at));
     }
@@ -120,41 +120,46 @@ pub fn put_use<'s>(
         return Err(refuse(Why::Limit, at));
     }
     made.count();
+    let text = found.text.as_slice();
+    let uses = found.uses.as_slice();
     let mut from = 0;
+    let mut next = 0;
     while from < text.len() {
-        from += put_piece(table, text.split_at(from).1, at, levels - 1, made)?;
+        let rest = text.split_at(from).1;
+        let (head, after) = head_of(rest, uses, next);
+        put_piece(texts, head, rest, at, levels - 1, made)?;
+        from += head.len;
+        next = after;
     }
     Ok(())
 }
 
-// Puts what the head of a macro's text makes, and tells how many bytes that is.
+// Puts what the piece makes that stands at the head of what is left of a macro's text.
 #[cycle(uses)]
-fn put_piece<'s>(
-    table: &'s Table<'s>,
-    rest: &'s [u8],
+fn put_piece(
+    texts: &Texts,
+    head: Piece,
+    rest: &[u8],
     at: usize,
     levels: u32,
     made: &mut Output,
-) -> Result<usize, OrMemory<Refusal>>
-    requires begins { 0 < length rest.now }
+) -> Result<(), OrMemory<Refusal>>
     requires place { at ≤ text_limit }
+    requires texts { AreCut texts.now.entries }
+    requires head { IsPiece (names_of texts.now.entries) rest.now head }
     ensures ok { OnOk result
-        (piece (used levels (macros_of table.now.texts.entries) at) at rest.now made.old ≡ Ok
+        (piece (used levels (macros_of texts.now.entries) at) at rest.now made.old ≡ Ok
         made.new) }
-    ensures len { IfOk result (λ len. len ≡ piece_len rest.now) }
-    ensures some { IfOk result (λ len. 0 < len) }
-    ensures within { IfOk result (λ len. len ≤ length rest.now) }
     ensures err { IfFault result (λ refusal.
-        piece (used levels (macros_of table.now.texts.entries) at) at rest.now made.old ≡ Err
+        piece (used levels (macros_of texts.now.entries) at) at rest.now made.old ≡ Err
         refusal) }
 {
-    if rest[0] == b'`' {
-        let behind = rest.split_at(1).1;
-        let len = name_len(behind);
-        put_use(table, behind.split_at(len).0, at, levels, made)?;
-        return Ok(1 + len);
+    match head.kind {
+        Kind::Kept => made.put_given(rest.split_at(head.len).0, at),
+        Kind::Refused => Err(refuse(Why::Directive, at)),
+        Kind::Use(index) => match macro_at(texts, index) {
+            None => Err(refuse(Why::Macro, at)),
+            Some(found) => put_macro(texts, found, at, levels, made),
+        },
     }
-    let len = stretch_len(rest);
-    made.put_given(rest.split_at(len).0, at)?;
-    Ok(len)
 }

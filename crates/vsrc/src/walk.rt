@@ -6,17 +6,18 @@ ghost use Rattle.vsrc.specs.Source.{text_limit};
 ghost use Rattle.vsrc.specs.Words.{name_behind, directive_of};
 ghost use Rattle.vsrc.specs.Macros.{may_be_macro};
 ghost use Rattle.vsrc.specs.Conditionals.{is_read};
-ghost use Rattle.vsrc.specs.Inner.{macros_of};
 ghost use Rattle.vsrc.specs.Expansion.{expanded};
 ghost use Rattle.vsrc.specs.Walking.{state_of};
+ghost use Rattle.vsrc.specs.Pieces.{by_name};
 ghost use Rattle.vsrc.specs.Timescales.{timescale_behind};
 ghost use Rattle.vsrc.specs.Walk.{begins_arguments, is_conditional, is_fresh, is_nettype, is_met};
 
 use crate::conditionals::Opens;
 use crate::macro_text::{lines_len, macro_text};
-use crate::macros::{Table, may_be_macro, put_use};
+use crate::macros::{Table, put_use};
 use crate::output::Output;
 use crate::outside::stretch_len;
+use crate::pieces::may_be_macro;
 use crate::refusal::{Refusal, Why, refuse};
 use crate::timescale::timescale_behind;
 use crate::words::{Word, blanks_len, directive_of, is_blank, name_behind, name_len};
@@ -28,17 +29,17 @@ const LEVELS: u32 = 32;
 
 /// What is known between two pieces of the joined files.
 #[derive(Drop)]
-pub struct Walk<'t> {
+pub struct Walk {
     at: usize,
     fresh: bool,
-    macros: Table<'t>,
+    macros: Table,
     opens: Opens,
     timescale: Option<Timescale>,
     made: Output,
     alloc: Global,
 }
 
-impl<'t> Walk<'t> {
+impl Walk {
     ghost use Rattle.vsrc.specs.Walk.{start, step, passed, kept, ticked, met, replaced, heeded, obeyed, defined, undefined, opening, alternative, timed, typed, with_opens};
     ghost use Rattle.vsrc.specs.Conditionals.{turned, closed};
     ghost use Rattle.vsrc.specs.Walking.{StepResult};
@@ -60,8 +61,8 @@ impl<'t> Walk<'t> {
 
     /// What was made, and the timescale if one stood.
     pub fn into_parts(self) -> (Output, Option<Timescale>)
-        ensures made { result.0 ≡ self.entry.made }
-        ensures timescale { result.1 ≡ self.entry.timescale }
+        ensures made { result.0 ≡ self.made }
+        ensures timescale { result.1 ≡ self.timescale }
     {
         let Walk {
             at: _,
@@ -76,7 +77,7 @@ impl<'t> Walk<'t> {
     }
 
     /// Takes the piece at the head of what is left of the files.
-    pub fn step(&mut self, rest: &'t [u8]) -> Result<(), OrMemory<Refusal>>
+    pub fn step(&mut self, rest: &[u8]) -> Result<(), OrMemory<Refusal>>
         requires some { 0 < length rest.now }
         requires short { self.old.at + length rest.now ≤ text_limit }
         ensures ok { OnOk result (step rest.now (state_of self.old) ≡ Ok (state_of self.new)) }
@@ -91,7 +92,7 @@ impl<'t> Walk<'t> {
     }
 
     // A comment, a string or a byte stays where its part is read.
-    fn pass(&mut self, rest: &'t [u8]) -> Result<(), OrMemory<Refusal>>
+    fn pass(&mut self, rest: &[u8]) -> Result<(), OrMemory<Refusal>>
         requires some { 0 < length rest.now }
         requires short { self.old.at + length rest.now ≤ text_limit }
         ensures ok { OnOk result
@@ -123,7 +124,7 @@ impl<'t> Walk<'t> {
     }
 
     // What begins with a backtick, told from the bytes behind it.
-    fn tick(&mut self, behind: &'t [u8]) -> Result<(), OrMemory<Refusal>>
+    fn tick(&mut self, behind: &[u8]) -> Result<(), OrMemory<Refusal>>
         requires { self.old.at + length behind.now < text_limit }
         ensures ok { OnOk result (ticked behind.now (state_of self.old) ≡ Ok (state_of self.new)) }
         ensures on { OnOk result (self.old.at < self.new.at) }
@@ -140,7 +141,7 @@ impl<'t> Walk<'t> {
     }
 
     // The name behind a backtick, and what stands behind it.
-    fn meet(&mut self, name: &'t [u8], rest: &'t [u8]) -> Result<usize, OrMemory<Refusal>>
+    fn meet(&mut self, name: &[u8], rest: &[u8]) -> Result<usize, OrMemory<Refusal>>
         requires { self.old.at ≤ text_limit }
         ensures ok { IfOk result
             (StepResult (met (directive_of name.now) name.now rest.now (state_of self.old))
@@ -157,7 +158,7 @@ impl<'t> Walk<'t> {
     }
 
     // A use of a macro.
-    fn replace(&mut self, name: &'t [u8]) -> Result<usize, OrMemory<Refusal>>
+    fn replace(&mut self, name: &[u8]) -> Result<usize, OrMemory<Refusal>>
         requires { self.old.at ≤ text_limit }
         ensures ok { IfOk result (StepResult (replaced name.now (state_of self.old)) (state_of self.new)) }
         ensures none { IfOk result (λ len. len ≡ 0) }
@@ -172,7 +173,7 @@ impl<'t> Walk<'t> {
     }
 
     // A directive, where it is heeded.
-    fn heed(&mut self, word: Word, rest: &'t [u8]) -> Result<usize, OrMemory<Refusal>>
+    fn heed(&mut self, word: Word, rest: &[u8]) -> Result<usize, OrMemory<Refusal>>
         ensures ok { IfOk result
             (StepResult (heeded word rest.now (state_of self.old)) (state_of self.new)) }
         ensures within { IfOk result (λ len. len ≤ length rest.now) }
@@ -196,7 +197,7 @@ impl<'t> Walk<'t> {
     }
 
     // A directive and what stands behind its word.
-    fn obey(&mut self, word: Word, rest: &'t [u8]) -> Result<usize, OrMemory<Refusal>>
+    fn obey(&mut self, word: Word, rest: &[u8]) -> Result<usize, OrMemory<Refusal>>
         ensures ok { IfOk result
             (StepResult (obeyed word rest.now (state_of self.old)) (state_of self.new)) }
         ensures within { IfOk result (λ len. len ≤ length rest.now) }
@@ -217,7 +218,7 @@ impl<'t> Walk<'t> {
         }
     }
 
-    fn define(&mut self, rest: &'t [u8]) -> Result<usize, OrMemory<Refusal>>
+    fn define(&mut self, rest: &[u8]) -> Result<usize, OrMemory<Refusal>>
         ensures ok { IfOk result
             (StepResult (defined (name_behind rest.now) rest.now (state_of self.old))
             (state_of self.new)) }
@@ -235,11 +236,12 @@ impl<'t> Walk<'t> {
         }
         let blanks = blanks_len(behind);
         let text = behind.split_at(blanks).1;
-        self.macros.define(name, macro_text(self.alloc, text)?)?;
+        self.macros
+            .define(self.alloc, name, macro_text(self.alloc, text)?)?;
         Ok(len + blanks + lines_len(text))
     }
 
-    fn undefine(&mut self, rest: &'t [u8]) -> Result<usize, OrMemory<Refusal>>
+    fn undefine(&mut self, rest: &[u8]) -> Result<usize, OrMemory<Refusal>>
         ensures ok { IfOk result
             (StepResult (undefined (name_behind rest.now) (state_of self.old)) (state_of self.new)) }
         ensures within { IfOk result (λ len. len ≤ length rest.now) }
@@ -250,11 +252,11 @@ impl<'t> Walk<'t> {
         let Some((name, len)) = name_behind(rest) else {
             return Err(refuse(Why::Directive, self.at));
         };
-        self.macros.undefine(name);
+        self.macros.undefine(self.alloc, name)?;
         Ok(len)
     }
 
-    fn open(&mut self, wanted: bool, rest: &'t [u8]) -> Result<usize, OrMemory<Refusal>>
+    fn open(&mut self, wanted: bool, rest: &[u8]) -> Result<usize, OrMemory<Refusal>>
         ensures ok { IfOk result
             (StepResult (opening wanted (name_behind rest.now) (state_of self.old)) (state_of self.new)) }
         ensures within { IfOk result (λ len. len ≤ length rest.now) }
@@ -273,16 +275,12 @@ impl<'t> Walk<'t> {
     // Whether the name has a macro, or has none where that is wanted.
     fn holds(&self, wanted: bool, name: &[u8]) -> bool
         ensures { result ≡ is_met wanted
-            (is_some (macros_of self.now.macros.texts.entries name.now)) }
+            (is_some (by_name self.now.macros name.now)) }
     {
-        if wanted {
-            self.macros.text(name).is_some()
-        } else {
-            self.macros.text(name).is_none()
-        }
+        self.macros.has(name) == wanted
     }
 
-    fn otherwise_if(&mut self, rest: &'t [u8]) -> Result<usize, OrMemory<Refusal>>
+    fn otherwise_if(&mut self, rest: &[u8]) -> Result<usize, OrMemory<Refusal>>
         ensures ok { IfOk result
             (StepResult (alternative (name_behind rest.now) (state_of self.old)) (state_of self.new)) }
         ensures within { IfOk result (λ len. len ≤ length rest.now) }
@@ -325,7 +323,7 @@ impl<'t> Walk<'t> {
         Ok(0)
     }
 
-    fn time(&mut self, rest: &'t [u8]) -> Result<usize, OrMemory<Refusal>>
+    fn time(&mut self, rest: &[u8]) -> Result<usize, OrMemory<Refusal>>
         ensures ok { IfOk result
             (StepResult (timed (timescale_behind rest.now) (state_of self.old)) (state_of self.new)) }
         ensures within { IfOk result (λ len. len ≤ length rest.now) }
@@ -347,7 +345,7 @@ impl<'t> Walk<'t> {
         Ok(len)
     }
 
-    fn set_type(&mut self, rest: &'t [u8]) -> Result<usize, OrMemory<Refusal>>
+    fn set_type(&mut self, rest: &[u8]) -> Result<usize, OrMemory<Refusal>>
         ensures ok { IfOk result
             (StepResult (typed (name_behind rest.now) (state_of self.old)) (state_of self.new)) }
         ensures within { IfOk result (λ len. len ≤ length rest.now) }
@@ -366,7 +364,7 @@ impl<'t> Walk<'t> {
 }
 
 /// The walk over a whole text. E113 where a conditional is left open at its end.
-pub fn walk_over<'t>(alloc: Global, text: &'t [u8]) -> Result<Walk<'t>, OrMemory<Refusal>>
+pub fn walk_over(alloc: Global, text: &[u8]) -> Result<Walk, OrMemory<Refusal>>
     requires { length text.now ≤ text_limit }
     ensures ok { IfOk result (λ walk. expanded text.now ≡ Ok (state_of walk)) }
     ensures err { IfFault result (λ refusal. expanded text.now ≡ Err refusal) }

@@ -36,8 +36,8 @@ returns-in-None-clause-ok c =
     let state : State = state_of c.loop-walk.walk in
     comes_end c.args.text.now state c.loop-walk-test.false c.loop-walk.invariant.comes ∙ none_open state.opens state c.in-None.ensures
 
-pub returns-clause-err : goal.returns-clause-err
-returns-clause-err c =
+pub returns-in-Some-clause-err : goal.returns-in-Some-clause-err
+returns-in-Some-clause-err c =
     let text : List ℕ = c.args.text.now in
     let state : State = state_of c.loop-walk.walk in
     subst (λ (e : OrMemory Refusal). Because (λ (r : Refusal). expanded text ≡ Err r) e) (sym c.refuse.ensures)
