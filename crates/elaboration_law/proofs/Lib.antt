@@ -17,3 +17,6 @@ pub mod CountRules
 pub mod CountLemmas
 pub mod TopLemmas
 pub mod MisfitLemmas
+pub mod UseLemmas
+pub mod ExpressionUses
+pub mod StatementUses
