@@ -1,19 +1,21 @@
 -- What answers say of a question: where there is one it holds, and where a rule that is asked for is told it doesn't.
-use Rattle.std.proofs.Common.{◌≡◌, Bool, true, false, ◌&&◌, List, ◌∷◌, [], ◌++◌, Option, Some, None, Result, Ok, Err, refl, sym, subst}
+use Rattle.std.proofs.Common.{◌≡◌, Bool, true, false, ◌&&◌, not, List, ◌∷◌, [], ◌++◌, Option, Some, None, Result, Ok, Err, refl, sym, subst}
 use Rattle.std.specs.List.{list_all}
 use Rattle.std.proofs.lemmas.List.Folds.{list_all-append}
+use Rattle.basis.proofs.Bools.{and_both}
 use Rattle.vast.specs.NumberedWords.{Word}
 use Rattle.velab_expr.specs.declared.fault.Rule.{Rule}
 use Rattle.velab_expr.specs.declared.fault.ElabFault.{ElabFault}
+use Rattle.velab_expr.specs.declared.fault.Rule.TheVariants.{Ports, Width, Constant, Kind}
 use Rattle.velab_expr.specs.Answers.{◌>>=◌, required, provided, found}
+use Rattle.velab_expr.specs.Scopes.{Scope, lower_name, lower_variable, lower_event}
+use Rattle.velab_process.specs.Waits.{lower_term}
+use Rattle.vdesign.specs.declared.action.Edge.{Edge}
+use Rattle.elaboration_law.specs.Uses.{Use, use_of, use_of_time}
 
 abbrev pub Judges : {A : Type 0} → (Rule → Bool) → Bool → Result A ElabFault → Type 0
 Judges asked holds (Ok x) = holds ≡ true
 Judges asked holds (Err fault) = asked fault.rule ≡ true → holds ≡ false
-
-both_true : (a b : Bool) → a ≡ true → b ≡ true → (a && b) ≡ true
-both_true true b e h = h
-both_true false b e h = absurd cc
 
 first_false : (a b : Bool) → a ≡ false → (a && b) ≡ false
 first_false true b e = absurd cc
@@ -30,7 +32,7 @@ module _ (asked : Rule → Bool) where
   two_judge {B = B} one other (Ok x) next h more = by (next x) (more x)
     where
       by : (b : Result B ElabFault) → Judges asked other b → Judges asked (one && other) b
-      by (Ok y) j = both_true one other h j
+      by (Ok y) j = and_both one other h j
       by (Err fault) j = λ e. second_false one other (j e)
   two_judge one other (Err fault) next h more = λ e. first_false one other (h e)
 
@@ -64,5 +66,33 @@ module _ (asked : Rule → Bool) where
         subst (λ (b : Bool). Judges asked b (a >>= next)) (sym (list_all-append test xs ys)) (two_judge (list_all test xs) (list_all test ys) a next h more)
 
     pub one_judges : {A : Type 0} (x : U) (a : Result A ElabFault) → Judges asked (test x) a → Judges asked (list_all test (x ∷ [])) a
-    one_judges x (Ok y) h = both_true (test x) true h refl
+    one_judges x (Ok y) h = and_both (test x) true h refl
     one_judges x (Err fault) h = λ e. first_false (test x) true (h e)
+
+-- a question of each name that is used, which one rule or several are told for alone
+pub record Question : Type 1 where
+  pub asked : Rule → Bool
+  pub fits : Scope → Use → Bool
+  pub no_ports : asked Ports ≡ false
+  pub no_width : asked Width ≡ false
+  pub no_kind : asked Kind ≡ false
+  pub of_name : (constant : Bool) (scope : Scope) (name : Word) → Judges asked (fits scope (use_of constant name)) (lower_name constant scope name)
+  pub of_variable : (scope : Scope) (name : Word) → Judges asked (fits scope (use_of false name)) (lower_variable scope name)
+  pub of_event : (scope : Scope) (name : Word) → Judges asked (fits scope (use_of false name)) (lower_event scope name)
+  pub of_term : (scope : Scope) (edge : Edge) (name : Word) → Judges asked (fits scope (use_of false name)) (lower_term scope edge name)
+  pub of_time : {A : Type 0} (constant : Bool) (scope : Scope) (word : Option Word) (x : A) → Judges asked (fits scope (use_of_time constant)) (required (not constant) Constant word x)
+
+-- the answer is one only where the question holds of all of these, and a fault of its rules only where it doesn't of one
+abbrev pub Fits : {A : Type 0} → Question → Scope → List Use → Result A ElabFault → Type 0
+Fits q scope uses answer = Judges q.asked (list_all (q.fits scope) uses) answer
+
+module _ (q : Question) (scope : Scope) where
+  -- one after another, and the last
+  abbrev pub both : {A B : Type 0} (xs ys : List Use) (a : Result A ElabFault) (next : A → Result B ElabFault) → Fits q scope xs a → ((x : A) → Fits q scope ys (next x)) → Fits q scope (xs ++ ys) (a >>= next)
+  both xs ys a next h more = then_judges q.asked (q.fits scope) xs ys a next h more
+
+  abbrev pub last : {A B : Type 0} (xs : List Use) (a : Result A ElabFault) (next : A → Result B ElabFault) → Fits q scope xs a → ((x : A) → Judges q.asked true (next x)) → Fits q scope xs (a >>= next)
+  last xs a next h more = last_judges q.asked (list_all (q.fits scope) xs) a next h more
+
+  abbrev pub single : {A : Type 0} (x : Use) (a : Result A ElabFault) → Judges q.asked (q.fits scope x) a → Fits q scope (x ∷ []) a
+  single x a h = one_judges q.asked (q.fits scope) x a h

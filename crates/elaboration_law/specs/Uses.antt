@@ -7,13 +7,10 @@ use Rattle.vast.specs.NumberedStatements.{TargetTree, TargetTrees, whole, bit, p
 use Rattle.vast.specs.NumberedModules.{RangeTree}
 use Rattle.velab_process.specs.Processes.{ProcessTree, procedural, continuous}
 
--- a name at a place, in a constant or not
-pub record Use : Type 0 where
-  pub constant : Bool
-  pub name : Word
-
-abbrev pub use_of : Bool → Word → Use
-use_of constant name = record { constant = constant; name = name }
+-- what is looked up, in a constant or not: a name, or the time (17.7.1)
+pub data Use : Type 0 where
+  use_of : Bool → Word → Use
+  use_of_time : Bool → Use
 
 -- ---- expressions: bounds of a part and counts are constants (5.1.14, 5.2.1)
 
@@ -21,7 +18,7 @@ abbrev mutual
   pub used_in : Bool → text.ExpressionTree → List Use
   used_in constant (text.number digits) = []
   used_in constant (text.name letters) = use_of constant letters ∷ []
-  used_in constant (text.time word) = []
+  used_in constant (text.time word) = use_of_time constant ∷ []
   used_in constant (text.bit letters index) = use_of constant letters ∷ used_in constant index
   used_in constant (text.part letters left right) = use_of constant letters ∷ (used_in true left ++ used_in true right)
   used_in constant (text.parentheses inner) = used_in constant inner
