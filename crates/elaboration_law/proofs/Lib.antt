@@ -20,3 +20,4 @@ pub mod MisfitLemmas
 pub mod UseLemmas
 pub mod ExpressionUses
 pub mod StatementUses
+pub mod ConstantUses

@@ -7,3 +7,4 @@ pub mod Counts
 pub mod Tops
 pub mod Misfits
 pub mod Uses
+pub mod Constants
