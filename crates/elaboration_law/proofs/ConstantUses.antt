@@ -3,26 +3,24 @@ use Rattle.std.proofs.Common.{◌≡◌, ◌<◌, ◌≤◌, ℕ, ◌+◌, ◌-�
 use Rattle.std.specs.List.{list_all, list_any, position_or_len}
 use Rattle.std.specs.Str.{bytes_eq}
 use Rattle.std.proofs.lemmas.Bool.{lt-ltb, ltb-true}
-use Rattle.std.proofs.lemmas.List.{length-map}
 use Rattle.basis.proofs.Bools.{and_left, and_right}
 use Rattle.vast.specs.Words.{Text}
 use Rattle.vast.specs.NumberedWords.{Word}
-use Rattle.vast.specs.NumberedModules.{ModuleTree}
 use Rattle.vdesign.specs.declared.action.Edge.{Edge}
 use Rattle.vdesign.specs.declared.action.Edge.TheVariants.{Any, Rise, Fall}
-use Rattle.vmodules.specs.Names.{is_declared, letters_of}
+use Rattle.vmodules.specs.Names.{is_declared}
 use Rattle.velab_expr.specs.declared.fault.Rule.{Rule}
 use Rattle.velab_expr.specs.declared.fault.Rule.TheVariants.{Top, Doubled, Unknown, Drivers, Ports, Width, Constant, Depth, TooMany, Kind}
 use Rattle.velab_expr.specs.declared.scope.Meaning.{Meaning}
 use Rattle.velab_expr.specs.declared.scope.Meaning.TheVariants.{Variable, Parameter, Event, Instance}
 use Rattle.velab_expr.specs.declared.scope.Operand.TheVariants as operand
+use Rattle.velab_expr.specs.declared.fault.ElabFault.{ElabFault}
 use Rattle.velab_expr.specs.Answers.{required}
 use Rattle.velab_expr.specs.Scopes.{Scope, at, meaning_at, meaning_of, bounds_for, operand_by, lower_name, variable_by, lower_variable, event_by, lower_event}
 use Rattle.velab_process.specs.Waits.{term_by, lower_term}
-use Rattle.velab_declaration.specs.Variables.{declared_names}
 use Rattle.elaboration_law.specs.Uses.{Use, use_of, use_of_time}
-use Rattle.elaboration_law.specs.Constants.{is_fixed}
-use Rattle.elaboration_law.proofs.UseLemmas.{Judges, required_judges, Question}
+use Rattle.elaboration_law.specs.Constants.{among, UseAmong, is_fixed_among, is_fixed}
+use Rattle.elaboration_law.proofs.UseLemmas.{Judges, required_judges, Question, Fits}
 
 abbrev pub is_constant : Rule → Bool
 is_constant Top = false
@@ -106,15 +104,15 @@ is_plain (Parameter value bounds before) = true
 is_plain (Event number) = true
 is_plain Instance = true
 
--- its names begin with those of the module's variables, and no others stand for variables
-pub record IsOf (m : ModuleTree) (scope : Scope) : Type 0 where
+-- its names begin with those of the variables, and no others stand for variables
+pub record IsOf (declared : List Text) (scope : Scope) : Type 0 where
   pub rest : List Text
-  pub names : scope.names ≡ letters_of (declared_names m) ++ rest
-  pub variables : scope.variables ≡ length (declared_names m)
+  pub names : scope.names ≡ declared ++ rest
+  pub variables : scope.variables ≡ length declared
   pub others : list_all is_plain scope.others ≡ true
 
-pub is_of_at : (m : ModuleTree) (scope : Scope) (known : ℕ) → IsOf m scope → IsOf m (at scope known)
-is_of_at m scope known h = record { rest = h.rest; names = h.names; variables = h.variables; others = h.others }
+pub is_of_at : (declared : List Text) (scope : Scope) (known : ℕ) → IsOf declared scope → IsOf declared (at scope known)
+is_of_at declared scope known h = record { rest = h.rest; names = h.names; variables = h.variables; others = h.others }
 
 module _ {X : Type 0} (p : X → Bool) where
   within : (xs ys : List X) → list_any p xs ≡ true → position_or_len p (xs ++ ys) < length xs
@@ -152,13 +150,7 @@ of_other_name : (constant : Bool) → true ≡ not (constant && false)
 of_other_name true = refl
 of_other_name false = refl
 
-module _ (m : ModuleTree) (scope : Scope) (h : IsOf m scope) where
-  abbrev declared : List Text
-  declared = letters_of (declared_names m)
-
-  many : scope.variables ≡ length declared
-  many = h.variables ∙ sym (length-map (declared_names m) (λ (w : Word). w.letters))
-
+module _ (declared : List Text) (scope : Scope) (h : IsOf declared scope) where
   module _ (constant : Bool) (name : Word) where
     abbrev place : ℕ
     place = position_or_len (bytes_eq name.letters) scope.names
@@ -167,7 +159,7 @@ module _ (m : ModuleTree) (scope : Scope) (h : IsOf m scope) where
     a_variable e =
         let early : place < length declared = subst (λ (l : List Text). position_or_len (bytes_eq name.letters) l < length declared) (sym h.names) (within (bytes_eq name.letters) declared h.rest e) in
         let long : length scope.names ≡ length declared + length h.rest = ap length h.names ∙ length-append declared h.rest in
-        let count = many in
+        let count = h.variables in
         ap (λ (b : Bool). fixed_by constant (option_and_then (meaning_at scope) (cond b (Some place) None))) (lt-ltb place (length scope.names) (omega (arith, early, long)))
         ∙ ap (λ (b : Bool). fixed_by constant (if b then Some (Variable (scope.first + place)) else slice_get scope.others (place - scope.variables))) (lt-ltb place scope.variables (omega (arith, early, count)))
 
@@ -178,7 +170,7 @@ module _ (m : ModuleTree) (scope : Scope) (h : IsOf m scope) where
         late = subst (λ (l : List Text). length declared ≤ position_or_len (bytes_eq name.letters) l) (sym h.names) (behind (bytes_eq name.letters) declared h.rest e)
 
         at_place : (b : Bool) → nat_lt place scope.variables ≡ b → fixed_by constant (if b then Some (Variable (scope.first + place)) else slice_get scope.others (place - scope.variables)) ≡ true
-        at_place true lt = let early = ltb-true place scope.variables lt in let count = many in let l = late in absurd (omega (arith, early, count, l))
+        at_place true lt = let early = ltb-true place scope.variables lt in let count = h.variables in let l = late in absurd (omega (arith, early, count, l))
         at_place false lt = plain_at constant scope.others (place - scope.variables) h.others
 
         by : (b : Bool) → fixed_by constant (option_and_then (meaning_at scope) (cond b (Some place) None)) ≡ true
@@ -189,10 +181,18 @@ module _ (m : ModuleTree) (scope : Scope) (h : IsOf m scope) where
     fixed_name true e = a_variable e ∙ of_variable_name constant
     fixed_name false e = another e ∙ of_other_name constant
 
-  pub fixed_alike : (one : Use) → fixed_in scope one ≡ is_fixed m one
+  pub fixed_alike : (one : Use) → fixed_in scope one ≡ is_fixed_among declared one
   fixed_alike (use_of constant name) = fixed_name constant name (is_declared declared name.letters) refl
   fixed_alike (use_of_time constant) = refl
 
-  pub all_fixed : (list : List Use) → list_all (fixed_in scope) list ≡ list_all (is_fixed m) list
+  pub all_fixed : (list : List Use) → list_all (fixed_in scope) list ≡ list_all is_fixed (among declared list)
   all_fixed [] = refl
   all_fixed (one ∷ more) = λ i. fixed_alike one i && all_fixed more i
+
+-- the answer is one only where these are constant, and a fault of the rule only where one isn't
+abbrev pub Stays : {A : Type 0} → List UseAmong → Result A ElabFault → Type 0
+Stays uses answer = Judges is_constant (list_all is_fixed uses) answer
+
+pub stays_by : {A : Type 0} (declared : List Text) (scope : Scope) (uses : List Use) (answer : Result A ElabFault) → IsOf declared scope → Fits constants scope uses answer → Stays (among declared uses) answer
+unfolding constants
+stays_by declared scope uses answer h j = subst (λ (b : Bool). Judges is_constant b answer) (all_fixed declared scope h uses) j

@@ -21,3 +21,4 @@ pub mod UseLemmas
 pub mod ExpressionUses
 pub mod StatementUses
 pub mod ConstantUses
+pub mod FixedLemmas

@@ -2,6 +2,7 @@
 use Rattle.std.proofs.Common.{◌≡◌, Bool, true, false, ◌&&◌, not, List, ◌∷◌, [], ◌++◌, Option, Some, None, Result, Ok, Err, refl, sym, subst}
 use Rattle.std.specs.List.{list_all}
 use Rattle.std.proofs.lemmas.List.Folds.{list_all-append}
+use Rattle.std.proofs.lemmas.List.{append-nil}
 use Rattle.basis.proofs.Bools.{and_both}
 use Rattle.vast.specs.NumberedWords.{Word}
 use Rattle.velab_expr.specs.declared.fault.Rule.{Rule}
@@ -11,6 +12,7 @@ use Rattle.velab_expr.specs.Answers.{◌>>=◌, required, provided, found}
 use Rattle.velab_expr.specs.Scopes.{Scope, lower_name, lower_variable, lower_event}
 use Rattle.velab_process.specs.Waits.{lower_term}
 use Rattle.vdesign.specs.declared.action.Edge.{Edge}
+use Rattle.vhierarchy.specs.Instances.{barring}
 use Rattle.elaboration_law.specs.Uses.{Use, use_of, use_of_time}
 
 abbrev pub Judges : {A : Type 0} → (Rule → Bool) → Bool → Result A ElabFault → Type 0
@@ -53,6 +55,10 @@ module _ (asked : Rule → Bool) where
   provided_judges one true rule word a not h = h
   provided_judges one false rule word a not h = λ e. absurd cc
 
+  pub barring_judges : {A : Type 0} (one : Bool) (word : Option Word) (rule : Rule) (a : Result A ElabFault) → asked rule ≡ false → Judges asked one a → Judges asked one (barring word rule a)
+  barring_judges one None rule a not h = h
+  barring_judges one (Some word) rule a not h = λ e. absurd cc
+
   pub found_judges : {A : Type 0} (x : Option A) (rule : Rule) (word : Option Word) → asked rule ≡ false → Judges asked true (found x rule word)
   found_judges None rule word not = λ e. absurd cc
   found_judges (Some x) rule word not = refl
@@ -64,6 +70,16 @@ module _ (asked : Rule → Bool) where
         Judges asked (list_all test (xs ++ ys)) (a >>= next)
     then_judges xs ys a next h more =
         subst (λ (b : Bool). Judges asked b (a >>= next)) (sym (list_all-append test xs ys)) (two_judge (list_all test xs) (list_all test ys) a next h more)
+
+    -- what comes behind may use what the answer is
+    pub known_judges : {A B : Type 0} (xs ys : List U) (a : Result A ElabFault) (next : A → Result B ElabFault) → Judges asked (list_all test xs) a → ((x : A) → a ≡ Ok x → Judges asked (list_all test ys) (next x)) →
+        Judges asked (list_all test (xs ++ ys)) (a >>= next)
+    known_judges xs ys (Ok x) next h more = then_judges xs ys (Ok x) (λ y. next x) h (λ y. more x refl)
+    known_judges xs ys (Err fault) next h more =
+        subst (λ (b : Bool). asked fault.rule ≡ true → b ≡ false) (sym (list_all-append test xs ys)) (λ e. first_false (list_all test xs) (list_all test ys) (h e))
+
+    pub nothing_more : {A : Type 0} (xs : List U) (a : Result A ElabFault) → Judges asked (list_all test xs) a → Judges asked (list_all test (xs ++ [])) a
+    nothing_more xs a h = subst (λ (l : List U). Judges asked (list_all test l) a) (sym (append-nil xs)) h
 
     pub one_judges : {A : Type 0} (x : U) (a : Result A ElabFault) → Judges asked (test x) a → Judges asked (list_all test (x ∷ [])) a
     one_judges x (Ok y) h = and_both (test x) true h refl
