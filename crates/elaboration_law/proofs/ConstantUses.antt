@@ -1,5 +1,5 @@
 -- Constants that use a variable or the time: what the scope of an instance says of names is what its module does.
-use Rattle.std.proofs.Common.{◌≡◌, ◌<◌, ◌≤◌, ℕ, ◌+◌, ◌-◌, nat_lt, zero, suc, Bool, true, false, cond, if◌then◌else◌, not, ◌||◌, ◌&&◌, List, [], ◌∷◌, ◌++◌, length, slice_get, position, option_and_then, Option, Some, None, Result, refl, sym, ap, subst, ◌∙◌, arith, length-append}
+use Rattle.std.proofs.Common.{◌≡◌, ◌<◌, ◌≤◌, ℕ, ◌+◌, ◌-◌, nat_lt, zero, suc, Bool, true, false, cond, if◌then◌else◌, not, ◌||◌, ◌&&◌, List, [], ◌∷◌, ◌++◌, length, slice_get, option_and_then, Option, Some, None, Result, refl, sym, ap, subst, ◌∙◌, arith, length-append}
 use Rattle.std.specs.List.{list_all, list_any, position_or_len}
 use Rattle.std.specs.Str.{bytes_eq}
 use Rattle.std.proofs.lemmas.Bool.{lt-ltb, ltb-true}
@@ -16,8 +16,8 @@ use Rattle.velab_expr.specs.declared.scope.Meaning.TheVariants.{Variable, Parame
 use Rattle.velab_expr.specs.declared.scope.Operand.TheVariants as operand
 use Rattle.velab_expr.specs.declared.fault.ElabFault.{ElabFault}
 use Rattle.velab_expr.specs.Answers.{required}
-use Rattle.velab_expr.specs.Scopes.{Scope, at, meaning_at, meaning_of, bounds_for, operand_by, lower_name, variable_by, lower_variable, event_by, lower_event}
-use Rattle.velab_process.specs.Waits.{term_by, lower_term}
+use Rattle.velab_expr.specs.Scopes.{Scope, at, meaning_at, meaning_of, bounds_for, operand_by, variable_by, event_by}
+use Rattle.velab_process.specs.Waits.{term_by}
 use Rattle.elaboration_law.specs.Uses.{Use, use_of, use_of_time}
 use Rattle.elaboration_law.specs.Constants.{among, UseAmong, is_fixed_among, is_fixed}
 use Rattle.elaboration_law.proofs.UseLemmas.{Judges, required_judges, Question, Fits}

@@ -1,5 +1,5 @@
 -- Names that expressions, ranges and targets use: lowered, each is known; and where a fault says that one isn't, one isn't.
-use Rattle.std.proofs.Common.{◌≡◌, ℕ, nat_le, nat_lt, Bool, true, false, not, ◌||◌, List, [], ◌∷◌, ◌++◌, Option, Some, None, Result, refl}
+use Rattle.std.proofs.Common.{nat_le, Bool, true, false, not, List, [], ◌∷◌, ◌++◌, Option, Some, None, Result, refl}
 use Rattle.std.specs.List.{list_all}
 use Rattle.vast.specs.NumberedWords.{Word}
 use Rattle.vast.specs.NumberedExpressions as text
@@ -11,16 +11,13 @@ use Rattle.vvalue.specs.Flaws.{flaw_of, is_part}
 use Rattle.vvalue.specs.Value.{part_of, part_size}
 use Rattle.vvalue.specs.declared.flaw.Flaw.{Flaw}
 use Rattle.vvalue.specs.declared.flaw.Flaw.TheVariants.{NoBits, Size}
-use Rattle.velab_expr.specs.declared.fault.Rule.{Rule}
-use Rattle.velab_expr.specs.declared.fault.Rule.TheVariants.{Top, Doubled, Unknown, Drivers, Ports, Width, Constant, Depth, TooMany, Kind}
+use Rattle.velab_expr.specs.declared.fault.Rule.TheVariants.{Width, Constant, Kind}
 use Rattle.velab_expr.specs.declared.fault.ElabFault.{ElabFault}
-use Rattle.velab_expr.specs.declared.scope.Meaning.{Meaning}
-use Rattle.velab_expr.specs.declared.scope.Meaning.TheVariants.{Variable, Parameter, Event, Instance}
 use Rattle.velab_expr.specs.declared.scope.Operand.{Operand}
 use Rattle.velab_expr.specs.declared.scope.Operand.TheVariants as operand
 use Rattle.velab_expr.specs.Answers.{◌>>=◌, required, unflawed}
 use Rattle.velab_expr.specs.FirstWords.{first_in, first_among}
-use Rattle.velab_expr.specs.Scopes.{Scope, bounds_for, operand_by, lower_name, variable_by, lower_variable, event_by, lower_event, meaning_of}
+use Rattle.velab_expr.specs.Scopes.{Scope, lower_name, lower_variable, lower_event}
 use Rattle.velab_expr.specs.Constants.{nothing, worth, measured, bound_in, part_bounds}
 use Rattle.velab_expr.specs.Resolved.{plain, part_in, count_of, few, lower, lower_parts, lower_expression, lower_constant, lower_value}
 use Rattle.velab_expr.specs.Ranges.{span, lower_bound, lower_range, lower_bounds}

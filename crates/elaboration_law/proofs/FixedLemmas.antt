@@ -1,5 +1,5 @@
 -- Constants of an instance: where its own steps are answered none uses a variable or the time, and where the rule is told one does.
-use Rattle.std.proofs.Common.{◌≡◌, ℕ, ◌+◌, nat_le, nat_lt, Bool, true, false, not, ◌&&◌, if◌then◌else◌, List, [], ◌∷◌, ◌++◌, map, length, Option, Some, None, Result, Ok, Err, refl, sym, ap, subst, ◌∙◌, append_assoc}
+use Rattle.std.proofs.Common.{◌≡◌, ℕ, ◌+◌, nat_le, nat_lt, Bool, true, false, not, ◌&&◌, if◌then◌else◌, List, [], ◌∷◌, ◌++◌, length, Option, Some, None, Result, Ok, Err, refl, sym, ap, subst, ◌∙◌, append_assoc}
 use Rattle.std.specs.List.{list_all, flat_map}
 use Rattle.std.proofs.lemmas.List.Folds.{list_all-append}
 use Rattle.std.proofs.lemmas.List.{append-nil, length-map}
@@ -12,8 +12,6 @@ use Rattle.vmodules.specs.Names.{is_declared, letters_of, first_again}
 use Rattle.vmodules.specs.Hierarchy.{module_of}
 use Rattle.vmodules.specs.Ports.{Port, ports_of}
 use Rattle.vmodules.specs.Connected.{NamedConnection, open_names, misfit, misfit_if, value_for}
-use Rattle.vdesign.specs.Expressions.{ExpressionTree}
-use Rattle.velab_expr.specs.declared.fault.Rule.{Rule}
 use Rattle.velab_expr.specs.declared.fault.Rule.TheVariants.{Doubled, Drivers, Ports, TooMany, Constant}
 use Rattle.velab_expr.specs.declared.fault.ElabFault.{ElabFault}
 use Rattle.velab_expr.specs.declared.scope.Meaning.{Meaning}
@@ -30,7 +28,7 @@ use Rattle.velab_process.specs.Processes.{Processes, process_trees_by, lower_pro
 use Rattle.velab_process.specs.Connections.{only_name, lower_input, lower_output, lower_connection, lower_join, lower_joins}
 use Rattle.vhierarchy.specs.Instances.{barring, Instantiation, instantiation_by, lower_instance, lower_list, named_again, lower_instances_of, lower_instances_by, lower_instances, driven_by, scope_drivers_by, lower_own_variables, lower_own_processes, with_own, few_enough, lower_own, base_of, lower_names, Part, Context}
 use Rattle.elaboration_law.specs.Uses.{use_of, used_in, used_in_range, used_by_processes}
-use Rattle.elaboration_law.specs.Constants.{UseAmong, among, is_fixed, used_in_type, used_outside, used_at_port, used_if_connected, used_in_kind, used_in_declaration, used_in_symbol, used_in_port, used_in_connection, used_in_instance}
+use Rattle.elaboration_law.specs.Constants.{UseAmong, among, is_fixed, used_in_type, used_outside, used_at_port, used_if_connected, used_in_kind, used_in_declaration, used_in_symbol, used_in_port, used_in_connection, used_in_instance, variables_of}
 use Rattle.elaboration_law.proofs.StepLemmas.{same_value, then_ok, required_ok, provided_ok, barring_ok}
 use Rattle.elaboration_law.proofs.HierarchyLemmas.{Own, OwnFault, in_names, in_instances, in_own}
 use Rattle.elaboration_law.proofs.UseLemmas.{Judges, then_judges, known_judges, nothing_more, last_judges, required_judges, provided_judges, barring_judges}
@@ -254,9 +252,6 @@ instances_silent modules before known (item ∷ more) =
     (instances_silent modules (before + length front) (known + length (symbols_by item)) more) (λ others. refl))
 
 -- ---- an instance
-
-abbrev pub variables_of : ModuleTree → List Text
-variables_of m = letters_of (declared_names m)
 
 first_is_of : (base : Base) (m : ModuleTree) → IsOf (variables_of m) (first_scope base m)
 first_is_of base m = record {

@@ -22,3 +22,5 @@ pub mod ExpressionUses
 pub mod StatementUses
 pub mod ConstantUses
 pub mod FixedLemmas
+pub mod MadeLemmas
+pub mod ConstantLemmas

@@ -1,27 +1,24 @@
 -- Names that statements, processes and connections use: lowered, each is known; and where a fault says that one isn't, one isn't.
-use Rattle.std.proofs.Common.{◌≡◌, ℕ, Bool, true, false, ◌&&◌, if◌then◌else◌, List, [], ◌∷◌, ◌++◌, Option, Some, None, Result, refl}
+use Rattle.std.proofs.Common.{ℕ, Bool, true, false, List, [], ◌∷◌, ◌++◌, Option, Some, None, Result, refl}
 use Rattle.vast.specs.NumberedWords.{Word}
 use Rattle.vast.specs.NumberedExpressions as text
 use Rattle.vast.specs.NumberedStatements.{TargetTree, ArgumentTree, quoted, printed, TaskTree, print, dump_file, dump_vars, dump, end_run, DelayTree, by_number, by_name, by_value, FurtherTerm, EventTree, by_event, by_any, by_any_enclosed, by_terms, StatementTree, StatementTrees, empty, block, assign, nonblocking, trigger, if_true, if_else, case_of, while_true, repeat_times, forever, for_loop, wait_for, delay, event, task, no_statement, first_statement, BranchTree, BranchTrees, labelled, default, no_branch, first_branch}
 use Rattle.vdesign.specs.declared.action.Edge.{Edge}
-use Rattle.vdesign.specs.declared.action.Edge.TheVariants.{Any, Rise, Fall}
+use Rattle.vdesign.specs.declared.action.Edge.TheVariants.{Any}
 use Rattle.format_text.specs.Pieces.{pieces_of}
 use Rattle.velab_expr.specs.declared.fault.Rule.TheVariants.{Kind}
 use Rattle.velab_expr.specs.declared.fault.ElabFault.{ElabFault}
-use Rattle.velab_expr.specs.declared.scope.Meaning.{Meaning}
-use Rattle.velab_expr.specs.declared.scope.Meaning.TheVariants.{Variable, Parameter, Event, Instance}
 use Rattle.velab_expr.specs.FirstWords.{first_argument}
-use Rattle.velab_expr.specs.Scopes.{Scope, meaning_of, lower_variable, lower_event}
+use Rattle.velab_expr.specs.Scopes.{Scope, lower_variable, lower_event}
 use Rattle.velab_expr.specs.Resolved.{lower_expression}
 use Rattle.velab_expr.specs.Written.{lower_target}
 use Rattle.velab_expr.specs.Selections.{lower_selection}
-use Rattle.velab_expr.specs.Answers.{◌>>=◌}
-use Rattle.velab_process.specs.Waits.{edge_of, term_by, lower_term, lower_further, lower_control}
+use Rattle.velab_process.specs.Waits.{edge_of, lower_term, lower_further, lower_control}
 use Rattle.velab_process.specs.Prints.{lower_argument, lower_arguments, lower_line}
 use Rattle.velab_process.specs.Statements.{Table, Lowered, with_places_before, lower_amount, lower_own_amount, lower_assignment, lower_task, lower_label, lower_labels, lower_statement, lower_all, lower_branch, lower_branches}
 use Rattle.velab_process.specs.Processes.{ProcessTree, procedural, continuous, Processes, with_begins_before, lower_process, lower_processes}
 use Rattle.elaboration_law.specs.Uses.{Use, use_of, used_in, used_in_parts, used_in_target, used_in_delay, used_in_own, used_in_assignment, used_in_further, used_in_control, used_in_argument, used_in_arguments, used_in_task, used_by, used_by_all, used_by_branch, used_by_branches, used_by_process, used_by_processes}
-use Rattle.elaboration_law.proofs.UseLemmas.{Judges, found_judges, Question, Fits, both, last, single}
+use Rattle.elaboration_law.proofs.UseLemmas.{found_judges, Question, Fits, both, last, single}
 use Rattle.elaboration_law.proofs.ExpressionUses.{variable_knows, event_knows, expression_knows, target_knows, selection_knows}
 
 module _ (q : Question) (scope : Scope) where

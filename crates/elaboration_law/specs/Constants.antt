@@ -1,15 +1,18 @@
 -- E307: constants that use a variable or the time (4.3.1, 4.10, 5.1.14, 5.2.1).
-use Rattle.std.specs.Prelude.{Bool, true, false, not, ◌&&◌, List, [], ◌∷◌, ◌++◌, map, Option, None, Some}
-use Rattle.std.specs.List.{flat_map}
+use Rattle.std.specs.Prelude.{◌≡◌, ℕ, Bool, true, false, not, ◌&&◌, List, [], ◌++◌, map, Option, None, Some}
+use Rattle.std.specs.List.{Contains, flat_map, list_all}
 use Rattle.vast.specs.Words.{Text}
+use Rattle.vast.specs.NumberedWords.{Word}
 use Rattle.vast.specs.NumberedExpressions.{ExpressionTree}
-use Rattle.vast.specs.NumberedModules.{ParameterType, integer, typed, DeclarationKind, variables, integers, ItemTree, parameters, declaration, events, assignments, initial, always, instances, ModuleTree}
+use Rattle.vast.specs.NumberedModules.{ConnectionsTree, InstanceTree, ParameterType, integer, typed, DeclarationKind, variables, integers, ItemTree, parameters, declaration, events, assignments, initial, always, instances, ModuleTree, SourceTree}
 use Rattle.vmodules.specs.Names.{is_declared, letters_of}
+use Rattle.vmodules.specs.Hierarchy.{module_of, top_of}
 use Rattle.vmodules.specs.Ports.{Port, ports_of}
-use Rattle.vmodules.specs.Connected.{NamedConnection, value_for}
+use Rattle.vmodules.specs.Connected.{NamedConnection, open_names, named_connections, named_connections_if, value_for}
 use Rattle.velab_expr.specs.Symbols.{Symbol, parameter_symbol, event_symbol, instance_symbol, valueless_by, symbols_in_head, symbols_by}
-use Rattle.velab_declaration.specs.Variables.{declared_names}
+use Rattle.velab_declaration.specs.Variables.{port_names, declared_names}
 use Rattle.velab_process.specs.Processes.{process_trees_by}
+use Rattle.elaboration_law.specs.Hierarchy.{Instance, StandsAt}
 use Rattle.elaboration_law.specs.Uses.{Use, use_of, use_of_time, used_in, used_in_range, used_by_processes}
 
 -- what is used, and the names of the variables where it stands
@@ -81,3 +84,23 @@ module _ (inner outer : List Text) (values connections : List NamedConnection) w
       ++ (flat_map used_in_symbol (symbols_in_head m.parameters) ++ flat_map used_in_symbol (flat_map symbols_by m.items)))
       ++ ((flat_map used_in_port (ports_of m) ++ flat_map (λ item. among inner (used_in_declaration item)) m.items)
       ++ (flat_map used_in_connection (ports_of m) ++ flat_map (λ item. among inner (used_by_processes (process_trees_by item))) m.items))
+
+-- ---- the rule
+
+-- the names of a module's variables
+abbrev pub variables_of : ModuleTree → List Text
+variables_of m = letters_of (declared_names m)
+
+-- all constants of an instance are constant: of a module, by what is said of it outside, where these are the variables
+abbrev pub is_all_fixed : List Text → List NamedConnection → List NamedConnection → ModuleTree → Bool
+is_all_fixed outer values connections m = list_all is_fixed (used_in_instance (variables_of m) outer values connections m)
+
+-- a constant uses a variable or the time:
+pub data HasUnfixed (modules : SourceTree) (top : Option Text) : Type 0 where
+  -- of the top;
+  of_top : (m : ModuleTree) → top_of modules top ≡ Some m → is_all_fixed [] [] [] m ≡ false → HasUnfixed modules top
+  -- of an instance that an item of the hierarchy lists
+  of_instance : (levels : ℕ) (one : Instance) (name : Word) (overrides : Option ConnectionsTree) (list : List InstanceTree) (child : ModuleTree) (made : InstanceTree) →
+      StandsAt modules top levels one → Contains one.unit.items (instances name overrides list) → module_of modules name.letters ≡ Some child → Contains list made →
+      is_all_fixed (variables_of one.unit) (named_connections_if (letters_of (open_names child)) overrides) (named_connections (letters_of (port_names child)) made.connections) child ≡ false →
+      HasUnfixed modules top
