@@ -86,7 +86,6 @@ pub constants : Question
 constants = record {
   asked = is_constant;
   fits = fixed_in;
-  no_ports = refl;
   no_width = refl;
   no_kind = refl;
   of_name = λ constant scope name. name_fits constant scope.known name (meaning_of scope name);

@@ -1,4 +1,4 @@
--- Names that expressions, ranges and targets use: lowered, each is known; and where a fault says that one isn't, one isn't.
+-- Names that expressions, ranges and targets use: lowered, a question holds of each; and where its rule is told, it doesn't of one.
 use Rattle.std.proofs.Common.{nat_le, Bool, true, false, not, List, [], ◌∷◌, ◌++◌, Option, Some, None, Result, refl}
 use Rattle.std.specs.List.{list_all}
 use Rattle.vast.specs.NumberedWords.{Word}

@@ -161,7 +161,7 @@ module _ (inner : List Text) where
 
 -- ---- connections
 
--- where no rule of names is told by a name alone
+-- a name that is no constant breaks the rule nowhere
 module _ (inner outer : List Text) (here there : Scope) (of_here : IsOf inner here) (of_there : IsOf outer there) where
   variable_stays : (names : List Text) (scope : Scope) (name : Word) → IsOf names scope → Judges is_constant true (lower_variable scope name)
   variable_stays names scope name h = stays_by names scope (use_of false name ∷ []) (lower_variable scope name) h (variable_knows constants scope name)

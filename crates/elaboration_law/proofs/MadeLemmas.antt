@@ -92,9 +92,11 @@ module _ (modules : SourceTree) where
       by : (front others : List Instantiation) → lower_instances_by modules before known item ≡ Ok front →
           (Contains more (instances name overrides list) → (k : ℕ) × Contains others (instantiation_by child k overrides made)) →
           (item ≡ instances name overrides list) ⊎ Contains more (instances name overrides list) → (k : ℕ) × Contains (front ++ others) (instantiation_by child k overrides made)
-      by front others ok rest (inl e) =
-          (known, Contains-append_left front others (instantiation_by child known overrides made)
-          (of_made name before known (module_of modules name.letters) overrides list front child made (sym (ap (λ (t : ItemTree). lower_instances_by modules before known t) e) ∙ ok) there listed))
+      by front others ok rest (inl e) = (
+        known,
+        Contains-append_left front others (instantiation_by child known overrides made)
+            (of_made name before known (module_of modules name.letters) overrides list front child made (sym (ap (λ (t : ItemTree). lower_instances_by modules before known t) e) ∙ ok) there listed),
+      )
       by front others ok rest (inr h) = let r = rest h in (r.0, Contains-append_right front others (instantiation_by child r.0 overrides made) r.1)
 
   of_made_by : (name : Word) (before known : ℕ) (found : Option ModuleTree) (overrides : Option ConnectionsTree) (list : List InstanceTree) (more : List ItemTree) (children : List Instantiation) (one : Instantiation) →

@@ -1,4 +1,4 @@
--- Names that statements, processes and connections use: lowered, each is known; and where a fault says that one isn't, one isn't.
+-- Names that statements and processes use: lowered, a question holds of each; and where its rule is told, it doesn't of one.
 use Rattle.std.proofs.Common.{ℕ, Bool, true, false, List, [], ◌∷◌, ◌++◌, Option, Some, None, Result, refl}
 use Rattle.vast.specs.NumberedWords.{Word}
 use Rattle.vast.specs.NumberedExpressions as text

@@ -7,7 +7,7 @@ use Rattle.basis.proofs.Bools.{and_both}
 use Rattle.vast.specs.NumberedWords.{Word}
 use Rattle.velab_expr.specs.declared.fault.Rule.{Rule}
 use Rattle.velab_expr.specs.declared.fault.ElabFault.{ElabFault}
-use Rattle.velab_expr.specs.declared.fault.Rule.TheVariants.{Ports, Width, Constant, Kind}
+use Rattle.velab_expr.specs.declared.fault.Rule.TheVariants.{Width, Constant, Kind}
 use Rattle.velab_expr.specs.Answers.{◌>>=◌, required, provided, found}
 use Rattle.velab_expr.specs.Scopes.{Scope, lower_name, lower_variable, lower_event}
 use Rattle.velab_process.specs.Waits.{lower_term}
@@ -89,7 +89,6 @@ module _ (asked : Rule → Bool) where
 pub record Question : Type 1 where
   pub asked : Rule → Bool
   pub fits : Scope → Use → Bool
-  pub no_ports : asked Ports ≡ false
   pub no_width : asked Width ≡ false
   pub no_kind : asked Kind ≡ false
   pub of_name : (constant : Bool) (scope : Scope) (name : Word) → Judges asked (fits scope (use_of constant name)) (lower_name constant scope name)
