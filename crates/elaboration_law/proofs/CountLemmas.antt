@@ -26,7 +26,7 @@ use Rattle.elaboration_law.specs.Hierarchy.{Instance, instances_in, top_instance
 use Rattle.elaboration_law.specs.Laws.{IsMeant}
 use Rattle.elaboration_law.specs.Counts.{Counted, Variables, Processes, Instances, NamedEvents, limit, count_in, HasTooMany}
 use Rattle.elaboration_law.proofs.ToldLemmas.{is_local, is_of_connections, untold, untold_fault}
-use Rattle.elaboration_law.proofs.ModuleRules.{is_of_paths, local_paths, undriven_tell, own_processes_tell}
+use Rattle.elaboration_law.proofs.ModuleRules.{is_of_paths, undriven_tell, own_processes_tell}
 use Rattle.elaboration_law.proofs.DesignRules.{table_tells, kind_broken, flaw_broken, broken_paths_tell}
 use Rattle.elaboration_law.proofs.StepLemmas.{same_value, then_ok, then_err, few_err}
 use Rattle.elaboration_law.proofs.HierarchyLemmas.{instance_of, instance_at, children_are, Own, OwnFault, in_names, in_instances, in_own, opened_ok, opened_err, below, Told, in_modules, in_top, in_hierarchy, in_design, all_elaborated, fault_told}
@@ -277,13 +277,13 @@ module _ (modules : SourceTree) (top : Option Text) where
       where
         by : (table_fault (kind_rule part.variables) part.table.actions part.table.words ≡ Some fault) ⊎ (table_fault (flaw_rule (blank_environment part.variables)) part.table.actions part.table.words ≡ Some fault) → ⊥
         by (inl is) = untold_fault is_local (table_fault (kind_rule part.variables) part.table.actions part.table.words) fault TooMany
-            (table_tells is_local (kind_rule part.variables) (kind_broken part.variables) part.table.actions part.table.words) refl is rule
+            (table_tells is_local (kind_rule part.variables) (kind_broken is_local refl refl refl part.variables) part.table.actions part.table.words) refl is rule
         by (inr is) = untold_fault is_local (table_fault (flaw_rule (blank_environment part.variables)) part.table.actions part.table.words) fault TooMany
-            (table_tells is_local (flaw_rule (blank_environment part.variables)) (flaw_broken (blank_environment part.variables)) part.table.actions part.table.words) refl is rule
+            (table_tells is_local (flaw_rule (blank_environment part.variables)) (flaw_broken is_local refl refl refl (blank_environment part.variables)) part.table.actions part.table.words) refl is rule
 
     in_whole : (unit : ModuleTree) (part : Part) → top_of modules top ≡ Some unit → elaborate_top modules unit ≡ Ok part →
         (broken_paths unit.name part ≡ Some fault) ⊎ (broken_table unit.name part ≡ Some fault) → HasTooMany modules top
-    in_whole unit part is_top ok (inl is) = absurd (untold_fault is_of_paths (broken_paths unit.name part) fault TooMany (broken_paths_tell is_of_paths local_paths unit.name part refl) refl is rule)
+    in_whole unit part is_top ok (inl is) = absurd (untold_fault is_of_paths (broken_paths unit.name part) fault TooMany (broken_paths_tell is_of_paths refl refl refl unit.name part refl) refl is rule)
     in_whole unit part is_top ok (inr is) =
         in_table unit part is_top ok (or_some (unless (nat_le (length part.begins) 256) TooMany (Some unit.name))
         (option_or (table_fault (kind_rule part.variables) part.table.actions part.table.words) (table_fault (flaw_rule (blank_environment part.variables)) part.table.actions part.table.words)) fault is)

@@ -13,7 +13,7 @@ use Rattle.elaboration_law.specs.Hierarchy.{StandsBelow, top_instance}
 use Rattle.elaboration_law.specs.Laws.{IsMeant}
 use Rattle.elaboration_law.specs.Depths.{IsTooDeep}
 use Rattle.elaboration_law.proofs.ToldLemmas.{untold, untold_fault}
-use Rattle.elaboration_law.proofs.ModuleRules.{is_of_names, local_names, is_of_instances, is_of_own, names_tell, instances_tell, own_tells}
+use Rattle.elaboration_law.proofs.ModuleRules.{is_of_names, is_of_instances, is_of_own, names_tell, instances_tell, own_tells}
 use Rattle.elaboration_law.proofs.DesignRules.{design_tells}
 use Rattle.elaboration_law.proofs.HierarchyLemmas.{OwnFault, in_names, in_instances, in_own, ToldBelow, too_deep, by_own, Told, in_modules, in_top, in_hierarchy, in_design, all_elaborated, fault_told, top_elaborated, top_told_below}
 
@@ -39,7 +39,7 @@ module _ (modules : SourceTree) (top : Option Text) where
   depth_told fault rule (in_top missing other) = absurd cc
   depth_told fault rule (in_hierarchy unit is_top err) = below_told fault unit is_top rule (top_told_below modules unit fault err)
   depth_told fault rule (in_design unit part is_top ok broken) =
-      absurd (untold_fault is_of_names (broken_design unit.name part) fault Depth (design_tells is_of_names local_names unit.name part refl refl) refl broken rule)
+      absurd (untold_fault is_of_names (broken_design unit.name part) fault Depth (design_tells is_of_names refl refl refl unit.name part refl refl) refl broken rule)
 
   depth_never : (scale : Timescale) (design : Design) → elaborated modules top scale ≡ Ok design → ¬ IsTooDeep modules top
   depth_never scale design is (one, (m, is_top, stands)) =

@@ -1,5 +1,5 @@
 -- The rules that a finished design tells.
-use Rattle.std.proofs.Common.{◌≡◌, ℕ, nat_le, Bool, true, false, if◌then◌else◌, List, [], ◌∷◌, drop, length, slice_get, Option, Some, None, refl}
+use Rattle.std.proofs.Common.{◌≡◌, ℕ, nat_le, Bool, true, false, if◌then◌else◌, List, [], ◌∷◌, drop, length, slice_get, Option, Some, None}
 use Rattle.std.specs.Prelude.{option_map, unwrap_or}
 use Rattle.std.specs.Option.{option_or}
 use Rattle.vast.specs.Words.{Text}
@@ -13,13 +13,13 @@ use Rattle.vvalue.specs.Value.{Environment}
 use Rattle.vvalue.specs.declared.flaw.Flaw.{Flaw}
 use Rattle.vvalue.specs.declared.flaw.Flaw.TheVariants.{NoBits, Size}
 use Rattle.velab_expr.specs.declared.fault.Rule.{Rule}
-use Rattle.velab_expr.specs.declared.fault.Rule.TheVariants.{Doubled, Unknown, TooMany, Kind}
+use Rattle.velab_expr.specs.declared.fault.Rule.TheVariants.{Doubled, Unknown, TooMany, Kind, Width}
 use Rattle.velab_expr.specs.declared.fault.ElabFault.{ElabFault}
 use Rattle.velab_expr.specs.Rules.{rule_of, unless, broken_if}
 use Rattle.velab_declaration.specs.Right.{writes_rightly, kind_rule}
 use Rattle.velab_declaration.specs.ActionFlaws.{action_flaw, blank_environment, flaw_rule, table_fault}
 use Rattle.vhierarchy.specs.Instances.{Part, variable_paths, scope_paths, broken_chosen, broken_selection, broken_paths, broken_table, broken_design}
-use Rattle.elaboration_law.proofs.ToldLemmas.{is_local, TellsFault, TellsRule}
+use Rattle.elaboration_law.proofs.ToldLemmas.{TellsFault, TellsRule}
 
 module _ (rules : Rule → Bool) where
   or_tells : (a b : Option ElabFault) → TellsFault rules a → TellsFault rules b → TellsFault rules (option_or a b)
@@ -47,59 +47,55 @@ module _ (rules : Rule → Bool) where
 
 -- ---- what an action breaks
 
-chosen_tells : (scopes variables : List Text) (list : List Chosen) → TellsRule is_local (broken_chosen scopes variables list)
-chosen_tells scopes variables [] = tt
-chosen_tells scopes variables (one ∷ more) = by (is_declared scopes one.path) (is_declared variables one.path) (chosen_tells scopes variables more)
-  where
-    by : (is_scope is_variable : Bool) → TellsRule is_local (broken_chosen scopes variables more) →
-        TellsRule is_local (option_or (if is_scope then None else Some (if is_variable then Kind else Unknown)) (broken_chosen scopes variables more))
-    by true v rest = rest
-    by false true rest = refl
-    by false false rest = refl
+module _ (rules : Rule → Bool) (unknown : rules Unknown ≡ true) (width : rules Width ≡ true) (kind : rules Kind ≡ true) where
+  chosen_tells : (scopes variables : List Text) (list : List Chosen) → TellsRule rules (broken_chosen scopes variables list)
+  chosen_tells scopes variables [] = tt
+  chosen_tells scopes variables (one ∷ more) = by (is_declared scopes one.path) (is_declared variables one.path) (chosen_tells scopes variables more)
+    where
+      by : (is_scope is_variable : Bool) → TellsRule rules (broken_chosen scopes variables more) →
+          TellsRule rules (option_or (if is_scope then None else Some (if is_variable then Kind else Unknown)) (broken_chosen scopes variables more))
+      by true v rest = rest
+      by false true rest = kind
+      by false false rest = unknown
 
-pub selection_broken : (scopes variables : List Text) (action : Action) → TellsRule is_local (broken_selection scopes variables action)
-selection_broken scopes variables (DumpVars selection) = chosen_tells scopes variables selection
-selection_broken scopes variables (Assign targets value) = tt
-selection_broken scopes variables (Nonblocking targets value) = tt
-selection_broken scopes variables (AssignDelayed amount targets value) = tt
-selection_broken scopes variables (NonblockingDelayed amount targets value) = tt
-selection_broken scopes variables (Trigger event) = tt
-selection_broken scopes variables (Test condition when_true otherwise) = tt
-selection_broken scopes variables (Case kind value branches otherwise) = tt
-selection_broken scopes variables (While condition body) = tt
-selection_broken scopes variables (Repeat count body) = tt
-selection_broken scopes variables (Forever body) = tt
-selection_broken scopes variables (Delay amount body) = tt
-selection_broken scopes variables (EventControl terms body) = tt
-selection_broken scopes variables (Wait condition terms body) = tt
-selection_broken scopes variables (ContinuousAssign net value terms) = tt
-selection_broken scopes variables (Print when pieces) = tt
-selection_broken scopes variables (Dump command) = tt
-selection_broken scopes variables NoOperation = tt
-selection_broken scopes variables Finish = tt
-selection_broken scopes variables Stop = tt
+  pub selection_broken : (scopes variables : List Text) (action : Action) → TellsRule rules (broken_selection scopes variables action)
+  selection_broken scopes variables (DumpVars selection) = chosen_tells scopes variables selection
+  selection_broken scopes variables (Assign targets value) = tt
+  selection_broken scopes variables (Nonblocking targets value) = tt
+  selection_broken scopes variables (AssignDelayed amount targets value) = tt
+  selection_broken scopes variables (NonblockingDelayed amount targets value) = tt
+  selection_broken scopes variables (Trigger event) = tt
+  selection_broken scopes variables (Test condition when_true otherwise) = tt
+  selection_broken scopes variables (Case kind value branches otherwise) = tt
+  selection_broken scopes variables (While condition body) = tt
+  selection_broken scopes variables (Repeat count body) = tt
+  selection_broken scopes variables (Forever body) = tt
+  selection_broken scopes variables (Delay amount body) = tt
+  selection_broken scopes variables (EventControl terms body) = tt
+  selection_broken scopes variables (Wait condition terms body) = tt
+  selection_broken scopes variables (ContinuousAssign net value terms) = tt
+  selection_broken scopes variables (Print when pieces) = tt
+  selection_broken scopes variables (Dump command) = tt
+  selection_broken scopes variables NoOperation = tt
+  selection_broken scopes variables Finish = tt
+  selection_broken scopes variables Stop = tt
 
-pub kind_broken : (variables : List Variable) (action : Action) → TellsRule is_local (kind_rule variables action)
-kind_broken variables action = by (writes_rightly variables action)
-  where
-    by : (right : Bool) → TellsRule is_local (if right then None else Some Kind)
-    by true = tt
-    by false = refl
+  pub kind_broken : (variables : List Variable) (action : Action) → TellsRule rules (kind_rule variables action)
+  kind_broken variables action = by (writes_rightly variables action)
+    where
+      by : (right : Bool) → TellsRule rules (if right then None else Some Kind)
+      by true = tt
+      by false = kind
 
-pub flaw_broken : (now : Environment) (action : Action) → TellsRule is_local (flaw_rule now action)
-flaw_broken now action = by (action_flaw now action)
-  where
-    by : (flaw : Option Flaw) → TellsRule is_local (option_map rule_of flaw)
-    by None = tt
-    by (Some NoBits) = refl
-    by (Some Size) = refl
+  pub flaw_broken : (now : Environment) (action : Action) → TellsRule rules (flaw_rule now action)
+  flaw_broken now action = by (action_flaw now action)
+    where
+      by : (flaw : Option Flaw) → TellsRule rules (option_map rule_of flaw)
+      by None = tt
+      by (Some NoBits) = kind
+      by (Some Size) = width
 
--- ---- of the whole
-
-module _ (rules : Rule → Bool) (wide : (rule : Rule) → is_local rule ≡ true → rules rule ≡ true) where
-  widened : (r : Option Rule) → TellsRule is_local r → TellsRule rules r
-  widened None h = tt
-  widened (Some rule) h = wide rule h
+  -- ---- of the whole
 
   pub broken_table_tells : (top : Word) (part : Part) → rules TooMany ≡ true → TellsFault rules (broken_table top part)
   broken_table_tells top part many =
@@ -108,8 +104,8 @@ module _ (rules : Rule → Bool) (wide : (rule : Rule) → is_local rule ≡ tru
       let few = unless (nat_le (length part.begins) 256) TooMany (Some top) in
       or_tells rules few (option_or kinds flaws) (unless_tells rules (nat_le (length part.begins) 256) TooMany (Some top) many)
       (or_tells rules kinds flaws
-      (table_tells rules (kind_rule part.variables) (λ action. widened (kind_rule part.variables action) (kind_broken part.variables action)) part.table.actions part.table.words)
-      (table_tells rules (flaw_rule (blank_environment part.variables)) (λ action. widened (flaw_rule (blank_environment part.variables) action) (flaw_broken (blank_environment part.variables) action)) part.table.actions part.table.words))
+      (table_tells rules (kind_rule part.variables) (kind_broken part.variables) part.table.actions part.table.words)
+      (table_tells rules (flaw_rule (blank_environment part.variables)) (flaw_broken (blank_environment part.variables)) part.table.actions part.table.words))
 
   pub broken_paths_tell : (top : Word) (part : Part) → rules Doubled ≡ true → TellsFault rules (broken_paths top part)
   broken_paths_tell top part doubled =
@@ -120,7 +116,7 @@ module _ (rules : Rule → Bool) (wide : (rule : Rule) → is_local rule ≡ tru
       let named = broken_if (has_double paths) Doubled (Some top) in
       or_tells rules named (option_or scoped selections) (broken_tells rules (has_double paths) Doubled (Some top) doubled)
       (or_tells rules scoped selections (broken_tells rules (has_double scopes) Doubled (Some top) doubled)
-      (table_tells rules (broken_selection scopes paths) (λ action. widened (broken_selection scopes paths action) (selection_broken scopes paths action)) part.table.actions part.table.words))
+      (table_tells rules (broken_selection scopes paths) (selection_broken scopes paths) part.table.actions part.table.words))
 
   pub design_tells : (top : Word) (part : Part) → rules Doubled ≡ true → rules TooMany ≡ true → TellsFault rules (broken_design top part)
   design_tells top part doubled many =

@@ -19,7 +19,7 @@ use Rattle.elaboration_law.specs.Hierarchy.{Instance, StandsBelow, top_instance}
 use Rattle.elaboration_law.specs.Laws.{IsMeant}
 use Rattle.elaboration_law.specs.Drivers.{driven_by_outputs, driven_nets, HasTwoDrivers}
 use Rattle.elaboration_law.proofs.ToldLemmas.{is_local, is_of_connections, untold, untold_fault}
-use Rattle.elaboration_law.proofs.ModuleRules.{is_of_names, local_names, is_of_instances, names_tell, instances_tell, undriven_tell, own_processes_tell}
+use Rattle.elaboration_law.proofs.ModuleRules.{is_of_names, is_of_instances, names_tell, instances_tell, undriven_tell, own_processes_tell}
 use Rattle.elaboration_law.proofs.DesignRules.{design_tells}
 use Rattle.elaboration_law.proofs.StepLemmas.{then_ok, barring_ok, few_err}
 use Rattle.elaboration_law.proofs.DoubleLemmas.{none_twice, one_twice}
@@ -82,7 +82,7 @@ module _ (modules : SourceTree) (top : Option Text) where
   drivers_told fault rule (in_top missing other) = absurd cc
   drivers_told fault rule (in_hierarchy unit is_top err) = below_told fault unit is_top rule (top_told_below modules unit fault err)
   drivers_told fault rule (in_design unit part is_top ok broken) =
-      absurd (untold_fault is_of_names (broken_design unit.name part) fault Drivers (design_tells is_of_names local_names unit.name part refl refl) refl broken rule)
+      absurd (untold_fault is_of_names (broken_design unit.name part) fault Drivers (design_tells is_of_names refl refl refl unit.name part refl refl) refl broken rule)
 
   drivers_never : (scale : Timescale) (design : Design) → elaborated modules top scale ≡ Ok design → ¬ HasTwoDrivers modules top
   drivers_never scale design is two =

@@ -17,3 +17,10 @@ pub mod CountRules
 pub mod CountLemmas
 pub mod TopLemmas
 pub mod MisfitLemmas
+pub mod UseLemmas
+pub mod ExpressionUses
+pub mod StatementUses
+pub mod ConstantUses
+pub mod FixedLemmas
+pub mod MadeLemmas
+pub mod ConstantLemmas

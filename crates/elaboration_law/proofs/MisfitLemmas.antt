@@ -29,7 +29,7 @@ use Rattle.elaboration_law.specs.Misfits.{Misfits, HasMisfit, of_instance, of_ou
 use Rattle.elaboration_law.proofs.ToldLemmas.{is_local, then_tells, untold, untold_fault}
 use Rattle.elaboration_law.proofs.ExpressionRules.{variable_tells, expression_tells}
 use Rattle.elaboration_law.proofs.StatementRules.{items_tell, input_tells}
-use Rattle.elaboration_law.proofs.ModuleRules.{is_of_names, local_names, names_tell, undriven_tell}
+use Rattle.elaboration_law.proofs.ModuleRules.{is_of_names, names_tell, undriven_tell}
 use Rattle.elaboration_law.proofs.DesignRules.{design_tells}
 use Rattle.elaboration_law.proofs.StepLemmas.{then_ok, then_err, provided_ok, provided_err, barring_ok, barring_err, few_err, contains_first, contains_more, contains_none}
 use Rattle.elaboration_law.proofs.ItemLemmas.{item_answered, item_told}
@@ -284,7 +284,7 @@ module _ (modules : SourceTree) (top : Option Text) where
   misfits_told fault rule (in_top missing other) = absurd cc
   misfits_told fault rule (in_hierarchy unit is_top err) = below_told fault unit is_top rule (top_told_below modules unit fault err)
   misfits_told fault rule (in_design unit part is_top ok broken) =
-      absurd (untold_fault is_of_names (broken_design unit.name part) fault Ports (design_tells is_of_names local_names unit.name part refl refl) refl broken rule)
+      absurd (untold_fault is_of_names (broken_design unit.name part) fault Ports (design_tells is_of_names refl refl refl unit.name part refl refl) refl broken rule)
 
   misfits_never : (scale : Timescale) (design : Design) → elaborated modules top scale ≡ Ok design → ¬ HasMisfit modules top
   misfits_never scale design is (of_instance levels one name overrides list child made word stands inside there listed m) =

@@ -103,18 +103,6 @@ is_of_paths Depth = false
 is_of_paths TooMany = false
 is_of_paths Kind = true
 
-pub local_paths : (rule : Rule) → is_local rule ≡ true → is_of_paths rule ≡ true
-local_paths Top e = absurd cc
-local_paths Doubled e = refl
-local_paths Unknown e = refl
-local_paths Drivers e = absurd cc
-local_paths Ports e = absurd cc
-local_paths Width e = refl
-local_paths Constant e = refl
-local_paths Depth e = absurd cc
-local_paths TooMany e = absurd cc
-local_paths Kind e = refl
-
 pub local_meaning : (rule : Rule) → is_local rule ≡ true → is_of_meaning rule ≡ true
 local_meaning Top e = absurd cc
 local_meaning Doubled e = absurd cc
@@ -138,18 +126,6 @@ meaning_names Constant e = refl
 meaning_names Depth e = absurd cc
 meaning_names TooMany e = refl
 meaning_names Kind e = refl
-
-pub local_names : (rule : Rule) → is_local rule ≡ true → is_of_names rule ≡ true
-local_names Top e = absurd cc
-local_names Doubled e = refl
-local_names Unknown e = refl
-local_names Drivers e = absurd cc
-local_names Ports e = absurd cc
-local_names Width e = refl
-local_names Constant e = refl
-local_names Depth e = absurd cc
-local_names TooMany e = refl
-local_names Kind e = refl
 
 pub names_instances : (rule : Rule) → is_of_names rule ≡ true → is_of_instances rule ≡ true
 names_instances Top e = refl

@@ -22,7 +22,7 @@ use Rattle.elaboration_law.specs.Hierarchy.{Instance, StandsBelow, StandsAt, top
 use Rattle.elaboration_law.specs.Laws.{IsMeant}
 use Rattle.elaboration_law.specs.Doubles.{names_in_module, variable_paths_in, path_in, IsDeclaredTwice, module_twice, name_twice, head_twice, variable_twice, path_twice}
 use Rattle.elaboration_law.proofs.ToldLemmas.{is_local, untold, untold_fault}
-use Rattle.elaboration_law.proofs.ModuleRules.{is_of_meaning, local_meaning, is_of_own, own_tells}
+use Rattle.elaboration_law.proofs.ModuleRules.{is_of_meaning, is_of_own, own_tells}
 use Rattle.elaboration_law.proofs.DesignRules.{table_tells, selection_broken, broken_table_tells}
 use Rattle.elaboration_law.proofs.DoubleLemmas.{none_twice, one_twice}
 use Rattle.elaboration_law.proofs.HierarchyLemmas.{instance_at, OwnFault, in_names, in_instances, in_own, ToldBelow, too_deep, by_own, Told, in_modules, in_top, in_hierarchy, in_design, WasElaborated, all_elaborated, fault_told, top_elaborated, top_told_below}
@@ -92,7 +92,7 @@ module _ (modules : SourceTree) (top : Option Text) where
             IsDeclaredTwice modules top
         scopes (inl is) = path_twice unit is_top (sym (ap has_double paths_are) ∙ if_some (has_double (scope_paths part)) Doubled (Some unit.name) fault is)
         scopes (inr is) = absurd (untold_fault is_local (table_fault (broken_selection (scope_paths part) (variable_paths part)) part.table.actions part.table.words) fault Doubled
-            (table_tells is_local (broken_selection (scope_paths part) (variable_paths part)) (selection_broken (scope_paths part) (variable_paths part)) part.table.actions part.table.words) refl is rule)
+            (table_tells is_local (broken_selection (scope_paths part) (variable_paths part)) (selection_broken is_local refl refl refl (scope_paths part) (variable_paths part)) part.table.actions part.table.words) refl is rule)
 
         paths : (broken_if (has_double (variable_paths part)) Doubled (Some unit.name) ≡ Some fault)
             ⊎ (option_or (broken_if (has_double (scope_paths part)) Doubled (Some unit.name)) (table_fault (broken_selection (scope_paths part) (variable_paths part)) part.table.actions part.table.words) ≡ Some fault) →
@@ -103,7 +103,7 @@ module _ (modules : SourceTree) (top : Option Text) where
         whole : (broken_paths unit.name part ≡ Some fault) ⊎ (broken_table unit.name part ≡ Some fault) → IsDeclaredTwice modules top
         whole (inl is) = paths (or_some (broken_if (has_double (variable_paths part)) Doubled (Some unit.name))
             (option_or (broken_if (has_double (scope_paths part)) Doubled (Some unit.name)) (table_fault (broken_selection (scope_paths part) (variable_paths part)) part.table.actions part.table.words)) fault is)
-        whole (inr is) = absurd (untold_fault is_of_meaning (broken_table unit.name part) fault Doubled (broken_table_tells is_of_meaning local_meaning unit.name part refl) refl is rule)
+        whole (inr is) = absurd (untold_fault is_of_meaning (broken_table unit.name part) fault Doubled (broken_table_tells is_of_meaning refl refl refl unit.name part refl) refl is rule)
 
     design_once : broken_design unit.name part ≡ None →
         (has_double (flat_map variable_paths_in (listed 16 modules (top_instance unit))) ≡ false) × (has_double (flat_map path_in (listed 16 modules (top_instance unit))) ≡ false)

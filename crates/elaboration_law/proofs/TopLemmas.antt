@@ -15,7 +15,7 @@ use Rattle.elaboration_law.specs.Hierarchy.{Instance, StandsBelow, top_instance}
 use Rattle.elaboration_law.specs.Laws.{IsMeant}
 use Rattle.elaboration_law.specs.Tops.{LacksModule, no_top, no_module}
 use Rattle.elaboration_law.proofs.ToldLemmas.{is_of_connections, untold, untold_fault}
-use Rattle.elaboration_law.proofs.ModuleRules.{is_of_names, local_names, is_of_own, names_tell, list_tells, own_tells}
+use Rattle.elaboration_law.proofs.ModuleRules.{is_of_names, is_of_own, names_tell, list_tells, own_tells}
 use Rattle.elaboration_law.proofs.DesignRules.{design_tells}
 use Rattle.elaboration_law.proofs.StepLemmas.{provided_err, barring_err}
 use Rattle.elaboration_law.proofs.ItemLemmas.{item_answered, item_told}
@@ -69,7 +69,7 @@ module _ (modules : SourceTree) (top : Option Text) where
   tops_told fault rule (in_top missing other) = no_top missing
   tops_told fault rule (in_hierarchy unit is_top err) = below_told fault unit is_top rule (top_told_below modules unit fault err)
   tops_told fault rule (in_design unit part is_top ok broken) =
-      absurd (untold_fault is_of_names (broken_design unit.name part) fault Top (design_tells is_of_names local_names unit.name part refl refl) refl broken rule)
+      absurd (untold_fault is_of_names (broken_design unit.name part) fault Top (design_tells is_of_names refl refl refl unit.name part refl refl) refl broken rule)
 
   tops_never : (scale : Timescale) (design : Design) → elaborated modules top scale ≡ Ok design → ¬ LacksModule modules top
   tops_never scale design is (no_top none) = let there = (all_elaborated modules top scale design is).is_top in cc

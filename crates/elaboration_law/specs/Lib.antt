@@ -6,3 +6,5 @@ pub mod Doubles
 pub mod Counts
 pub mod Tops
 pub mod Misfits
+pub mod Uses
+pub mod Constants

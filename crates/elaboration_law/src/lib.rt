@@ -9,6 +9,7 @@ ghost use Rattle.elaboration_law.specs.Counts.{HasTooMany};
 ghost use Rattle.elaboration_law.specs.Doubles.{IsDeclaredTwice};
 ghost use Rattle.elaboration_law.specs.Drivers.{HasTwoDrivers};
 ghost use Rattle.elaboration_law.specs.Misfits.{HasMisfit};
+ghost use Rattle.elaboration_law.specs.Constants.{HasUnfixed};
 ghost use Rattle.elaboration_law.specs.Tops.{LacksModule};
 ghost use Rattle.velab_expr.specs.declared.fault.Rule.TheVariants as rule;
 
@@ -19,6 +20,7 @@ pub fn elaboration_rules()
     ensures names { IsMeant rule.Doubled IsDeclaredTwice }
     ensures drivers { IsMeant rule.Drivers HasTwoDrivers }
     ensures connections { IsMeant rule.Ports HasMisfit }
+    ensures constants { IsMeant rule.Constant HasUnfixed }
     ensures depth { IsMeant rule.Depth IsTooDeep }
     ensures counts { IsMeant rule.TooMany HasTooMany }
 {}

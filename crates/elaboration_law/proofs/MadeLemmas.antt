@@ -1,0 +1,158 @@
+-- The instances that items list, and what is made of each.
+use Rattle.std.proofs.Common.{◌≡◌, ℕ, ◌+◌, nat_le, List, [], ◌∷◌, ◌++◌, length, Option, Some, None, Result, Ok, refl, sym, ap, subst, ◌∙◌, ◌⊎◌, inl, inr}
+use Rattle.std.specs.List.{Contains}
+use Rattle.std.proofs.lemmas.List.Elements.{Contains-append_left, Contains-append_right, Contains-append_cases}
+use Rattle.vast.specs.NumberedWords.{Word}
+use Rattle.vast.specs.NumberedModules.{ConnectionsTree, InstanceTree, ItemTree, parameters, declaration, events, assignments, initial, always, instances, ModuleTree, SourceTree}
+use Rattle.vmodules.specs.Names.{letters_of}
+use Rattle.vmodules.specs.Hierarchy.{module_of}
+use Rattle.vmodules.specs.Connected.{open_names, misfit, misfit_if}
+use Rattle.velab_expr.specs.declared.fault.Rule.TheVariants.{Doubled, TooMany, Ports}
+use Rattle.velab_expr.specs.Symbols.{symbols_by}
+use Rattle.velab_expr.specs.Answers.{◌>>=◌}
+use Rattle.velab_declaration.specs.Variables.{port_names}
+use Rattle.vhierarchy.specs.Instances.{barring, Instantiation, instantiation_by, lower_instance, lower_list, named_again, lower_instances_of, lower_instances_by, lower_instances}
+use Rattle.elaboration_law.proofs.StepLemmas.{same_value, then_ok, provided_ok, barring_ok, contains_first, contains_more, contains_cases, contains_none}
+
+-- what is made of an instance that an item lists
+pub record MadeBy (modules : SourceTree) (items : List ItemTree) (one : Instantiation) : Type 0 where
+  pub known : ℕ
+  pub name : Word
+  pub overrides : Option ConnectionsTree
+  pub list : List InstanceTree
+  pub child : ModuleTree
+  pub made : InstanceTree
+  pub inside : Contains items (instances name overrides list)
+  pub there : module_of modules name.letters ≡ Some child
+  pub listed : Contains list made
+  pub is : instantiation_by child known overrides made ≡ one
+
+module _ (child : ModuleTree) (known : ℕ) (overrides : Option ConnectionsTree) where
+  one_made : (one : InstanceTree) (x : Instantiation) → lower_instance child known overrides one ≡ Ok x → instantiation_by child known overrides one ≡ x
+  one_made one x is =
+      let made : Result Instantiation _ = Ok (instantiation_by child known overrides one) in
+      let fits = barring_ok (misfit_if one.name (letters_of (open_names child)) overrides) Ports (barring (misfit one.name (letters_of (port_names child)) one.connections) Ports made) x is in
+      same_value (instantiation_by child known overrides one) x (barring_ok (misfit one.name (letters_of (port_names child)) one.connections) Ports made x fits.1).1
+
+  list_made : (list : List InstanceTree) (children : List Instantiation) (one : InstanceTree) → lower_list child known overrides list ≡ Ok children → Contains list one → Contains children (instantiation_by child known overrides one)
+  list_made [] children one is inside = absurd (contains_none one inside)
+  list_made (first ∷ more) children one is inside =
+      let front = then_ok (lower_instance child known overrides first) (λ front. lower_list child known overrides more >>= λ others. Ok (front ∷ others)) children is in
+      let others = then_ok (lower_list child known overrides more) (λ others. Ok (front.0 ∷ others)) children front.2 in
+      subst (λ (l : List Instantiation). Contains l (instantiation_by child known overrides one)) (same_value (front.0 ∷ others.0) children others.2)
+      (by front.0 others.0 (one_made first front.0 front.1) (list_made more others.0 one others.1) (contains_cases first one more inside))
+    where
+      by : (front : Instantiation) (others : List Instantiation) → instantiation_by child known overrides first ≡ front → (Contains more one → Contains others (instantiation_by child known overrides one)) →
+          (first ≡ one) ⊎ Contains more one → Contains (front ∷ others) (instantiation_by child known overrides one)
+      by front others same rest (inl e) =
+          subst (λ (x : Instantiation). Contains (front ∷ others) x) (sym same ∙ ap (instantiation_by child known overrides) e) (contains_first front others)
+      by front others same rest (inr h) = contains_more front (instantiation_by child known overrides one) others (rest h)
+
+  made_list : (list : List InstanceTree) (children : List Instantiation) (one : Instantiation) → lower_list child known overrides list ≡ Ok children → Contains children one →
+      (made : InstanceTree) × Contains list made × (instantiation_by child known overrides made ≡ one)
+  made_list [] children one is inside = absurd (contains_none one (subst (λ (l : List Instantiation). Contains l one) (sym (same_value [] children is)) inside))
+  made_list (first ∷ more) children one is inside =
+      let front = then_ok (lower_instance child known overrides first) (λ front. lower_list child known overrides more >>= λ others. Ok (front ∷ others)) children is in
+      let others = then_ok (lower_list child known overrides more) (λ others. Ok (front.0 ∷ others)) children front.2 in
+      by front.0 others.0 (one_made first front.0 front.1) (made_list more others.0 one others.1)
+      (contains_cases front.0 one others.0 (subst (λ (l : List Instantiation). Contains l one) (sym (same_value (front.0 ∷ others.0) children others.2)) inside))
+    where
+      by : (front : Instantiation) (others : List Instantiation) → instantiation_by child known overrides first ≡ front →
+          (Contains others one → (made : InstanceTree) × Contains more made × (instantiation_by child known overrides made ≡ one)) →
+          (front ≡ one) ⊎ Contains others one → (made : InstanceTree) × Contains (first ∷ more) made × (instantiation_by child known overrides made ≡ one)
+      by front others same rest (inl e) = (first, contains_first first more, same ∙ e)
+      by front others same rest (inr h) = let r = rest h in (r.0, contains_more first r.0 more r.1, r.2)
+
+module _ (modules : SourceTree) where
+  of_list : (name : Word) (before known : ℕ) (m : ModuleTree) (overrides : Option ConnectionsTree) (list : List InstanceTree) (children : List Instantiation) →
+      lower_instances_of name before known (Some m) overrides list ≡ Ok children → lower_list m known overrides list ≡ Ok children
+  of_list name before known m overrides list children is =
+      (barring_ok (named_again m) Doubled (lower_list m known overrides list) children
+      (provided_ok (nat_le (before + length list) 1024) TooMany (Some name) (barring (named_again m) Doubled (lower_list m known overrides list)) children is).1).1
+
+  of_made : (name : Word) (before known : ℕ) (found : Option ModuleTree) (overrides : Option ConnectionsTree) (list : List InstanceTree) (children : List Instantiation) (child : ModuleTree) (made : InstanceTree) →
+      lower_instances_of name before known found overrides list ≡ Ok children → found ≡ Some child → Contains list made → Contains children (instantiation_by child known overrides made)
+  of_made name before known None overrides list children child made is there listed = absurd cc
+  of_made name before known (Some m) overrides list children child made is there listed =
+      let same : m ≡ child = cc in
+      subst (λ (u : ModuleTree). Contains children (instantiation_by u known overrides made)) same (list_made m known overrides list children made (of_list name before known m overrides list children is) listed)
+
+  pub all_made : (before known : ℕ) (items : List ItemTree) (children : List Instantiation) (name : Word) (overrides : Option ConnectionsTree) (list : List InstanceTree) (child : ModuleTree) (made : InstanceTree) →
+      lower_instances modules before known items ≡ Ok children → Contains items (instances name overrides list) → module_of modules name.letters ≡ Some child → Contains list made →
+      (k : ℕ) × Contains children (instantiation_by child k overrides made)
+  all_made before known [] children name overrides list child made is inside there listed = absurd (contains_none (instances name overrides list) inside)
+  all_made before known (item ∷ more) children name overrides list child made is inside there listed =
+      let front = then_ok (lower_instances_by modules before known item)
+      (λ front. lower_instances modules (before + length front) (known + length (symbols_by item)) more >>= λ others. Ok (front ++ others)) children is in
+      let others = then_ok (lower_instances modules (before + length front.0) (known + length (symbols_by item)) more) (λ others. Ok (front.0 ++ others)) children front.2 in
+      let here = by front.0 others.0 front.1 (λ h. all_made (before + length front.0) (known + length (symbols_by item)) more others.0 name overrides list child made others.1 h there listed)
+      (contains_cases item (instances name overrides list) more inside) in
+      (here.0, subst (λ (l : List Instantiation). Contains l (instantiation_by child here.0 overrides made)) (same_value (front.0 ++ others.0) children others.2) here.1)
+    where
+      by : (front others : List Instantiation) → lower_instances_by modules before known item ≡ Ok front →
+          (Contains more (instances name overrides list) → (k : ℕ) × Contains others (instantiation_by child k overrides made)) →
+          (item ≡ instances name overrides list) ⊎ Contains more (instances name overrides list) → (k : ℕ) × Contains (front ++ others) (instantiation_by child k overrides made)
+      by front others ok rest (inl e) = (
+        known,
+        Contains-append_left front others (instantiation_by child known overrides made)
+            (of_made name before known (module_of modules name.letters) overrides list front child made (sym (ap (λ (t : ItemTree). lower_instances_by modules before known t) e) ∙ ok) there listed),
+      )
+      by front others ok rest (inr h) = let r = rest h in (r.0, Contains-append_right front others (instantiation_by child r.0 overrides made) r.1)
+
+  of_made_by : (name : Word) (before known : ℕ) (found : Option ModuleTree) (overrides : Option ConnectionsTree) (list : List InstanceTree) (more : List ItemTree) (children : List Instantiation) (one : Instantiation) →
+      lower_instances_of name before known found overrides list ≡ Ok children → module_of modules name.letters ≡ found → Contains children one → MadeBy modules (instances name overrides list ∷ more) one
+  of_made_by name before known None overrides list more children one is there inside = absurd cc
+  of_made_by name before known (Some m) overrides list more children one is there inside =
+      let it = made_list m known overrides list children one (of_list name before known m overrides list children is) inside in
+      record {
+        known = known;
+        name = name;
+        overrides = overrides;
+        list = list;
+        child = m;
+        made = it.0;
+        inside = contains_first (instances name overrides list) more;
+        there = there;
+        listed = it.1;
+        is = it.2;
+      }
+
+  none_made : (items : List ItemTree) (children : List Instantiation) (one : Instantiation) → [] ≡ children → Contains children one → MadeBy modules items one
+  none_made items children one same inside = absurd (contains_none one (subst (λ (l : List Instantiation). Contains l one) (sym same) inside))
+
+  by_made_by : (before known : ℕ) (item : ItemTree) (more : List ItemTree) (children : List Instantiation) (one : Instantiation) → lower_instances_by modules before known item ≡ Ok children → Contains children one → MadeBy modules (item ∷ more) one
+  by_made_by before known (parameters local type settings) more children one is inside = none_made (parameters local type settings ∷ more) children one (same_value [] children is) inside
+  by_made_by before known (declaration kind list) more children one is inside = none_made (declaration kind list ∷ more) children one (same_value [] children is) inside
+  by_made_by before known (events names) more children one is inside = none_made (events names ∷ more) children one (same_value [] children is) inside
+  by_made_by before known (assignments settings) more children one is inside = none_made (assignments settings ∷ more) children one (same_value [] children is) inside
+  by_made_by before known (initial statement) more children one is inside = none_made (initial statement ∷ more) children one (same_value [] children is) inside
+  by_made_by before known (always statement) more children one is inside = none_made (always statement ∷ more) children one (same_value [] children is) inside
+  by_made_by before known (instances name overrides list) more children one is inside =
+      of_made_by name before known (module_of modules name.letters) overrides list more children one is refl inside
+
+  further_made_by : (item : ItemTree) (more : List ItemTree) (one : Instantiation) → MadeBy modules more one → MadeBy modules (item ∷ more) one
+  further_made_by item more one m = record {
+    known = m.known;
+    name = m.name;
+    overrides = m.overrides;
+    list = m.list;
+    child = m.child;
+    made = m.made;
+    inside = contains_more item (instances m.name m.overrides m.list) more m.inside;
+    there = m.there;
+    listed = m.listed;
+    is = m.is;
+  }
+
+  pub all_made_by : (before known : ℕ) (items : List ItemTree) (children : List Instantiation) (one : Instantiation) → lower_instances modules before known items ≡ Ok children → Contains children one → MadeBy modules items one
+  all_made_by before known [] children one is inside = none_made [] children one (same_value [] children is) inside
+  all_made_by before known (item ∷ more) children one is inside =
+      let front = then_ok (lower_instances_by modules before known item)
+      (λ front. lower_instances modules (before + length front) (known + length (symbols_by item)) more >>= λ others. Ok (front ++ others)) children is in
+      let others = then_ok (lower_instances modules (before + length front.0) (known + length (symbols_by item)) more) (λ others. Ok (front.0 ++ others)) children front.2 in
+      by (λ h. by_made_by before known item more front.0 one front.1 h) (λ h. all_made_by (before + length front.0) (known + length (symbols_by item)) more others.0 one others.1 h)
+      (Contains-append_cases front.0 others.0 one (subst (λ (l : List Instantiation). Contains l one) (sym (same_value (front.0 ++ others.0) children others.2)) inside))
+    where
+      by : {P Q : Type 0} → (P → MadeBy modules (item ∷ more) one) → (Q → MadeBy modules more one) → P ⊎ Q → MadeBy modules (item ∷ more) one
+      by f g (inl p) = f p
+      by f g (inr q) = further_made_by item more one (g q)
