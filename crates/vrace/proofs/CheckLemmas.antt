@@ -9,6 +9,8 @@ use Rattle.report_check.specs.declared.check.FirstBad.TheVariants.{Head, End as 
 use Rattle.vdesign.specs.Design.{Design}
 use Rattle.vmodel.specs.declared.history.Grain.{Grain}
 use Rattle.vrace.specs.Replays.{AreRead, IsDesignOfFiles}
+use Rattle.vmodel.specs.declared.history.Departures.TheVariants.{Taking}
+use Rattle.vmodel.specs.declared.history.Looked.TheVariants.{Values}
 use Rattle.vmodel.specs.Run.{Setting}
 use Rattle.vrace.specs.Checks.{IsCheckReason, IsMachineOf, IsReportReason, IsTrueText, fault_by}
 use Rattle.vrace.specs.declared.fault.Fault.{Fault}
@@ -46,8 +48,8 @@ module _ (files : List (List ℕ)) (text : List ℕ) (report : Report) (dumps : 
 
 -- the machine of a design of the files
 pub machine_made : (files : List (List ℕ)) (report : Report) (top : List ℕ) (until : ℕ) (grain : Grain) (design : Design) (machine : Setting) → top ≡ report.top → until ≡ report.until →
-    grain ≡ report.grain → AreRead files → IsDesignOfFiles files (Some top) design → machine ≡ record { design = design; until = until; grain = grain } → IsMachineOf files report machine
+    grain ≡ report.grain → AreRead files → IsDesignOfFiles files (Some top) design → machine ≡ record { design = design; until = until; grain = grain; departures = Taking; looked = Values } → IsMachineOf files report machine
 machine_made files report top until grain design machine top_is until_is grain_is read of is = record {
   searched = record { are_read = read; design = design; is_design = subst (λ (t : List ℕ). IsDesignOfFiles files (Some t) design) top_is of };
-  machine_is = is ∙ (λ i. record { design = design; until = until_is i; grain = grain_is i });
+  machine_is = is ∙ (λ i. record { design = design; until = until_is i; grain = grain_is i; departures = Taking; looked = Values });
 }

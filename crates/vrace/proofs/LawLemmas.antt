@@ -16,6 +16,8 @@ use Rattle.vhierarchy.specs.Instances.{Elaborates}
 use Rattle.vhierarchy.specs.Laws.{ElaboratesOneWay}
 use Rattle.sched_core.specs.LogText.{OneLogForText}
 use Rattle.sched_core.specs.Replay.{EndsAfter}
+use Rattle.vmodel.specs.declared.history.Departures.TheVariants.{Taking}
+use Rattle.vmodel.specs.declared.history.Looked.TheVariants.{Values}
 use Rattle.vmodel.specs.Run.{Setting, rules_of, history_after}
 use Rattle.vrace.specs.Request.{Request}
 use Rattle.vrace.specs.Replays.{AreRead, texts_of, IsTreeOf, IsDesignOf, IsDesignOfFiles, grain_under, Replayed, setting_of, text_of_run, IsShown}
@@ -145,7 +147,7 @@ module _ (laws : Laws) where
       logs = laws.one_log p.head q.head p.members q.members p.is_log q.is_log (sym p.written ∙ q.written)
 
       settings : setting_of files asked log p ≡ setting_of files asked log q
-      settings = λ i. record { design = designs i; until = asked.until; grain = grain_under (logs.0 i) asked.grain }
+      settings = λ i. record { design = designs i; until = asked.until; grain = grain_under (logs.0 i) asked.grain; departures = Taking; looked = Values }
 
       -- what ends under the one ends under the other
       moved : (n : ℕ) → EndsAfter (rules_of (setting_of files asked log p)) p.members n → EndsAfter (rules_of (setting_of files asked log q)) q.members n

@@ -8,6 +8,8 @@ use Rattle.statebook.specs.declared.reason.Reason.TheVariants.{Entries}
 use Rattle.explore.specs.declared.findings.Status.TheVariants as explored
 use Rattle.explore.specs.Found.{HasEntries}
 use Rattle.vdesign.specs.Design.{Design}
+use Rattle.vmodel.specs.declared.history.Departures.TheVariants.{Taking}
+use Rattle.vmodel.specs.declared.history.Looked.TheVariants.{Values}
 use Rattle.vmodel.specs.Run.{Setting, rules_of}
 use Rattle.vcd_text.specs.Metered.{Grows, Stops}
 use Rattle.vcd_text.specs.declared.metered.Metered.{Metered}
@@ -101,7 +103,7 @@ pub record Searched (files : List (List ℕ)) (asked : Request) : Type 0 where
   pub is_design : IsDesignOfFiles files asked.top design
 
 abbrev pub setting_for : (files : List (List ℕ)) (asked : Request) → Searched files asked → Setting
-setting_for files asked searched = record { design = searched.design; until = asked.until; grain = asked.grain }
+setting_for files asked searched = record { design = searched.design; until = asked.until; grain = asked.grain; departures = Taking; looked = Values }
 
 -- The report of the files: the writer grew by just its text.
 pub record Explores {W : Type 0} (contents : W → Option (List ℕ)) (files : List (List ℕ)) (asked : Request) (limits : Limits) (status : Status) (old new : Metered W) : Type 0 where

@@ -16,6 +16,8 @@ use Rattle.sched_core.specs.LogText.{named_log_text}
 use Rattle.sched_core.specs.declared.log.LogHead.{LogHead}
 use Rattle.sched_core.specs.declared.log.LogHead.TheVariants as head
 use Rattle.vmodel.specs.declared.history.End.{End}
+use Rattle.vmodel.specs.declared.history.Departures.TheVariants.{Taking}
+use Rattle.vmodel.specs.declared.history.Looked.TheVariants.{Values}
 use Rattle.vmodel.specs.declared.history.Grain.{Grain}
 use Rattle.vmodel.specs.declared.history.Grain.TheVariants as grains
 use Rattle.vmodel.specs.Run.{Setting, history_after}
@@ -89,6 +91,8 @@ setting_of files asked log replayed = record {
   design = replayed.design;
   until = asked.until;
   grain = grain_under replayed.head asked.grain;
+  departures = Taking;
+  looked = Values;
 }
 
 -- what is run: this setting, under this log

@@ -1,5 +1,7 @@
 use Rattle.std.proofs.Common.{ap, refl, ◌∙◌}
 use Rattle.vsrc.specs.Source.{file_bytes}
+use Rattle.vmodel.specs.declared.history.Departures.TheVariants.{Taking}
+use Rattle.vmodel.specs.declared.history.Looked.TheVariants.{Values}
 use Rattle.vmodel.specs.Run.{Setting}
 use Rattle.vmodel.specs.declared.history.Grain.{Grain}
 use Rattle.vrace.specs.Request.{request_of}
@@ -17,5 +19,5 @@ returns-in-Ok-new-clause-ok c =
       is_log = c.in-Ok-named_log_of.ensures.ok.0;
       written = c.in-Ok-named_log_of.ensures.ok.1;
     } in
-    let with_grain : Grain → Setting = λ grain. record { design = c.in-Ok.placed.design; until = c.args.options.now.until; grain = grain } in
+    let with_grain : Grain → Setting = λ grain. record { design = c.in-Ok.placed.design; until = c.args.options.now.until; grain = grain; departures = Taking; looked = Values } in
     (replayed, c.in-Ok-new.ensures ∙ ap with_grain c.grain_under-grain.ensures, refl)
