@@ -1,4 +1,4 @@
--- E307: constants that use a variable or the time (4.3.1, 4.10, 5.1.14, 5.2.1).
+-- *trusted*: E307: constants that use a variable or the time (IEEE 1364-2005, 4.3.1, 4.10, 5.1.14, 5.2.1).
 use Rattle.std.specs.Prelude.{◌≡◌, ℕ, Bool, true, false, not, ◌&&◌, List, [], ◌++◌, map, Option, None, Some}
 use Rattle.std.specs.List.{Contains, flat_map, list_all}
 use Rattle.vast.specs.Words.{Text}

@@ -1,4 +1,4 @@
--- Names that are used, in the order in which they are looked up (IEEE 1364-2005, 4.10, 5.1, 9.7, 12.7).
+-- *trusted*: Names that are used, in the order in which they are looked up (IEEE 1364-2005, 4.10, 5.1, 9.7, 12.7).
 use Rattle.std.specs.Prelude.{Bool, true, false, List, [], ◌∷◌, ◌++◌, Option, None, Some}
 use Rattle.std.specs.List.{flat_map}
 use Rattle.vast.specs.NumberedWords.{Word}
