@@ -1,5 +1,6 @@
 -- *internal*: The list of these files; the first word of each says whether it has to be believed.
 pub mod Rules
+pub mod Ranks
 pub mod Logs
 pub mod LogText
 pub mod Replay

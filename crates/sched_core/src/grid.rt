@@ -2,6 +2,7 @@
 
 ghost use Rattle.std.specs.Prelude.{◌≡◌};
 
+use crate::ranked::Ranked;
 use crate::space::Space;
 use basis::NoMemory;
 
@@ -68,4 +69,17 @@ impl Space for Grid {
     ghost same_is_eq = { λ g s t. Prim.search std_rules };
 
     ghost lawful = { λ g. grid_is_lawful g.right g.down };
+}
+
+/// A square's rank is how far down it is.
+impl Ranked for Grid {
+    ghost use Rattle.sched_core.specs.Toys.GridLaws.{grid_is_ranked};
+
+    ghost ranks = { λ g s. s.y };
+
+    fn rank(&self, s: &Square) -> u64 {
+        s.y as u64
+    }
+
+    ghost ranked = { λ g. grid_is_ranked g.right g.down };
 }

@@ -7,11 +7,13 @@ mod grid;
 pub mod law;
 mod log;
 mod log_text;
+mod ranked;
 mod run;
 mod space;
 
 pub use grid::{Grid, Square};
 pub use log::{Log, LogFault, LogHead, Member};
 pub use log_text::{append_log, read_log, read_named_log, write_log, write_named_log};
+pub use ranked::Ranked;
 pub use run::{Reached, ReplayFault, next_choice, replay};
 pub use space::Space;

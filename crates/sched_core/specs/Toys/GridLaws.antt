@@ -1,6 +1,7 @@
--- *internal*: The board is a lawful space.
+-- *internal*: The board is a lawful space, and how far down a square is is its rank.
 use Rattle.std.proofs.Common.{◌≡◌, ℕ, true, ap, subst, arith}
 use Rattle.std.proofs.lemmas.Bool.Decides.{nat_tests}
+use Rattle.sched_core.specs.Ranks.{IsRanked}
 use Rattle.sched_core.specs.Rules.{IsLawful}
 use Rattle.sched_core.specs.Toys.Grids.{grid_rules}
 use Rattle.sched_core.specs.declared.grid.Square.{Square}
@@ -23,4 +24,10 @@ grid_is_lawful right down = record {
   mark_same = λ s t h. ap (grid_rules right down).mark (same_square right down s t h);
   after_same = λ s t i h w. subst (λ (v : Square). (grid_rules right down).same ((grid_rules right down).after s i) ((grid_rules right down).after v i) ≡ true) (same_square right down s t h) (square_same right down ((grid_rules right down).after s i));
   end_is_mark = λ s h. grind (arith, nat_tests);
+}
+
+pub grid_is_ranked : (right down : ℕ) → IsRanked (grid_rules right down) (λ s. s.y)
+grid_is_ranked right down = record {
+  rank_same = λ s t h. ap (λ (u : Square). u.y) (same_square right down s t h);
+  rises = λ s i w. grind (arith, nat_tests);
 }
