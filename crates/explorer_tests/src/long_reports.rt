@@ -2,10 +2,10 @@
 // take about 200 million steps in place of 40 thousand.
 
 use explore;
+use sched_core::setting::Grain;
 use std::alloc::Global;
 use std::test::Fail;
 use vcd_text::Metered;
-use vmodel::history::Grain;
 use vrace::{Options, Status, check_text, explore_text_alone};
 
 // The order of the first two writes decides what `x` is to the end, and `n` at each time from 1 on.

@@ -2,12 +2,12 @@
 
 use crate::gates::HoldsSecond;
 use explore;
+use sched_core::setting::Grain;
 use std::alloc::Global;
 use std::sync::Wait;
 use std::test::Fail;
 use std::thread::Threads;
 use vcd_text::Metered;
-use vmodel::history::Grain;
 use vrace::{Fault, Options, Reason, Status, explore_text, explore_text_alone};
 use workpool::OpenGate;
 

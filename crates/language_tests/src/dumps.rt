@@ -3,6 +3,7 @@
 ghost use Rattle.std.specs.Prelude.{◌≤◌};
 
 use basis::{Count, Span, Timescale, Unit};
+use sched_core::end::{Cause, End};
 use std::alloc::Global;
 use std::io;
 use std::io::{Read, Write};
@@ -14,7 +15,7 @@ use vdesign::design::{Design, Kind, Scope, Variable};
 use vdesign::dump::{Chosen, DumpCommand, Selection};
 use vdesign::expression::Bounds;
 use vdesign::print::Text;
-use vmodel::history::{Cause, End, History, Item};
+use vmodel::history::{History, Item};
 use vmodel::sink::HistorySink;
 use vmodel::values::Values;
 

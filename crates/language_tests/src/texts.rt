@@ -1,6 +1,8 @@
 // From the bytes of files to places, tokens, trees and steps.
 
 use basis::{OrMemory, Timescale};
+use sched_core::end::Cause;
+use sched_core::setting::Grain;
 use sched_core::{Log, ReplayFault};
 use std::alloc::Global;
 use std::test::Fail;
@@ -15,7 +17,7 @@ use vdesign::design::Design;
 use vhierarchy::elaborate;
 use vlex::{TokenKind, Tokens, tokens};
 use vmachine::Machine;
-use vmodel::history::{Cause, Grain, Item};
+use vmodel::history::Item;
 use vmodel::{opening, slow_step, slow_width};
 use vparse::{SyntaxFault, parse, parse_expr};
 use vsrc::{Expanded, Place, expand};

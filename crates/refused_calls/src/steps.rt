@@ -3,11 +3,11 @@
 use crate::counts::CallCounts;
 use basis::NoMemory;
 use sched_core::Space;
+use sched_core::setting::Grain;
 use std::alloc::Global;
 use vhierarchy::elaborate;
 use vlex::tokens;
 use vmachine::Machine;
-use vmodel::history::Grain;
 use vparse::parse;
 use vsrc::expand;
 

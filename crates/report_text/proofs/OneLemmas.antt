@@ -11,10 +11,10 @@ use Rattle.sched_core.specs.declared.log.LogHead.TheVariants.{Plain}
 use Rattle.sched_core.specs.Logs.{IsLog}
 use Rattle.sched_core.specs.LogText.{log_text}
 use Rattle.sched_core.proofs.OneLemmas.{one_named_text}
-use Rattle.vmodel.specs.declared.history.Grain.{Grain}
-use Rattle.vmodel.specs.declared.history.Grain.TheVariants.{Process, Statement}
-use Rattle.vmodel.specs.declared.history.Cause.{Cause}
-use Rattle.vmodel.specs.declared.history.Cause.TheVariants.{Finish, Stop, Quiet, Limit}
+use Rattle.sched_core.specs.declared.setting.Grain.{Grain}
+use Rattle.sched_core.specs.declared.setting.Grain.TheVariants.{Process, Statement}
+use Rattle.sched_core.specs.declared.end.Cause.{Cause}
+use Rattle.sched_core.specs.declared.end.Cause.TheVariants.{Finish, Stop, Quiet, Limit}
 use Rattle.report_text.specs.declared.report.Version.{Version}
 use Rattle.report_text.specs.declared.report.Version.TheVariants.{One, Two}
 use Rattle.report_text.specs.declared.report.Outcome.{Outcome}

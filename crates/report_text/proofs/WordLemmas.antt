@@ -1,10 +1,10 @@
 -- The words of versions, grains, causes and outcomes tell them.
 use Rattle.std.proofs.Common.{◌≡◌, ◌≢◌, ℕ, List, get_or, arith, ap, refl}
 use Rattle.std.specs.Prelude.{codes}
-use Rattle.vmodel.specs.declared.history.Cause.{Cause}
-use Rattle.vmodel.specs.declared.history.Cause.TheVariants.{Finish, Stop, Quiet, Limit}
-use Rattle.vmodel.specs.declared.history.Grain.{Grain}
-use Rattle.vmodel.specs.declared.history.Grain.TheVariants.{Process, Statement}
+use Rattle.sched_core.specs.declared.end.Cause.{Cause}
+use Rattle.sched_core.specs.declared.end.Cause.TheVariants.{Finish, Stop, Quiet, Limit}
+use Rattle.sched_core.specs.declared.setting.Grain.{Grain}
+use Rattle.sched_core.specs.declared.setting.Grain.TheVariants.{Process, Statement}
 use Rattle.report_text.specs.declared.report.Version.{Version}
 use Rattle.report_text.specs.declared.report.Version.TheVariants.{One, Two}
 use Rattle.report_text.specs.declared.report.Outcome.{Outcome}

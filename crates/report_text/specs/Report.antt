@@ -1,7 +1,7 @@
 -- *product rule*: What a report of an exploration holds (docs/FORMATS.md, "Reports").
 use Rattle.std.specs.Prelude.{ℕ, List}
-use Rattle.vmodel.specs.declared.history.Cause.{Cause}
-use Rattle.vmodel.specs.declared.history.Grain.{Grain}
+use Rattle.sched_core.specs.declared.end.Cause.{Cause}
+use Rattle.sched_core.specs.declared.setting.Grain.{Grain}
 use Rattle.report_text.specs.declared.report.Version.{Version}
 use Rattle.report_text.specs.declared.report.Outcome.{Outcome}
 

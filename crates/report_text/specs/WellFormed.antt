@@ -8,7 +8,7 @@ use Rattle.basis.specs.declared.memory.OrMemory.{OrMemory}
 use Rattle.basis.specs.Reasons.{Because}
 use Rattle.sched_core.specs.Logs.{IsLog}
 use Rattle.vast.specs.Names.{has_letters_of_name, is_path}
-use Rattle.vmodel.specs.declared.history.Grain.TheVariants.{Process}
+use Rattle.sched_core.specs.declared.setting.Grain.TheVariants.{Process}
 use Rattle.report_text.specs.declared.report.Version.TheVariants.{One}
 use Rattle.report_text.specs.declared.report.ReportFault.{ReportFault}
 use Rattle.report_text.specs.Report.{Column, End, Race, Report}

@@ -3,7 +3,7 @@
 ghost use Rattle.std.specs.Prelude.{◌≡◌, ◌↔◌, ℕ, ◌<◌, ◌^◌, List, ◌++◌, map, true, length, IfOk, IfSome, IsTrue, MatchOption, ◌∷◌, flat_map};
 ghost use Rattle.sched_core.specs.LogText.{log_text};
 ghost use Rattle.sched_core.specs.Logs.{IsLog};
-ghost use Rattle.vmodel.specs.declared.history.Cause as causes;
+ghost use Rattle.sched_core.specs.declared.end.Cause as causes;
 ghost use Rattle.report_text.specs.Inner.Ends as inner;
 ghost use Rattle.report_text.specs.Inner.Lists.{Listed};
 ghost use Rattle.report_text.specs.Inner.Fronts.{EachRest};
@@ -19,11 +19,11 @@ use crate::reader::Reader;
 use crate::report::{Column, End};
 use crate::words::{cause_of, cause_word};
 use basis::{NoMemory, OrMemory};
+use sched_core::end::Cause;
 use sched_core::{Log, read_log};
 use std::alloc::Global;
 use std::cmp::Ordering;
 use std::marker::Model;
-use vmodel::history::Cause;
 
 /// Reads the word as a log. Where it is none the reader is lost. The error is want of memory, E901.
 pub fn take_log(alloc: Global, reader: &mut Reader, word: &[u8]) -> Result<Log, NoMemory>

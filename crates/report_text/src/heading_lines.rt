@@ -10,15 +10,15 @@ ghost use Rattle.vast.specs.Names.{has_letters_of_name};
 ghost use Rattle.report_text.specs.declared.report.Version as versions;
 ghost use Rattle.report_text.specs.declared.report.Version.TheVariants.{One};
 ghost use Rattle.report_text.specs.declared.report.Outcome as outcomes;
-ghost use Rattle.vmodel.specs.declared.history.Grain as grains;
-ghost use Rattle.vmodel.specs.declared.history.Grain.TheVariants.{Process};
+ghost use Rattle.sched_core.specs.declared.setting.Grain as grains;
+ghost use Rattle.sched_core.specs.declared.setting.Grain.TheVariants.{Process};
 
 use crate::letters::is_name;
 use crate::reader::Reader;
 use crate::report::{Outcome, Version};
 use crate::words::{grain_of, outcome_of};
+use sched_core::setting::Grain;
 use std::marker::Model;
-use vmodel::history::Grain;
 
 /// The last time limit.
 const LAST_UNTIL: u64 = 4_611_686_018_427_387_903;

@@ -1,8 +1,9 @@
 // A report of an exploration (docs/FORMATS.md, "Reports").
 
 use sched_core::Log;
+use sched_core::end::Cause;
+use sched_core::setting::Grain;
 use std::marker::Model;
-use vmodel::history::{Cause, Grain};
 
 /// The version of a report's text. Version 1 has no line for the grain, which is process.
 #[derive(Clone, Copy, Debug, PartialEq, Eq)]

@@ -2,12 +2,13 @@
 
 ghost use Rattle.std.specs.Prelude.{◌≡◌, ◌≢◌, IfSome, IfNone};
 ghost use Rattle.report_text.specs.declared.report.Outcome as outcomes;
-ghost use Rattle.vmodel.specs.declared.history.Cause as causes;
-ghost use Rattle.vmodel.specs.declared.history.Grain as grains;
+ghost use Rattle.sched_core.specs.declared.end.Cause as causes;
+ghost use Rattle.sched_core.specs.declared.setting.Grain as grains;
 ghost use Rattle.report_text.specs.ReportText as text;
 
 use crate::report::{Outcome, Version};
-use vmodel::history::{Cause, Grain};
+use sched_core::end::Cause;
+use sched_core::setting::Grain;
 
 /// The number of the version.
 pub fn version_number(version: Version) -> u64

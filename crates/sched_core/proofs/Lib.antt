@@ -4,3 +4,4 @@ pub mod ReadingLemmas
 pub mod HeadLemmas
 pub mod RunLemmas
 pub mod OneLemmas
+pub mod BagLemmas

@@ -4,5 +4,10 @@ pub mod Ranks
 pub mod Logs
 pub mod LogText
 pub mod Replay
+pub mod Tests
+pub mod Settings
+pub mod Ends
+pub mod Bags
+pub mod BagLaws
 pub mod Inner
 pub mod Toys

@@ -17,7 +17,7 @@ use Rattle.velab_expr.specs.Scopes.{Scope}
 use Rattle.sched_core.specs.Rules.{choice_at}
 use Rattle.vmodel.specs.declared.choice.Choice.{Choice}
 use Rattle.vmodel.specs.declared.choice.Choice.TheVariants.{Run, Update, Advance}
-use Rattle.vmodel.specs.declared.history.Cause.{Cause}
+use Rattle.sched_core.specs.declared.end.Cause.{Cause}
 use Rattle.vmodel.specs.declared.process.Frame.{Frame}
 use Rattle.vmodel.specs.Choices.{choices}
 use Rattle.vmodel.specs.State.{Process, State}

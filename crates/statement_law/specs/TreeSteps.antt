@@ -30,8 +30,8 @@ use Rattle.velab_process.specs.Statements.{lower_amount}
 use Rattle.velab_process.specs.Processes.{ProcessTree, procedural, continuous}
 use Rattle.vmodel.specs.declared.part.Part.{Part}
 use Rattle.vmodel.specs.declared.effect.Post.{Post}
-use Rattle.vmodel.specs.declared.history.Cause.{Cause}
-use Rattle.vmodel.specs.declared.history.Cause.TheVariants as causes
+use Rattle.sched_core.specs.declared.end.Cause.{Cause}
+use Rattle.sched_core.specs.declared.end.Cause.TheVariants as causes
 use Rattle.vmodel.specs.Value.{assigned_parts, held_value, resumed_parts}
 use Rattle.vmodel.specs.Step.{post_after}
 

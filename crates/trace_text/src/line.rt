@@ -2,6 +2,7 @@
 
 use basis::NoMemory;
 use itoa::Buffer;
+use sched_core::end::{Cause, End};
 use std::alloc::Global;
 use vbits::Vec4;
 use vcd_text::put_digits;
@@ -10,7 +11,6 @@ use vdesign::dump::DumpCommand;
 use vmodel::State;
 use vmodel::choice::Choice;
 use vmodel::effect::{Disposition, Effect, Shown};
-use vmodel::history::{Cause, End};
 use vmodel::part::{Kept, Part};
 use vmodel::process_set::ProcessSet;
 use vmodel::values::value_after;

@@ -12,11 +12,12 @@ use crate::header::header_of;
 use crate::progress::{Progress, first_text, later_text, line_after, line_of};
 use crate::selected::{scope_marks, spread};
 use basis::OrMemory;
+use sched_core::end::End;
 use std::alloc::Global;
 use vbits::Vec4;
 use vdesign::design::Design;
 use vdesign::dump::DumpCommand;
-use vmodel::history::{End, Item};
+use vmodel::history::Item;
 use vmodel::sink::HistorySink;
 use vmodel::values::Values;
 

@@ -8,7 +8,7 @@ use Rattle.sched_core.proofs.RunLemmas.{left_whole, left_next, run_more, ends_to
 use Rattle.vmodel.specs.State.{State}
 use Rattle.vmodel.specs.Choices.{choices}
 use Rattle.vmodel.specs.declared.history.Item.{Item}
-use Rattle.vmodel.specs.declared.history.End.{End}
+use Rattle.sched_core.specs.declared.end.End.{End}
 use Rattle.vmodel.specs.Step.{Transition, next, items_of}
 use Rattle.vmodel.specs.Run.{Setting, rules_of, opening_of, state_after, items_after, end_of, is_mark}
 use Rattle.vmodel.specs.RunProgress.{Finishes, IsOnItsWay, opening_is, width_is, after_is}

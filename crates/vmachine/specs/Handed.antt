@@ -1,7 +1,7 @@
 -- *internal*: What becomes of who watches a run: a sink that is handed its items (IEEE 1364-2005, 11.4, 18.1).
 use Rattle.std.specs.Prelude.{◌≡◌, ℕ, Bool, true, false, if◌then◌else◌, List, [], ◌∷◌, take}
 use Rattle.sched_core.specs.Replay.{IsReplayReason}
-use Rattle.vmodel.specs.declared.history.End.{End}
+use Rattle.sched_core.specs.declared.end.End.{End}
 use Rattle.vmodel.specs.declared.history.Item.{Item}
 use Rattle.vmodel.specs.declared.history.Item.TheVariants.{SlotEnd, Dump, Line, Monitor}
 use Rattle.vmodel.specs.History.{History}

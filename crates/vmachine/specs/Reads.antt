@@ -1,6 +1,6 @@
 -- *internal*: What is read of a state of a run: its end, and the slot that ends there (IEEE 1364-2005, 11.4).
 use Rattle.std.specs.Prelude.{ℕ, ◌==◌, ◌&&◌, if◌then◌else◌, is_none, Option, Some, None, length}
-use Rattle.vmodel.specs.declared.history.End.{End}
+use Rattle.sched_core.specs.declared.end.End.{End}
 use Rattle.vmodel.specs.State.{State}
 use Rattle.vmodel.specs.Choices.{choices}
 use Rattle.vmodel.specs.Run.{end_of, is_mark}

@@ -1,6 +1,6 @@
 -- *internal*: Runs on their way: where they stand, and what was handed on of what they gave.
 use Rattle.std.specs.Prelude.{◌≡◌, ℕ, false, List, [], ◌∷◌, ◌++◌, Option, Some, None}
-use Rattle.vmodel.specs.declared.history.End.{End}
+use Rattle.sched_core.specs.declared.end.End.{End}
 use Rattle.vmodel.specs.declared.history.Item.{Item}
 use Rattle.vmodel.specs.State.{State}
 use Rattle.vmodel.specs.Step.{slot_end_of}

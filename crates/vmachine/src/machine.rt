@@ -1,17 +1,17 @@
 // A machine: the runs of a design under a time limit in a grain, as a space.
 
 ghost use Rattle.std.specs.Prelude.{◌≡◌, IfOk};
-ghost use Rattle.vmodel.specs.declared.history.Departures.TheVariants.{Taking};
-ghost use Rattle.vmodel.specs.declared.history.Looked.TheVariants.{Values};
+ghost use Rattle.sched_core.specs.declared.setting.Departures.TheVariants.{Taking};
+ghost use Rattle.sched_core.specs.declared.setting.Looked.TheVariants.{Values};
 ghost use Rattle.vmodel.specs.Run.{opening_of};
 
 use crate::machine_state::MachineState;
 use basis::NoMemory;
 use sched_core::Space;
+use sched_core::setting::{Departures, Grain, Looked};
 use std::alloc::Global;
 use std::marker::Model;
 use vdesign::design::Design;
-use vmodel::history::{Departures, Grain, Looked};
 use vmodel::{State, opening};
 
 /// The runs of a design within a time limit, in units of its precision, and in a grain; with which departures
@@ -36,11 +36,11 @@ impl Model for Machine {
     ghost coded = { Prim.hlevel (codes, expression.the_row.coded) };
 
     ghost view = { λ m. record {
-        design = m.design;
-        until = m.until;
-        grain = m.grain;
-        departures = m.departures;
-        looked = m.looked;
+      design = m.design;
+      until = m.until;
+      grain = m.grain;
+      departures = m.departures;
+      looked = m.looked;
     } };
 }
 

@@ -7,10 +7,10 @@ ghost use Rattle.vmachine.specs.Reads.{end_in, slot_in};
 
 use crate::machine::Machine;
 use crate::machine_state::MachineState;
+use sched_core::bag::Bag;
+use sched_core::end::End;
 use vbits::Vec4;
 use vmodel::State;
-use vmodel::bag::Bag;
-use vmodel::history::End;
 
 fn end_at(state: &State) -> Option<End>
     ensures { result ≡ end_in state.now }

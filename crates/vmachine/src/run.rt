@@ -16,10 +16,11 @@ ghost use Rattle.vmodel.specs.InnerStep.{transition_to};
 
 use crate::machine::Machine;
 use basis::{NoMemory, OrMemory};
+use sched_core::end::End;
 use sched_core::{Log, Member, ReplayFault, next_choice};
 use vdesign::design::Design;
 use vmodel::effect::Effect;
-use vmodel::history::{End, History, Item};
+use vmodel::history::{History, Item};
 use vmodel::sink::HistorySink;
 use vmodel::values::Values;
 use vmodel::{State, put_items, put_slot_end};

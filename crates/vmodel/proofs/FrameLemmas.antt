@@ -9,7 +9,8 @@ use Rattle.vmodel.specs.declared.continuation.Continuation.{Continuation}
 use Rattle.vmodel.specs.InnerContinuation.{IsWhole, continuation_frames}
 use Rattle.vmodel.specs.declared.process.Frame.{Frame}
 use Rattle.vmodel.specs.Same.{frame_same}
-use Rattle.vmodel.specs.SameLaws.{frames_tell, list_tells}
+use Rattle.sched_core.specs.Tests.{list_tells}
+use Rattle.vmodel.specs.SameLaws.{frames_tell}
 
 pub same_backwards : (xs ys : List Frame) → pointwise frame_same xs ys ≡ pointwise frame_same (reverse xs) (reverse ys)
 same_backwards xs ys =

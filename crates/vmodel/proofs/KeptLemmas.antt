@@ -4,7 +4,7 @@ use Rattle.std.specs.Prelude.{slice_get}
 use Rattle.sched_core.specs.Rules.{choice_at}
 use Rattle.vdesign.specs.Design.{Design}
 use Rattle.vdesign.specs.declared.action.Action.{Action}
-use Rattle.vmodel.specs.declared.history.Cause.{Cause}
+use Rattle.sched_core.specs.declared.end.Cause.{Cause}
 use Rattle.vmodel.specs.declared.part.Part.{Part}
 use Rattle.vmodel.specs.declared.process.Frame.{Frame}
 use Rattle.vmodel.specs.declared.choice.Choice.{Choice}
@@ -13,8 +13,8 @@ use Rattle.vmodel.specs.Queue.{Later, Queue}
 use Rattle.vmodel.specs.State.{State}
 use Rattle.vmodel.specs.Choices.{choices}
 use Rattle.vmodel.specs.Step.{environment_of, StepResult, execute_at, held_of, place_of, process_to_continue, with_moves_by, with_woken, with_moves, with_step, with_strobe, process_by, transition_with, action_transition, continuation_transition, without_update, with_update, with_advance, transition_of, transition_by, next}
-use Rattle.vmodel.specs.declared.history.Departures.{Departures}
-use Rattle.vmodel.specs.declared.history.Departures.TheVariants.{Taking, Holding}
+use Rattle.sched_core.specs.declared.setting.Departures.{Departures}
+use Rattle.sched_core.specs.declared.setting.Departures.TheVariants.{Taking, Holding}
 use Rattle.std.specs.Option.{ForSome}
 use Rattle.vmodel.specs.Run.{Setting, busy_from, opening_process, held_at_first, opening_of, state_after}
 use Rattle.vmodel.specs.RunProgress.{opening_is, after_is}

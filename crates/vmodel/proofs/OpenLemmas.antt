@@ -2,9 +2,9 @@
 use Rattle.std.proofs.Common.{◌≡◌, ◌≢◌, ℕ, zero, suc, ◌≤◌, List, [], ◌∷◌, ◌++◌, map, drop, length, Option, Some, None, cond, is_some, refl, sym, subst, ◌∙◌, arith}
 use Rattle.std.specs.Prelude.{slice_get}
 use Rattle.std.specs.Option.{ForSome}
-use Rattle.vmodel.specs.declared.history.Cause.{Cause}
-use Rattle.vmodel.specs.declared.history.Grain.{Grain}
-use Rattle.vmodel.specs.declared.history.Grain.TheVariants.{Process, Statement}
+use Rattle.sched_core.specs.declared.end.Cause.{Cause}
+use Rattle.sched_core.specs.declared.setting.Grain.{Grain}
+use Rattle.sched_core.specs.declared.setting.Grain.TheVariants.{Process, Statement}
 use Rattle.vmodel.specs.declared.part.Part.{Part}
 use Rattle.vmodel.specs.declared.choice.Choice.{Choice}
 use Rattle.vmodel.specs.declared.choice.Choice.TheVariants.{Run, Update, Advance}

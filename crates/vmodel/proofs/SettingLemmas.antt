@@ -6,20 +6,21 @@ use Rattle.basis.proofs.Lists.{listed_place}
 use Rattle.sched_core.specs.Rules.{choice_at, IsRun}
 use Rattle.sched_core.specs.Replay.{EndsAfter}
 use Rattle.vdesign.specs.Design.{Design}
-use Rattle.vmodel.specs.declared.history.Cause.{Cause}
-use Rattle.vmodel.specs.declared.history.Departures.TheVariants.{Taking}
-use Rattle.vmodel.specs.declared.history.Grain.{Grain}
-use Rattle.vmodel.specs.declared.history.Grain.TheVariants.{Process, Statement}
+use Rattle.sched_core.specs.declared.end.Cause.{Cause}
+use Rattle.sched_core.specs.declared.setting.Departures.TheVariants.{Taking}
+use Rattle.sched_core.specs.declared.setting.Grain.{Grain}
+use Rattle.sched_core.specs.declared.setting.Grain.TheVariants.{Process, Statement}
 use Rattle.vmodel.specs.declared.history.Item.{Item}
-use Rattle.vmodel.specs.declared.history.Looked.{Looked}
-use Rattle.vmodel.specs.declared.history.Looked.TheVariants.{Values, Lines}
+use Rattle.sched_core.specs.declared.setting.Looked.{Looked}
+use Rattle.sched_core.specs.declared.setting.Looked.TheVariants.{Values, Lines}
 use Rattle.vmodel.specs.declared.choice.Choice.{Choice}
 use Rattle.vmodel.specs.declared.choice.Choice.TheVariants.{Run, Update, Advance}
 use Rattle.vmodel.specs.Queue.{Later, Queue}
 use Rattle.vmodel.specs.State.{State}
 use Rattle.vmodel.specs.Choices.{or_advance, active_choices, offered_choices, order_by, order_of, taking_or_holding, choices_by, choices}
 use Rattle.vmodel.specs.Holding.{count_before, with_held, before_choice, without_taken, released, held_after}
-use Rattle.vmodel.specs.Printed.{printed_after, HasLines}
+use Rattle.sched_core.specs.Bags.{HasLines}
+use Rattle.vmodel.specs.Printed.{printed_after}
 use Rattle.vmodel.specs.Step.{Transition, transition_of, with_views, with_held_after, transition_by, next, items_of}
 use Rattle.vmodel.specs.Run.{Setting, rules_of, state_after, items_after, held_at_first, printed_at_first}
 use Rattle.vmodel.specs.RunProgress.{opening_is, after_is, width_is}

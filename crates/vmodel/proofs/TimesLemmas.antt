@@ -5,7 +5,7 @@ use Rattle.basis.proofs.Lists.{listed_place}
 use Rattle.sched_core.specs.Rules.{choice_at, IsRun}
 use Rattle.vdesign.specs.Design.{Design}
 use Rattle.vdesign.specs.declared.action.Action.{Action}
-use Rattle.vmodel.specs.declared.history.Cause.{Cause}
+use Rattle.sched_core.specs.declared.end.Cause.{Cause}
 use Rattle.vmodel.specs.declared.history.Item.{Item}
 use Rattle.vmodel.specs.declared.history.Item.TheVariants.{SlotEnd, Dump, Line, Monitor}
 use Rattle.vmodel.specs.declared.effect.Shown.{Shown}

@@ -7,7 +7,7 @@ use Rattle.sched_core.specs.Rules.{choice_at}
 use Rattle.vbits.specs.Vectors.{Vector}
 use Rattle.vdesign.specs.Design.{Design}
 use Rattle.vdesign.specs.declared.action.Action.{Action}
-use Rattle.vmodel.specs.declared.history.Cause.{Cause}
+use Rattle.sched_core.specs.declared.end.Cause.{Cause}
 use Rattle.vmodel.specs.declared.history.Item.{Item}
 use Rattle.vmodel.specs.declared.history.Item.TheVariants.{SlotEnd, Dump, Monitor}
 use Rattle.vmodel.specs.declared.effect.Shown.{Shown}

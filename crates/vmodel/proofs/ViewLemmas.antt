@@ -3,7 +3,7 @@ use Rattle.std.proofs.Common.{◌≡◌, ℕ, List, [], ◌∷◌, ◌++◌, Opt
 use Rattle.std.specs.Prelude.{slice_get}
 use Rattle.vdesign.specs.Design.{Design}
 use Rattle.vdesign.specs.declared.action.Action.{Action}
-use Rattle.vmodel.specs.declared.history.Cause.{Cause}
+use Rattle.sched_core.specs.declared.end.Cause.{Cause}
 use Rattle.vmodel.specs.declared.history.Item.{Item}
 use Rattle.vmodel.specs.declared.effect.Effect.{Effect}
 use Rattle.vmodel.specs.declared.effect.Shown.{Shown}

@@ -5,8 +5,8 @@ use Rattle.vmodel.specs.declared.choice.Choice.{Choice}
 use Rattle.vmodel.specs.declared.choice.Choice.TheVariants.{Run, Update, Advance}
 use Rattle.vmodel.specs.Queue.{Later, Queue, without_process}
 use Rattle.vmodel.specs.State.{State}
-use Rattle.vmodel.specs.declared.history.Grain.{Grain}
-use Rattle.vmodel.specs.declared.history.Grain.TheVariants.{Process, Statement}
+use Rattle.sched_core.specs.declared.setting.Grain.{Grain}
+use Rattle.sched_core.specs.declared.setting.Grain.TheVariants.{Process, Statement}
 
 -- the process that made the last step first, then the others by number
 abbrev pub in_order : Option ℕ → List ℕ → List ℕ

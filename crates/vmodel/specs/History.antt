@@ -3,7 +3,7 @@
 -- and its end.
 use Rattle.std.specs.Prelude.{List}
 use Rattle.vbits.specs.Vectors.{Vector}
-use Rattle.vmodel.specs.declared.history.End.{End}
+use Rattle.sched_core.specs.declared.end.End.{End}
 use Rattle.vmodel.specs.declared.history.Item.{Item}
 
 pub record History : Type 0 where

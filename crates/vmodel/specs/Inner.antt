@@ -83,17 +83,6 @@ abbrev pub with_some_held : Option Choice → List ℕ → List ℕ
 with_some_held None held = held
 with_some_held (Some c) held = with_one_held c held
 
--- one place more before a line that is less
-abbrev pub place_behind : Ordering → ℕ → ℕ
-place_behind Greater n = suc n
-place_behind Equal n = zero
-place_behind Less n = zero
-
--- how many lines stand before a new one
-abbrev pub place_of_line : List ℕ → List (List ℕ) → ℕ
-place_of_line line [] = zero
-place_of_line line (first ∷ rest) = place_behind (slice_cmp nat_cmp line first) (place_of_line line rest)
-
 -- ---- what a process comes to
 
 -- the place that the first of the frames names, if there is one

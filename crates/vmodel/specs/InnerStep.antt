@@ -6,7 +6,7 @@ use Rattle.vmodel.specs.declared.process.Frame.TheVariants.{Executing}
 use Rattle.vmodel.specs.declared.effect.Effect.{Effect}
 use Rattle.vmodel.specs.declared.effect.Disposition.TheVariants.{Waiting}
 use Rattle.vmodel.specs.Queue.{Queue}
-use Rattle.vmodel.specs.declared.history.Cause.{Cause}
+use Rattle.sched_core.specs.declared.end.Cause.{Cause}
 use Rattle.vmodel.specs.State.{Process, State}
 use Rattle.vmodel.specs.Step.{StepResult, Transition, frames, process_to_continue, process_by, reschedule, posts, with_strobe, continuation_of, held_of, quiet}
 

@@ -1,7 +1,7 @@
 -- *trusted*: The stratified event queue (IEEE 1364-2005, 11.3; docs/SCHEDULING.md): what stands in which region, and what comes later.
 -- Processes go by number and stand in the order of their numbers (specs/Kept.antt); updates stand in the order in which they were posted.
 use Rattle.std.specs.Prelude.{ℕ, ◌+◌, ◌==◌, nat_lt, Bool, true, if◌then◌else◌, not, List, [], ◌∷◌, ◌++◌, Option, Some, None, filter}
-use Rattle.vmodel.specs.declared.history.Grain.{Grain}
+use Rattle.sched_core.specs.declared.setting.Grain.{Grain}
 use Rattle.vmodel.specs.declared.part.Part.{Part}
 
 -- what a future time holds: processes to wake, and updates, each a list of written parts; it may hold nothing, where a

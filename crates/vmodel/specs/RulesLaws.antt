@@ -3,9 +3,9 @@ use Rattle.std.proofs.Common.{◌≡◌, ℕ, ◌==◌, Bool, true, if◌then◌
 use Rattle.sched_core.specs.Rules.{IsLawful}
 use Rattle.vmodel.specs.declared.choice.Choice.{Choice}
 use Rattle.vmodel.specs.declared.choice.Choice.TheVariants.{Run}
-use Rattle.vmodel.specs.declared.history.Cause.{Cause}
-use Rattle.vmodel.specs.declared.history.Grain.{Grain}
-use Rattle.vmodel.specs.declared.history.Grain.TheVariants.{Process, Statement}
+use Rattle.sched_core.specs.declared.end.Cause.{Cause}
+use Rattle.sched_core.specs.declared.setting.Grain.{Grain}
+use Rattle.sched_core.specs.declared.setting.Grain.TheVariants.{Process, Statement}
 use Rattle.vmodel.specs.declared.part.Part.{Part}
 use Rattle.vmodel.specs.Queue.{Later, Queue}
 use Rattle.vmodel.specs.State.{State}

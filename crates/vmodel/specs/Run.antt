@@ -3,15 +3,15 @@ use Rattle.std.specs.Prelude.{ℕ, zero, suc, ◌==◌, ◌&&◌, ◌||◌, is_s
 use Rattle.vbits.specs.Vectors.{Vector, filled, with_sign}
 use Rattle.sched_core.specs.Rules.{Rules, stands, choice_at}
 use Rattle.vdesign.specs.Design.{Variable, Design}
-use Rattle.vmodel.specs.declared.history.Cause.{Cause}
-use Rattle.vmodel.specs.declared.history.Cause.TheVariants.{Quiet, Limit}
-use Rattle.vmodel.specs.declared.history.End.{End}
-use Rattle.vmodel.specs.declared.history.Grain.{Grain}
+use Rattle.sched_core.specs.declared.end.Cause.{Cause}
+use Rattle.sched_core.specs.declared.end.Cause.TheVariants.{Quiet, Limit}
+use Rattle.sched_core.specs.declared.end.End.{End}
+use Rattle.sched_core.specs.declared.setting.Grain.{Grain}
 use Rattle.vmodel.specs.declared.history.Item.{Item}
-use Rattle.vmodel.specs.declared.history.Departures.{Departures}
-use Rattle.vmodel.specs.declared.history.Departures.TheVariants.{Taking, Holding}
-use Rattle.vmodel.specs.declared.history.Looked.{Looked}
-use Rattle.vmodel.specs.declared.history.Looked.TheVariants.{Values, Lines}
+use Rattle.sched_core.specs.declared.setting.Departures.{Departures}
+use Rattle.sched_core.specs.declared.setting.Departures.TheVariants.{Taking, Holding}
+use Rattle.sched_core.specs.declared.setting.Looked.{Looked}
+use Rattle.sched_core.specs.declared.setting.Looked.TheVariants.{Values, Lines}
 use Rattle.vmodel.specs.Queue.{Queue}
 use Rattle.vmodel.specs.State.{Process, State}
 use Rattle.vmodel.specs.Choices.{choices}

@@ -8,9 +8,9 @@ use Rattle.vmodel.specs.State.{State}
 use Rattle.vmodel.specs.Same.{state_same}
 use Rattle.vmodel.specs.Run.{Setting, rules_of, state_after, items_after}
 use Rattle.vmodel.specs.declared.history.Item.TheVariants.{SlotEnd}
-use Rattle.vmodel.specs.declared.history.Departures.TheVariants.{Taking, Holding}
-use Rattle.vmodel.specs.declared.history.Looked.TheVariants.{Values}
-use Rattle.vmodel.specs.Printed.{HasLines}
+use Rattle.sched_core.specs.declared.setting.Departures.TheVariants.{Taking, Holding}
+use Rattle.sched_core.specs.declared.setting.Looked.TheVariants.{Values}
+use Rattle.sched_core.specs.Bags.{HasLines}
 use Rattle.vmodel.specs.Kept.{IsKept, RisesFrom, slot_times, AreShaped, HasValues, HasSlotEnd}
 
 -- the test that an explorer takes for two states is their equality

@@ -4,10 +4,9 @@ use Rattle.std.specs.Bool.{beq}
 use Rattle.std.specs.Option.{option_eq}
 use Rattle.std.specs.Cmp.Lexicographic.{pointwise}
 use Rattle.vbits.specs.Vectors.{Vector, vector_same}
-use Rattle.vmodel.specs.declared.history.Cause.{Cause}
-use Rattle.vmodel.specs.declared.history.Cause.TheVariants.{Finish, Stop, Quiet, Limit}
-use Rattle.vmodel.specs.declared.history.Grain.{Grain}
-use Rattle.vmodel.specs.declared.history.Grain.TheVariants.{Process as ByProcess, Statement}
+use Rattle.sched_core.specs.Bags.{lines_same}
+use Rattle.sched_core.specs.Ends.{cause_same}
+use Rattle.sched_core.specs.Settings.{grain_same}
 use Rattle.vmodel.specs.declared.part.Part.{Part}
 use Rattle.vmodel.specs.declared.part.Part.TheVariants.{Whole, Bits}
 use Rattle.vmodel.specs.declared.process.Frame.{Frame}
@@ -26,20 +25,6 @@ frame_same _ _ = false
 
 abbrev pub process_same : Process → Process → Bool
 process_same p q = (pointwise frame_same p.continuation q.continuation && option_eq vector_same p.held q.held) && option_eq nat_eq p.waits q.waits
-
-abbrev pub grain_same : Grain → Grain → Bool
-grain_same ByProcess ByProcess = true
-grain_same Statement Statement = true
-grain_same _ _ = false
-
-abbrev pub cause_rank : Cause → ℕ
-cause_rank Finish = 0
-cause_rank Stop = 1
-cause_rank Quiet = 2
-cause_rank Limit = 3
-
-abbrev pub cause_same : Cause → Cause → Bool
-cause_same c d = nat_eq (cause_rank c) (cause_rank d)
 
 abbrev pub part_same : Part → Part → Bool
 part_same (Whole m v) (Whole n w) = nat_eq m n && vector_same v w
@@ -71,9 +56,6 @@ queue_same q r = stand_same q r && regions_same q r
 
 abbrev pub held_back_same : Option (List ℕ) → Option (List ℕ) → Bool
 held_back_same = option_eq (pointwise nat_eq)
-
-abbrev pub lines_same : List (List ℕ) → List (List ℕ) → Bool
-lines_same = pointwise (pointwise nat_eq)
 
 abbrev pub printed_same : Option (List (List ℕ)) → Option (List (List ℕ)) → Bool
 printed_same = option_eq lines_same

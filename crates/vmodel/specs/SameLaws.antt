@@ -10,26 +10,16 @@ use Rattle.std.proofs.lemmas.Slice.Eq.{slice_eq-Decides}
 use Rattle.std.proofs.lemmas.Bool.Decides.{Decides-and, Decides-like}
 use Rattle.vbits.specs.Vectors.{vector_same}
 use Rattle.vbits.specs.Equal.{vectors_tell}
-use Rattle.vmodel.specs.declared.history.Cause.TheVariants.{Finish, Stop, Quiet, Limit}
-use Rattle.vmodel.specs.declared.history.Grain.TheVariants.{Process as ByProcess, Statement}
 use Rattle.vmodel.specs.declared.part.Part.TheVariants.{Whole, Bits}
 use Rattle.vmodel.specs.declared.process.Frame.TheVariants.{Executing, Repeating, Writing}
 use Rattle.vmodel.specs.Queue.{Later, Queue}
 use Rattle.vmodel.specs.State.{Process, State}
-use Rattle.vmodel.specs.Printed.{bag_cmp}
-use Rattle.vmodel.specs.Same.{values_same, frame_same, process_same, grain_same, cause_same, part_same, parts_same, slot_same, stand_same, regions_same, queue_same, held_back_same, lines_same, printed_same, state_same}
-
--- the test decides equality
-abbrev pub Tells : {A : Type 0} → (A → A → Bool) → Type 0
-Tells {A} same = (x y : A) → Decides (same x y) (x ≡ y)
-
-pub list_tells : {A : Type 0} (same : A → A → Bool) → Tells same → Tells (pointwise same)
-list_tells same each xs ys = slice_eq-Decides each xs ys (pointwise same xs ys) refl
-
-pub option_tells : {A : Type 0} (same : A → A → Bool) → Tells same → Tells (option_eq same)
-option_tells same each None None = (λ h. refl, λ h. refl)
-option_tells same each (Some x) (Some y) = Decides-like (same x y) (λ (h : x ≡ y). ap Some h) (λ h. cc) (each x y)
-option_tells same each _ _ = (λ h. cc, λ h. cc)
+use Rattle.sched_core.specs.BagLaws.{lines_tell}
+use Rattle.sched_core.specs.Bags.{lines_same}
+use Rattle.sched_core.specs.Ends.{cause_same, causes_tell}
+use Rattle.sched_core.specs.Settings.{grain_same, grains_tell}
+use Rattle.sched_core.specs.Tests.{Tells, list_tells, option_tells}
+use Rattle.vmodel.specs.Same.{values_same, frame_same, process_same, part_same, parts_same, slot_same, stand_same, regions_same, queue_same, held_back_same, printed_same, state_same}
 
 pub values_tell : Tells values_same
 values_tell = list_tells vector_same vectors_tell
@@ -50,18 +40,6 @@ processes_tell p q = Decides-like (process_same p q)
     (list_tells frame_same frames_tell p.continuation q.continuation)
     (option_tells vector_same vectors_tell p.held q.held))
     (option_tells nat_eq unsigned_Decides p.waits q.waits))
-
-pub grains_tell : Tells grain_same
-grains_tell ByProcess ByProcess = (λ h. refl, λ h. refl)
-grains_tell Statement Statement = (λ h. refl, λ h. refl)
-grains_tell _ _ = (λ h. cc, λ h. cc)
-
-pub causes_tell : Tells cause_same
-causes_tell Finish Finish = (λ h. refl, λ h. refl)
-causes_tell Stop Stop = (λ h. refl, λ h. refl)
-causes_tell Quiet Quiet = (λ h. refl, λ h. refl)
-causes_tell Limit Limit = (λ h. refl, λ h. refl)
-causes_tell _ _ = (λ h. cc, λ h. cc)
 
 pub part_tells : Tells part_same
 part_tells (Whole m v) (Whole n u) =
@@ -146,9 +124,6 @@ queues_tell q r = Decides-like (queue_same q r) whole parts
 pub held_back_tell : Tells held_back_same
 held_back_tell = option_tells (pointwise nat_eq) (list_tells nat_eq unsigned_Decides)
 
-pub lines_tell : Tells lines_same
-lines_tell = list_tells (pointwise nat_eq) (list_tells nat_eq unsigned_Decides)
-
 pub printed_tell : Tells printed_same
 printed_tell = option_tells lines_same lines_tell
 
@@ -200,12 +175,6 @@ frames_equivalent = decided frame_same frames_tell
 pub processes_equivalent : IsEquivalence process_same
 processes_equivalent = decided process_same processes_tell
 
-pub grains_equivalent : IsEquivalence grain_same
-grains_equivalent = decided grain_same grains_tell
-
-pub causes_equivalent : IsEquivalence cause_same
-causes_equivalent = decided cause_same causes_tell
-
 pub part_equivalent : IsEquivalence part_same
 part_equivalent = decided part_same part_tells
 
@@ -218,20 +187,5 @@ slots_equivalent = decided slot_same slots_tell
 pub queues_equivalent : IsEquivalence queue_same
 queues_equivalent = decided queue_same queues_tell
 
-pub lines_equivalent : IsEquivalence lines_same
-lines_equivalent = decided lines_same lines_tell
-
 pub states_equivalent : IsEquivalence state_same
 states_equivalent = decided state_same states_tell
-
--- ---- the order of bags
-
-pub bags_total : IsTotalOrder bag_cmp
-bags_total = lists_total nat_list_cmp_total
-
--- two are equal where neither stands first
-pub bags_tie : (a b : List (List ℕ)) → lines_same a b ≡ eq_by_cmp bag_cmp a b
-bags_tie = lists_ties (slice_cmp nat_cmp) texts_ties
-
-pub bags_ordered : IsPartialOrder lines_same (λ a b. Some (bag_cmp a b))
-bags_ordered = partial_order_from_agreeing_total bag_cmp bags_total (λ a b. refl) bags_tie

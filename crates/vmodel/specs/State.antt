@@ -4,7 +4,7 @@
 use Rattle.std.specs.Prelude.{ℕ, List, Option}
 use Rattle.vbits.specs.Vectors.{Vector}
 use Rattle.vmodel.specs.Queue.{Queue}
-use Rattle.vmodel.specs.declared.history.Cause.{Cause}
+use Rattle.sched_core.specs.declared.end.Cause.{Cause}
 use Rattle.vmodel.specs.declared.process.Frame.{Frame}
 
 -- what a process stands at (9.9.1)

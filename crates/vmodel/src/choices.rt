@@ -5,9 +5,9 @@ ghost use Rattle.std.specs.Option.{ForSome};
 ghost use Rattle.vmodel.specs.Choices.{in_order, active_choices, queue_choices, free_among, order_of, choices_by, IsWithin};
 
 use crate::choice::Choice;
-use crate::history::Grain;
 use crate::process_set::ProcessSet;
 use crate::queue::Queue;
+use sched_core::setting::Grain;
 
 // How many of these processes there are, the one that made the last step among them.
 fn active_count(last: Option<u32>, active: &ProcessSet) -> u32

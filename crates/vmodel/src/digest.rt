@@ -3,12 +3,12 @@
 ghost use Rattle.std.specs.Prelude.{◌≡◌, slice_get};
 ghost use Rattle.vmodel.specs.Digest.{digest_with, digest_of_end, digest_of_vector, digest_of_values, stand_of as stand_of_frame, digest_of_processes, digest_of_half, digest_of_set, digest_of_list, digest_of_part, digest_of_parts, digest_of_updates, digest_of_update_list, digest_of_time, digest_of_future, digest_of_last, digest_of_processes_ready, digest_of_events, digest_of_queue, digest_of_held, digest_of_lines, digest_of_printed};
 
-use crate::bag::{Bag, PrintedLine};
 use crate::part::{Kept, Part, Parts};
 use crate::process::{Frame, Process};
 use crate::process_set::ProcessSet;
 use crate::queue::{Future, Queue};
 use crate::state::State;
+use sched_core::bag::{Bag, PrintedLine};
 use std::collections::VecDeque;
 use std::hash::{Hash, Hasher};
 use vbits::Vec4;

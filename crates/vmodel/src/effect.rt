@@ -8,11 +8,11 @@ ghost use Rattle.vmodel.specs.Value.{assigned_parts as assigned_at, held_value a
 ghost use Rattle.vmodel.specs.Step.{execute, execute_at};
 ghost use Rattle.vmodel.specs.InnerStep.{wait_result, behind, step_result, effect_of_end, while_result};
 
-use crate::history::Cause;
 use crate::part::Parts;
 use crate::process::Frame;
 use crate::value::{assigned_one, assigned_parts, held_value, resumed_parts};
 use basis::NoMemory;
+use sched_core::end::Cause;
 use std::alloc::Global;
 use vbits::Vec4;
 use vdesign::action::{Action, Places, Target, Targets};

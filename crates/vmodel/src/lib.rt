@@ -3,7 +3,6 @@
 // The law: `slow_step` is `Step` of specs/Step.antt, to the letter. What all runs keep is said by `run_law`.
 #![tactic(auto)]
 
-pub mod bag;
 pub mod choice;
 mod choices;
 mod continuation;
@@ -15,6 +14,7 @@ mod holding;
 mod law;
 mod open;
 pub mod part;
+mod printed;
 pub mod process;
 pub mod process_set;
 pub mod queue;

@@ -3,13 +3,13 @@
 ghost use Rattle.std.specs.Prelude.{◌≡◌, ◌≤◌, IfOk, length, map};
 ghost use Rattle.vmodel.specs.Run.{opening as opening_state, opening_queue as opening_queue_of, opening_process, busy_from};
 
-use crate::history::Grain;
 use crate::process::Process;
 use crate::process_set::ProcessSet;
 use crate::queue::Queue;
 use crate::state::State;
 use crate::values::Values;
 use basis::NoMemory;
+use sched_core::setting::Grain;
 use std::alloc::Global;
 use std::collections::VecDeque;
 use vdesign::action::Places;

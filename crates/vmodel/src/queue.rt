@@ -4,10 +4,10 @@ ghost use Rattle.std.specs.Prelude.{◌≡◌, ◌<◌, ◌++◌, IfOk, OnOk};
 ghost use Rattle.std.specs.Option.{ForSome};
 ghost use Rattle.vmodel.specs.Same.{stand_same, regions_same};
 
-use crate::history::Grain;
 use crate::part::Parts;
 use crate::process_set::ProcessSet;
 use basis::NoMemory;
+use sched_core::setting::Grain;
 use std::alloc::Global;
 use std::collections::VecDeque;
 use std::marker::Model;

@@ -1,8 +1,8 @@
 -- Two explorations of the same files are of one setting.
 use Rattle.std.proofs.Common.{◌≡◌, ℕ, List, Option, sym, subst, ◌∙◌}
 use Rattle.vsrc.specs.Expansion.{expanded_text, expanded_timescale}
-use Rattle.vmodel.specs.declared.history.Departures.TheVariants.{Taking}
-use Rattle.vmodel.specs.declared.history.Looked.TheVariants.{Values}
+use Rattle.sched_core.specs.declared.setting.Departures.TheVariants.{Taking}
+use Rattle.sched_core.specs.declared.setting.Looked.TheVariants.{Values}
 use Rattle.vmodel.specs.Run.{Setting}
 use Rattle.vreport.specs.Agreement.{ExhaustedAgree}
 use Rattle.vreport.specs.Reports.{IsExploration}

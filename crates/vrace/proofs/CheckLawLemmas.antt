@@ -2,8 +2,8 @@
 use Rattle.std.proofs.Common.{◌≡◌, ℕ, zero, suc, ◌<◌, ◌^◌, List, [], ◌∷◌, length, slice_get, Some, inl, inr, sym, subst, ◌∙◌}
 use Rattle.std.proofs.lemmas.Option.{same_Some}
 use Rattle.vsrc.specs.Expansion.{expanded_text, expanded_timescale}
-use Rattle.vmodel.specs.declared.history.Departures.TheVariants.{Taking}
-use Rattle.vmodel.specs.declared.history.Looked.TheVariants.{Values}
+use Rattle.sched_core.specs.declared.setting.Departures.TheVariants.{Taking}
+use Rattle.sched_core.specs.declared.setting.Looked.TheVariants.{Values}
 use Rattle.vmodel.specs.Run.{Setting}
 use Rattle.report_text.specs.Report.{End, Report}
 use Rattle.report_text.specs.WellFormed.{IsReportText, OneReportForText}

@@ -7,10 +7,10 @@ use Rattle.report_check.specs.FirstBad.{IsFirstBad}
 use Rattle.report_check.specs.declared.check.FirstBad.{FirstBad}
 use Rattle.report_check.specs.declared.check.FirstBad.TheVariants.{Head, End as BadEnd, Race as BadRace}
 use Rattle.vdesign.specs.Design.{Design}
-use Rattle.vmodel.specs.declared.history.Grain.{Grain}
+use Rattle.sched_core.specs.declared.setting.Grain.{Grain}
 use Rattle.vrace.specs.Replays.{AreRead, IsDesignOfFiles}
-use Rattle.vmodel.specs.declared.history.Departures.TheVariants.{Taking}
-use Rattle.vmodel.specs.declared.history.Looked.TheVariants.{Values}
+use Rattle.sched_core.specs.declared.setting.Departures.TheVariants.{Taking}
+use Rattle.sched_core.specs.declared.setting.Looked.TheVariants.{Values}
 use Rattle.vmodel.specs.Run.{Setting}
 use Rattle.vrace.specs.Checks.{IsCheckReason, IsMachineOf, IsReportReason, IsTrueText, fault_by}
 use Rattle.vrace.specs.declared.fault.Fault.{Fault}

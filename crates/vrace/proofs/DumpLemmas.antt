@@ -3,7 +3,7 @@ use Rattle.std.proofs.Common.{◌≡◌, ℕ, List, Option, Result, Ok, Err, OnO
 use Rattle.sched_core.specs.Replay.{IsReplayReason}
 use Rattle.sched_core.specs.declared.run.ReplayFault.{ReplayFault}
 use Rattle.sched_core.specs.declared.run.ReplayFault.TheVariants as replay
-use Rattle.vmodel.specs.declared.history.End.{End}
+use Rattle.sched_core.specs.declared.end.End.{End}
 use Rattle.vmodel.specs.Run.{Setting, rules_of, history_after}
 use Rattle.vmodel.specs.RunProgress.{Finishes}
 use Rattle.basis.specs.Reasons.{Because}

@@ -16,8 +16,8 @@ use Rattle.vhierarchy.specs.Instances.{Elaborates}
 use Rattle.vhierarchy.specs.Laws.{ElaboratesOneWay}
 use Rattle.sched_core.specs.LogText.{OneLogForText}
 use Rattle.sched_core.specs.Replay.{EndsAfter}
-use Rattle.vmodel.specs.declared.history.Departures.TheVariants.{Taking}
-use Rattle.vmodel.specs.declared.history.Looked.TheVariants.{Values}
+use Rattle.sched_core.specs.declared.setting.Departures.TheVariants.{Taking}
+use Rattle.sched_core.specs.declared.setting.Looked.TheVariants.{Values}
 use Rattle.vmodel.specs.Run.{Setting, rules_of, history_after}
 use Rattle.vrace.specs.Request.{Request}
 use Rattle.vrace.specs.Replays.{AreRead, texts_of, IsTreeOf, IsDesignOf, IsDesignOfFiles, grain_under, Replayed, setting_of, text_of_run, IsShown}

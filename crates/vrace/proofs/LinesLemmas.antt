@@ -6,7 +6,7 @@ use Rattle.sched_core.specs.declared.run.ReplayFault.{ReplayFault}
 use Rattle.sched_core.specs.declared.run.ReplayFault.TheVariants as replay
 use Rattle.vdesign.specs.Design.{Design}
 use Rattle.vmodel.specs.declared.history.Item.{Item}
-use Rattle.vmodel.specs.declared.history.End.{End}
+use Rattle.sched_core.specs.declared.end.End.{End}
 use Rattle.vmodel.specs.Run.{Setting, rules_of, items_after}
 use Rattle.vmodel.specs.RunProgress.{Finishes, IsOnItsWay}
 use Rattle.vmachine.specs.Handed.{IsHanded, LeavesSink}

@@ -1,7 +1,7 @@
 -- From the run of a design to the replay of files.
 use Rattle.std.proofs.Common.{◌≡◌, inl, inr, ℕ, List, Option, refl, sym, ap, subst, ◌∙◌}
 use Rattle.vmodel.specs.Run.{Setting, rules_of, history_after}
-use Rattle.vmodel.specs.declared.history.End.{End}
+use Rattle.sched_core.specs.declared.end.End.{End}
 use Rattle.vmodel.specs.RunProgress.{Finishes}
 use Rattle.sched_core.specs.Replay.{IsMissing, TakesMore}
 use Rattle.vcd_text.specs.DumpText.{vcd}

@@ -8,8 +8,8 @@ use Rattle.statebook.specs.declared.reason.Reason.TheVariants.{Entries}
 use Rattle.explore.specs.declared.findings.Status.TheVariants as explored
 use Rattle.explore.specs.Found.{HasEntries}
 use Rattle.vdesign.specs.Design.{Design}
-use Rattle.vmodel.specs.declared.history.Departures.TheVariants.{Taking}
-use Rattle.vmodel.specs.declared.history.Looked.TheVariants.{Values}
+use Rattle.sched_core.specs.declared.setting.Departures.TheVariants.{Taking}
+use Rattle.sched_core.specs.declared.setting.Looked.TheVariants.{Values}
 use Rattle.vmodel.specs.Run.{Setting, rules_of}
 use Rattle.vcd_text.specs.Metered.{Grows, Stops}
 use Rattle.vcd_text.specs.declared.metered.Metered.{Metered}

@@ -15,11 +15,11 @@ use Rattle.sched_core.specs.Logs.{IsLog}
 use Rattle.sched_core.specs.LogText.{named_log_text}
 use Rattle.sched_core.specs.declared.log.LogHead.{LogHead}
 use Rattle.sched_core.specs.declared.log.LogHead.TheVariants as head
-use Rattle.vmodel.specs.declared.history.End.{End}
-use Rattle.vmodel.specs.declared.history.Departures.TheVariants.{Taking}
-use Rattle.vmodel.specs.declared.history.Looked.TheVariants.{Values}
-use Rattle.vmodel.specs.declared.history.Grain.{Grain}
-use Rattle.vmodel.specs.declared.history.Grain.TheVariants as grains
+use Rattle.sched_core.specs.declared.end.End.{End}
+use Rattle.sched_core.specs.declared.setting.Departures.TheVariants.{Taking}
+use Rattle.sched_core.specs.declared.setting.Looked.TheVariants.{Values}
+use Rattle.sched_core.specs.declared.setting.Grain.{Grain}
+use Rattle.sched_core.specs.declared.setting.Grain.TheVariants as grains
 use Rattle.vmodel.specs.Run.{Setting, history_after}
 use Rattle.vmodel.specs.RunProgress.{Finishes}
 use Rattle.vmodel.specs.History.{History}

@@ -1,7 +1,7 @@
 -- *product rule*: What is asked of a call: the top module's name, the time limit, the steps of one run, and the grain.
 use Rattle.std.specs.Prelude.{ℕ, ◌≤◌, List, Option}
 use Rattle.vmodules.specs.Inner.{named_text}
-use Rattle.vmodel.specs.declared.history.Grain.{Grain}
+use Rattle.sched_core.specs.declared.setting.Grain.{Grain}
 use Rattle.statebook.specs.Limits.{AreLimits}
 use Rattle.vrace.specs.declared.options.Options.{Options}
 

@@ -1,7 +1,7 @@
 -- *internal*: The printed lines of one run (IEEE 1364-2005, 17.1), on their way to what takes texts.
 use Rattle.std.specs.Prelude.{◌≡◌, ℕ, List, []}
 use Rattle.basis.specs.declared.memory.OrMemory.{OrMemory}
-use Rattle.vmodel.specs.declared.history.End.{End}
+use Rattle.sched_core.specs.declared.end.End.{End}
 use Rattle.vmodel.specs.Run.{Setting, items_after}
 use Rattle.vmodel.specs.RunProgress.{Finishes}
 use Rattle.lines_text.specs.LinesText.{lines}

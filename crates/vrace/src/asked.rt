@@ -7,8 +7,8 @@ ghost use Rattle.vrace.specs.declared.fault.Fault.TheVariants.{OutOfLimit};
 
 use crate::fault::Fault;
 use crate::options::Options;
+use sched_core::setting::Grain;
 use statebook::Limits;
-use vmodel::history::Grain;
 
 /// The latest time to which a run may go, 2^62 - 1.
 const UNTIL_MAX: u64 = 4_611_686_018_427_387_903;

@@ -13,11 +13,11 @@ ghost use Rattle.vrace.specs.RunLines.{HasEnd, IsLinesFront, IsFrontOf, IsHeldLi
 
 use basis::OrMemory;
 use lines_text::{InForce, LinesSink};
+use sched_core::end::End;
 use sched_core::{Log, ReplayFault};
 use std::alloc::Global;
 use vcd_text::{ByteSink, HeldText, put};
 use vmachine::{Machine, Run, RunFault};
-use vmodel::history::End;
 
 // Hands what a run gives, which ends, to a sink, from where it stands.
 fn fill_on<O: ByteSink>(

@@ -2,8 +2,8 @@
 
 ghost use Rattle.std.specs.Prelude.{◌≤◌};
 
+use sched_core::setting::Grain;
 use statebook::Limits;
-use vmodel::history::Grain;
 
 /// How a text is run: its top module, or none where the text has only one; the time limit in units of the precision; how
 /// far runs are explored and how many steps one may take; and the grain (docs/SCHEDULING.md).

@@ -4,7 +4,7 @@ ghost use Rattle.std.specs.Prelude.{◌≡◌, ◌⊎◌, ℕ, List, OnOk, IfOk,
 ghost use Rattle.sched_core.specs.LogText.{IsNamedLogText};
 ghost use Rattle.sched_core.specs.Replay.{IsReplayReason};
 ghost use Rattle.vsrc.specs.Source.{file_bytes};
-ghost use Rattle.vmodel.specs.declared.history.End.{End};
+ghost use Rattle.sched_core.specs.declared.end.End.{End};
 ghost use Rattle.vmodel.specs.RunProgress.{Finishes};
 ghost use Rattle.vmodel.specs.Run.{rules_of};
 ghost use Rattle.vcd_text.specs.Metered.{Grows};
@@ -20,13 +20,13 @@ use crate::fault::Fault;
 use crate::lines::{HeldLines, LinesFront, hold_lines, write_lines, write_lines_from};
 use crate::options::Options;
 use basis::OrMemory;
+use sched_core::setting::Grain;
 use sched_core::{Log, LogFault, LogHead, ReplayFault, read_named_log, replay};
 use std::alloc::Global;
 use std::io::Write;
 use trace_text::Origins;
 use vcd_text::{HELD_BYTES, HeldText, Metered, WriteFault, put};
 use vmachine::{Machine, machine_law};
-use vmodel::history::Grain;
 use vreport::{DumpFront, HeldDump, hold_dump, write_dump, write_from};
 
 /// What a replay shows of a run.

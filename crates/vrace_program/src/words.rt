@@ -2,8 +2,8 @@
 
 use basis::NoMemory;
 use clap::{Arg, ArgAction, ArgMatches, Command, value_parser};
+use sched_core::setting::Grain;
 use std::alloc::Global;
-use vmodel::history::Grain;
 use vrace::Show;
 
 const PAGES: &str =

@@ -4,7 +4,7 @@ use Rattle.std.proofs.lemmas.Option.{slice_get-map}
 use Rattle.basis.proofs.Lists.{listed_place, of_mapped}
 use Rattle.statebook.specs.declared.limits.Limits.{Limits}
 use Rattle.vbits.specs.Vectors.{Vector}
-use Rattle.vmodel.specs.declared.history.Cause.{Cause}
+use Rattle.sched_core.specs.declared.end.Cause.{Cause}
 use Rattle.vmodel.specs.Run.{Setting}
 use Rattle.racebook.specs.Races as found
 use Rattle.report_text.specs.declared.report.Outcome.TheVariants.{Exhausted}

@@ -11,9 +11,9 @@ use Rattle.basis.specs.declared.memory.OrMemory.TheVariants.{Fault, Memory}
 use Rattle.sched_core.specs.Rules.{IsRun, stands}
 use Rattle.statebook.specs.declared.limits.Limits.{Limits}
 use Rattle.explore.specs.Found.{AreFound, IsFound}
-use Rattle.vmodel.specs.declared.history.Cause.{Cause}
-use Rattle.vmodel.specs.declared.history.Cause.TheVariants.{Finish, Stop, Quiet, Limit}
-use Rattle.vmodel.specs.declared.history.End.{End}
+use Rattle.sched_core.specs.declared.end.Cause.{Cause}
+use Rattle.sched_core.specs.declared.end.Cause.TheVariants.{Finish, Stop, Quiet, Limit}
+use Rattle.sched_core.specs.declared.end.End.{End}
 use Rattle.vmodel.specs.State.{State}
 use Rattle.vmodel.specs.Choices.{choices}
 use Rattle.vmodel.specs.Run.{Setting, rules_of, state_after, end_of, history_after}

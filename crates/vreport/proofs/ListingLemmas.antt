@@ -5,8 +5,8 @@ use Rattle.std.proofs.lemmas.Bool.{cases_lt}
 use Rattle.basis.proofs.Lists.{last_or_before, listed_place, place_within, stands_in_front, stands_last}
 use Rattle.std.proofs.lemmas.Option.{same_Some}
 use Rattle.statebook.specs.declared.limits.Limits.{Limits}
-use Rattle.vmodel.specs.declared.history.Cause.{Cause}
-use Rattle.vmodel.specs.declared.history.Cause.TheVariants.{Finish, Stop, Quiet, Limit}
+use Rattle.sched_core.specs.declared.end.Cause.{Cause}
+use Rattle.sched_core.specs.declared.end.Cause.TheVariants.{Finish, Stop, Quiet, Limit}
 use Rattle.vmodel.specs.Run.{Setting}
 use Rattle.vmachine.specs.declared.machine_state.MachineState.{MachineState}
 use Rattle.report_text.specs.Report.{End as ReportEnd}

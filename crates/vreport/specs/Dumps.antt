@@ -1,7 +1,7 @@
 -- *product rule*: The dump of one run (IEEE 1364-2005, clause 18), on its way to what takes texts. Only `IsRunDump` has to be believed.
 use Rattle.std.specs.Prelude.{◌≡◌, ℕ, List, []}
 use Rattle.basis.specs.declared.memory.OrMemory.{OrMemory}
-use Rattle.vmodel.specs.declared.history.End.{End}
+use Rattle.sched_core.specs.declared.end.End.{End}
 use Rattle.vmodel.specs.Run.{Setting, history_after}
 use Rattle.vmodel.specs.RunProgress.{Finishes}
 use Rattle.vmodel.specs.Run.{items_after}

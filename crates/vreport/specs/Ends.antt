@@ -5,7 +5,7 @@ use Rattle.explore.specs.declared.findings.Findings.{Findings}
 use Rattle.vmachine.specs.declared.machine_state.MachineState.{MachineState}
 use Rattle.racebook.specs.Races.{IsWhole}
 use Rattle.statebook.specs.declared.limits.Limits.{Limits}
-use Rattle.vmodel.specs.declared.history.Cause.{Cause}
+use Rattle.sched_core.specs.declared.end.Cause.{Cause}
 use Rattle.vmachine.specs.Machines.{Stands}
 use Rattle.vmachine.specs.Reads.{end_in}
 use Rattle.vmodel.specs.State.{State}

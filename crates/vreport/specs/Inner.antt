@@ -6,9 +6,9 @@ use Rattle.std.specs.declared.cmp.Ordering.{Ordering}
 use Rattle.std.specs.Cmp.Lexicographic.{slice_cmp}
 use Rattle.std.specs.declared.cmp.Ordering.TheVariants.{Less, Equal}
 use Rattle.sched_core.specs.Logs.{IsLog}
-use Rattle.vmodel.specs.declared.history.Cause.{Cause}
-use Rattle.vmodel.specs.declared.history.Cause.TheVariants.{Finish, Stop, Quiet, Limit}
-use Rattle.vmodel.specs.declared.history.End.{End}
+use Rattle.sched_core.specs.declared.end.Cause.{Cause}
+use Rattle.sched_core.specs.declared.end.Cause.TheVariants.{Finish, Stop, Quiet, Limit}
+use Rattle.sched_core.specs.declared.end.End.{End}
 use Rattle.vmodel.specs.State.{State}
 use Rattle.vmodel.specs.Run.{Setting}
 use Rattle.vmachine.specs.declared.machine_state.MachineState.{MachineState}

@@ -12,11 +12,11 @@ ghost use Rattle.vmodel.specs.RunProgress.{Finishes};
 ghost use Rattle.vreport.specs.Dumps.{HasDump, IsDumpFront, IsFrontOf, IsHeldDump, StopsDump, TakesDump};
 
 use basis::OrMemory;
+use sched_core::end::End;
 use sched_core::{Log, ReplayFault};
 use std::alloc::Global;
 use vcd_text::{ByteSink, DumpSink, HeldText, Progress, put};
 use vmachine::{Machine, Run, RunFault};
-use vmodel::history::End;
 
 // Hands what a run gives, which ends, to a sink, from where it stands.
 fn fill_on<O: ByteSink>(

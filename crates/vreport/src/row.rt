@@ -7,9 +7,9 @@ use crate::values::line_of_values;
 use basis::NoMemory;
 use explore::Findings;
 use sched_core::Log;
+use sched_core::end::Cause;
 use std::alloc::Global;
 use vmachine::{Machine, MachineState};
-use vmodel::history::Cause;
 
 /// A mark at which a run ends: its time, the order of its cause, the line of its values, how many departures lead there,
 /// and the place of the mark. Rows are compared in the order of these.

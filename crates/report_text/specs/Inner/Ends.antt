@@ -3,7 +3,7 @@ use Rattle.std.specs.Prelude.{◌≡◌, ℕ, ◌<◌, ◌-◌, ◌^◌, true, L
 use Rattle.std.specs.Borrow.{Bor}
 use Rattle.sched_core.specs.Logs.{IsLog}
 use Rattle.sched_core.specs.LogText.{log_text}
-use Rattle.vmodel.specs.declared.history.Cause.{Cause}
+use Rattle.sched_core.specs.declared.end.Cause.{Cause}
 use Rattle.report_text.specs.Inner.Fronts.{lacks}
 use Rattle.report_text.specs.Inner.Lists.{Listed}
 use Rattle.report_text.specs.Inner.Places.{Place, Stands, Took}

@@ -1,7 +1,7 @@
 -- *internal*: The lines of a head before its variables.
 use Rattle.std.specs.Prelude.{◌≡◌, ℕ, ◌<◌, ◌≤◌, ◌^◌, true, List, ◌∷◌, ◌++◌, codes, decimal}
-use Rattle.vmodel.specs.declared.history.Grain.{Grain}
-use Rattle.vmodel.specs.declared.history.Grain.TheVariants.{Process}
+use Rattle.sched_core.specs.declared.setting.Grain.{Grain}
+use Rattle.sched_core.specs.declared.setting.Grain.TheVariants.{Process}
 use Rattle.report_text.specs.declared.report.Version.{Version}
 use Rattle.report_text.specs.declared.report.Version.TheVariants.{One, Two}
 use Rattle.report_text.specs.declared.report.Outcome.{Outcome}

@@ -1,9 +1,9 @@
 use Rattle.std.proofs.Common.{ap, refl, ◌∙◌}
 use Rattle.vsrc.specs.Source.{file_bytes}
-use Rattle.vmodel.specs.declared.history.Departures.TheVariants.{Taking}
-use Rattle.vmodel.specs.declared.history.Looked.TheVariants.{Values}
+use Rattle.sched_core.specs.declared.setting.Departures.TheVariants.{Taking}
+use Rattle.sched_core.specs.declared.setting.Looked.TheVariants.{Values}
 use Rattle.vmodel.specs.Run.{Setting}
-use Rattle.vmodel.specs.declared.history.Grain.{Grain}
+use Rattle.sched_core.specs.declared.setting.Grain.{Grain}
 use Rattle.vrace.specs.Request.{request_of}
 use Rattle.vrace.specs.Replays.{Replayed}
 use Rattle.vrace.proofs.replay.replay_input_of.Goals as goal

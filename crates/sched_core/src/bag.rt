@@ -3,11 +3,9 @@
 ghost use Rattle.std.specs.Prelude.{◌≡◌, ◌≤◌, ◌++◌, [], length, IfOk, OnOk, OnErr};
 ghost use Rattle.std.specs.Ordering.{nat_cmp};
 ghost use Rattle.std.specs.Cmp.Lexicographic.{slice_cmp};
-ghost use Rattle.vmodel.specs.Printed.{with_line, with_item, with_lines, lines_before, printed_after};
-ghost use Rattle.vmodel.specs.Inner.{place_of_line};
+ghost use Rattle.sched_core.specs.Bags.{with_line};
+ghost use Rattle.sched_core.specs.Inner.Bags.{place_of_line};
 
-use crate::choice::Choice;
-use crate::history::Item;
 use basis::NoMemory;
 use std::alloc::Global;
 use std::cmp::Ordering;
@@ -118,8 +116,8 @@ impl Model for Bag {
 /// Two are equal where they have the same lines, each as often.
 impl PartialEq for Bag {
     ghost use Rattle.std.specs.Cmp.{partial_equiv_from_equiv};
-    ghost use Rattle.vmodel.specs.Same.{lines_same};
-    ghost use Rattle.vmodel.specs.SameLaws.{lines_equivalent};
+    ghost use Rattle.sched_core.specs.Bags.{lines_same};
+    ghost use Rattle.sched_core.specs.BagLaws.{lines_equivalent};
 
     ghost eq = { lines_same };
 
@@ -131,7 +129,7 @@ impl PartialEq for Bag {
 }
 
 impl Eq for Bag {
-    ghost use Rattle.vmodel.specs.SameLaws.{lines_equivalent};
+    ghost use Rattle.sched_core.specs.BagLaws.{lines_equivalent};
 
     ghost laws = { lines_equivalent };
 }
@@ -139,8 +137,8 @@ impl Eq for Bag {
 /// Bags are compared line by line, a front before the longer.
 impl PartialOrd for Bag {
     ghost use Rattle.std.specs.Prelude.{Some};
-    ghost use Rattle.vmodel.specs.Printed.{bag_cmp};
-    ghost use Rattle.vmodel.specs.SameLaws.{bags_ordered};
+    ghost use Rattle.sched_core.specs.Bags.{bag_cmp};
+    ghost use Rattle.sched_core.specs.BagLaws.{bags_ordered};
 
     ghost partial_cmp = { λ a b. Some (bag_cmp a b) };
 
@@ -153,8 +151,8 @@ impl PartialOrd for Bag {
 
 impl Ord for Bag {
     ghost use Rattle.std.specs.Prelude.{refl};
-    ghost use Rattle.vmodel.specs.Printed.{bag_cmp};
-    ghost use Rattle.vmodel.specs.SameLaws.{bags_total, bags_tie};
+    ghost use Rattle.sched_core.specs.Bags.{bag_cmp};
+    ghost use Rattle.sched_core.specs.BagLaws.{bags_total, bags_tie};
 
     ghost cmp = { bag_cmp };
 
@@ -244,61 +242,5 @@ impl Bag {
         ensures { result.now ≡ self.now }
     {
         &self.lines
-    }
-
-    // The bag with this item, where it is a line.
-    fn insert_item(&mut self, item: &Item) -> Result<(), NoMemory>
-        ensures { OnOk result (self.new ≡ with_item item.now self.old) }
-    {
-        match item {
-            Item::Line(text) => self.insert(text.as_bytes()),
-            Item::SlotEnd { .. } => Ok(()),
-            Item::Dump(_) => Ok(()),
-            Item::Monitor(_) => Ok(()),
-        }
-    }
-
-    // The bag with the lines among these items.
-    fn insert_items(&mut self, items: &[Item]) -> Result<(), NoMemory>
-        ensures { OnOk result (self.new ≡ with_lines items.now self.old) }
-    {
-        for item in items {
-            self.insert_item(item)?;
-        }
-        Ok(())
-    }
-
-    // The bag after a step by this choice, which gave these items to the history.
-    fn take_items(&mut self, choice: Choice, items: &[Item]) -> Result<(), NoMemory>
-        ensures { OnOk result (self.new ≡ with_lines items.now (lines_before choice self.old)) }
-    {
-        if let Choice::Advance = choice {
-            self.clear();
-        }
-        self.insert_items(items)
-    }
-}
-
-/// A bag of the same lines, where there is one.
-pub(crate) fn copy_printed(alloc: Global, printed: &Option<Bag>) -> Result<Option<Bag>, NoMemory>
-    ensures { IfOk result (λ copied. copied ≡ printed.now) }
-{
-    match printed {
-        None => Ok(None),
-        Some(bag) => Ok(Some(bag.copy(alloc)?)),
-    }
-}
-
-/// The bag, where there is one, after a step by this choice, which gave these items to the history.
-pub(crate) fn print_items(
-    printed: &mut Option<Bag>,
-    choice: Choice,
-    items: &[Item],
-) -> Result<(), NoMemory>
-    ensures { OnOk result (printed.new ≡ printed_after choice items.now printed.old) }
-{
-    match printed {
-        None => Ok(()),
-        Some(bag) => bag.take_items(choice, items),
     }
 }

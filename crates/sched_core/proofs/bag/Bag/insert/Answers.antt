@@ -1,8 +1,8 @@
 use Rattle.std.proofs.Common.{◌∙◌, ap}
-use Rattle.vmodel.specs.Inner.{place_of_line}
-use Rattle.vmodel.specs.Printed.{with_line}
-use Rattle.vmodel.proofs.BagLemmas.{inserted}
-use Rattle.vmodel.proofs.bag.Bag.insert.Goals as goal
+use Rattle.sched_core.specs.Inner.Bags.{place_of_line}
+use Rattle.sched_core.specs.Bags.{with_line}
+use Rattle.sched_core.proofs.BagLemmas.{inserted}
+use Rattle.sched_core.proofs.bag.Bag.insert.Goals as goal
 
 pub returns-clause-ok : goal.returns-clause-ok
 returns-clause-ok c =

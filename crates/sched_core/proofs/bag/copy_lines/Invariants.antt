@@ -1,5 +1,5 @@
 use Rattle.std.proofs.Common.{◌≡◌, ◌++◌, drop}
-use Rattle.vmodel.proofs.bag.copy_lines.Given as goal
+use Rattle.sched_core.proofs.bag.copy_lines.Given as goal
 
 abbrev pub invariant-loop-line : goal.invariant-loop-line
 invariant-loop-line l = l.copied.items ++ drop l.line-index l.lines ≡ l.lines

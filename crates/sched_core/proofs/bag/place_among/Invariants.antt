@@ -1,6 +1,6 @@
 use Rattle.std.proofs.Common.{◌≡◌, ◌+◌, drop}
-use Rattle.vmodel.specs.Inner.{place_of_line}
-use Rattle.vmodel.proofs.bag.place_among.Given as goal
+use Rattle.sched_core.specs.Inner.Bags.{place_of_line}
+use Rattle.sched_core.proofs.bag.place_among.Given as goal
 
 abbrev pub invariant-loop-other : goal.invariant-loop-other
 invariant-loop-other l =
