@@ -2,7 +2,7 @@
 
 use basis::OrMemory;
 use sched_core::{
-    Grid, Log, LogHead, ReplayFault, Square, read_log, read_named_log, replay, write_log,
+    Grid, Log, LogFault, LogHead, ReplayFault, Square, read_log, read_named_log, replay, write_log,
     write_named_log,
 };
 use std::test::Fail;
@@ -35,6 +35,21 @@ fn named_log_keeps_its_head(rt: HostRuntime) -> Result<(), Fail> {
     assert!(rt; head == LogHead::Statement);
     let text = write_named_log(rt.alloc(), head, &log)?;
     assert_eq!(rt; text.as_slice(), b"statement/7:1".as_slice());
+    Ok(())
+}
+
+#[test]
+fn head_tells_that_departures_hold_back(rt: HostRuntime) -> Result<(), Fail> {
+    let (head, log) = read_named_log(rt.alloc(), b"process-holding/0:3")?;
+    assert!(rt; head == LogHead::ProcessHolding);
+    let text = write_named_log(rt.alloc(), head, &log)?;
+    assert_eq!(rt; text.as_slice(), b"process-holding/0:3".as_slice());
+    let (head, log) = read_named_log(rt.alloc(), b"statement-holding/-")?;
+    assert!(rt; head == LogHead::StatementHolding);
+    let text = write_named_log(rt.alloc(), head, &log)?;
+    assert_eq!(rt; text.as_slice(), b"statement-holding/-".as_slice());
+    assert!(rt; matches!(&read_named_log(rt.alloc(), b"holding/0:3"), Err(OrMemory::Fault(LogFault::IllFormed))));
+    assert!(rt; matches!(&read_named_log(rt.alloc(), b"process-holding0:3"), Err(OrMemory::Fault(LogFault::IllFormed))));
     Ok(())
 }
 

@@ -1,12 +1,12 @@
--- The name of a grain before a log can be told from the log.
-use Rattle.std.proofs.Common.{◌≡◌, ℕ, ◌^◌, ◌<◌, true, List, [], ◌∷◌, ◌++◌, length, get_or, drop, arith, ap, refl, sym, subst, ◌∙◌, Option, None, Some, MatchOption, IfNone}
+-- What a log names before a slash can be told from the log, and each name from the others.
+use Rattle.std.proofs.Common.{◌≡◌, ◌≢◌, ℕ, ◌^◌, ◌<◌, true, List, [], ◌∷◌, ◌++◌, length, get_or, drop, arith, ap, refl, sym, subst, ◌∙◌, Option, None, Some, MatchOption, IfNone}
 use Rattle.std.specs.Prelude.{codes}
 use Rattle.std.specs.Str.{all_ascii_digits}
 use Rattle.std.specs.Fmt.{decimal}
 use Rattle.std.proofs.lemmas.Fmt.{decimal_nonempty}
 use Rattle.std.proofs.lemmas.Str.Parse.{tells_all_ascii_digits}
 use Rattle.sched_core.specs.declared.log.LogHead.{LogHead}
-use Rattle.sched_core.specs.declared.log.LogHead.TheVariants.{Plain, Process, Statement}
+use Rattle.sched_core.specs.declared.log.LogHead.TheVariants.{Plain, Process, Statement, ProcessHolding, StatementHolding}
 use Rattle.sched_core.specs.Logs.{IsLog}
 use Rattle.sched_core.specs.LogText.{more_text, log_text, named_log_text}
 use Rattle.sched_core.proofs.TextLemmas.{decimal_digits, member_whole}
@@ -43,6 +43,14 @@ named_process text rest Statement log h e f =
     let first : get_or text 0 0 ≡ 112 = ap (λ t. get_or t 0 0) e in
     let other : get_or text 0 0 ≡ 115 = ap (λ t. get_or t 0 0) f in
     absurd (omega arith)
+named_process text rest ProcessHolding log h e f =
+    let this : get_or text 7 0 ≡ 47 = ap (λ t. get_or t 7 0) e in
+    let other : get_or text 7 0 ≡ 45 = ap (λ t. get_or t 7 0) f in
+    absurd (omega arith)
+named_process text rest StatementHolding log h e f =
+    let first : get_or text 0 0 ≡ 112 = ap (λ t. get_or t 0 0) e in
+    let other : get_or text 0 0 ≡ 115 = ap (λ t. get_or t 0 0) f in
+    absurd (omega arith)
 
 pub named_statement : (text rest : List ℕ) (head : LogHead) (log : List (ℕ × ℕ)) → IsLog log → text ≡ codes "statement/" ++ rest → text ≡ named_log_text head log → (Statement ≡ head) × (rest ≡ log_text log)
 named_statement text rest Plain log h e f =
@@ -53,6 +61,58 @@ named_statement text rest Process log h e f =
     let other : get_or text 0 0 ≡ 112 = ap (λ t. get_or t 0 0) f in
     absurd (omega arith)
 named_statement text rest Statement log h e f = (refl, ap (drop 10) (sym e ∙ f))
+named_statement text rest ProcessHolding log h e f =
+    let first : get_or text 0 0 ≡ 115 = ap (λ t. get_or t 0 0) e in
+    let other : get_or text 0 0 ≡ 112 = ap (λ t. get_or t 0 0) f in
+    absurd (omega arith)
+named_statement text rest StatementHolding log h e f =
+    let this : get_or text 9 0 ≡ 47 = ap (λ t. get_or t 9 0) e in
+    let other : get_or text 9 0 ≡ 45 = ap (λ t. get_or t 9 0) f in
+    absurd (omega arith)
+
+pub named_process_holding : (text rest : List ℕ) (head : LogHead) (log : List (ℕ × ℕ)) → IsLog log → text ≡ codes "process-holding/" ++ rest → text ≡ named_log_text head log → (ProcessHolding ≡ head) × (rest ≡ log_text log)
+named_process_holding text rest Plain log h e f =
+    let first : 112 ≡ get_or (log_text log) 0 0 = ap (λ t. get_or t 0 0) (sym e ∙ f) in
+    absurd (omega (arith, log_first log h))
+named_process_holding text rest Process log h e f =
+    let this : get_or text 7 0 ≡ 45 = ap (λ t. get_or t 7 0) e in
+    let other : get_or text 7 0 ≡ 47 = ap (λ t. get_or t 7 0) f in
+    absurd (omega arith)
+named_process_holding text rest Statement log h e f =
+    let first : get_or text 0 0 ≡ 112 = ap (λ t. get_or t 0 0) e in
+    let other : get_or text 0 0 ≡ 115 = ap (λ t. get_or t 0 0) f in
+    absurd (omega arith)
+named_process_holding text rest ProcessHolding log h e f = (refl, ap (drop 16) (sym e ∙ f))
+named_process_holding text rest StatementHolding log h e f =
+    let first : get_or text 0 0 ≡ 112 = ap (λ t. get_or t 0 0) e in
+    let other : get_or text 0 0 ≡ 115 = ap (λ t. get_or t 0 0) f in
+    absurd (omega arith)
+
+pub named_statement_holding : (text rest : List ℕ) (head : LogHead) (log : List (ℕ × ℕ)) → IsLog log → text ≡ codes "statement-holding/" ++ rest → text ≡ named_log_text head log → (StatementHolding ≡ head) × (rest ≡ log_text log)
+named_statement_holding text rest Plain log h e f =
+    let first : 115 ≡ get_or (log_text log) 0 0 = ap (λ t. get_or t 0 0) (sym e ∙ f) in
+    absurd (omega (arith, log_first log h))
+named_statement_holding text rest Process log h e f =
+    let first : get_or text 0 0 ≡ 115 = ap (λ t. get_or t 0 0) e in
+    let other : get_or text 0 0 ≡ 112 = ap (λ t. get_or t 0 0) f in
+    absurd (omega arith)
+named_statement_holding text rest Statement log h e f =
+    let this : get_or text 9 0 ≡ 45 = ap (λ t. get_or t 9 0) e in
+    let other : get_or text 9 0 ≡ 47 = ap (λ t. get_or t 9 0) f in
+    absurd (omega arith)
+named_statement_holding text rest ProcessHolding log h e f =
+    let first : get_or text 0 0 ≡ 115 = ap (λ t. get_or t 0 0) e in
+    let other : get_or text 0 0 ≡ 112 = ap (λ t. get_or t 0 0) f in
+    absurd (omega arith)
+named_statement_holding text rest StatementHolding log h e f = (refl, ap (drop 18) (sym e ∙ f))
+
+-- where no name stands before it, the text is that of a log alone
+pub named_plain : (text : List ℕ) (head : LogHead) (log : List (ℕ × ℕ)) → ((rest : List ℕ) → text ≢ codes "process/" ++ rest) → ((rest : List ℕ) → text ≢ codes "statement/" ++ rest) → ((rest : List ℕ) → text ≢ codes "process-holding/" ++ rest) → ((rest : List ℕ) → text ≢ codes "statement-holding/" ++ rest) → text ≡ named_log_text head log → (Plain ≡ head) × (text ≡ log_text log)
+named_plain text Plain log p s ph sh f = (refl, f)
+named_plain text Process log p s ph sh f = absurd (p (log_text log) f)
+named_plain text Statement log p s ph sh f = absurd (s (log_text log) f)
+named_plain text ProcessHolding log p s ph sh f = absurd (ph (log_text log) f)
+named_plain text StatementHolding log p s ph sh f = absurd (sh (log_text log) f)
 
 pub match_none : {X : Type 0} (P : Type 0) (Q : X → Type 0) (r : Option X) → MatchOption r P Q → IfNone r P
 match_none P Q None h = h

@@ -1,12 +1,12 @@
 -- A text is that of one log at most.
 use Rattle.std.proofs.Common.{◌≡◌, ℕ, ◌+◌, List, [], ◌∷◌, get_or, drop, arith, ap, refl, sym}
 use Rattle.sched_core.specs.declared.log.LogHead.{LogHead}
-use Rattle.sched_core.specs.declared.log.LogHead.TheVariants.{Plain, Process, Statement}
+use Rattle.sched_core.specs.declared.log.LogHead.TheVariants.{Plain, Process, Statement, ProcessHolding, StatementHolding}
 use Rattle.sched_core.specs.Logs.{IsLogFrom, IsLog}
 use Rattle.sched_core.specs.LogText.{more_text, log_text, named_log_text}
 use Rattle.sched_core.proofs.TextLemmas.{member_unique}
 use Rattle.sched_core.proofs.ReadingLemmas.{starts_more}
-use Rattle.sched_core.proofs.HeadLemmas.{member_first, named_process, named_statement}
+use Rattle.sched_core.proofs.HeadLemmas.{member_first, named_process, named_statement, named_process_holding, named_statement_holding}
 
 one_more_text : (low next : ℕ) (log others : List (ℕ × ℕ)) → IsLogFrom low log → IsLogFrom next others → more_text log ≡ more_text others → log ≡ others
 one_more_text low next [] [] h k e = refl
@@ -34,9 +34,21 @@ one_named_text Plain Process log others h k e =
 one_named_text Plain Statement log others h k e =
     let named = named_statement (named_log_text Plain log) (log_text others) Plain log h e refl in
     (sym named.0, one_log_text log others h k (sym named.1))
+one_named_text Plain ProcessHolding log others h k e =
+    let named = named_process_holding (named_log_text Plain log) (log_text others) Plain log h e refl in
+    (sym named.0, one_log_text log others h k (sym named.1))
+one_named_text Plain StatementHolding log others h k e =
+    let named = named_statement_holding (named_log_text Plain log) (log_text others) Plain log h e refl in
+    (sym named.0, one_log_text log others h k (sym named.1))
 one_named_text Process other log others h k e =
     let named = named_process (named_log_text Process log) (log_text log) other others k refl e in
     (named.0, one_log_text log others h k named.1)
 one_named_text Statement other log others h k e =
     let named = named_statement (named_log_text Statement log) (log_text log) other others k refl e in
+    (named.0, one_log_text log others h k named.1)
+one_named_text ProcessHolding other log others h k e =
+    let named = named_process_holding (named_log_text ProcessHolding log) (log_text log) other others k refl e in
+    (named.0, one_log_text log others h k named.1)
+one_named_text StatementHolding other log others h k e =
+    let named = named_statement_holding (named_log_text StatementHolding log) (log_text log) other others k refl e in
     (named.0, one_log_text log others h k named.1)

@@ -7,7 +7,7 @@ use Rattle.std.specs.Fmt.{decimal}
 use Rattle.sched_core.specs.Logs.{IsLog}
 use Rattle.sched_core.specs.declared.log.LogFault.{LogFault}
 use Rattle.sched_core.specs.declared.log.LogHead.{LogHead}
-use Rattle.sched_core.specs.declared.log.LogHead.TheVariants.{Plain, Process, Statement}
+use Rattle.sched_core.specs.declared.log.LogHead.TheVariants.{Plain, Process, Statement, ProcessHolding, StatementHolding}
 
 abbrev pub member_text : ℕ × ℕ → List ℕ
 member_text m = decimal m.0 ++ (58 ∷ decimal m.1)
@@ -25,8 +25,10 @@ abbrev pub head_text : LogHead → List ℕ
 head_text Plain = []
 head_text Process = codes "process/"
 head_text Statement = codes "statement/"
+head_text ProcessHolding = codes "process-holding/"
+head_text StatementHolding = codes "statement-holding/"
 
--- a log by itself may name its grain
+-- a log by itself may name its grain, and that departures may hold back
 abbrev pub named_log_text : LogHead → List (ℕ × ℕ) → List ℕ
 named_log_text head log = head_text head ++ log_text log
 
@@ -41,14 +43,14 @@ IsNoNamedLogText text = (head : LogHead) (log : List (ℕ × ℕ)) → IsLog log
 abbrev pub ReadsEach : List ℕ → Result (List (ℕ × ℕ)) (OrMemory LogFault) → Type 0
 ReadsEach text answer = (log : List (ℕ × ℕ)) → IsLog log → text ≡ log_text log → MatchResult answer (λ read. read ≡ log) (Because (λ _. ⊥))
 
--- The text of a log with the grain that it names is read as these two, unless memory was refused.
+-- The text of a log with what it names is read as these two, unless memory was refused.
 abbrev pub ReadsEachNamed : List ℕ → Result (LogHead × List (ℕ × ℕ)) (OrMemory LogFault) → Type 0
 ReadsEachNamed text answer = (head : LogHead) (log : List (ℕ × ℕ)) → IsLog log → text ≡ named_log_text head log → MatchResult answer (λ named. (named.0 ≡ head) × (named.1 ≡ log)) (Because (λ _. ⊥))
 
--- the text is that of this log with the grain that it names
+-- the text is that of this log with what it names
 abbrev pub IsNamedLogText : List ℕ → LogHead × List (ℕ × ℕ) → Type 0
 IsNamedLogText text named = IsLog named.1 × (text ≡ named_log_text named.0 named.1)
 
--- No two logs, with the grains that they name, have one text.
+-- No two logs, with what they name, have one text.
 abbrev pub OneLogForText : Type 0
 OneLogForText = (head other : LogHead) (log others : List (ℕ × ℕ)) → IsLog log → IsLog others → named_log_text head log ≡ named_log_text other others → (head ≡ other) × (log ≡ others)

@@ -33,12 +33,15 @@ impl Model for Log {
     ghost invariant = { λ l. IsLog l.members.items };
 }
 
-/// The grain that the text of a log may name before a slash.
+/// The grain that the text of a log may name before a slash, and whether its departures may hold
+/// processes back.
 #[derive(Clone, Copy, Debug, PartialEq, Eq)]
 pub enum LogHead {
     Plain,
     Process,
     Statement,
+    ProcessHolding,
+    StatementHolding,
 }
 
 /// Why a text was not read as a log: it is none (E401).

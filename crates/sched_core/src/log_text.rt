@@ -121,7 +121,7 @@ fn after_prefix<'a>(text: &'a [u8], prefix: &[u8]) -> Option<&'a [u8]>
     text.strip_prefix(prefix)
 }
 
-// The grain that the text names, and what follows it.
+// What the text names before a slash, and what follows it.
 fn split_head(text: &[u8]) -> (LogHead, &[u8])
     ensures whole { text.now ≡ head_text result.0 ++ result.1.now }
     ensures named { SplitsNamed text.now result.0 result.1.now }
@@ -132,10 +132,17 @@ fn split_head(text: &[u8]) -> (LogHead, &[u8])
     if let Some(rest) = after_prefix(text, b"statement/") {
         return (LogHead::Statement, rest);
     }
+    if let Some(rest) = after_prefix(text, b"process-holding/") {
+        return (LogHead::ProcessHolding, rest);
+    }
+    if let Some(rest) = after_prefix(text, b"statement-holding/") {
+        return (LogHead::StatementHolding, rest);
+    }
     (LogHead::Plain, text)
 }
 
-/// Reads the text of a log that may name its grain: `LOG`, `process/LOG` or `statement/LOG`.
+/// Reads the text of a log that may name its grain, and departures that hold back: `LOG`,
+/// `process/LOG`, `statement/LOG`, `process-holding/LOG` or `statement-holding/LOG`.
 ///
 /// It accepts exactly the texts that `write_named_log` writes. Any other is
 /// `LogFault::IllFormed`, E401.
@@ -192,8 +199,8 @@ pub fn write_log(alloc: Global, log: &Log) -> Result<Vec<u8>, NoMemory>
     Ok(text)
 }
 
-/// The text of the log after the name of its grain, if it has one. The error is want of memory,
-/// E901.
+/// The text of the log after the name of its grain and departures, if it has one. The error is want
+/// of memory, E901.
 pub fn write_named_log(alloc: Global, head: LogHead, log: &Log) -> Result<Vec<u8>, NoMemory>
     ensures { IfOk result (λ text. text.items ≡ named_log_text head log.now) }
 {
@@ -202,6 +209,8 @@ pub fn write_named_log(alloc: Global, head: LogHead, log: &Log) -> Result<Vec<u8
         LogHead::Plain => {}
         LogHead::Process => text.extend_from_slice(b"process/")?,
         LogHead::Statement => text.extend_from_slice(b"statement/")?,
+        LogHead::ProcessHolding => text.extend_from_slice(b"process-holding/")?,
+        LogHead::StatementHolding => text.extend_from_slice(b"statement-holding/")?,
     }
     append_log(&mut text, log)?;
     Ok(text)

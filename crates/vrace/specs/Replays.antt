@@ -75,6 +75,8 @@ abbrev pub grain_under : LogHead → Grain → Grain
 grain_under head.Plain grain = grain
 grain_under head.Process grain = grains.Process
 grain_under head.Statement grain = grains.Statement
+grain_under head.ProcessHolding grain = grains.Process
+grain_under head.StatementHolding grain = grains.Statement
 
 -- What is run: the design of the files, under the log that the log's text writes.
 pub record Replayed (files : List (List ℕ)) (asked : Request) (log : List ℕ) : Type 0 where

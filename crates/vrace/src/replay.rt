@@ -46,6 +46,8 @@ fn grain_under(head: LogHead, grain: Grain) -> Grain
         LogHead::Plain => grain,
         LogHead::Process => Grain::Process,
         LogHead::Statement => Grain::Statement,
+        LogHead::ProcessHolding => Grain::Process,
+        LogHead::StatementHolding => Grain::Statement,
     }
 }
 

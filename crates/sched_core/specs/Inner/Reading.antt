@@ -32,7 +32,7 @@ pub record IsMemberFront (text : List ℕ) (m : ℕ × ℕ) (rest : List ℕ) : 
 abbrev pub HasNoMember : List ℕ → Type 0
 HasNoMember text = (m : ℕ × ℕ) (rest : List ℕ) → m.0 < 2 ^ 32 → m.1 < 2 ^ 32 → StartsNoNumber rest → text ≢ member_text m ++ rest
 
--- however the text is that of a log with the grain that it names, the grain is this one, and the rest is the log's text
+-- however the text is that of a log with what it names, the name is this one, and the rest is the log's text
 abbrev pub SplitsNamed : List ℕ → LogHead → List ℕ → Type 0
 SplitsNamed text head rest = (named : LogHead) (log : List (ℕ × ℕ)) → IsLog log → text ≡ named_log_text named log → (head ≡ named) × (rest ≡ log_text log)
 
