@@ -1,6 +1,7 @@
 // Texts of logs, and replays on a board.
 
 use basis::OrMemory;
+use sched_core::setting::{Departures, Grain};
 use sched_core::{
     Grid, Log, LogFault, LogHead, ReplayFault, Square, read_log, read_named_log, replay, write_log,
     write_named_log,
@@ -32,7 +33,7 @@ fn empty_log_is_a_dash(rt: HostRuntime) -> Result<(), Fail> {
 #[test]
 fn named_log_keeps_its_head(rt: HostRuntime) -> Result<(), Fail> {
     let (head, log) = read_named_log(rt.alloc(), b"statement/7:1")?;
-    assert!(rt; head == LogHead::Statement);
+    assert!(rt; head == LogHead::Named(Grain::Statement, Departures::Taking));
     let text = write_named_log(rt.alloc(), head, &log)?;
     assert_eq!(rt; text.as_slice(), b"statement/7:1".as_slice());
     Ok(())
@@ -41,15 +42,25 @@ fn named_log_keeps_its_head(rt: HostRuntime) -> Result<(), Fail> {
 #[test]
 fn head_tells_that_departures_hold_back(rt: HostRuntime) -> Result<(), Fail> {
     let (head, log) = read_named_log(rt.alloc(), b"process-holding/0:3")?;
-    assert!(rt; head == LogHead::ProcessHolding);
+    assert!(rt; head == LogHead::Named(Grain::Process, Departures::Holding));
     let text = write_named_log(rt.alloc(), head, &log)?;
     assert_eq!(rt; text.as_slice(), b"process-holding/0:3".as_slice());
     let (head, log) = read_named_log(rt.alloc(), b"statement-holding/-")?;
-    assert!(rt; head == LogHead::StatementHolding);
+    assert!(rt; head == LogHead::Named(Grain::Statement, Departures::Holding));
     let text = write_named_log(rt.alloc(), head, &log)?;
     assert_eq!(rt; text.as_slice(), b"statement-holding/-".as_slice());
-    assert!(rt; matches!(&read_named_log(rt.alloc(), b"holding/0:3"), Err(OrMemory::Fault(LogFault::IllFormed))));
-    assert!(rt; matches!(&read_named_log(rt.alloc(), b"process-holding0:3"), Err(OrMemory::Fault(LogFault::IllFormed))));
+    assert!(rt;
+        matches!(
+            &read_named_log(rt.alloc(), b"holding/0:3"),
+            Err(OrMemory::Fault(LogFault::IllFormed))
+        )
+    );
+    assert!(rt;
+        matches!(
+            &read_named_log(rt.alloc(), b"process-holding0:3"),
+            Err(OrMemory::Fault(LogFault::IllFormed))
+        )
+    );
     Ok(())
 }
 

@@ -1,7 +1,9 @@
 -- A text is that of one log at most.
 use Rattle.std.proofs.Common.{◌≡◌, ℕ, ◌+◌, List, [], ◌∷◌, get_or, drop, arith, ap, refl, sym}
 use Rattle.sched_core.specs.declared.log.LogHead.{LogHead}
-use Rattle.sched_core.specs.declared.log.LogHead.TheVariants.{Plain, Process, Statement, ProcessHolding, StatementHolding}
+use Rattle.sched_core.specs.declared.log.LogHead.TheVariants.{Plain, Named}
+use Rattle.sched_core.specs.declared.setting.Grain.TheVariants.{Process, Statement}
+use Rattle.sched_core.specs.declared.setting.Departures.TheVariants.{Taking, Holding}
 use Rattle.sched_core.specs.Logs.{IsLogFrom, IsLog}
 use Rattle.sched_core.specs.LogText.{more_text, log_text, named_log_text}
 use Rattle.sched_core.proofs.TextLemmas.{member_unique}
@@ -28,27 +30,27 @@ one_log_text (m ∷ ms) (n ∷ ns) h k e =
 
 pub one_named_text : (head other : LogHead) (log others : List (ℕ × ℕ)) → IsLog log → IsLog others → named_log_text head log ≡ named_log_text other others → (head ≡ other) × (log ≡ others)
 one_named_text Plain Plain log others h k e = (refl, one_log_text log others h k e)
-one_named_text Plain Process log others h k e =
+one_named_text Plain (Named Process Taking) log others h k e =
     let named = named_process (named_log_text Plain log) (log_text others) Plain log h e refl in
     (sym named.0, one_log_text log others h k (sym named.1))
-one_named_text Plain Statement log others h k e =
+one_named_text Plain (Named Statement Taking) log others h k e =
     let named = named_statement (named_log_text Plain log) (log_text others) Plain log h e refl in
     (sym named.0, one_log_text log others h k (sym named.1))
-one_named_text Plain ProcessHolding log others h k e =
+one_named_text Plain (Named Process Holding) log others h k e =
     let named = named_process_holding (named_log_text Plain log) (log_text others) Plain log h e refl in
     (sym named.0, one_log_text log others h k (sym named.1))
-one_named_text Plain StatementHolding log others h k e =
+one_named_text Plain (Named Statement Holding) log others h k e =
     let named = named_statement_holding (named_log_text Plain log) (log_text others) Plain log h e refl in
     (sym named.0, one_log_text log others h k (sym named.1))
-one_named_text Process other log others h k e =
-    let named = named_process (named_log_text Process log) (log_text log) other others k refl e in
+one_named_text (Named Process Taking) other log others h k e =
+    let named = named_process (named_log_text (Named Process Taking) log) (log_text log) other others k refl e in
     (named.0, one_log_text log others h k named.1)
-one_named_text Statement other log others h k e =
-    let named = named_statement (named_log_text Statement log) (log_text log) other others k refl e in
+one_named_text (Named Statement Taking) other log others h k e =
+    let named = named_statement (named_log_text (Named Statement Taking) log) (log_text log) other others k refl e in
     (named.0, one_log_text log others h k named.1)
-one_named_text ProcessHolding other log others h k e =
-    let named = named_process_holding (named_log_text ProcessHolding log) (log_text log) other others k refl e in
+one_named_text (Named Process Holding) other log others h k e =
+    let named = named_process_holding (named_log_text (Named Process Holding) log) (log_text log) other others k refl e in
     (named.0, one_log_text log others h k named.1)
-one_named_text StatementHolding other log others h k e =
-    let named = named_statement_holding (named_log_text StatementHolding log) (log_text log) other others k refl e in
+one_named_text (Named Statement Holding) other log others h k e =
+    let named = named_statement_holding (named_log_text (Named Statement Holding) log) (log_text log) other others k refl e in
     (named.0, one_log_text log others h k named.1)

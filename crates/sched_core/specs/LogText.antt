@@ -7,7 +7,9 @@ use Rattle.std.specs.Fmt.{decimal}
 use Rattle.sched_core.specs.Logs.{IsLog}
 use Rattle.sched_core.specs.declared.log.LogFault.{LogFault}
 use Rattle.sched_core.specs.declared.log.LogHead.{LogHead}
-use Rattle.sched_core.specs.declared.log.LogHead.TheVariants.{Plain, Process, Statement, ProcessHolding, StatementHolding}
+use Rattle.sched_core.specs.declared.log.LogHead.TheVariants.{Plain, Named}
+use Rattle.sched_core.specs.declared.setting.Grain.TheVariants.{Process, Statement}
+use Rattle.sched_core.specs.declared.setting.Departures.TheVariants.{Taking, Holding}
 
 abbrev pub member_text : ℕ × ℕ → List ℕ
 member_text m = decimal m.0 ++ (58 ∷ decimal m.1)
@@ -23,10 +25,10 @@ log_text (m ∷ log) = member_text m ++ more_text log
 
 abbrev pub head_text : LogHead → List ℕ
 head_text Plain = []
-head_text Process = codes "process/"
-head_text Statement = codes "statement/"
-head_text ProcessHolding = codes "process-holding/"
-head_text StatementHolding = codes "statement-holding/"
+head_text (Named Process Taking) = codes "process/"
+head_text (Named Statement Taking) = codes "statement/"
+head_text (Named Process Holding) = codes "process-holding/"
+head_text (Named Statement Holding) = codes "statement-holding/"
 
 -- a log by itself may name its grain, and that departures may hold back
 abbrev pub named_log_text : LogHead → List (ℕ × ℕ) → List ℕ

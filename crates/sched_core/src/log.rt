@@ -4,6 +4,7 @@ ghost use Rattle.std.specs.Prelude.{◌≡◌, ◌↔◌, [], ◌∷◌, ◌++�
 ghost use Rattle.sched_core.specs.Inner.Reading.{next_from};
 ghost use Rattle.sched_core.specs.Logs.{IsLog};
 
+use crate::setting::{Departures, Grain};
 use basis::NoMemory;
 use std::alloc::Global;
 use std::marker::Model;
@@ -33,15 +34,12 @@ impl Model for Log {
     ghost invariant = { λ l. IsLog l.members.items };
 }
 
-/// The grain that the text of a log may name before a slash, and whether its departures may hold
-/// processes back.
+/// What the text of a log may name before a slash: the grain, and which departures there are, of the
+/// setting that it is a log of.
 #[derive(Clone, Copy, Debug, PartialEq, Eq)]
 pub enum LogHead {
     Plain,
-    Process,
-    Statement,
-    ProcessHolding,
-    StatementHolding,
+    Named(Grain, Departures),
 }
 
 /// Why a text was not read as a log: it is none (E401).

@@ -10,6 +10,7 @@ ghost use Rattle.sched_core.specs.Inner.Reading.{HasNoMember, HasNoNumber, IsMem
 ghost use Rattle.sched_core.specs.declared.log.LogHead.{LogHead};
 
 use crate::log::{Log, LogFault, LogHead, Member};
+use crate::setting::{Departures, Grain};
 use basis::{NoMemory, OrMemory};
 use itoa::Buffer;
 use std::alloc::Global;
@@ -127,16 +128,16 @@ fn split_head(text: &[u8]) -> (LogHead, &[u8])
     ensures named { SplitsNamed text.now result.0 result.1.now }
 {
     if let Some(rest) = after_prefix(text, b"process/") {
-        return (LogHead::Process, rest);
+        return (LogHead::Named(Grain::Process, Departures::Taking), rest);
     }
     if let Some(rest) = after_prefix(text, b"statement/") {
-        return (LogHead::Statement, rest);
+        return (LogHead::Named(Grain::Statement, Departures::Taking), rest);
     }
     if let Some(rest) = after_prefix(text, b"process-holding/") {
-        return (LogHead::ProcessHolding, rest);
+        return (LogHead::Named(Grain::Process, Departures::Holding), rest);
     }
     if let Some(rest) = after_prefix(text, b"statement-holding/") {
-        return (LogHead::StatementHolding, rest);
+        return (LogHead::Named(Grain::Statement, Departures::Holding), rest);
     }
     (LogHead::Plain, text)
 }
@@ -199,19 +200,26 @@ pub fn write_log(alloc: Global, log: &Log) -> Result<Vec<u8>, NoMemory>
     Ok(text)
 }
 
+// What a log's text begins with.
+fn bytes_of_head(head: LogHead) -> &'static [u8]
+    ensures { result.now ≡ head_text head }
+{
+    match head {
+        LogHead::Plain => b"",
+        LogHead::Named(Grain::Process, Departures::Taking) => b"process/",
+        LogHead::Named(Grain::Statement, Departures::Taking) => b"statement/",
+        LogHead::Named(Grain::Process, Departures::Holding) => b"process-holding/",
+        LogHead::Named(Grain::Statement, Departures::Holding) => b"statement-holding/",
+    }
+}
+
 /// The text of the log after the name of its grain and departures, if it has one. The error is want
 /// of memory, E901.
 pub fn write_named_log(alloc: Global, head: LogHead, log: &Log) -> Result<Vec<u8>, NoMemory>
     ensures { IfOk result (λ text. text.items ≡ named_log_text head log.now) }
 {
     let mut text = Vec::new(alloc);
-    match head {
-        LogHead::Plain => {}
-        LogHead::Process => text.extend_from_slice(b"process/")?,
-        LogHead::Statement => text.extend_from_slice(b"statement/")?,
-        LogHead::ProcessHolding => text.extend_from_slice(b"process-holding/")?,
-        LogHead::StatementHolding => text.extend_from_slice(b"statement-holding/")?,
-    }
+    text.extend_from_slice(bytes_of_head(head))?;
     append_log(&mut text, log)?;
     Ok(text)
 }

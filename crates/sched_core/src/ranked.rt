@@ -1,13 +1,13 @@
-// Ranks: numbers of states that no step lowers.
+// Ranks: numbers of states that no step of a run lowers.
 
 ghost use Rattle.std.specs.Prelude.{◌≡◌, ℕ};
 ghost use Rattle.sched_core.specs.Ranks.{IsRanked};
 
 use crate::space::Space;
 
-/// A space whose states have a rank, a number that no step lowers, as the time of a simulation. No
-/// run comes back to a rank that it has left, so a search may close a rank for good once every state
-/// of it was gone through.
+/// A space whose states have a rank, a number that no step of a run lowers, as the time of a
+/// simulation. No run comes back to a rank that it has left, so a search may close a rank for good once
+/// every state of it was gone through.
 pub trait Ranked: Space {
     ghost ranks: { Self → Self.State → ℕ };
 

@@ -73,10 +73,7 @@ IsDesignOfFiles files = IsDesignOf (expanded_text files) (expanded_timescale fil
 -- the grain that the log names, or else the one that is asked for
 abbrev pub grain_under : LogHead → Grain → Grain
 grain_under head.Plain grain = grain
-grain_under head.Process grain = grains.Process
-grain_under head.Statement grain = grains.Statement
-grain_under head.ProcessHolding grain = grains.Process
-grain_under head.StatementHolding grain = grains.Statement
+grain_under (head.Named named departures) grain = named
 
 -- What is run: the design of the files, under the log that the log's text writes.
 pub record Replayed (files : List (List ℕ)) (asked : Request) (log : List ℕ) : Type 0 where

@@ -44,10 +44,7 @@ fn grain_under(head: LogHead, grain: Grain) -> Grain
 {
     match head {
         LogHead::Plain => grain,
-        LogHead::Process => Grain::Process,
-        LogHead::Statement => Grain::Statement,
-        LogHead::ProcessHolding => Grain::Process,
-        LogHead::StatementHolding => Grain::Statement,
+        LogHead::Named(named, _) => named,
     }
 }
 

@@ -1,8 +1,8 @@
 -- *internal*: The board is a lawful space, and how far down a square is is its rank.
-use Rattle.std.proofs.Common.{◌≡◌, ℕ, true, ap, subst, arith}
+use Rattle.std.proofs.Common.{◌≡◌, ℕ, ◌<◌, ◌≤◌, true, ap, subst, arith}
 use Rattle.std.proofs.lemmas.Bool.Decides.{nat_tests}
 use Rattle.sched_core.specs.Ranks.{IsRanked}
-use Rattle.sched_core.specs.Rules.{IsLawful}
+use Rattle.sched_core.specs.Rules.{IsLawful, choice_at, stands}
 use Rattle.sched_core.specs.Toys.Grids.{grid_rules}
 use Rattle.sched_core.specs.declared.grid.Square.{Square}
 
@@ -26,8 +26,11 @@ grid_is_lawful right down = record {
   end_is_mark = λ s h. grind (arith, nat_tests);
 }
 
+falls_never : (right down : ℕ) (s : Square) (i : ℕ) → i < (grid_rules right down).width s → s.y ≤ ((grid_rules right down).after s i).y
+falls_never right down s i w = grind (arith, nat_tests)
+
 pub grid_is_ranked : (right down : ℕ) → IsRanked (grid_rules right down) (λ s. s.y)
 grid_is_ranked right down = record {
   rank_same = λ s t h. ap (λ (u : Square). u.y) (same_square right down s t h);
-  rises = λ s i w. grind (arith, nat_tests);
+  rises = λ log n run. falls_never right down (stands (grid_rules right down) log n) (choice_at log n) (run n (omega arith));
 }
