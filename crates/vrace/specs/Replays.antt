@@ -19,7 +19,6 @@ use Rattle.sched_core.specs.declared.end.End.{End}
 use Rattle.sched_core.specs.declared.setting.Departures.TheVariants.{Taking}
 use Rattle.sched_core.specs.declared.setting.Looked.TheVariants.{Values}
 use Rattle.sched_core.specs.declared.setting.Grain.{Grain}
-use Rattle.sched_core.specs.declared.setting.Grain.TheVariants as grains
 use Rattle.vmodel.specs.Run.{Setting, history_after}
 use Rattle.vmodel.specs.RunProgress.{Finishes}
 use Rattle.vmodel.specs.History.{History}
