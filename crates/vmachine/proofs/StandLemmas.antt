@@ -7,7 +7,7 @@ use Rattle.vmodel.specs.Step.{next}
 use Rattle.vmodel.specs.SameLaws.{states_tell}
 use Rattle.vmodel.specs.Run.{Setting, rules_of, opening_of, is_mark, state_after}
 use Rattle.vmachine.specs.declared.machine_state.MachineState.{MachineState}
-use Rattle.vmachine.specs.Machines.{Stands, machine_rules}
+use Rattle.vmachine.specs.Machines.{Stands, machine_rules, rank_of}
 
 pub first_stands : (setting : Setting) → Stands setting (machine_rules setting).first (opening_of setting)
 unfolding Stands machine_rules rules_of
@@ -25,6 +25,15 @@ pub after_stands : (setting : Setting) (s : MachineState) (t : State) (i : ℕ) 
     Stands setting ((machine_rules setting).after s i) ((rules_of setting).after t i)
 unfolding Stands machine_rules
 after_stands setting s t i h = ap (λ (u : State). (rules_of setting).after u i) h
+
+pub rank_stands : (setting : Setting) (s : MachineState) (t : State) → Stands setting s t → rank_of setting s ≡ t.queue.time
+unfolding Stands rank_of
+rank_stands setting s t h = ap (λ (u : State). u.queue.time) h
+
+-- the rank by the words of a run
+pub ranks : (setting : Setting) (s : MachineState) → rank_of setting s ≡ s.queue.time
+unfolding rank_of
+ranks setting s = refl
 
 pub same_stands : (setting : Setting) (s r : MachineState) (t : State) → Stands setting s t → (machine_rules setting).same r s ≡ true → Stands setting r t
 unfolding Stands machine_rules rules_of

@@ -4,7 +4,7 @@ use Rattle.sched_core.specs.Rules.{IsRun, stands}
 use Rattle.vmodel.specs.State.{State}
 use Rattle.vmodel.specs.Run.{Setting, rules_of, opening_of, state_after}
 use Rattle.vmachine.specs.declared.machine_state.MachineState.{MachineState}
-use Rattle.vmachine.specs.Machines.{Stands, machine_rules}
+use Rattle.vmachine.specs.Machines.{Stands, machine_rules, rank_of}
 
 -- the first state stands for the opening state
 abbrev pub StandsAtFirst : Type 0
@@ -24,6 +24,10 @@ HasSameMarks = (setting : Setting) (s : MachineState) (t : State) →
 abbrev pub StandsAfter : Type 0
 StandsAfter = (setting : Setting) (s : MachineState) (t : State) (i : ℕ) →
     Stands setting s t → Stands setting ((machine_rules setting).after s i) ((rules_of setting).after t i)
+
+-- such a state's rank is the time of the run (11.3)
+abbrev pub HasTimeAsRank : Type 0
+HasTimeAsRank = (setting : Setting) (s : MachineState) (t : State) → Stands setting s t → rank_of setting s ≡ t.queue.time
 
 -- what is equal to such a state stands for the same
 abbrev pub StandsForSame : Type 0

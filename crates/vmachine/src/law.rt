@@ -2,15 +2,16 @@
 
 ghost use Rattle.vmachine.specs.MachineLaws as laws;
 
-/// The law of machines, of every setting: its first state stands for the opening state; states that stand for states of a
-/// run have as many choices and are marks together, and after the same choice they stand for the next states; what is
-/// equal to such a state stands for the same. So the runs of a machine under logs are those of its setting. It does
-/// nothing.
+/// The law of machines, of every setting: its first state stands for the opening state; states that stand for states of
+/// a run have as many choices and are marks together, and after the same choice they stand for the next states; their
+/// rank is the time; what is equal to such a state stands for the same. So the runs of a machine under logs are those
+/// of its setting. It does nothing.
 pub fn machine_law()
     ensures first { laws.StandsAtFirst }
     ensures width { laws.HasSameWidth }
     ensures mark { laws.HasSameMarks }
     ensures after { laws.StandsAfter }
+    ensures rank { laws.HasTimeAsRank }
     ensures same { laws.StandsForSame }
     ensures one { laws.IsSameForOne }
     ensures only { laws.StandsForOne }

@@ -7,8 +7,8 @@ ghost use Rattle.vmodel.specs.Run.{opening_of};
 
 use crate::machine_state::MachineState;
 use basis::NoMemory;
-use sched_core::Space;
 use sched_core::setting::{Departures, Grain, Looked};
+use sched_core::{Ranked, Space};
 use std::alloc::Global;
 use std::marker::Model;
 use vdesign::design::Design;
@@ -147,4 +147,17 @@ impl Space for Machine {
     ghost same_is_eq = { same_by_test };
 
     ghost lawful = { machine_is_lawful };
+}
+
+/// A state's rank is its time, in units of the precision, which no step lowers (11.3).
+impl Ranked for Machine {
+    ghost use Rattle.vmachine.specs.Machines.{machine_is_ranked, rank_of};
+
+    ghost ranks = { rank_of };
+
+    fn rank(&self, s: &MachineState) -> u64 {
+        s.state.time()
+    }
+
+    ghost ranked = { machine_is_ranked };
 }

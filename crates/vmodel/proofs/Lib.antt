@@ -20,7 +20,7 @@ mod ViewLemmas
 mod SettingLemmas
 mod ValuesLemmas
 mod ShapeLemmas
-mod TimesLemmas
+pub mod TimesLemmas
 mod EndsLemmas
 mod ShownLemmas
 mod WrittenLemmas

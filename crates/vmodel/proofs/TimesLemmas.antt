@@ -1,4 +1,4 @@
--- The times of the slot ends that a run gives rise strictly.
+-- Time never falls along a run, and the times of the slot ends that it gives rise strictly.
 use Rattle.std.proofs.Common.{◌≡◌, ℕ, zero, suc, ◌<◌, ◌≤◌, List, [], ◌∷◌, ◌++◌, length, Option, Some, None, refl, sym, ap, subst, ◌∙◌, arith}
 use Rattle.std.specs.Prelude.{slice_get}
 use Rattle.basis.proofs.Lists.{listed_place}
@@ -174,6 +174,30 @@ transition-timed design times Advance s kept none allowed timed =
       time-with_moves (record s { queue = with_advance s.queue.future s.queue }),
     )
 
+later-advanced : (s : State) (future : List (ℕ × Later)) → s.queue.future ≡ future → IsKept s → ¬ (future ≡ []) →
+    s.queue.time ≤ (with_advance future s.queue).time
+later-advanced s [] is kept some = absurd (some refl)
+later-advanced s (e ∷ es) is kept some =
+    let h = rw is at kept.order.future in omega (arith, h.0)
+
+transition-later : (design : Design) (c : Choice) (s : State) → IsKept s → IsOpen c s.queue → s.queue.time ≤ (transition_of design c s).state.queue.time
+transition-later design (Run p) s kept active = omega (arith, time-process design p (continuation_of (slice_get s.processes p)) s)
+transition-later design Update s kept some =
+    omega (arith, time-with_moves (with_woken design s.values None (with_update s)), time-with_update s.queue.activated s.queue)
+transition-later design Advance s kept allowed =
+    omega (
+      arith,
+      later-advanced s s.queue.future refl kept allowed.1,
+      time-with_moves (record s { queue = with_advance s.queue.future s.queue }),
+    )
+
+next-later : (design : Design) (s : State) (i : ℕ) → IsKept s → i < length (choices s) → s.queue.time ≤ (next design s i).state.queue.time
+next-later design s i kept lt =
+    let there = listed_place (choices s) i lt in
+    let allowed = open_choice s i there.0 kept there.1 in
+    subst (λ (o : Option Choice). s.queue.time ≤ (transition_by design s i o).state.queue.time) (sym there.1)
+    (transition-later design there.0 s kept allowed.1)
+
 next-timed : (design : Design) (times : List ℕ) (s : State) (i : ℕ) → IsKept s → IsTimed times s → i < length (choices s) →
     IsTimed (times ++ slot_times (items_of design (next design s i))) (next design s i).state
 next-timed design times s i kept timed lt =
@@ -202,3 +226,12 @@ timed setting log (suc n) run =
 
 pub times_rise : (setting : Setting) (log : List (ℕ × ℕ)) (n : ℕ) → IsRun (rules_of setting) log n → RisesFrom 0 (slot_times (items_after setting log n))
 times_rise setting log n run = (timed setting log n run).rises
+
+-- time never falls with a step
+pub time_never_falls : (setting : Setting) (log : List (ℕ × ℕ)) (n : ℕ) → IsRun (rules_of setting) log (suc n) →
+    (state_after setting log n).queue.time ≤ (state_after setting log (suc n)).queue.time
+time_never_falls setting log n run =
+    let s = state_after setting log n in
+    let i = choice_at log n in
+    subst (λ (t : State). s.queue.time ≤ t.queue.time) (sym (after_is setting s i))
+    (next-later setting.design s i (kept setting log n) (omega (arith, run n (omega arith), width_is setting s)))

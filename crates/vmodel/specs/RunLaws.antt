@@ -1,5 +1,5 @@
 -- *internal*: What holds of the runs of every setting, log and number of steps; `run_law` proves each.
-use Rattle.std.specs.Prelude.{◌≡◌, ℕ, List, [], Some, None, All, length, Decides}
+use Rattle.std.specs.Prelude.{◌≡◌, ℕ, suc, ◌≤◌, List, [], Some, None, All, length, Decides}
 use Rattle.std.specs.List.{Contains}
 use Rattle.sched_core.specs.Rules.{IsLawful, IsRun}
 use Rattle.sched_core.specs.Replay.{EndsAfter}
@@ -24,6 +24,11 @@ HasLawfulRuns = (setting : Setting) → IsLawful (rules_of setting)
 -- each state keeps what specs/Kept.antt says
 abbrev pub IsAlwaysKept : Type 0
 IsAlwaysKept = (setting : Setting) (log : List (ℕ × ℕ)) (n : ℕ) → IsKept (state_after setting log n)
+
+-- no step lowers the time (11.3)
+abbrev pub TimeNeverFalls : Type 0
+TimeNeverFalls = (setting : Setting) (log : List (ℕ × ℕ)) (n : ℕ) → IsRun (rules_of setting) log (suc n) →
+    (state_after setting log n).queue.time ≤ (state_after setting log (suc n)).queue.time
 
 -- no two slots of a run end at one time, and later ones end later
 abbrev pub HasRisingSlots : Type 0

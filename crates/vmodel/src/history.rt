@@ -3,6 +3,7 @@
 ghost use Rattle.std.specs.Prelude.{◌≡◌};
 
 use crate::values::Values;
+use sched_core::end::End;
 use std::marker::Model;
 use vdesign::dump::DumpCommand;
 use vdesign::print::Text;

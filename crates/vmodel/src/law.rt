@@ -3,17 +3,19 @@
 ghost use Rattle.vmodel.specs.PartLaws.{WritesEachBit};
 ghost use Rattle.vmodel.specs.RunLaws as laws;
 
-/// The law of the definitions themselves, of every setting, log and number of steps: the test that an explorer takes for
-/// two states is their equality, so that the rules of a run are lawful; each state keeps what specs/Kept.antt says; no
-/// two slots of a run end at one time; each state and each slot end has as many values as the design has variables, and
-/// each value of a state the length and sign of its variable (4.2.2); a history shows a slot end exactly where its run was
-/// at one; and after a part is written each of its bits that the variable has reads its letter, and all other bits of the
-/// variable stay (5.2.1). A run where departures only take is one where they may hold back, and ends where that one does; lines are
-/// there where they are looked at, in the order of their bytes, and change no run. It does nothing.
+/// The law of the definitions themselves, of every setting, log and number of steps: the test that an explorer takes
+/// for two states is their equality, so that the rules of a run are lawful; each state keeps what specs/Kept.antt says;
+/// no step lowers the time, and no two slots of a run end at one time; each state and each slot end has as many values
+/// as the design has variables, and each value of a state the length and sign of its variable (4.2.2); a history shows
+/// a slot end exactly where its run was at one; and after a part is written each of its bits that the variable has
+/// reads its letter, and all other bits of the variable stay (5.2.1). A run where departures only take is one where
+/// they may hold back, and ends where that one does; lines are there where they are looked at, in the order of their
+/// bytes, and change no run. It does nothing.
 pub fn run_law()
     ensures equal { laws.TestsEquality }
     ensures lawful { laws.HasLawfulRuns }
     ensures kept { laws.IsAlwaysKept }
+    ensures time { laws.TimeNeverFalls }
     ensures times { laws.HasRisingSlots }
     ensures values { laws.IsAlwaysFull }
     ensures shapes { laws.IsAlwaysShaped }

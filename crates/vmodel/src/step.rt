@@ -12,13 +12,13 @@ ghost use Rattle.vmodel.specs.Inner.{IsFirstAction, first_place};
 ghost use Rattle.vmodel.specs.InnerContinuation.{IsWhole, continuation_frames};
 ghost use Rattle.vmodel.specs.InnerStep.{state_with_move, with_cause, behind, continuation_in, held_in, process_with_move, queue_with_move, transition_to, processes_with_move};
 
-use crate::bag::print_items;
 use crate::choice::Choice;
 use crate::continuation::Continuation;
 use crate::effect::{Disposition, Effect, Execution, effect_at};
 use crate::history::Item;
 use crate::holding::{held_with, released};
 use crate::part::{Kept, Part, Parts};
+use crate::printed::print_items;
 use crate::process::{Frame, Process};
 use crate::queue::Queue;
 use crate::shown::put_items;

@@ -16,6 +16,7 @@ use Rattle.sched_core.specs.LogText.{named_log_text}
 use Rattle.sched_core.specs.declared.log.LogHead.{LogHead}
 use Rattle.sched_core.specs.declared.log.LogHead.TheVariants as head
 use Rattle.sched_core.specs.declared.end.End.{End}
+use Rattle.sched_core.specs.declared.setting.Departures.{Departures}
 use Rattle.sched_core.specs.declared.setting.Departures.TheVariants.{Taking}
 use Rattle.sched_core.specs.declared.setting.Looked.TheVariants.{Values}
 use Rattle.sched_core.specs.declared.setting.Grain.{Grain}
@@ -74,6 +75,11 @@ abbrev pub grain_under : LogHead → Grain → Grain
 grain_under head.Plain grain = grain
 grain_under (head.Named named departures) grain = named
 
+-- the departures that the log names, or else those that are asked for
+abbrev pub departures_under : LogHead → Departures → Departures
+departures_under head.Plain departures = departures
+departures_under (head.Named grain named) departures = named
+
 -- What is run: the design of the files, under the log that the log's text writes.
 pub record Replayed (files : List (List ℕ)) (asked : Request) (log : List ℕ) : Type 0 where
   pub are_read : AreRead files
@@ -89,7 +95,7 @@ setting_of files asked log replayed = record {
   design = replayed.design;
   until = asked.until;
   grain = grain_under replayed.head asked.grain;
-  departures = Taking;
+  departures = departures_under replayed.head Taking;
   looked = Values;
 }
 

@@ -5,11 +5,12 @@ ghost use Rattle.sched_core.specs.LogText.{IsNamedLogText};
 ghost use Rattle.sched_core.specs.Replay.{IsReplayReason};
 ghost use Rattle.vsrc.specs.Source.{file_bytes};
 ghost use Rattle.sched_core.specs.declared.end.End.{End};
+ghost use Rattle.sched_core.specs.declared.setting.Looked.TheVariants.{Values};
 ghost use Rattle.vmodel.specs.RunProgress.{Finishes};
 ghost use Rattle.vmodel.specs.Run.{rules_of};
 ghost use Rattle.vcd_text.specs.Metered.{Grows};
 ghost use Rattle.vrace.specs.Request.{request_of};
-ghost use Rattle.vrace.specs.Replays.{IsShown, IsReplayInput, grain_under as grain_by};
+ghost use Rattle.vrace.specs.Replays.{IsShown, IsReplayInput, grain_under as grain_by, departures_under as departures_by};
 ghost use Rattle.vrace.specs.Refusals.{IsLogFault, IsReason, Leaves};
 ghost use Rattle.vreport.specs.Dumps.{HasDump, IsDumpFront, IsRunDump};
 ghost use Rattle.vrace.specs.RunLines.{HasEnd, IsLinesFront, IsRunLines};
@@ -19,13 +20,14 @@ use crate::design::placed_design_of;
 use crate::fault::Fault;
 use crate::lines::{HeldLines, LinesFront, hold_lines, write_lines, write_lines_from};
 use crate::options::Options;
-use basis::OrMemory;
-use sched_core::setting::Grain;
+use basis::{NoMemory, OrMemory};
+use sched_core::setting::{Departures, Grain, Looked};
 use sched_core::{Log, LogFault, LogHead, ReplayFault, read_named_log, replay};
 use std::alloc::Global;
 use std::io::Write;
 use trace_text::Origins;
 use vcd_text::{HELD_BYTES, HeldText, Metered, WriteFault, put};
+use vdesign::design::Design;
 use vmachine::{Machine, machine_law};
 use vreport::{DumpFront, HeldDump, hold_dump, write_dump, write_from};
 
@@ -45,6 +47,16 @@ fn grain_under(head: LogHead, grain: Grain) -> Grain
     match head {
         LogHead::Plain => grain,
         LogHead::Named(named, _) => named,
+    }
+}
+
+// The departures that the log names, or else those asked for.
+fn departures_under(head: LogHead, departures: Departures) -> Departures
+    ensures { result ≡ departures_by head departures }
+{
+    match head {
+        LogHead::Plain => departures,
+        LogHead::Named(_, named) => named,
     }
 }
 
@@ -357,6 +369,22 @@ fn named_log_of(alloc: Global, log: &[u8]) -> Result<(LogHead, Log), Fault>
     }
 }
 
+// The machine of a run: what its slots print is not looked at.
+fn machine_of(
+    alloc: Global,
+    design: Design,
+    until: u64,
+    grain: Grain,
+    departures: Departures,
+) -> Result<Machine, NoMemory>
+    ensures { IfOk result (λ machine.
+        machine ≡ record { design = design; until = until; grain = grain; departures = departures; looked = Values }) }
+{
+    let mut machine = Machine::new(alloc, design, until, grain)?;
+    machine.look(departures, Looked::Values);
+    Ok(machine)
+}
+
 // What the files, the options and the log's text ask for.
 pub(crate) fn replay_input_of(
     alloc: Global,
@@ -379,7 +407,8 @@ pub(crate) fn replay_input_of(
         Err(fault) => return Err(fault),
     };
     let grain = grain_under(head, options.grain);
-    match Machine::new(alloc, placed.design, options.until, grain) {
+    let departures = departures_under(head, Departures::Taking);
+    match machine_of(alloc, placed.design, options.until, grain, departures) {
         Ok(machine) => Ok(ReplayInput {
             machine,
             origins: placed.origins,
@@ -390,7 +419,8 @@ pub(crate) fn replay_input_of(
 }
 
 /// Writes what is to be shown of the run of the files under the log to the writer: its value change dump, or its printed lines.
-/// The log's text may name a grain, as `statement/5:1`; else the grain is that of the options.
+/// The log's text may name a grain and departures, as `statement/5:1` or `process-holding/5:3`; else the grain is that of the
+/// options, and departures take.
 ///
 /// Refusals, in the order in which they are looked for: E904 where the files together are longer than 16,777,216 bytes;
 /// E1xx to E3xx where their text has no tokens, no tree or no design; E401 where the log's text is none; E403 where the

@@ -1,4 +1,4 @@
-use Rattle.vmachine.proofs.StandLemmas.{first_stands, width_stands, mark_stands, after_stands, same_stands, one_stands, only_stands, runs_there, runs_here, all_stand}
+use Rattle.vmachine.proofs.StandLemmas.{first_stands, width_stands, mark_stands, after_stands, rank_stands, same_stands, one_stands, only_stands, runs_there, runs_here, all_stand}
 use Rattle.vmachine.proofs.law.machine_law.Goals as goal
 
 pub returns : goal.returns
@@ -7,6 +7,7 @@ returns c = record {
   width = width_stands;
   mark = mark_stands;
   after = after_stands;
+  rank = rank_stands;
   same = same_stands;
   one = one_stands;
   only = only_stands;

@@ -1,7 +1,7 @@
 use Rattle.vmodel.specs.SameLaws.{states_tell}
 use Rattle.vmodel.specs.RulesLaws.{lawful}
 use Rattle.vmodel.proofs.KeptLemmas.{kept}
-use Rattle.vmodel.proofs.TimesLemmas.{times_rise}
+use Rattle.vmodel.proofs.TimesLemmas.{times_rise, time_never_falls}
 use Rattle.vmodel.proofs.ValuesLemmas.{as_many, as_many_shown}
 use Rattle.vmodel.proofs.ShapeLemmas.{as_shaped}
 use Rattle.vmodel.proofs.EndsLemmas.{shown_end, end_shown}
@@ -14,6 +14,7 @@ returns c = record {
   equal = states_tell;
   lawful = lawful;
   kept = kept;
+  time = time_never_falls;
   times = times_rise;
   values = as_many;
   shapes = as_shaped;

@@ -1,6 +1,6 @@
-use Rattle.std.proofs.Common.{ap, refl, ◌∙◌}
+use Rattle.std.proofs.Common.{refl, ◌∙◌}
 use Rattle.vsrc.specs.Source.{file_bytes}
-use Rattle.sched_core.specs.declared.setting.Departures.TheVariants.{Taking}
+use Rattle.sched_core.specs.declared.setting.Departures.{Departures}
 use Rattle.sched_core.specs.declared.setting.Looked.TheVariants.{Values}
 use Rattle.vmodel.specs.Run.{Setting}
 use Rattle.sched_core.specs.declared.setting.Grain.{Grain}
@@ -8,8 +8,8 @@ use Rattle.vrace.specs.Request.{request_of}
 use Rattle.vrace.specs.Replays.{Replayed}
 use Rattle.vrace.proofs.replay.replay_input_of.Goals as goal
 
-pub returns-in-Ok-new-clause-ok : goal.returns-in-Ok-new-clause-ok
-returns-in-Ok-new-clause-ok c =
+pub returns-in-Ok-machine_of-clause-ok : goal.returns-in-Ok-machine_of-clause-ok
+returns-in-Ok-machine_of-clause-ok c =
     let replayed : Replayed (file_bytes c.args.files.now) (request_of c.args.options.now) c.args.log.now = record {
       are_read = c.in-Ok.ensures.read;
       design = c.in-Ok.placed.design;
@@ -19,5 +19,11 @@ returns-in-Ok-new-clause-ok c =
       is_log = c.in-Ok-named_log_of.ensures.ok.0;
       written = c.in-Ok-named_log_of.ensures.ok.1;
     } in
-    let with_grain : Grain → Setting = λ grain. record { design = c.in-Ok.placed.design; until = c.args.options.now.until; grain = grain; departures = Taking; looked = Values } in
-    (replayed, c.in-Ok-new.ensures ∙ ap with_grain c.grain_under-grain.ensures, refl)
+    let named : Grain → Departures → Setting = λ grain departures. record {
+      design = c.in-Ok.placed.design;
+      until = c.args.options.now.until;
+      grain = grain;
+      departures = departures;
+      looked = Values;
+    } in
+    (replayed, c.in-Ok-machine_of.ensures ∙ (λ i. named (c.grain_under-grain.ensures i) (c.departures_under-departures.ensures i)), refl)
