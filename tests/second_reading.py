@@ -15,22 +15,27 @@ UNTIL = 40
 # ---- runs (clause 11)
 
 class Run:
-    def __init__(self, made, by_process, until=UNTIL):
-        self.made, self.by_process, self.until = made, by_process, until
+    """A run: of which grain, until when, whether its departures may hold back, and whether the lines of its slots are looked at."""
+
+    def __init__(self, made, by_process, until=UNTIL, holding=False, lines=False):
+        self.made, self.by_process, self.until, self.holding = made, by_process, until, holding
         self.values, self.signs, self.limits = made.start(), made.signs, made.bounds()
         self.rest = [list(p) for p in made.processes]
         self.active = {p for p, rest in enumerate(self.rest) if rest}
         self.inactive, self.activated, self.posted, self.future, self.strobes = set(), [], [], {}, []
         self.waits, self.rung = {}, None
         self.time, self.last, self.beyond, self.finished, self.items = 0, None, False, "", []
+        self.held, self.printed, self.bags = set(), [] if lines else None, []
         if not self.active:
             self.items.append((0, list(self.values)))
+        self.note("", self.items)
 
     def copied(self):
         other = copy(self)
         other.values, other.items = list(self.values), list(self.items)
         other.rest, other.waits = [list(actions) for actions in self.rest], dict(self.waits)
         other.active, other.inactive, other.strobes = set(self.active), set(self.inactive), list(self.strobes)
+        other.held, other.bags = set(self.held), list(self.bags)
         other.activated, other.posted = list(self.activated), list(self.posted)
         other.future = {time: (set(waiting), list(updates)) for time, (waiting, updates) in self.future.items()}
         return other
@@ -39,14 +44,46 @@ class Run:
         """Why the run ended, where it has."""
         return self.finished or ("limit" if self.beyond else "quiet")
 
-    def choices(self):
-        if self.finished:
-            return []
+    # choices (11.4.1, 11.4.2)
+
+    def order(self):
+        """What is active, in order; the processes that are held back come last."""
         if self.last is not None and self.by_process:
             return [self.last]
         first = [] if self.last is None else [self.last]
-        found = first + sorted(self.active - set(first)) + ["update"] * bool(self.activated)
-        return found or ["advance"] * bool(self.future)
+        others = self.active - set(first)
+        return first + sorted(others - self.held) + ["update"] * bool(self.activated) + sorted(others & self.held)
+
+    def choices(self):
+        """Each of the order; and where departures may hold back each but the first once more, with all processes before it held back."""
+        if self.finished:
+            return []
+        order = self.order()
+        return (order + order[1:] if self.holding else order) or ["advance"] * bool(self.future)
+
+    def held_by(self, index):
+        """The processes that the choice of this number holds back."""
+        order = self.order()
+        return {one for one in order[: index - len(order) + 1] if one != "update"} if index >= len(order) else set()
+
+    def take_number(self, index):
+        """Takes the choice of this number. What is held back stays so until nothing else is active, or until it is taken."""
+        choice, told = self.choices()[index], len(self.items)
+        held = (self.held | self.held_by(index)) - {choice}
+        self.take(choice)
+        self.held = held if self.active - held or self.activated else set()
+        self.note(choice, self.items[told:])
+
+    def note(self, choice, items):
+        """Keeps the lines of the slot, where they are looked at: in the order of their bytes those so far, and those of each slot that has ended."""
+        if self.printed is not None:
+            before = [] if choice == "advance" else self.printed
+            self.printed = sorted(before + [item[1] for item in items if item[0] == "line"])
+            self.bags += [tuple(self.printed) for item in items if is_slot(item)]
+
+    def bag(self):
+        """The lines of the last slot, where they are looked at."""
+        return None if self.printed is None else tuple(self.printed)
 
     def world(self):
         return World(self.values, self.signs, self.time // self.made.factor, self.limits)
@@ -259,16 +296,16 @@ def is_slot(item):
     return not isinstance(item[0], str)
 
 
-def fault_or_run(made, by_process, log, steps, until=UNTIL):
+def fault_or_run(made, by_process, log, steps, until=UNTIL, holding=False):
     """The run under the log, or the number of its fault."""
-    run, named, count = Run(made, by_process, until), dict(log), 0
+    run, named, count = Run(made, by_process, until, holding), dict(log), 0
     while choices := run.choices():
         if count == steps:
             return "E403"
         index = named.pop(count, 0)
         if index >= len(choices):
             return "E402"
-        run.take(choices[index])
+        run.take_number(index)
         count += 1
     return "E402" if named else run
 
@@ -460,21 +497,21 @@ def effect(run, choice):
 
 def step_line(run, count, index, line_of_process):
     """The line of the step that takes this choice, which it takes."""
-    choices, time = run.choices(), run.time
+    choices, held = run.choices(), sorted(run.held_by(index))
     choice = choices[index]
-    front = f"step {count} time {time} choice {index} of {len(choices)}"
+    front = f"step {count} time {run.time} choice {index} of {len(choices)}" + " holding" * bool(held) + "".join(f" {one}" for one in held)
     if choice == "advance":
-        run.take(choice)
+        run.take_number(index)
         return f"{front} advance {run.time}"
     who = " update" if choice == "update" else f" process {choice} at 1:{line_of_process(choice)}"
     line = front + who + effect(run, choice)
-    run.take(choice)
+    run.take_number(index)
     return line
 
 
-def trace(made, by_process, log, line_of_process, until=UNTIL):
+def trace(made, by_process, log, line_of_process, until=UNTIL, holding=False):
     """The trace of a run that ends, under a log of its choices; each process stands on a line of its own."""
-    run, named, count, told, found = Run(made, by_process, until), dict(log), 0, 0, []
+    run, named, count, told, found = Run(made, by_process, until, holding), dict(log), 0, 0, []
 
     def slots():
         return [f"slot {item[0]}" for item in run.items[told:] if is_slot(item)], len(run.items)

@@ -24,9 +24,9 @@ def runs(run, departures, log=(), step=0):
             raise Endless
         for index in range(1, len(choices) if departures else 1):
             other = run.copied()
-            other.take(choices[index])
+            other.take_number(index)
             yield from runs(other, departures - 1, (*log, (step, index)), step + 1)
-        run.take(choices[0])
+        run.take_number(0)
         step += 1
     yield log, step, run
 
@@ -41,33 +41,47 @@ def slots(run):
 
 @dataclass
 class Found:
-    """The ends and the races of all runs, each with the fewest departures; how many runs, and the steps of the longest."""
+    """The ends, the races and the races of lines of all runs, each with the fewest departures; how many runs, and the steps of the longest."""
     ends: dict
     races: dict
+    line_races: dict
     count: int
     longest: int
 
 
-def found_in(made, grain, departures, until=UNTIL):
+def found_in(made, grain, departures, until=UNTIL, holding=False, lines=False):
     """What the runs of so many departures at most show; None where there are more of them, or longer ones, than are looked at."""
     try:
-        return all_found_in(made, grain, departures, until)
+        return all_found_in(Run(made, grain == "process", until, holding, lines), departures)
     except Endless:
         return None
 
 
-def all_found_in(made, grain, departures, until):
-    ends, shown, count, longest = {}, {}, 0, 0
-    for log, steps, run in islice(runs(Run(made, grain == "process", until), departures), MOST_RUNS + 1):
-        end = run.time, run.cause(), line_of(run.values)
-        ends[end] = min(ends.get(end, 9), len(log))
+def all_found_in(start, departures):
+    ends, shown, printed, count, longest = {}, {}, {}, 0, 0
+    for log, steps, run in islice(runs(start, departures), MOST_RUNS + 1):
+        keep(ends, end_of(run), log)
         for time, values in slots(run):
             for variable, value in enumerate(values):
-                least = shown.setdefault((time, variable), {})
-                least[value[::-1]] = min(least.get(value[::-1], 9), len(log))
+                keep(shown.setdefault((time, variable), {}), value[::-1], log)
+        for (time, _), bag in zip(slots(run), run.bags):
+            keep(printed.setdefault(time, {}), bag, log)
         count, longest = count + 1, max(longest, steps)
-    races = {race: least for race, least in shown.items() if len(least) > 1}
-    return Found(ends, races, count, longest) if count <= MOST_RUNS else None
+    return Found(ends, raced(shown), raced(printed), count, longest) if count <= MOST_RUNS else None
+
+
+def end_of(run):
+    """An end: its time, its cause, its values, and the lines of its slot where they are looked at."""
+    return run.time, run.cause(), line_of(run.values), run.bag()
+
+
+def keep(least, what, log):
+    """Keeps the fewest departures under which this was seen."""
+    least[what] = min(least.get(what, 9), len(log))
+
+
+def raced(shown):
+    return {race: least for race, least in shown.items() if len(least) > 1}
 
 
 # ---- reports, by docs/FORMATS.md
@@ -83,10 +97,13 @@ class Report:
     depart: int
     steps: int
     grain: str
+    departures: str
+    looked: str
     state: str
     variables: list
     ends: list
     races: list
+    line_races: list
 
 
 NUMBER, NAME = "(0|[1-9][0-9]*)", "[A-Za-z_][A-Za-z0-9_$]*"
@@ -138,10 +155,19 @@ def is_rising(items):
     return all(one < next for one, next in zip(items, items[1:]))
 
 
-def read_end(lines, variables):
+def read_texts(lines, count):
+    """So many printed lines, in the order of their bytes."""
+    texts = tuple(lines.skip(lines.number("line")).decode("latin-1") for _ in range(count))
+    if list(texts) != sorted(texts):
+        raise IllFormed
+    return texts
+
+
+def read_end(lines, variables, looked):
     time, cause, log, count = lines.take(f"end {NUMBER} (finish|stop|quiet|limit) {LOG} {NUMBER}")
     line, = lines.take(f"({' '.join(f'[01xz]{{{width}}}' for _, width in variables)})")
-    return (number_of(time), cause, line), log_of(log), lines.skip(number_of(count))
+    bag = read_texts(lines, lines.number("lines")) if looked == "lines" else None
+    return (number_of(time), cause, line, bag), log_of(log), lines.skip(number_of(count))
 
 
 def read_race(lines, variables):
@@ -154,46 +180,73 @@ def read_race(lines, variables):
     return (number_of(time), place), [(value, log_of(log)) for value, log in shown]
 
 
+def read_side(lines):
+    count, log = lines.take(f"lines {NUMBER} {LOG}")
+    return read_texts(lines, number_of(count)), log_of(log)
+
+
+def read_line_race(lines):
+    time, count = lines.take(f"line race {NUMBER} {NUMBER}")
+    return number_of(time), [read_side(lines) for _ in range(number_of(count, 2))]
+
+
+def read_views(lines):
+    """Which departures there are, and what is looked at; not what version 2 tells."""
+    views = *lines.take("departures (taking|holding)"), *lines.take("looked (values|lines)")
+    if views == ("taking", "values"):
+        raise IllFormed
+    return views
+
+
 def read(text):
     """The report of this text."""
     lines = Lines(text)
-    version, = lines.take("vrace report ([12])")
+    version, = lines.take("vrace report ([123])")
     top, = lines.take(f"top ({NAME})")
     until, depart, steps = lines.number("until", 0, 2**62 - 1), lines.number("depart", 0, 4), lines.number("steps", 1, 10**6)
-    grain, = lines.take("grain (process|statement)") if version == "2" else ("process",)
+    grain, = lines.take("grain (process|statement)") if version != "1" else ("process",)
+    departures, looked = read_views(lines) if version == "3" else ("taking", "values")
     state, = lines.take("state (exhausted|cut memory|cut entries|cut steps)")
     told = [lines.take(f"({NAME}(?:[.]{NAME})*) {NUMBER}") for _ in range(lines.number("vars"))]
     variables = [(name, number_of(width, 1, 64)) for name, width in told]
-    ends = [read_end(lines, variables) for _ in range(lines.number("ends"))]
+    ends = [read_end(lines, variables, looked) for _ in range(lines.number("ends"))]
     races = [read_race(lines, variables) for _ in range(lines.number("races"))]
-    ordered = [[end for end, _, _ in ends], [race for race, _ in races], *([value for value, _ in shown] for _, shown in races)]
+    line_races = [read_line_race(lines) for _ in range(lines.number("line races"))] if looked == "lines" else []
+    ordered = [[end for end, _, _ in ends], [race for race, _ in races], [time for time, _ in line_races]]
+    ordered += [[value for value, _ in shown] for _, shown in races + line_races]
     if lines.text or len(dict(variables)) < len(variables) or not all(map(is_rising, ordered)):
         raise IllFormed
-    return Report(top, until, depart, steps, grain, state, variables, ends, races)
+    return Report(top, until, depart, steps, grain, departures, looked, state, variables, ends, races, line_races)
 
 
 # ---- whether what a report says is true
 
 def within(made, report, log):
     """Where the run under the log stands after the report's steps, or at its end; None where a step of the log isn't among them."""
-    run, named = Run(made, report.grain == "process", report.until), dict(log)
+    run = Run(made, report.grain == "process", report.until, report.departures == "holding", report.looked == "lines")
+    named = dict(log)
     for step in range(report.steps):
         choices, index = run.choices(), named.pop(step, 0)
         if index >= max(len(choices), 1) or not choices:
             return None if index or named else run
-        run.take(choices[index])
+        run.take_number(index)
     return None if named else run
 
 
 def is_end(made, report, end, log, content):
     run = within(made, report, log)
-    return run is not None and not run.choices() and (run.time, run.cause(), line_of(run.values)) == end and dump(run) == content
+    return run is not None and not run.choices() and end_of(run) == end and dump(run) == content
 
 
 def is_shown(made, report, race, value, log):
     run = within(made, report, log)
     time, place = race
     return run is not None and any(at == time and values[place][::-1] == value for at, values in slots(run))
+
+
+def is_printed(made, report, time, bag, log):
+    run = within(made, report, log)
+    return run is not None and any(at == time and printed == bag for (at, _), printed in zip(slots(run), run.bags))
 
 
 def verdict(made, text):
@@ -212,11 +265,19 @@ def verdict(made, text):
     for place, (race, shown) in enumerate(report.races):
         if not all(len(log) <= report.depart and is_shown(made, report, race, value, log) for value, log in shown):
             return f"vrace: E503 at {place}"
+    for place, (time, sides) in enumerate(report.line_races, len(report.races)):
+        if not all(len(log) <= report.depart and is_printed(made, report, time, bag, log) for bag, log in sides):
+            return f"vrace: E503 at {place}"
     return "ok"
+
+
+def counted(report):
+    """What a report lists, each with the departures of its log: ends, races, and races of lines."""
+    ends = {end: len(log) for end, log, _ in report.ends}
+    races, line_races = ({race: {value: len(log) for value, log in shown} for race, shown in told} for told in (report.races, report.line_races))
+    return ends, races, line_races
 
 
 def is_all(report, found):
     """Whether the report lists what was found, with logs of the fewest departures."""
-    ends = {end: len(log) for end, log, _ in report.ends}
-    races = {race: {value: len(log) for value, log in shown} for race, shown in report.races}
-    return (ends, races) == (found.ends, found.races)
+    return counted(report) == (found.ends, found.races, found.line_races)
