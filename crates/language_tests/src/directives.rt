@@ -83,93 +83,98 @@ fn expands_texts(rt: HostRuntime) -> Result<(), Fail> {
     Ok(())
 }
 
-fn directive(line: usize) -> SrcFault {
-    SrcFault::Directive {
-        place: Place { file: 1, line },
-    }
-}
+// Texts that are refused, each with the number in docs/FAULTS.md and the line.
+const REFUSED: [(&[u8], u32, usize); 44] = [
+    (b"\n`X", 111, 2),
+    (b"`include \"a\"", 111, 1),
+    (b"`timescale1ns/1ns", 111, 1),
+    (b"a ` b", 110, 1),
+    (b"`define X(a) a", 110, 1),
+    (b"`define", 110, 1),
+    (b"`define /**/ A b", 110, 1),
+    (b"`define\nA", 110, 1),
+    (b"`define 1", 110, 1),
+    (b"`define define 1", 110, 1),
+    (b"`define timescale 1", 110, 1),
+    (b"x `define A b", 110, 1),
+    (b"/**/ `define A b", 110, 1),
+    (b"/*\n*/ `define A b", 110, 2),
+    (b"`define A\n`A `undef A", 110, 2),
+    (b"`undef A `undef A", 110, 1),
+    (b"`undef", 110, 1),
+    (b"`ifdef", 110, 1),
+    (b"`ifdef A\n`ifdef\n", 110, 2),
+    (b"`ifdef A\n x `ifdef B\n", 110, 2),
+    (b"`ifndef A `define B 1", 110, 1),
+    (b"`else", 110, 1),
+    (b"`endif", 110, 1),
+    (b"`elsif A", 110, 1),
+    (b"`ifdef A\n`else\n`else\n`endif", 110, 3),
+    (b"`ifdef A\n`else\n`elsif A\n`endif", 110, 3),
+    (b"`ifdef A\n`elsif\n`endif", 110, 2),
+    (b"`define A `undef A\n\n`A", 110, 3),
+    (b"`define A `\n`A", 110, 2),
+    (b"`define A `B\n`A", 111, 2),
+    (b"`define A `A\n`A", 112, 2),
+    (b"`ifdef A\n`ifdef B\n", 113, 2),
+    (b"\n`ifndef A\na", 113, 2),
+    (b"`timescale 1ns/1ns\n`timescale 1ns/1ps", 114, 2),
+    (b"`timescale 01ns/1ns", 110, 1),
+    (b"`timescale 1nsx/1ns", 110, 1),
+    (b"`timescale 1ns/1nsx", 110, 1),
+    (b"`timescale 2ns/1ns", 110, 1),
+    (b"`timescale 1ns 1ns", 110, 1),
+    (b"`timescale 1ns/\n1ns", 110, 1),
+    (b"`timescale 1ns/10ns", 110, 1),
+    (b"`timescale 1ns/1us", 110, 1),
+    (b"`default_nettype tri", 110, 1),
+    (b"`default_nettype", 110, 1),
+];
 
-fn no_macro(line: usize) -> SrcFault {
-    SrcFault::NoMacro {
-        place: Place { file: 1, line },
-    }
-}
-
-fn growth(line: usize) -> SrcFault {
-    SrcFault::Growth {
-        place: Place { file: 1, line },
-    }
-}
-
-fn left_open(line: usize) -> SrcFault {
-    SrcFault::LeftOpen {
-        place: Place { file: 1, line },
-    }
-}
-
-fn timescales(line: usize) -> SrcFault {
-    SrcFault::Timescales {
-        place: Place { file: 1, line },
+fn fault(number: u32, line: usize) -> SrcFault {
+    let place = Place { file: 1, line };
+    match number {
+        110 => SrcFault::Directive { place },
+        111 => SrcFault::NoMacro { place },
+        112 => SrcFault::Growth { place },
+        113 => SrcFault::LeftOpen { place },
+        _ => SrcFault::Timescales { place },
     }
 }
 
 #[test]
 fn refuses_texts(rt: HostRuntime) -> Result<(), Fail> {
-    let rows: [(&[u8], SrcFault); 44] = [
-        (b"\n`X", no_macro(2)),
-        (b"`include \"a\"", no_macro(1)),
-        (b"`timescale1ns/1ns", no_macro(1)),
-        (b"a ` b", directive(1)),
-        (b"`define X(a) a", directive(1)),
-        (b"`define", directive(1)),
-        (b"`define /**/ A b", directive(1)),
-        (b"`define\nA", directive(1)),
-        (b"`define 1", directive(1)),
-        (b"`define define 1", directive(1)),
-        (b"`define timescale 1", directive(1)),
-        (b"x `define A b", directive(1)),
-        (b"/**/ `define A b", directive(1)),
-        (b"/*\n*/ `define A b", directive(2)),
-        (b"`define A\n`A `undef A", directive(2)),
-        (b"`undef A `undef A", directive(1)),
-        (b"`undef", directive(1)),
-        (b"`ifdef", directive(1)),
-        (b"`ifdef A\n`ifdef\n", directive(2)),
-        (b"`ifdef A\n x `ifdef B\n", directive(2)),
-        (b"`ifndef A `define B 1", directive(1)),
-        (b"`else", directive(1)),
-        (b"`endif", directive(1)),
-        (b"`elsif A", directive(1)),
-        (b"`ifdef A\n`else\n`else\n`endif", directive(3)),
-        (b"`ifdef A\n`else\n`elsif A\n`endif", directive(3)),
-        (b"`ifdef A\n`elsif\n`endif", directive(2)),
-        (b"`define A `undef A\n\n`A", directive(3)),
-        (b"`define A `\n`A", directive(2)),
-        (b"`define A `B\n`A", no_macro(2)),
-        (b"`define A `A\n`A", growth(2)),
-        (b"`ifdef A\n`ifdef B\n", left_open(2)),
-        (b"\n`ifndef A\na", left_open(2)),
-        (b"`timescale 1ns/1ns\n`timescale 1ns/1ps", timescales(2)),
-        (b"`timescale 01ns/1ns", directive(1)),
-        (b"`timescale 1nsx/1ns", directive(1)),
-        (b"`timescale 1ns/1nsx", directive(1)),
-        (b"`timescale 2ns/1ns", directive(1)),
-        (b"`timescale 1ns 1ns", directive(1)),
-        (b"`timescale 1ns/\n1ns", directive(1)),
-        (b"`timescale 1ns/10ns", directive(1)),
-        (b"`timescale 1ns/1us", directive(1)),
-        (b"`default_nettype tri", directive(1)),
-        (b"`default_nettype", directive(1)),
-    ];
-    for (file, fault) in rows {
+    for (file, number, line) in REFUSED {
         match expanded(rt.alloc(), &[file])? {
-            Err(OrMemory::Fault(found)) => assert_eq!(rt; found, fault, "{file:?}"),
+            Err(OrMemory::Fault(found)) => assert_eq!(rt; found, fault(number, line), "{file:?}"),
             Err(OrMemory::Memory(_)) => assert!(rt; false, "{file:?}"),
             Ok(_) => assert!(rt; false, "{file:?}"),
         }
     }
     Ok(())
 }
+
+// The places of the bytes of that text: what a macro gave comes from its use.
+const PLACES: [(usize, usize); 18] = [
+    (2, 1),
+    (2, 2),
+    (3, 1),
+    (3, 1),
+    (3, 1),
+    (3, 1),
+    (3, 1),
+    (3, 1),
+    (3, 1),
+    (3, 1),
+    (3, 2),
+    (4, 1),
+    (4, 1),
+    (4, 1),
+    (4, 1),
+    (4, 1),
+    (4, 1),
+    (4, 2),
+];
 
 #[test]
 fn goes_on_over_files(rt: HostRuntime) -> Result<(), Fail> {
@@ -183,28 +188,7 @@ fn goes_on_over_files(rt: HostRuntime) -> Result<(), Fail> {
         return Err(Fail::from("expands"));
     };
     assert_eq!(rt; found.text(), b"\n\nb \nc /*\n\n*/ d \n".as_slice());
-    // what a macro gave comes from its use
-    let places = [
-        (2, 1),
-        (2, 2),
-        (3, 1),
-        (3, 1),
-        (3, 1),
-        (3, 1),
-        (3, 1),
-        (3, 1),
-        (3, 1),
-        (3, 1),
-        (3, 2),
-        (4, 1),
-        (4, 1),
-        (4, 1),
-        (4, 1),
-        (4, 1),
-        (4, 1),
-        (4, 2),
-    ];
-    for (at, (file, line)) in places.into_iter().enumerate() {
+    for (at, (file, line)) in PLACES.into_iter().enumerate() {
         assert!(rt; at <= found.text().len());
         assert_eq!(rt; found.place(at), Place { file, line }, "at {at}");
     }

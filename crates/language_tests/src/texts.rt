@@ -277,6 +277,33 @@ fn deepest_tree(rt: HostRuntime) -> Result<(), Fail> {
 // their places.
 const EXPRESSIONS: &[u8] = b"a + b * c ;\n( d +\n) 1\n**\n2 -";
 
+// From these words on no expression stands: the word, whether it is one outside the profile, and the line.
+const NONE_FROM: [(usize, bool, usize); 5] = [
+    (5, false, 1),
+    (6, false, 3),
+    (11, true, 4),
+    (13, false, 5),
+    (99, false, 5),
+];
+
+// The operators of `a + b * c`, the outer one first.
+fn is_sum_of_product(expression: &Expression) -> bool {
+    match expression {
+        Expression::Binary {
+            operator: BinaryOperator::Plus,
+            right,
+            ..
+        } => matches!(
+            &**right,
+            Expression::Binary {
+                operator: BinaryOperator::Times,
+                ..
+            }
+        ),
+        _ => false,
+    }
+}
+
 #[test]
 fn longest_expressions(rt: HostRuntime) -> Result<(), Fail> {
     let alloc = rt.alloc();
@@ -284,58 +311,15 @@ fn longest_expressions(rt: HostRuntime) -> Result<(), Fail> {
     let words = tokens(alloc, &source)?;
     let (sum, end) = parse_expr(alloc, &words, 0)?;
     assert_eq!(rt; end, 5);
-    let Expression::Binary {
-        operator,
-        right,
-        ..
-    } = &sum
-    else {
-        return Err(Fail::from("no sum"));
-    };
-    assert_eq!(rt; *operator, BinaryOperator::Plus);
-    assert!(rt;
-        matches!(
-            &**right,
-            Expression::Binary {
-                operator: BinaryOperator::Times,
-                ..
-            }
-        )
-    );
+    assert!(rt; is_sum_of_product(&sum));
     assert_eq!(rt; parse_expr(alloc, &words, 2)?.1, 5);
-    let refused = [
-        (
-            5,
-            SyntaxFault::NoTree {
-                place: Place { file: 1, line: 1 },
-            },
-        ),
-        (
-            6,
-            SyntaxFault::NoTree {
-                place: Place { file: 1, line: 3 },
-            },
-        ),
-        (
-            11,
-            SyntaxFault::Outside {
-                place: Place { file: 1, line: 4 },
-            },
-        ),
-        (
-            13,
-            SyntaxFault::NoTree {
-                place: Place { file: 1, line: 5 },
-            },
-        ),
-        (
-            99,
-            SyntaxFault::NoTree {
-                place: Place { file: 1, line: 5 },
-            },
-        ),
-    ];
-    for (at, fault) in refused {
+    for (at, outside, line) in NONE_FROM {
+        let place = Place { file: 1, line };
+        let fault = if outside {
+            SyntaxFault::Outside { place }
+        } else {
+            SyntaxFault::NoTree { place }
+        };
         assert!(rt;
             parse_expr(alloc, &words, at).err() == Some(OrMemory::Fault(fault)),
             "at {at}"
