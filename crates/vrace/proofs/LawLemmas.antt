@@ -16,7 +16,6 @@ use Rattle.vhierarchy.specs.Instances.{Elaborates}
 use Rattle.vhierarchy.specs.Laws.{ElaboratesOneWay}
 use Rattle.sched_core.specs.LogText.{OneLogForText}
 use Rattle.sched_core.specs.Replay.{EndsAfter}
-use Rattle.sched_core.specs.declared.setting.Departures.TheVariants.{Taking}
 use Rattle.sched_core.specs.declared.setting.Looked.TheVariants.{Values}
 use Rattle.vmodel.specs.Run.{Setting, rules_of, history_after}
 use Rattle.vrace.specs.Request.{Request}
@@ -147,7 +146,7 @@ module _ (laws : Laws) where
       logs = laws.one_log p.head q.head p.members q.members p.is_log q.is_log (sym p.written ∙ q.written)
 
       settings : setting_of files asked log p ≡ setting_of files asked log q
-      settings = λ i. record { design = designs i; until = asked.until; grain = grain_under (logs.0 i) asked.grain; departures = departures_under (logs.0 i) Taking; looked = Values }
+      settings = λ i. record { design = designs i; until = asked.until; grain = grain_under (logs.0 i) asked.grain; departures = departures_under (logs.0 i) asked.departures; looked = Values }
 
       -- what ends under the one ends under the other
       moved : (n : ℕ) → EndsAfter (rules_of (setting_of files asked log p)) p.members n → EndsAfter (rules_of (setting_of files asked log q)) q.members n

@@ -17,7 +17,6 @@ use Rattle.sched_core.specs.declared.log.LogHead.{LogHead}
 use Rattle.sched_core.specs.declared.log.LogHead.TheVariants as head
 use Rattle.sched_core.specs.declared.end.End.{End}
 use Rattle.sched_core.specs.declared.setting.Departures.{Departures}
-use Rattle.sched_core.specs.declared.setting.Departures.TheVariants.{Taking}
 use Rattle.sched_core.specs.declared.setting.Looked.TheVariants.{Values}
 use Rattle.sched_core.specs.declared.setting.Grain.{Grain}
 use Rattle.vmodel.specs.Run.{Setting, history_after}
@@ -95,7 +94,7 @@ setting_of files asked log replayed = record {
   design = replayed.design;
   until = asked.until;
   grain = grain_under replayed.head asked.grain;
-  departures = departures_under replayed.head Taking;
+  departures = departures_under replayed.head asked.departures;
   looked = Values;
 }
 

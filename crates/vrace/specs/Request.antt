@@ -1,6 +1,8 @@
--- *product rule*: What is asked of a call: the top module's name, the time limit, the steps of one run, and the grain.
+-- *product rule*: What is asked of a call: the top module's name, the time limit, the steps of one run, the grain, and which departures
+-- there are.
 use Rattle.std.specs.Prelude.{ℕ, ◌≤◌, List, Option}
 use Rattle.vmodules.specs.Inner.{named_text}
+use Rattle.sched_core.specs.declared.setting.Departures.{Departures}
 use Rattle.sched_core.specs.declared.setting.Grain.{Grain}
 use Rattle.statebook.specs.Limits.{AreLimits}
 use Rattle.vrace.specs.declared.options.Options.{Options}
@@ -10,6 +12,7 @@ pub record Request : Type 0 where
   pub until : ℕ
   pub steps : ℕ
   pub grain : Grain
+  pub departures : Departures
 
 abbrev pub request_of : Options → Request
 request_of options = record {
@@ -17,6 +20,7 @@ request_of options = record {
   until = options.until;
   steps = options.limits.steps;
   grain = options.grain;
+  departures = options.departures;
 }
 
 -- each number is within its limit

@@ -1,13 +1,14 @@
 // The options that are asked for, where each number is within its limit.
 
 ghost use Rattle.std.specs.Prelude.{◌≡◌, IfOk, IfErr, IfSome, IfNone};
+ghost use Rattle.sched_core.specs.declared.setting.Departures.TheVariants.{Taking};
 ghost use Rattle.statebook.specs.Limits.{AreLimits};
 ghost use Rattle.vrace.specs.Request.{IsWithin};
 ghost use Rattle.vrace.specs.declared.fault.Fault.TheVariants.{OutOfLimit};
 
 use crate::fault::Fault;
 use crate::options::Options;
-use sched_core::setting::Grain;
+use sched_core::setting::{Departures, Grain};
 use statebook::Limits;
 
 /// The latest time to which a run may go, 2^62 - 1.
@@ -15,7 +16,7 @@ const UNTIL_MAX: u64 = 4_611_686_018_427_387_903;
 
 impl<'a> Options<'a> {
     /// The options, if each number is within its limit: `until` 0 to 2^62 - 1, `depart` 0 to 4, `steps` and `entries` 1 to
-    /// 1,000,000. E404 for a number out of its limit, and else never.
+    /// 1,000,000. Departures take. E404 for a number out of its limit, and else never.
     pub fn new(
         top: Option<&'a [u8]>,
         until: u64,
@@ -30,6 +31,7 @@ impl<'a> Options<'a> {
         ensures steps { IfOk result (λ options. options.limits.steps ≡ steps) }
         ensures entries { IfOk result (λ options. options.limits.entries ≡ entries) }
         ensures grain { IfOk result (λ options. options.grain ≡ grain) }
+        ensures departures { IfOk result (λ options. options.departures ≡ Taking) }
         ensures number { IfErr result (λ fault. fault ≡ OutOfLimit) }
         ensures refused { IfErr result (λ fault. ¬ IsWithin until depart steps entries) }
     {
@@ -44,7 +46,15 @@ impl<'a> Options<'a> {
             until,
             limits,
             grain,
+            departures: Departures::Taking,
         })
+    }
+
+    /// From here on they ask for such departures.
+    pub fn look(&mut self, departures: Departures)
+        ensures { self.new ≡ record self.old { departures = departures } }
+    {
+        self.departures = departures;
     }
 }
 

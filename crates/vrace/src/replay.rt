@@ -407,7 +407,7 @@ pub(crate) fn replay_input_of(
         Err(fault) => return Err(fault),
     };
     let grain = grain_under(head, options.grain);
-    let departures = departures_under(head, Departures::Taking);
+    let departures = departures_under(head, options.departures);
     match machine_of(alloc, placed.design, options.until, grain, departures) {
         Ok(machine) => Ok(ReplayInput {
             machine,
@@ -419,8 +419,7 @@ pub(crate) fn replay_input_of(
 }
 
 /// Writes what is to be shown of the run of the files under the log to the writer: its value change dump, or its printed lines.
-/// The log's text may name a grain and departures, as `statement/5:1` or `process-holding/5:3`; else the grain is that of the
-/// options, and departures take.
+/// The log's text may name a grain and departures, as `statement/5:1` or `process-holding/5:3`; else both are those of the options.
 ///
 /// Refusals, in the order in which they are looked for: E904 where the files together are longer than 16,777,216 bytes;
 /// E1xx to E3xx where their text has no tokens, no tree or no design; E401 where the log's text is none; E403 where the

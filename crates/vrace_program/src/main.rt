@@ -10,6 +10,7 @@ use basis::NoMemory;
 use clap::error::ErrorKind;
 use clap::{ArgMatches, Error};
 use explanations::{explanation_of, show, show_all};
+use sched_core::setting::Departures;
 use std::alloc::Global;
 use std::fs::File;
 use std::io::{BufWriter, Write};
@@ -23,8 +24,8 @@ use vrace::{
     trace_text,
 };
 use words::{
-    Request, Wanted, commands, depart_of, entries_of, files_of, has_dashed_log, has_dashed_report,
-    has_dashed_top, log_of, report_of, request_of, wanted_of, workers_of,
+    Request, Wanted, commands, depart_of, departures_of, entries_of, files_of, has_dashed_log,
+    has_dashed_report, has_dashed_top, log_of, report_of, request_of, wanted_of, workers_of,
 };
 use workpool::OpenGate;
 
@@ -106,10 +107,11 @@ fn write_run<W: Write>(
 fn replay(
     rt: &HostRuntime,
     request: &Request<'_>,
+    departures: Departures,
     log: &str,
     wanted: Wanted,
 ) -> Result<ExitCode, Stop> {
-    let options = Options::new(
+    let mut options = Options::new(
         request.top.map(|name| name.as_bytes()),
         request.until,
         DEPART,
@@ -117,6 +119,7 @@ fn replay(
         ENTRIES,
         request.grain,
     )?;
+    options.look(departures);
     let texts = texts(rt, &request.files)?;
     let Ok(buffered) = BufWriter::new(rt.alloc(), io::writer(rt)) else {
         return Err(Stop::NoMemory);
@@ -262,7 +265,8 @@ fn replay_by<'a>(rt: &HostRuntime, matches: &ArgMatches<'a>) -> Result<ExitCode,
     let Ok(request) = request_of(rt.alloc(), matches) else {
         return Err(Stop::NoMemory);
     };
-    replay(rt, &request, log_of(matches), wanted)
+    let departures = departures_of(matches);
+    replay(rt, &request, departures, log_of(matches), wanted)
 }
 
 // Explores what the words ask for.

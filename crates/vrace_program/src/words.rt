@@ -2,7 +2,7 @@
 
 use basis::NoMemory;
 use clap::{Arg, ArgAction, ArgMatches, Command, value_parser};
-use sched_core::setting::Grain;
+use sched_core::setting::{Departures, Grain};
 use std::alloc::Global;
 use vrace::Show;
 
@@ -34,6 +34,13 @@ fn grain<'a>(alloc: Global) -> Arg<'a> {
     option(alloc, "grain", "G", "How finely processes take turns")
         .value_parser(["process", "statement"].as_slice())
         .default_value("process")
+}
+
+fn hold<'a>(alloc: Global) -> Arg<'a> {
+    Arg::new(alloc, "hold")
+        .long("hold")
+        .action(ArgAction::SetTrue)
+        .help("Departures may also hold back the processes that stand before the one that is taken")
 }
 
 fn files<'a>(alloc: Global) -> Arg<'a> {
@@ -87,6 +94,7 @@ fn replay_command<'a>(alloc: Global) -> Result<Command<'a>, NoMemory> {
         .arg(until(alloc))?
         .arg(number(alloc, "steps", "The most steps of the run", "100000"))?
         .arg(grain(alloc))?
+        .arg(hold(alloc))?
         .arg(log)?
         .arg(lines)?
         .arg(trace)?
@@ -187,6 +195,15 @@ pub fn log_of<'a>(matches: &ArgMatches<'a>) -> &'a str {
 /// Whether the value of `--report` reads as an option.
 pub fn has_dashed_report(matches: &ArgMatches<'_>) -> bool {
     is_dashed(matches, "report")
+}
+
+/// Which departures there are.
+pub fn departures_of(matches: &ArgMatches<'_>) -> Departures {
+    if matches.get_flag("hold") {
+        Departures::Holding
+    } else {
+        Departures::Taking
+    }
 }
 
 /// What of a run is asked for.
