@@ -1,15 +1,16 @@
 -- Lines of values, and ends in their order.
-use Rattle.std.proofs.Common.{◌≡◌, ◌≢◌, ℕ, ◌+◌, ◌-◌, ◌<◌, List, [], ◌∷◌, ◌++◌, length, slice_get, get_or, drop, Some, arith, ap, refl, sym, subst, ◌∙◌, inl, inr, append-nil}
+use Rattle.std.proofs.Common.{◌≡◌, ◌≢◌, ℕ, ◌+◌, ◌-◌, ◌<◌, List, [], ◌∷◌, ◌++◌, length, slice_get, get_or, drop, Option, Some, None, arith, ap, refl, sym, subst, ◌∙◌, inl, inr, append-nil}
 use Rattle.std.specs.Ordering.{nat_cmp}
 use Rattle.std.specs.Cmp.Lexicographic.{slice_cmp}
 use Rattle.std.proofs.lemmas.Bool.{cases_lt}
 use Rattle.std.proofs.lemmas.Cmp.{nat_list_cmp_total, tied_itself}
 use Rattle.std.specs.declared.cmp.Ordering.TheVariants.{Less, Equal}
+use Rattle.sched_core.specs.BagLaws.{bags_total}
 use Rattle.basis.proofs.Lists.{place_within, listed_place, left_from}
 use Rattle.report_text.specs.Report.{Column, End}
 use Rattle.report_text.specs.ReportText.{cause_word}
-use Rattle.report_text.specs.WellFormed.{IsValue, IsLineOf, IsTextLess, IsEndBefore}
-use Rattle.report_text.specs.Inner.Ends.{IsAfterValue, IsMore}
+use Rattle.report_text.specs.WellFormed.{IsValue, IsLineOf, IsTextLess, IsPrintedLess, IsEndBefore}
+use Rattle.report_text.specs.Inner.Ends.{IsAfterValue, IsMore, IsShownLess}
 use Rattle.report_text.specs.Inner.Lists.{Listed}
 use Rattle.report_text.proofs.WordLemmas.{cause_injective}
 
@@ -29,6 +30,18 @@ line_of_values column (next ∷ columns) text (rest, (value, is, e), (after, (fr
 pub less_trans : (a b c : List ℕ) → IsTextLess a b → IsTextLess b c → IsTextLess a c
 less_trans a b c = nat_list_cmp_total.trans a b c
 
+printed_trans : (x y z : Option (List (List ℕ))) → IsPrintedLess x y → IsPrintedLess y z → IsPrintedLess x z
+printed_trans (Some a) (Some b) (Some c) h k = bags_total.trans a b c h k
+printed_trans (Some a) (Some b) None h k = absurd k
+printed_trans (Some a) None z h k = absurd h
+printed_trans None y z h k = absurd h
+
+shown_trans : (a b c : End) → IsShownLess a b → IsShownLess b c → IsShownLess a c
+shown_trans a b c (inl h) (inl k) = inl (less_trans a.line b.line c.line h k)
+shown_trans a b c (inl h) (inr k) = inl (subst (λ x. IsTextLess a.line x) k.0 h)
+shown_trans a b c (inr h) (inl k) = inl (subst (λ x. IsTextLess x c.line) (sym h.0) k)
+shown_trans a b c (inr h) (inr k) = inr (h.0 ∙ k.0, printed_trans a.printed b.printed c.printed h.1 k.1)
+
 pub end_before_trans : (a b c : End) → IsEndBefore a b → IsEndBefore b c → IsEndBefore a c
 end_before_trans a b c (inl h) (inl k) = inl (omega (arith, h, k))
 end_before_trans a b c (inl h) (inr k) = inl (omega (arith, h, k.0))
@@ -36,7 +49,7 @@ end_before_trans a b c (inr h) (inl k) = inl (omega (arith, h.0, k))
 end_before_trans a b c (inr (s, inl h)) (inr (t, inl k)) = inr (s ∙ t, inl (less_trans (cause_word a.cause) (cause_word b.cause) (cause_word c.cause) h k))
 end_before_trans a b c (inr (s, inl h)) (inr (t, inr k)) = inr (s ∙ t, inl (subst (λ x. IsTextLess (cause_word a.cause) (cause_word x)) k.0 h))
 end_before_trans a b c (inr (s, inr h)) (inr (t, inl k)) = inr (s ∙ t, inl (subst (λ x. IsTextLess (cause_word x) (cause_word c.cause)) (sym h.0) k))
-end_before_trans a b c (inr (s, inr h)) (inr (t, inr k)) = inr (s ∙ t, inr (h.0 ∙ k.0, less_trans a.line b.line c.line h.1 k.1))
+end_before_trans a b c (inr (s, inr h)) (inr (t, inr k)) = inr (s ∙ t, inr (h.0 ∙ k.0, shown_trans a b c h.1 k.1))
 
 -- what stands behind the last stands behind all
 pub behind_all : {A : Type 0} (P : A → Type 0) (Q : A → A → Type 0) → ((a b c : A) → Q a b → Q b c → Q a c) → (xs : List A) (y : A) → Listed P Q xs →
@@ -50,19 +63,33 @@ pub later_end : (a b : End) → a.time ≢ b.time → IsEndBefore a b → a.time
 later_end a b n (inl h) = h
 later_end a b n (inr h) = absurd (n h.0)
 
-pub same_cause_end : (a b : End) → a.time ≡ b.time → cause_word a.cause ≡ cause_word b.cause → (IsTextLess a.line b.line → IsEndBefore a b) × (IsEndBefore a b → IsTextLess a.line b.line)
+not_less : (xs ys : List ℕ) → xs ≡ ys → IsTextLess xs ys → ⊥
+not_less xs ys e l = let self : slice_cmp nat_cmp xs xs ≡ Equal = tied_itself nat_list_cmp_total xs in let l2 : slice_cmp nat_cmp xs xs ≡ Less = subst (λ z. slice_cmp nat_cmp xs z ≡ Less) (sym e) l in absurd cc
+
+pub same_cause_end : (a b : End) → a.time ≡ b.time → cause_word a.cause ≡ cause_word b.cause → (IsShownLess a b → IsEndBefore a b) × (IsEndBefore a b → IsShownLess a b)
 same_cause_end a b t w = (
   λ h. inr (t, inr (cause_injective a.cause b.cause w, h)),
   λ h. same_cause h,
 )
   where
-    not_less : (xs ys : List ℕ) → xs ≡ ys → IsTextLess xs ys → ⊥
-    not_less xs ys e l = let self : slice_cmp nat_cmp xs xs ≡ Equal = tied_itself nat_list_cmp_total xs in let l2 : slice_cmp nat_cmp xs xs ≡ Less = subst (λ z. slice_cmp nat_cmp xs z ≡ Less) (sym e) l in absurd cc
-
-    same_cause : IsEndBefore a b → IsTextLess a.line b.line
+    same_cause : IsEndBefore a b → IsShownLess a b
     same_cause (inl h) = absurd (omega (arith, h, t))
     same_cause (inr (s, inl h)) = absurd (not_less _ _ w h)
     same_cause (inr (s, inr h)) = h.1
+
+pub same_line_shown : (a b : End) → a.line ≡ b.line → (IsPrintedLess a.printed b.printed → IsShownLess a b) × (IsShownLess a b → IsPrintedLess a.printed b.printed)
+same_line_shown a b e = (λ h. inr (e, h), λ h. same h)
+  where
+    same : IsShownLess a b → IsPrintedLess a.printed b.printed
+    same (inl h) = absurd (not_less _ _ e h)
+    same (inr h) = h.1
+
+pub other_line_shown : (a b : End) → a.line ≢ b.line → (IsTextLess a.line b.line → IsShownLess a b) × (IsShownLess a b → IsTextLess a.line b.line)
+other_line_shown a b n = (λ h. inl h, λ h. other h)
+  where
+    other : IsShownLess a b → IsTextLess a.line b.line
+    other (inl h) = h
+    other (inr h) = absurd (n h.0)
 
 pub other_cause_end : (a b : End) → a.time ≡ b.time → cause_word a.cause ≢ cause_word b.cause → (IsTextLess (cause_word a.cause) (cause_word b.cause) → IsEndBefore a b) × (IsEndBefore a b → IsTextLess (cause_word a.cause) (cause_word b.cause))
 other_cause_end a b t w = (λ h. inr (t, inl h), λ h. other h)

@@ -5,6 +5,7 @@ use Rattle.std.proofs.lemmas.List.{length-map, map-append}
 use Rattle.std.proofs.lemmas.Option.{same_Some}
 use Rattle.basis.proofs.Lists.{of_mapped}
 use Rattle.basis.proofs.Bools.{and_left, and_right, and_both}
+use Rattle.sched_core.specs.declared.setting.Looked.{Looked}
 use Rattle.report_text.specs.Report.{Column, End}
 use Rattle.report_text.specs.WellFormed.{IsEndBefore}
 use Rattle.report_text.specs.Inner.Ends.{Ended, ended_text, IsEnded, IsEndedBefore, IsEndedTaken, FollowsLast}
@@ -18,12 +19,12 @@ part_at f [] i x e = absurd cc
 part_at f (y ∷ ys) zero x e = ap (λ z. Some (f z)) (same_Some y x e)
 part_at f (y ∷ ys) (suc i) x e = part_at f ys i x e
 
-pub ended_step : (columns : List Column) (count : ℕ) (old now mid next : Place) (all : List Ended) (ended : Ended) (ends : List End) (follows : Bool) → HasRead ended_text (IsEnded columns) IsEndedBefore count old all now →
-    length all < count → ends ≡ map (λ e. e.0) all → Took now mid (λ text rest. IsEndedTaken columns text ended rest) →
-    ((z : Ended) (rest : List ℕ) → now.ok ≡ true → IsEndedTaken columns now.rest z rest → (ended.0 ≡ z.0) × (ended.1 ≡ z.1) × Stands mid rest) →
-    (IsTrue follows ↔ FollowsLast ends ended.0) → next.ok ≡ (mid.ok && follows) → next.rest ≡ mid.rest → HasRead ended_text (IsEnded columns) IsEndedBefore count old (all ++ ended ∷ []) next
-ended_step columns count old now mid next all ended ends follows h lt shown took each told ok rest =
-    has_more ended_text (IsEnded columns) IsEndedBefore count old now next all ended h lt
+pub ended_step : (looked : Looked) (columns : List Column) (count : ℕ) (old now mid next : Place) (all : List Ended) (ended : Ended) (ends : List End) (follows : Bool) → HasRead ended_text (IsEnded looked columns) IsEndedBefore count old all now →
+    length all < count → ends ≡ map (λ e. e.0) all → Took now mid (λ text rest. IsEndedTaken looked columns text ended rest) →
+    ((z : Ended) (rest : List ℕ) → now.ok ≡ true → IsEndedTaken looked columns now.rest z rest → (ended.0 ≡ z.0) × (ended.1 ≡ z.1) × Stands mid rest) →
+    (IsTrue follows ↔ FollowsLast ends ended.0) → next.ok ≡ (mid.ok && follows) → next.rest ≡ mid.rest → HasRead ended_text (IsEnded looked columns) IsEndedBefore count old (all ++ ended ∷ []) next
+ended_step looked columns count old now mid next all ended ends follows h lt shown took each told ok rest =
+    has_more ended_text (IsEnded looked columns) IsEndedBefore count old now next all ended h lt
     (λ fine.
     let s : (mid.ok && follows) ≡ true = sym ok ∙ fine in
     let t = took (and_left _ _ s) in
@@ -32,7 +33,7 @@ ended_step columns count old now mid next all ended ends follows h lt shown took
       t.0,
       (
         t.1.0,
-        behind_all (IsEnded columns) IsEndedBefore (λ a b c. end_before_trans a.0 b.0 c.0) all ended (h.sound t.0).1.0
+        behind_all (IsEnded looked columns) IsEndedBefore (λ a b c. end_before_trans a.0 b.0 c.0) all ended (h.sound t.0).1.0
             (λ before at. last before.0 (ap (λ n. slice_get ends (n - 1)) same ∙ ap (λ es. slice_get es (length all - 1)) shown ∙ part_at (λ e. e.0) all (length all - 1) before at)),
         t.1.1 ∙ ap (λ r. ended_text ended ++ r) (sym rest),
       ),

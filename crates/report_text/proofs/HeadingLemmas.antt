@@ -5,9 +5,11 @@ use Rattle.std.specs.List.{list_all}
 use Rattle.std.specs.Fmt.{decimal}
 use Rattle.basis.proofs.Bools.{and_left, and_right, and_both}
 use Rattle.vast.specs.Words.{begins_name, is_in_name}
+use Rattle.sched_core.specs.declared.setting.Departures.{Departures}
+use Rattle.sched_core.specs.declared.setting.Departures.TheVariants.{Taking, Holding}
 use Rattle.report_text.specs.declared.report.Version.{Version}
-use Rattle.report_text.specs.declared.report.Version.TheVariants.{One, Two}
-use Rattle.report_text.specs.ReportText.{version_number}
+use Rattle.report_text.specs.declared.report.Version.TheVariants.{One, Two, Three}
+use Rattle.report_text.specs.ReportText.{version_number, departures_word}
 use Rattle.vast.specs.Names.{has_letters_of_name}
 use Rattle.report_text.specs.Inner.Fronts.{lacks}
 use Rattle.report_text.specs.Inner.Headings.{IsNumberLine, label_line_before}
@@ -23,14 +25,26 @@ name_in (c ∷ cs) h = and_both _ _ (begins_in c (and_left _ _ h)) (and_right _ 
 pub name_lacks : (b : ℕ) (name : List ℕ) → is_in_name b ≡ false → has_letters_of_name name ≡ true → lacks b name ≡ true
 name_lacks b name other h = lacks_by is_in_name b other name (name_in name h)
 
-pub version_front : (v : Version) (text rest : List ℕ) → text ≡ label_line_before (codes "vrace report ") (decimal (version_number v)) rest → IsNumberLine (codes "vrace report ") 1 2 text (version_number v) rest
+pub version_front : (v : Version) (text rest : List ℕ) → text ≡ label_line_before (codes "vrace report ") (decimal (version_number v)) rest → IsNumberLine (codes "vrace report ") 1 3 text (version_number v) rest
 version_front One text rest e = record { small = omega arith; above = omega arith; below = omega arith; whole = e }
 version_front Two text rest e = record { small = omega arith; above = omega arith; below = omega arith; whole = e }
+version_front Three text rest e = record { small = omega arith; above = omega arith; below = omega arith; whole = e }
 
 pub is_one : (v : Version) (n : ℕ) → n ≡ version_number v → n ≡ 1 → One ≡ v
 is_one One n e h = refl
 is_one Two n e h = absurd (omega (arith, e, h))
+is_one Three n e h = absurd (omega (arith, e, h))
 
-pub is_two : (v : Version) (n : ℕ) → n ≡ version_number v → n ≢ 1 → Two ≡ v
-is_two One n e h = absurd (h e)
+pub is_two : (v : Version) (n : ℕ) → n ≡ version_number v → n ≡ 2 → Two ≡ v
+is_two One n e h = absurd (omega (arith, e, h))
 is_two Two n e h = refl
+is_two Three n e h = absurd (omega (arith, e, h))
+
+pub is_three : (v : Version) (n : ℕ) → n ≡ version_number v → n ≢ 1 → n ≢ 2 → Three ≡ v
+is_three One n e h k = absurd (h e)
+is_three Two n e h k = absurd (k e)
+is_three Three n e h k = refl
+
+pub departures_lacks : (d : Departures) → lacks 10 (departures_word d) ≡ true
+departures_lacks Taking = refl
+departures_lacks Holding = refl

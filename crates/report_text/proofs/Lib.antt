@@ -1,3 +1,4 @@
+pub mod BagLemmas
 pub mod ColumnLemmas
 pub mod EndLemmas
 pub mod EndedLemmas

@@ -1,15 +1,17 @@
 -- Which bytes logs and lines of values lack.
-use Rattle.std.proofs.Common.{◌≡◌, ℕ, ◌+◌, ◌<◌, ◌^◌, true, false, List, [], ◌∷◌, ◌++◌, arith, ap, refl, ◌∙◌, append_assoc}
+use Rattle.std.proofs.Common.{◌≡◌, ℕ, ◌+◌, ◌<◌, ◌^◌, true, false, List, [], ◌∷◌, ◌++◌, length, arith, ap, refl, sym, subst, ◌∙◌, append_assoc}
 use Rattle.std.specs.Prelude.{codes}
 use Rattle.std.specs.Char.{is_ascii_digit}
 use Rattle.std.specs.Fmt.{decimal}
 use Rattle.sched_core.specs.Logs.{IsLog, IsLogFrom}
 use Rattle.sched_core.specs.LogText.{member_text, more_text, log_text}
-use Rattle.report_text.specs.Report.{Column}
-use Rattle.report_text.specs.ReportText.{cause_word, joined_by_space}
+use Rattle.sched_core.specs.declared.setting.Looked.{Looked}
+use Rattle.report_text.specs.Report.{Column, End}
+use Rattle.report_text.specs.ReportText.{cause_word, joined_by_space, end_text, printed_lines}
 use Rattle.report_text.specs.WellFormed.{IsValue, IsLineOf, is_digit}
 use Rattle.report_text.specs.Inner.Fronts.{lacks}
-use Rattle.report_text.specs.Inner.Ends.{Ended, ended_text, IsEnded, EndSpelling, IsSpelling, spelled_before}
+use Rattle.report_text.specs.Inner.Lines.{ArePrintedTaken}
+use Rattle.report_text.specs.Inner.Ends.{Ended, ended_text, IsEnded, IsEndedTaken, EndSpelling, IsSpelling, spelled_before}
 use Rattle.report_text.proofs.LineLemmas.{lacks_by, decimal_lacks, lacks_append}
 
 -- this byte stands in no log
@@ -47,22 +49,32 @@ space_outside = record { digit = refl; colon = refl; comma = refl; dash = refl }
 pub feed_outside : IsOutside 10
 feed_outside = record { digit = refl; colon = refl; comma = refl; dash = refl }
 
-abbrev pub spelling_of : Ended → EndSpelling
-spelling_of ended = record { time = ended.0.time; cause = ended.0.cause; log = log_text ended.0.log; bytes = ended.0.bytes; line = ended.0.line; dump = ended.1 }
+abbrev pub spelling_of : End → EndSpelling
+spelling_of end = record { time = end.time; cause = end.cause; log = log_text end.log; bytes = end.bytes; line = end.line }
 
-spell_end : (e t c l b v d rest : List ℕ) → (((((e ++ joined_by_space t (joined_by_space c (joined_by_space l b))) ++ 10 ∷ []) ++ (v ++ 10 ∷ [])) ++ d) ++ rest) ≡
-    e ++ (t ++ 32 ∷ (c ++ 32 ∷ (l ++ 32 ∷ (b ++ 10 ∷ (v ++ 10 ∷ (d ++ rest))))))
-spell_end e t c l b v d rest =
-    simp append_assoc (ap (λ r. e ++ (t ++ 32 ∷ (c ++ 32 ∷ (l ++ 32 ∷ r)))) (append_assoc b (10 ∷ (v ++ 10 ∷ d)) rest ∙ ap (λ r. b ++ 10 ∷ r) (append_assoc v (10 ∷ d) rest)))
+spell_end : (e t c l b v p rest : List ℕ) → ((((e ++ joined_by_space t (joined_by_space c (joined_by_space l b))) ++ 10 ∷ []) ++ (v ++ 10 ∷ [])) ++ p) ++ rest ≡
+    e ++ (t ++ 32 ∷ (c ++ 32 ∷ (l ++ 32 ∷ (b ++ 10 ∷ (v ++ 10 ∷ (p ++ rest))))))
+spell_end e t c l b v p rest =
+    simp append_assoc (ap (λ r. e ++ (t ++ 32 ∷ (c ++ 32 ∷ (l ++ 32 ∷ r)))) (append_assoc b (10 ∷ (v ++ 10 ∷ p)) rest ∙ ap (λ r. b ++ 10 ∷ r) (append_assoc v (10 ∷ p) rest)))
 
-pub end_spelled : (ended : Ended) (rest : List ℕ) → ended_text ended ++ rest ≡ spelled_before (spelling_of ended) rest
-end_spelled ended rest = spell_end (codes "end ") (decimal ended.0.time) (cause_word ended.0.cause) (log_text ended.0.log) (decimal ended.0.bytes) ended.0.line ended.1 rest
+pub end_spelled : (ended : Ended) (rest : List ℕ) → ended_text ended ++ rest ≡ spelled_before (spelling_of ended.0) (printed_lines ended.0.printed ++ (ended.1 ++ rest))
+end_spelled ended rest =
+    append_assoc (end_text ended.0) ended.1 rest
+    ∙ spell_end (codes "end ") (decimal ended.0.time) (cause_word ended.0.cause) (log_text ended.0.log) (decimal ended.0.bytes) ended.0.line (printed_lines ended.0.printed) (ended.1 ++ rest)
 
-pub is_spelling : (columns : List Column) (ended : Ended) → IsEnded columns ended → IsSpelling (spelling_of ended)
-is_spelling columns ended h = record {
+pub is_spelling : (looked : Looked) (columns : List Column) (ended : Ended) → IsEnded looked columns ended → IsSpelling (spelling_of ended.0)
+is_spelling looked columns ended h = record {
   time = h.0.time;
   log = log_lacks 32 ended.0.log space_outside h.0.log;
   small = h.2;
   line = line_lacks 10 columns ended.0.line refl refl h.0.line;
-  bytes = h.1;
 }
+
+-- the words of an end, its lines and its dump
+pub ended_is : (looked : Looked) (columns : List Column) (end : End) (w : EndSpelling) (text mid last rest dump : List ℕ) → w ≡ spelling_of end → IsSpelling w → text ≡ spelled_before w mid → IsLineOf columns end.line → IsLog end.log →
+    ArePrintedTaken looked mid end.printed last → end.bytes ≡ length dump → last ≡ dump ++ rest → IsEndedTaken looked columns text (end, dump) rest
+ended_is looked columns end w text mid last rest dump same is e line log printed sized d =
+    let spelling = subst IsSpelling same is in (
+      (record { time = spelling.time; log = log; line = line; lines = printed.0.0 }, sized, spelling.small, printed.0.1),
+      e ∙ (λ i. spelled_before (same i) ((printed.1 ∙ ap (λ t. printed_lines end.printed ++ t) d) i)) ∙ sym (end_spelled (end, dump) rest),
+    )

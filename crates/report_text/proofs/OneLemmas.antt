@@ -1,5 +1,5 @@
 -- A text is that of one report at most.
-use Rattle.std.proofs.Common.{◌≡◌, ℕ, ◌<◌, ◌^◌, inl, inr, true, List, [], ◌∷◌, ◌++◌, map, length, slice_get, Some, suc, arith, ap, refl, sym, subst, ◌∙◌, append_assoc}
+use Rattle.std.proofs.Common.{◌≡◌, ℕ, ◌<◌, ◌^◌, inl, inr, true, List, [], ◌∷◌, ◌++◌, map, length, slice_get, Option, Some, None, suc, arith, ap, refl, sym, subst, ◌∙◌, append_assoc}
 use Rattle.std.specs.Prelude.{codes}
 use Rattle.std.specs.List.{flat_map}
 use Rattle.std.specs.Fmt.{decimal}
@@ -13,28 +13,34 @@ use Rattle.sched_core.specs.LogText.{log_text}
 use Rattle.sched_core.proofs.OneLemmas.{one_named_text}
 use Rattle.sched_core.specs.declared.setting.Grain.{Grain}
 use Rattle.sched_core.specs.declared.setting.Grain.TheVariants.{Process, Statement}
+use Rattle.sched_core.specs.declared.setting.Departures.{Departures}
+use Rattle.sched_core.specs.declared.setting.Departures.TheVariants.{Taking, Holding}
+use Rattle.sched_core.specs.declared.setting.Looked.{Looked}
+use Rattle.sched_core.specs.declared.setting.Looked.TheVariants.{Values, Lines}
 use Rattle.sched_core.specs.declared.end.Cause.{Cause}
 use Rattle.sched_core.specs.declared.end.Cause.TheVariants.{Finish, Stop, Quiet, Limit}
 use Rattle.report_text.specs.declared.report.Version.{Version}
-use Rattle.report_text.specs.declared.report.Version.TheVariants.{One, Two}
+use Rattle.report_text.specs.declared.report.Version.TheVariants.{One, Two, Three}
 use Rattle.report_text.specs.declared.report.Outcome.{Outcome}
 use Rattle.report_text.specs.declared.report.Outcome.TheVariants.{Exhausted, CutMemory, CutEntries, CutSteps}
 use Rattle.report_text.specs.Report.{Column, Race, Report}
-use Rattle.report_text.specs.ReportText.{version_number, grain_word, cause_word, outcome_words, column_line, race_text, report_text}
-use Rattle.report_text.specs.WellFormed.{Each, EachTwo, IsColumn, IsReport, IsValue}
+use Rattle.report_text.specs.ReportText.{version_number, grain_word, departures_word, looked_word, cause_word, outcome_words, column_line, counted_text, counted_texts, printed_lines, race_text, report_text}
+use Rattle.report_text.specs.WellFormed.{Each, EachTwo, HasViews, IsColumn, IsReport, IsValue}
 use Rattle.report_text.specs.Inner.Columns.{Differ}
 use Rattle.report_text.specs.Inner.Ends.{Ended, ended_text, IsEnded}
 use Rattle.report_text.specs.Inner.Fronts.{lacks}
-use Rattle.report_text.specs.Inner.Headings.{Heading, IsHeading, heading_before, grain_before, label_line_before}
+use Rattle.report_text.specs.Inner.Lines.{IsCountable, ArePrinted}
+use Rattle.report_text.specs.Inner.Headings.{Heading, IsHeading, heading_before, grain_before, views_before, label_line_before}
 use Rattle.report_text.specs.Inner.Races.{Shown, shown_line, IsShown, IsCounted}
 use Rattle.report_text.specs.Inner.Wholes.{IsBodyTaken}
 use Rattle.report_text.proofs.FrontLemmas.{cut_unique}
 use Rattle.report_text.proofs.LineLemmas.{decimal_lacks}
-use Rattle.report_text.proofs.HeadingLemmas.{name_lacks}
+use Rattle.report_text.proofs.HeadingLemmas.{name_lacks, departures_lacks}
+use Rattle.report_text.proofs.BagLemmas.{text_spelled, texts_spelled, bag_spelled}
 use Rattle.report_text.proofs.ColumnLemmas.{path_lacks, column_spelled, columns_spelled}
 use Rattle.report_text.proofs.LogLemmas.{log_lacks, value_lacks, feed_outside, is_spelling, end_spelled}
 use Rattle.report_text.proofs.RaceLemmas.{shown_spelled, values_spelled, races_spelled, race_spelled}
-use Rattle.report_text.proofs.WordLemmas.{version_injective, grain_injective, cause_injective, outcome_injective}
+use Rattle.report_text.proofs.WordLemmas.{version_injective, grain_injective, departures_injective, looked_injective, cause_injective, outcome_injective}
 use Rattle.report_text.proofs.SpellingLemmas.{heading_of, body_before}
 use Rattle.report_text.proofs.WholeLemmas.{read_from, same_report}
 
@@ -56,10 +62,15 @@ number_one w m n x y small few e = feed_number m n x y small few (append_cancel_
 version_small : (v : Version) → version_number v < 2 ^ 64
 version_small One = omega arith
 version_small Two = omega arith
+version_small Three = omega arith
 
 grain_lacks : (g : Grain) → lacks 10 (grain_word g) ≡ true
 grain_lacks Process = refl
 grain_lacks Statement = refl
+
+looked_lacks : (l : Looked) → lacks 10 (looked_word l) ≡ true
+looked_lacks Values = refl
+looked_lacks Lines = refl
 
 outcome_lacks : (o : Outcome) → lacks 10 (outcome_words o) ≡ true
 outcome_lacks Exhausted = refl
@@ -76,6 +87,15 @@ cause_lacks Limit = refl
 grain_one : (v : Version) (g h : Grain) (x y : List ℕ) → (v ≡ One → g ≡ Process) → (v ≡ One → h ≡ Process) → grain_before v g x ≡ grain_before v h y → (g ≡ h) × (x ≡ y)
 grain_one One g h x y p q e = (p refl ∙ sym (q refl), e)
 grain_one Two g h x y p q e = let l = labelled_one (codes "grain ") (grain_word g) (grain_word h) x y e (grain_lacks g) (grain_lacks h) in (grain_injective g h l.0, l.1)
+grain_one Three g h x y p q e = let l = labelled_one (codes "grain ") (grain_word g) (grain_word h) x y e (grain_lacks g) (grain_lacks h) in (grain_injective g h l.0, l.1)
+
+views_one : (v : Version) (d e : Departures) (l m : Looked) (x y : List ℕ) → HasViews v d l → HasViews v e m → views_before v (d, l) x ≡ views_before v (e, m) y → (d ≡ e) × (l ≡ m) × (x ≡ y)
+views_one One d e l m x y p q same = (p.0 ∙ sym q.0, p.1 ∙ sym q.1, same)
+views_one Two d e l m x y p q same = (p.0 ∙ sym q.0, p.1 ∙ sym q.1, same)
+views_one Three d e l m x y p q same =
+    let a = labelled_one (codes "departures ") (departures_word d) (departures_word e) _ _ same (departures_lacks d) (departures_lacks e) in
+    let b = labelled_one (codes "looked ") (looked_word l) (looked_word m) x y a.1 (looked_lacks l) (looked_lacks m) in
+    (departures_injective d e a.0, looked_injective l m b.0, b.1)
 
 heading_one : (h k : Heading) (x y : List ℕ) → IsHeading h → IsHeading k → heading_before h x ≡ heading_before k y → (h ≡ k) × (x ≡ y)
 heading_one h k x y p q e =
@@ -85,11 +105,16 @@ heading_one h k x y p q e =
     let u = number_one (codes "until ") h.until k.until _ _ (omega (arith, p.until)) (omega (arith, q.until)) t.1 in
     let d = number_one (codes "depart ") h.depart k.depart _ _ (omega (arith, p.depart)) (omega (arith, q.depart)) u.1 in
     let s = number_one (codes "steps ") h.steps k.steps _ _ (omega (arith, p.few_steps)) (omega (arith, q.few_steps)) d.1 in
+    let above : List ℕ = label_line_before (codes "state ") (outcome_words h.outcome) x in
     let below : List ℕ = label_line_before (codes "state ") (outcome_words k.outcome) y in
-    let g = grain_one h.version h.grain k.grain (label_line_before (codes "state ") (outcome_words h.outcome) x) below p.grain (λ one. q.grain (sym version ∙ one)) (s.1 ∙ ap (λ w. grain_before w k.grain below) (sym version)) in
-    let o = labelled_one (codes "state ") (outcome_words h.outcome) (outcome_words k.outcome) x y g.1 (outcome_lacks h.outcome) (outcome_lacks k.outcome) in
-    let outcome = outcome_injective h.outcome k.outcome o.0 in
-    ((λ i. record { version = version i; top = t.0 i; until = u.0 i; depart = d.0 i; steps = s.0 i; grain = g.0 i; outcome = outcome i }), o.1)
+    let g = grain_one h.version h.grain k.grain (views_before h.version (h.departures, h.looked) above) (views_before h.version (k.departures, k.looked) below) p.grain (λ one. q.grain (sym version ∙ one))
+    (s.1 ∙ ap (λ w. grain_before w k.grain (views_before w (k.departures, k.looked) below)) (sym version)) in
+    let w = views_one h.version h.departures k.departures h.looked k.looked above below p.views (subst (λ v. HasViews v k.departures k.looked) (sym version) q.views) g.1 in
+    let o = labelled_one (codes "state ") (outcome_words h.outcome) (outcome_words k.outcome) x y w.2 (outcome_lacks h.outcome) (outcome_lacks k.outcome) in
+    let outcome = outcome_injective h.outcome k.outcome o.0 in (
+      λ i. record { version = version i; top = t.0 i; until = u.0 i; depart = d.0 i; steps = s.0 i; grain = g.0 i; departures = w.0 i; looked = w.1 i; outcome = outcome i },
+      o.1,
+    )
 
 flat_one : {A : Type 0} (f : A → List ℕ) (P : A → Type 0) → ((a b : A) (r s : List ℕ) → P a → P b → f a ++ r ≡ f b ++ s → (a ≡ b) × (r ≡ s)) → (xs ys : List A) (r s : List ℕ) → Each P xs → Each P ys →
     length xs ≡ length ys → flat_map f xs ++ r ≡ flat_map f ys ++ s → (xs ≡ ys) × (r ≡ s)
@@ -127,20 +152,40 @@ split_one (x ∷ xs) (y ∷ ys) r s n e =
     let rest : ◌≡◌ {A = List ℕ} xs ys × (r ≡ s) = split_one xs ys r s (omega (arith, n)) tail in
     ((λ i. head i ∷ rest.0 i), rest.1)
 
-ended_one : (columns : List Column) (a b : Ended) (r s : List ℕ) → IsEnded columns a → IsEnded columns b → ended_text a ++ r ≡ ended_text b ++ s → (a ≡ b) × (r ≡ s)
-ended_one columns a b r s p q e =
-    let f = is_spelling columns a p in
-    let g = is_spelling columns b q in
+text_one : (a b r s : List ℕ) → IsCountable a → IsCountable b → counted_text a ++ r ≡ counted_text b ++ s → (a ≡ b) × (r ≡ s)
+text_one a b r s p q e =
+    let n = number_one (codes "line ") (length a) (length b) (a ++ r) (b ++ s) p q (sym (text_spelled a r) ∙ e ∙ text_spelled b s) in
+    split_one a b r s n.0 n.1
+
+texts_one : (a b : List (List ℕ)) (r s : List ℕ) → Each IsCountable a → Each IsCountable b → length a ≡ length b → counted_texts a ++ r ≡ counted_texts b ++ s → (a ≡ b) × (r ≡ s)
+texts_one a b r s p q n e = flat_one counted_text IsCountable text_one a b r s p q n (ap (λ t. t ++ r) (texts_spelled a) ∙ e ∙ ap (λ t. t ++ s) (sym (texts_spelled b)))
+
+printed_one : (looked : Looked) (p q : Option (List (List ℕ))) (r s : List ℕ) → ArePrinted looked p → ArePrinted looked q → printed_lines p ++ r ≡ printed_lines q ++ s → (p ≡ q) × (r ≡ s)
+printed_one Values None None r s h k e = (refl, e)
+printed_one Values None (Some b) r s h k e = absurd k.0
+printed_one Values (Some a) q r s h k e = absurd h.0
+printed_one Lines None q r s h k e = absurd h.0
+printed_one Lines (Some a) None r s h k e = absurd k.0
+printed_one Lines (Some a) (Some b) r s h k e =
+    let n = number_one (codes "lines ") (length a) (length b) _ _ h.1.1 k.1.1 (sym (bag_spelled a r) ∙ e ∙ bag_spelled b s) in
+    let t = texts_one a b r s h.1.0 k.1.0 n.0 n.1 in
+    (ap Some t.0, t.1)
+
+ended_one : (looked : Looked) (columns : List Column) (a b : Ended) (r s : List ℕ) → IsEnded looked columns a → IsEnded looked columns b → ended_text a ++ r ≡ ended_text b ++ s → (a ≡ b) × (r ≡ s)
+ended_one looked columns a b r s p q e =
+    let f = is_spelling looked columns a p in
+    let g = is_spelling looked columns b q in
     let whole = append_cancel_left (codes "end ") _ _ (sym (end_spelled a r) ∙ e ∙ end_spelled b s) in
     let t = space_number a.0.time b.0.time _ _ f.time g.time whole in
     let c = cut_unique 32 (cause_word a.0.cause) (cause_word b.0.cause) _ _ (cause_lacks a.0.cause) (cause_lacks b.0.cause) t.1 in
     let l = cut_unique 32 (log_text a.0.log) (log_text b.0.log) _ _ f.log g.log c.1 in
     let n = feed_number a.0.bytes b.0.bytes _ _ f.small g.small l.1 in
     let v = cut_unique 10 a.0.line b.0.line _ _ f.line g.line n.1 in
-    let d = split_one a.1 b.1 r s (sym f.bytes ∙ n.0 ∙ g.bytes) v.1 in
+    let k = printed_one looked a.0.printed b.0.printed (a.1 ++ r) (b.1 ++ s) (p.0.lines, p.3) (q.0.lines, q.3) v.1 in
+    let d = split_one a.1 b.1 r s (sym p.1 ∙ n.0 ∙ q.1) k.1 in
     let cause = cause_injective a.0.cause b.0.cause c.0 in
     let log = log_one a.0.log b.0.log p.0.log q.0.log l.0 in
-    ((λ i. (record { time = t.0 i; cause = cause i; log = log i; bytes = n.0 i; line = v.0 i }, d.0 i)), d.1)
+    ((λ i. (record { time = t.0 i; cause = cause i; log = log i; bytes = n.0 i; line = v.0 i; printed = k.0 i }, d.0 i)), d.1)
 
 variable_one : (columns : List Column) (i j : ℕ) (a b : Column) → EachTwo Differ columns → slice_get columns i ≡ Some a → slice_get columns j ≡ Some b → a.name ≡ b.name → i ≡ j
 variable_one columns i j a b differ at there same = elim (cases_lt i j) [
@@ -172,9 +217,10 @@ report_one r s dumps others is js small e =
     let n = number_one (codes "vars ") (length r.variables) (length s.variables) _ _ f.head.few g.head.few h.1 in
     let c = flat_one column_line IsColumn column_one r.variables s.variables (body_before r dumps) (body_before s others) f.head.listed.0 g.head.listed.0 n.0
     (ap (λ t. t ++ body_before r dumps) (columns_spelled r.variables) ∙ n.1 ∙ ap (λ t. t ++ body_before s others) (sym (columns_spelled s.variables))) in
-    let body : IsBodyTaken r.variables (body_before s others) g.all s.races [] = subst (λ cs. IsBodyTaken cs (body_before s others) g.all s.races []) (sym c.0) g.body in
+    let body : IsBodyTaken r.looked r.variables (body_before s others) g.all s.races [] =
+    subst (λ l. IsBodyTaken l r.variables (body_before s others) g.all s.races []) (ap (λ k. k.looked) (sym h.0)) (subst (λ cs. IsBodyTaken s.looked cs (body_before s others) g.all s.races []) (sym c.0) g.body) in
     let m = number_one (codes "ends ") (length f.all) (length g.all) _ _ f.body.few_ends body.few_ends (sym f.body.whole ∙ c.1 ∙ body.whole) in
-    let d = flat_one ended_text (IsEnded r.variables) (ended_one r.variables) f.all g.all _ _ f.body.ends.0 body.ends.0 m.0 m.1 in
+    let d = flat_one ended_text (IsEnded r.looked r.variables) (ended_one r.looked r.variables) f.all g.all _ _ f.body.ends.0 body.ends.0 m.0 m.1 in
     let k = number_one (codes "races ") (length r.races) (length s.races) _ _ f.body.few_races body.few_races d.1 in
     let q = flat_one (race_text r.variables) (IsCounted r.variables) (race_one r.variables f.head.listed.0 f.head.listed.1) r.races s.races [] [] f.body.listed.0 body.listed.0 k.0
     (ap (λ t. t ++ []) (races_spelled r.variables r.races) ∙ k.1 ∙ ap (λ t. t ++ []) (sym (races_spelled r.variables s.races))) in

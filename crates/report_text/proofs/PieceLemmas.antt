@@ -4,7 +4,7 @@ use Rattle.std.proofs.lemmas.List.{take_more}
 use Rattle.sched_core.specs.LogText.{log_text}
 use Rattle.std.specs.Prelude.{codes, decimal}
 use Rattle.report_text.specs.Report.{Column, End}
-use Rattle.report_text.specs.ReportText.{line, joined_by_space, cause_word, column_line, column_lines, end_text, value_lines}
+use Rattle.report_text.specs.ReportText.{line, joined_by_space, number_line, cause_word, column_line, column_lines, counted_text, counted_texts, printed_lines, end_text, value_lines}
 
 pub column_lines-append : (xs : List Column) (x : Column) → column_lines (xs ++ x ∷ []) ≡ column_lines xs ++ column_line x
 column_lines-append [] x = append-nil (column_line x)
@@ -38,8 +38,22 @@ values_more start text word log now values none i h e f g n =
     ∙ append_assoc start (value_lines (take i values)) (value_line (get_or values i none))
     ∙ ap (λ t. start ++ t) (sym (ap value_lines (take_more values i none h) ∙ value_lines-append (take i values) (get_or values i none)))
 
--- the steps of an end's two lines
-pub end_steps : (end : End) (a b c d e f g h i j : List ℕ) → a ≡ codes "end " → b ≡ a ++ decimal end.time → c ≡ b ++ 32 ∷ [] → d ≡ c ++ cause_word end.cause ++ 32 ∷ []
-    → e ≡ d ++ log_text end.log → f ≡ e ++ 32 ∷ [] → g ≡ f ++ decimal end.bytes → h ≡ g ++ 10 ∷ [] → i ≡ h ++ end.line → j ≡ i ++ 10 ∷ [] → j ≡ end_text end
-end_steps end a b c d e f g h i j ea eb ec ed ee ef eg eh ei ej =
-    rw (ej, ei, eh, eg, ef, ee, ed, ec, eb, ea) (simp append_assoc refl)
+pub counted_texts-append : (xs : List (List ℕ)) (x : List ℕ) → counted_texts (xs ++ x ∷ []) ≡ counted_texts xs ++ counted_text x
+counted_texts-append [] x = append-nil (counted_text x)
+counted_texts-append (y ∷ ys) x = ap (λ t. counted_text y ++ t) (counted_texts-append ys x) ∙ sym (append_assoc (counted_text y) (counted_texts ys) (counted_text x))
+
+-- one more line
+pub texts_more : (start text word now : List ℕ) (lines : List (List ℕ)) (none : List ℕ) (i : ℕ) → i < length lines → text ≡ start ++ counted_texts (take i lines)
+    → word ≡ text ++ number_line (codes "line") (length (get_or lines i none)) → now ≡ word ++ get_or lines i none → now ≡ start ++ counted_texts (take (i + 1) lines)
+texts_more start text word now lines none i h e f g =
+    g ∙ ap (λ t. t ++ get_or lines i none) f ∙ append_assoc text (number_line (codes "line") (length (get_or lines i none))) (get_or lines i none)
+    ∙ ap (λ t. t ++ counted_text (get_or lines i none)) e
+    ∙ append_assoc start (counted_texts (take i lines)) (counted_text (get_or lines i none))
+    ∙ ap (λ t. start ++ t) (sym (ap counted_texts (take_more lines i none h) ∙ counted_texts-append (take i lines) (get_or lines i none)))
+
+-- the steps of an end's lines
+pub end_steps : (end : End) (a b c d e f g h i j k : List ℕ) → a ≡ codes "end " → b ≡ a ++ decimal end.time → c ≡ b ++ 32 ∷ [] → d ≡ c ++ cause_word end.cause ++ 32 ∷ []
+    → e ≡ d ++ log_text end.log → f ≡ e ++ 32 ∷ [] → g ≡ f ++ decimal end.bytes → h ≡ g ++ 10 ∷ [] → i ≡ h ++ end.line → j ≡ i ++ 10 ∷ []
+    → k ≡ j ++ printed_lines end.printed → k ≡ end_text end
+end_steps end a b c d e f g h i j k ea eb ec ed ee ef eg eh ei ej ek =
+    rw (ek, ej, ei, eh, eg, ef, ee, ed, ec, eb, ea) (simp append_assoc refl)

@@ -8,12 +8,13 @@ use Rattle.basis.proofs.Lists.{of_mapped}
 use Rattle.sched_core.specs.LogText.{log_text}
 use Rattle.std.proofs.lemmas.Option.{same_Some}
 use Rattle.report_text.specs.Report.{Column, End, Race, Report}
-use Rattle.report_text.specs.ReportText.{line, joined_by_space, cause_word, name_at, column_line, column_lines, end_text, ends_text, race_text, races_text, value_lines, report_text}
+use Rattle.report_text.specs.ReportText.{line, joined_by_space, cause_word, name_at, column_line, column_lines, printed_lines, end_text, ends_text, race_text, races_text, value_lines, report_text}
 use Rattle.report_text.specs.WellFormed.{Each, IsEnd, IsEndBefore, HaveBytes, IsReport}
 use Rattle.report_text.specs.Inner.Ends.{Ended, ended_text}
 use Rattle.report_text.specs.Inner.Headings.{Heading, heading_before, label_line_before}
 use Rattle.report_text.specs.Inner.Races.{shown_line}
 use Rattle.report_text.specs.Inner.Wholes.{IsHeadTaken, IsBodyTaken}
+use Rattle.report_text.proofs.BagLemmas.{printed_fit}
 use Rattle.report_text.proofs.EndedLemmas.{part_at}
 use Rattle.report_text.proofs.ColumnLemmas.{columns_spelled}
 use Rattle.report_text.proofs.RaceLemmas.{values_spelled, races_spelled}
@@ -53,6 +54,8 @@ report_of h columns ends races = record {
   depart = h.depart;
   steps = h.steps;
   grain = h.grain;
+  departures = h.departures;
+  looked = h.looked;
   outcome = h.outcome;
   variables = columns;
   ends = ends;
@@ -60,14 +63,14 @@ report_of h columns ends races = record {
 }
 
 -- what was read is a report
-pub is_report : (h : Heading) (columns : List Column) (all : List Ended) (races : List Race) (text mid : List ℕ) → IsHeadTaken text h columns mid → IsBodyTaken columns mid all races [] →
+pub is_report : (h : Heading) (columns : List Column) (all : List Ended) (races : List Race) (text mid : List ℕ) → IsHeadTaken text h columns mid → IsBodyTaken h.looked columns mid all races [] →
     IsReport (report_of h columns (map (λ e. e.0) all) races) (map (λ e. e.1) all) × (text ≡ report_text (report_of h columns (map (λ e. e.0) all) races) (map (λ e. e.1) all))
 is_report h columns all races text mid head body = (
   record {
-    head = record { top = head.heading.top; until = head.heading.until; depart = head.heading.depart; some_steps = head.heading.some_steps; few_steps = head.heading.few_steps; grain = head.heading.grain };
+    head = record { top = head.heading.top; until = head.heading.until; depart = head.heading.depart; some_steps = head.heading.some_steps; few_steps = head.heading.few_steps; grain = head.heading.grain; views = head.heading.views };
     columns = head.listed.0;
     names = head.listed.1;
-    ends = λ i x at. (let w = of_mapped (λ e. e.0) all i x at in subst (IsEnd columns) w.2 (body.ends.0 i w.0 w.1).0);
+    ends = λ i x at. (let w = of_mapped (λ e. e.0) all i x at in subst (IsEnd h.looked columns) w.2 (body.ends.0 i w.0 w.1).0);
     ends_order = λ i j x y lt at there.
         let v = of_mapped (λ e. e.0) all i x at in
         let w = of_mapped (λ e. e.0) all j y there in
@@ -89,7 +92,7 @@ pub record IsReadFrom (text : List ℕ) (r : Report) (dumps : List (List ℕ)) :
   pub ends_are : r.ends ≡ map (λ e. e.0) all
   pub dumps_are : dumps ≡ map (λ e. e.1) all
   pub head : IsHeadTaken text (heading_of r) r.variables (body_before r dumps)
-  pub body : IsBodyTaken r.variables (body_before r dumps) all r.races []
+  pub body : IsBodyTaken r.looked r.variables (body_before r dumps) all r.races []
 
 race_some : (columns : List Column) (race : Race) → length race.values ≤ length (race_text columns race)
 race_some columns race =
@@ -110,9 +113,14 @@ ended_one : (ended : Ended) → 1 ≤ length (ended_text ended)
 ended_one ended =
     let front : List ℕ = line (codes "end " ++ joined_by_space (decimal ended.0.time) (joined_by_space (cause_word ended.0.cause) (joined_by_space (log_text ended.0.log) (decimal ended.0.bytes)))) in
     let a = left_le (end_text ended.0) ended.1 in
-    let b = right_le front (line ended.0.line) in
-    let c = line_some ended.0.line in
-    omega (arith, a, b, c)
+    let b = left_le (front ++ line ended.0.line) (printed_lines ended.0.printed) in
+    let c = right_le front (line ended.0.line) in
+    let d = line_some ended.0.line in
+    omega (arith, a, b, c, d)
+
+printed_le : (end : End) → length (printed_lines end.printed) ≤ length (end_text end)
+printed_le end =
+    right_le (line (codes "end " ++ joined_by_space (decimal end.time) (joined_by_space (cause_word end.cause) (joined_by_space (log_text end.log) (decimal end.bytes)))) ++ line end.line) (printed_lines end.printed)
 
 -- how long what is told of a report is, beside its text
 record HasSizes (n : ℕ) (r : Report) (all : List Ended) : Type 0 where
@@ -120,6 +128,7 @@ record HasSizes (n : ℕ) (r : Report) (all : List Ended) : Type 0 where
   ends : length all ≤ n
   races : length r.races ≤ n
   dumps : (i : ℕ) (x : Ended) → slice_get all i ≡ Some x → length x.1 ≤ n
+  printed : (i : ℕ) (x : Ended) → slice_get all i ≡ Some x → length (printed_lines x.0.printed) ≤ n
   values : (i : ℕ) (x : Race) → slice_get r.races i ≡ Some x → length x.values ≤ n
 
 sizes : (text : List ℕ) (r : Report) (dumps : List (List ℕ)) (all : List Ended) → text ≡ report_text r dumps → ends_text r.ends dumps ≡ flat_map ended_text all → HasSizes (length text) r all
@@ -146,6 +155,11 @@ sizes text r dumps all e f =
       ends = (let s = items_le ended_text all ended_one in omega (arith, s, ends_len));
       races = (let s = items_le (race_text r.variables) r.races (race_one r.variables) in omega (arith, s, races_len));
       dumps = λ i x at. (let s = item_le ended_text all i x at in let t = right_le (end_text x.0) x.1 in omega (arith, s, t, ends_len));
+      printed = λ i x at.
+          let s = item_le ended_text all i x at in
+          let t = left_le (end_text x.0) x.1 in
+          let u = printed_le x.0 in
+          omega (arith, s, t, u, ends_len);
       values = λ i x at. (let s = item_le (race_text r.variables) r.races i x at in let t = race_some r.variables x in omega (arith, s, t, races_len));
     }
 
@@ -161,7 +175,7 @@ read_from text r dumps small is e =
       ends_are = p.ends_are;
       dumps_are = p.dumps_are;
       head = record {
-        heading = record { top = is.head.top; until = is.head.until; depart = is.head.depart; some_steps = is.head.some_steps; few_steps = is.head.few_steps; grain = is.head.grain };
+        heading = record { top = is.head.top; until = is.head.until; depart = is.head.depart; some_steps = is.head.some_steps; few_steps = is.head.few_steps; grain = is.head.grain; views = is.head.views };
         listed = (is.columns, is.names);
         few = omega (arith, small, s.columns);
         whole = e ∙ report_spelled r dumps;
@@ -173,7 +187,7 @@ read_from text r dumps small is e =
               let sized : x.0.bytes ≡ length x.1 = p.sized i x at in
               let short : length x.1 ≤ length text = s.dumps i x at in
               let bound : x.0.bytes < 2 ^ 64 = omega (arith, sized, short, small) in
-              (is.ends i x.0 end_at, sized, bound),
+              (is.ends i x.0 end_at, sized, bound, printed_fit (length text) x.0.printed small (s.printed i x at)),
           λ i j x y lt at there.
               is.ends_order i j x.0 y.0 lt (ap (λ es. slice_get es i) p.ends_are ∙ part_at (λ k. k.0) p.all i x at) (ap (λ es. slice_get es j) p.ends_are ∙ part_at (λ k. k.0) p.all j y there),
         );

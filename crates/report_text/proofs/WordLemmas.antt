@@ -1,19 +1,31 @@
--- The words of versions, grains, causes and outcomes tell them.
+-- The words of versions, grains, departures, what is looked at, causes and outcomes tell them.
 use Rattle.std.proofs.Common.{◌≡◌, ◌≢◌, ℕ, List, get_or, arith, ap, refl}
 use Rattle.std.specs.Prelude.{codes}
 use Rattle.sched_core.specs.declared.end.Cause.{Cause}
 use Rattle.sched_core.specs.declared.end.Cause.TheVariants.{Finish, Stop, Quiet, Limit}
 use Rattle.sched_core.specs.declared.setting.Grain.{Grain}
 use Rattle.sched_core.specs.declared.setting.Grain.TheVariants.{Process, Statement}
+use Rattle.sched_core.specs.declared.setting.Departures.{Departures}
+use Rattle.sched_core.specs.declared.setting.Departures.TheVariants.{Taking, Holding}
+use Rattle.sched_core.specs.declared.setting.Looked.{Looked}
+use Rattle.sched_core.specs.declared.setting.Looked.TheVariants.{Values, Lines}
 use Rattle.report_text.specs.declared.report.Version.{Version}
-use Rattle.report_text.specs.declared.report.Version.TheVariants.{One, Two}
+use Rattle.report_text.specs.declared.report.Version.TheVariants.{One, Two, Three}
 use Rattle.report_text.specs.declared.report.Outcome.{Outcome}
 use Rattle.report_text.specs.declared.report.Outcome.TheVariants.{Exhausted, CutMemory, CutEntries, CutSteps}
-use Rattle.report_text.specs.ReportText.{version_number, grain_word, cause_word, outcome_words}
+use Rattle.report_text.specs.ReportText.{version_number, grain_word, departures_word, looked_word, cause_word, outcome_words}
 
 pub no_grain : (w : List ℕ) → w ≢ codes "process" → w ≢ codes "statement" → (x : Grain) → w ≢ grain_word x
 no_grain w a b Process e = a e
 no_grain w a b Statement e = b e
+
+pub no_departures : (w : List ℕ) → w ≢ codes "taking" → w ≢ codes "holding" → (x : Departures) → w ≢ departures_word x
+no_departures w a b Taking e = a e
+no_departures w a b Holding e = b e
+
+pub no_looked : (w : List ℕ) → w ≢ codes "values" → w ≢ codes "lines" → (x : Looked) → w ≢ looked_word x
+no_looked w a b Values e = a e
+no_looked w a b Lines e = b e
 
 pub no_cause : (w : List ℕ) → w ≢ codes "finish" → w ≢ codes "stop" → w ≢ codes "quiet" → w ≢ codes "limit" → (x : Cause) → w ≢ cause_word x
 no_cause w a b c d Finish e = a e
@@ -35,12 +47,29 @@ version_injective One One e = refl
 version_injective Two Two e = refl
 version_injective One Two e = absurd (omega (arith, e))
 version_injective Two One e = absurd (omega (arith, e))
+version_injective Three Three e = refl
+version_injective One Three e = absurd (omega (arith, e))
+version_injective Three One e = absurd (omega (arith, e))
+version_injective Two Three e = absurd (omega (arith, e))
+version_injective Three Two e = absurd (omega (arith, e))
 
 pub grain_injective : (x y : Grain) → grain_word x ≡ grain_word y → x ≡ y
 grain_injective Process Process e = refl
 grain_injective Process Statement e = let differ : 112 ≡ 115 = letter 0 (codes "process") (codes "statement") e in absurd (omega (arith, differ))
 grain_injective Statement Process e = let differ : 115 ≡ 112 = letter 0 (codes "statement") (codes "process") e in absurd (omega (arith, differ))
 grain_injective Statement Statement e = refl
+
+pub departures_injective : (x y : Departures) → departures_word x ≡ departures_word y → x ≡ y
+departures_injective Taking Taking e = refl
+departures_injective Taking Holding e = let differ : 116 ≡ 104 = letter 0 (codes "taking") (codes "holding") e in absurd (omega (arith, differ))
+departures_injective Holding Taking e = let differ : 104 ≡ 116 = letter 0 (codes "holding") (codes "taking") e in absurd (omega (arith, differ))
+departures_injective Holding Holding e = refl
+
+pub looked_injective : (x y : Looked) → looked_word x ≡ looked_word y → x ≡ y
+looked_injective Values Values e = refl
+looked_injective Values Lines e = let differ : 118 ≡ 108 = letter 0 (codes "values") (codes "lines") e in absurd (omega (arith, differ))
+looked_injective Lines Values e = let differ : 108 ≡ 118 = letter 0 (codes "lines") (codes "values") e in absurd (omega (arith, differ))
+looked_injective Lines Lines e = refl
 
 pub cause_injective : (x y : Cause) → cause_word x ≡ cause_word y → x ≡ y
 cause_injective Finish Finish e = refl

@@ -3,6 +3,7 @@ pub mod Fronts
 pub mod Places
 pub mod Headings
 pub mod Lists
+pub mod Lines
 pub mod Names
 pub mod Columns
 pub mod Ends

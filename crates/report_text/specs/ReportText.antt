@@ -5,8 +5,12 @@ use Rattle.sched_core.specs.declared.end.Cause.{Cause}
 use Rattle.sched_core.specs.declared.end.Cause.TheVariants.{Finish, Stop, Quiet, Limit}
 use Rattle.sched_core.specs.declared.setting.Grain.{Grain}
 use Rattle.sched_core.specs.declared.setting.Grain.TheVariants.{Process, Statement}
+use Rattle.sched_core.specs.declared.setting.Departures.{Departures}
+use Rattle.sched_core.specs.declared.setting.Departures.TheVariants.{Taking, Holding}
+use Rattle.sched_core.specs.declared.setting.Looked.{Looked}
+use Rattle.sched_core.specs.declared.setting.Looked.TheVariants.{Values, Lines}
 use Rattle.report_text.specs.declared.report.Version.{Version}
-use Rattle.report_text.specs.declared.report.Version.TheVariants.{One, Two}
+use Rattle.report_text.specs.declared.report.Version.TheVariants.{One, Two, Three}
 use Rattle.report_text.specs.declared.report.Outcome.{Outcome}
 use Rattle.report_text.specs.declared.report.Outcome.TheVariants.{Exhausted, CutMemory, CutEntries, CutSteps}
 use Rattle.report_text.specs.Report.{Column, End, Race, Report}
@@ -27,10 +31,19 @@ number_line word n = line (joined_by_space word (decimal n))
 abbrev pub version_number : Version → ℕ
 version_number One = 1
 version_number Two = 2
+version_number Three = 3
 
 abbrev pub grain_word : Grain → List ℕ
 grain_word Process = codes "process"
 grain_word Statement = codes "statement"
+
+abbrev pub departures_word : Departures → List ℕ
+departures_word Taking = codes "taking"
+departures_word Holding = codes "holding"
+
+abbrev pub looked_word : Looked → List ℕ
+looked_word Values = codes "values"
+looked_word Lines = codes "lines"
 
 abbrev pub cause_word : Cause → List ℕ
 cause_word Finish = codes "finish"
@@ -50,6 +63,14 @@ outcome_words CutSteps = codes "cut steps"
 abbrev pub grain_lines : Version → Grain → List ℕ
 grain_lines One grain = []
 grain_lines Two grain = line (joined_by_space (codes "grain") (grain_word grain))
+grain_lines Three grain = line (joined_by_space (codes "grain") (grain_word grain))
+
+-- the lines that version 3 alone has
+abbrev pub view_lines : Version → Departures → Looked → List ℕ
+view_lines One departures looked = []
+view_lines Two departures looked = []
+view_lines Three departures looked =
+    line (joined_by_space (codes "departures") (departures_word departures)) ++ line (joined_by_space (codes "looked") (looked_word looked))
 
 abbrev pub column_line : Column → List ℕ
 column_line column = line (joined_by_space column.name (decimal column.width))
@@ -66,17 +87,32 @@ head_text r =
     ++ number_line (codes "depart") r.depart
     ++ number_line (codes "steps") r.steps
     ++ grain_lines r.version r.grain
+    ++ view_lines r.version r.departures r.looked
     ++ line (joined_by_space (codes "state") (outcome_words r.outcome))
     ++ number_line (codes "vars") (length r.variables)
     ++ column_lines r.variables
 
 -- ---- ends
 
--- time, cause, log and the count of the dump's bytes; and the line of the values
+-- a text by the count of its bytes; and such texts one after another
+abbrev pub counted_text : List ℕ → List ℕ
+counted_text text = number_line (codes "line") (length text) ++ text
+
+abbrev pub counted_texts : List (List ℕ) → List ℕ
+counted_texts [] = []
+counted_texts (text ∷ texts) = counted_text text ++ counted_texts texts
+
+-- the lines of an end, where they are looked at; they stand after its values and before its dump
+abbrev pub printed_lines : Option (List (List ℕ)) → List ℕ
+printed_lines None = []
+printed_lines (Some bag) = number_line (codes "lines") (length bag) ++ counted_texts bag
+
+-- time, cause, log and the count of the dump's bytes; the line of the values; and the printed lines
 abbrev pub end_text : End → List ℕ
 end_text end =
     line (codes "end " ++ joined_by_space (decimal end.time) (joined_by_space (cause_word end.cause) (joined_by_space (log_text end.log) (decimal end.bytes))))
     ++ line end.line
+    ++ printed_lines end.printed
 
 -- each end with its dump after it
 abbrev pub ends_text : List End → List (List ℕ) → List ℕ

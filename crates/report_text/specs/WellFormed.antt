@@ -1,5 +1,5 @@
 -- *product rule*: Which reports there are: those whose text is read (docs/FORMATS.md, "Reports").
-use Rattle.std.specs.Prelude.{◌≡◌, ◌≢◌, ℕ, ◌<◌, ◌≤◌, ◌^◌, ◌&&◌, ◌||◌, ◌==◌, ◌⊎◌, Bool, true, false, List, [], ◌∷◌, length, slice_get, Some, Result, MatchResult}
+use Rattle.std.specs.Prelude.{◌≡◌, ◌≢◌, ℕ, ◌<◌, ◌≤◌, ◌^◌, ◌&&◌, ◌||◌, ◌==◌, ◌⊎◌, Bool, true, false, List, [], ◌∷◌, length, slice_get, Option, Some, Result, MatchResult}
 use Rattle.std.specs.List.{list_all}
 use Rattle.std.specs.Ordering.{nat_cmp}
 use Rattle.std.specs.Cmp.Lexicographic.{slice_cmp}
@@ -9,7 +9,13 @@ use Rattle.basis.specs.Reasons.{Because}
 use Rattle.sched_core.specs.Logs.{IsLog}
 use Rattle.vast.specs.Names.{has_letters_of_name, is_path}
 use Rattle.sched_core.specs.declared.setting.Grain.TheVariants.{Process}
-use Rattle.report_text.specs.declared.report.Version.TheVariants.{One}
+use Rattle.sched_core.specs.declared.setting.Departures.{Departures}
+use Rattle.sched_core.specs.declared.setting.Departures.TheVariants.{Taking, Holding}
+use Rattle.sched_core.specs.declared.setting.Looked.{Looked}
+use Rattle.sched_core.specs.declared.setting.Looked.TheVariants.{Values, Lines}
+use Rattle.sched_core.specs.Bags.{IsBagLess, HasLines}
+use Rattle.report_text.specs.declared.report.Version.{Version}
+use Rattle.report_text.specs.declared.report.Version.TheVariants.{One, Two, Three}
 use Rattle.report_text.specs.declared.report.ReportFault.{ReportFault}
 use Rattle.report_text.specs.Report.{Column, End, Race, Report}
 use Rattle.report_text.specs.ReportText.{joined_by_space, cause_word, report_text}
@@ -48,20 +54,26 @@ IsColumn column = (is_path column.name ≡ true) × (1 ≤ column.width) × (col
 
 -- ---- ends and races
 
--- by time, then by the bytes of the cause, then by those of the values
+abbrev pub IsPrintedLess : Option (List (List ℕ)) → Option (List (List ℕ)) → Type 0
+IsPrintedLess (Some a) (Some b) = IsBagLess a b
+IsPrintedLess _ _ = ⊥
+
+-- by time, then by the bytes of the cause, then by those of the values, then by the lines
 abbrev pub IsEndBefore : End → End → Type 0
 IsEndBefore a b =
     (a.time < b.time)
-    ⊎ ((a.time ≡ b.time) × (IsTextLess (cause_word a.cause) (cause_word b.cause) ⊎ ((a.cause ≡ b.cause) × IsTextLess a.line b.line)))
+    ⊎ ((a.time ≡ b.time) × (IsTextLess (cause_word a.cause) (cause_word b.cause)
+    ⊎ ((a.cause ≡ b.cause) × (IsTextLess a.line b.line ⊎ ((a.line ≡ b.line) × IsPrintedLess a.printed b.printed)))))
 
 -- by time, then by the number of the variable
 abbrev pub IsRaceBefore : Race → Race → Type 0
 IsRaceBefore a b = (a.time < b.time) ⊎ ((a.time ≡ b.time) × (a.variable < b.variable))
 
-pub record IsEnd (columns : List Column) (end : End) : Type 0 where
+pub record IsEnd (looked : Looked) (columns : List Column) (end : End) : Type 0 where
   pub time : end.time < 2 ^ 64
   pub log : IsLog end.log
   pub line : IsLineOf columns end.line
+  pub lines : HasLines looked end.printed
 
 -- two values or more, each as wide as the variable, in the order of their bytes
 pub record IsRaceForm (columns : List Column) (race : Race) : Type 0 where
@@ -73,6 +85,12 @@ pub record IsRaceForm (columns : List Column) (race : Race) : Type 0 where
   pub logs : Each (λ v. IsLog v.1) race.values
   pub order : EachTwo (λ v w. IsTextLess v.0 w.0) race.values
 
+-- which departures there are, and what is looked at, as this version can tell
+abbrev pub HasViews : Version → Departures → Looked → Type 0
+HasViews One departures looked = (departures ≡ Taking) × (looked ≡ Values)
+HasViews Two departures looked = (departures ≡ Taking) × (looked ≡ Values)
+HasViews Three departures looked = (departures ≡ Holding) ⊎ (looked ≡ Lines)
+
 -- the numbers of the head are within their limits
 pub record IsHead (r : Report) : Type 0 where
   pub top : has_letters_of_name r.top ≡ true
@@ -81,6 +99,7 @@ pub record IsHead (r : Report) : Type 0 where
   pub some_steps : 1 ≤ r.steps
   pub few_steps : r.steps ≤ 1000000
   pub grain : r.version ≡ One → r.grain ≡ Process
+  pub views : HasViews r.version r.departures r.looked
 
 -- so many bytes as the dump has
 abbrev pub HaveBytes : List End → List (List ℕ) → Type 0
@@ -93,7 +112,7 @@ pub record IsReport (r : Report) (dumps : List (List ℕ)) : Type 0 where
   pub head : IsHead r
   pub columns : Each IsColumn r.variables
   pub names : EachTwo (λ a b. a.name ≢ b.name) r.variables
-  pub ends : Each (IsEnd r.variables) r.ends
+  pub ends : Each (IsEnd r.looked r.variables) r.ends
   pub ends_order : EachTwo IsEndBefore r.ends
   pub bytes : HaveBytes r.ends dumps
   pub races : Each (IsRaceForm r.variables) r.races

@@ -10,19 +10,20 @@ ghost use Rattle.report_text.specs.Inner.Fronts.{EachRest};
 ghost use Rattle.report_text.specs.Inner.Places.{HasSpelled, HasTaken, Stands, TakesEach, TakesSpelled, Took};
 ghost use Rattle.report_text.specs.Report as reports;
 ghost use Rattle.report_text.specs.ReportText as spelled;
-ghost use Rattle.report_text.specs.WellFormed.{IsEnd, IsEndBefore, IsLineOf, IsTextLess};
+ghost use Rattle.report_text.specs.WellFormed.{IsEnd, IsEndBefore, IsLineOf};
 
 use crate::columns::copy_of;
 use crate::front::after;
-use crate::letters::is_value;
+use crate::letters::{is_less, is_same, is_value};
+use crate::lines::{is_printed_less, take_printed};
 use crate::reader::Reader;
 use crate::report::{Column, End};
 use crate::words::{cause_of, cause_word};
 use basis::{NoMemory, OrMemory};
 use sched_core::end::Cause;
+use sched_core::setting::Looked;
 use sched_core::{Log, read_log};
 use std::alloc::Global;
-use std::cmp::Ordering;
 use std::marker::Model;
 
 /// Reads the word as a log. Where it is none the reader is lost. The error is want of memory, E901.
@@ -98,14 +99,17 @@ fn after_space(text: &[u8], width: u32) -> Option<&[u8]>
     after_value(after(text, b" ")?, width)
 }
 
-/// Whether one text stands before another in the order of their bytes.
-pub fn is_less(a: &[u8], b: &[u8]) -> bool
-    ensures { IsTrue result ↔ IsTextLess a.now b.now }
+// Whether one end stands before another of its time and cause: by values, then by lines.
+fn is_shown_less(a: &End, b: &End) -> bool
+    ensures { IsTrue result ↔ inner.IsShownLess a.now b.now }
 {
-    a.cmp(b) == Ordering::Less
+    if is_same(&a.line, &b.line) {
+        return is_printed_less(&a.printed, &b.printed);
+    }
+    is_less(&a.line, &b.line)
 }
 
-// Whether one end stands before another: by time, then by cause, then by values.
+// Whether one end stands before another: by time, then by cause, then by values, then by lines.
 fn is_end_before(a: &End, b: &End) -> bool
     ensures { IsTrue result ↔ IsEndBefore a.now b.now }
 {
@@ -114,7 +118,7 @@ fn is_end_before(a: &End, b: &End) -> bool
     }
     let (left, right) = (cause_word(a.cause), cause_word(b.cause));
     if left == right {
-        return is_less(&a.line, &b.line);
+        return is_shown_less(a, b);
     }
     is_less(left, right)
 }
@@ -129,7 +133,7 @@ fn may_follow(ends: &[End], end: &End) -> bool
     }
 }
 
-// The words of an end and its dump, as they stand in a text.
+// The words of an end, as they stand in a text.
 #[derive(Drop)]
 struct EndWords<'a> {
     time: u64,
@@ -137,7 +141,6 @@ struct EndWords<'a> {
     log: &'a [u8],
     bytes: u64,
     line: &'a [u8],
-    dump: &'a [u8],
 }
 
 impl<'a> Model for EndWords<'a> {
@@ -151,11 +154,10 @@ impl<'a> Model for EndWords<'a> {
       log = w.log.now;
       bytes = w.bytes;
       line = w.line.now;
-      dump = w.dump.now;
     } };
 }
 
-// Takes the words of an end, and its dump.
+// Takes the words of an end.
 fn end_words<'a>(reader: &mut Reader<'a>) -> EndWords<'a>
     ensures read { HasSpelled reader.old reader.new inner.IsSpelling inner.spelled_before result }
     ensures each { TakesSpelled reader.old reader.new inner.IsSpelling inner.spelled_before result }
@@ -166,14 +168,12 @@ fn end_words<'a>(reader: &mut Reader<'a>) -> EndWords<'a>
     let log = reader.word(b' ');
     let bytes = reader.number(b'\n');
     let line = reader.word(b'\n');
-    let dump = reader.bytes(bytes);
     EndWords {
         time,
         cause,
         log,
         bytes,
         line,
-        dump,
     }
 }
 
@@ -182,13 +182,16 @@ fn take_end<'a>(
     alloc: Global,
     reader: &mut Reader<'a>,
     columns: &[Column],
+    looked: Looked,
 ) -> Result<(End, &'a [u8]), NoMemory>
     ensures read { IfOk result (λ p.
-        HasTaken reader.old reader.new (inner.IsEndedTaken columns.now) (p.0, p.1.now)) }
-    ensures each { inner.EachEnd columns.now reader.old reader.new result }
+        HasTaken reader.old reader.new (inner.IsEndedTaken looked columns.now) (p.0, p.1.now)) }
+    ensures each { inner.EachEnd looked columns.now reader.old reader.new result }
 {
     let words = end_words(reader);
     reader.require(is_line_of(columns, words.line));
+    let printed = take_printed(alloc, reader, looked)?;
+    let dump = reader.bytes(words.bytes);
     let log = take_log(alloc, reader, words.log)?;
     let line = copy_of(alloc, words.line)?;
     let end = End {
@@ -197,8 +200,9 @@ fn take_end<'a>(
         log,
         bytes: words.bytes,
         line,
+        printed,
     };
-    Ok((end, words.dump))
+    Ok((end, dump))
 }
 
 /// Takes so many ends with their dumps. Where the reader is lost they mean nothing. The error is want of memory, E901.
@@ -206,16 +210,17 @@ pub fn read_ends<'a>(
     alloc: Global,
     reader: &mut Reader<'a>,
     columns: &[Column],
+    looked: Looked,
     count: u64,
 ) -> Result<(Vec<End>, Vec<&'a [u8]>), NoMemory>
     ensures read { IfOk result (λ p.
-        inner.HasEnds columns.now count reader.old reader.new p.0.items p.1.items) }
-    ensures each { inner.EachEnds columns.now count reader.old reader.new result }
+        inner.HasEnds looked columns.now count reader.old reader.new p.0.items p.1.items) }
+    ensures each { inner.EachEnds looked columns.now count reader.old reader.new result }
 {
     let mut ends = Vec::new(alloc);
     let mut dumps = Vec::new(alloc);
     for place in 0..count {
-        let (end, dump) = take_end(alloc, reader, columns)?;
+        let (end, dump) = take_end(alloc, reader, columns, looked)?;
         reader.require(may_follow(&ends, &end));
         if !reader.is_ok() {
             return Ok((ends, dumps));

@@ -2,23 +2,25 @@
 
 ghost use Rattle.std.specs.Prelude.{◌≡◌, ℕ, ◌≤◌, List, true, IsTrue, ◌↔◌, codes, decimal};
 ghost use Rattle.report_text.specs.Inner.Headings.{IsGrainIn, IsHeading, IsLabelLine, IsNumberLine, IsTop};
+ghost use Rattle.report_text.specs.Inner.Headings.{AreViewsIn, named_views_before, views_before};
 ghost use Rattle.report_text.specs.Inner.Headings.{grain_before, heading_before, label_line_before};
 ghost use Rattle.report_text.specs.Inner.Headings as headings;
 ghost use Rattle.report_text.specs.Inner.Places.{HasSpelled, HasTaken, Stands, TakesEach, TakesSpelled, Took};
 ghost use Rattle.report_text.specs.ReportText as spelled;
 ghost use Rattle.vast.specs.Names.{has_letters_of_name};
 ghost use Rattle.report_text.specs.declared.report.Version as versions;
-ghost use Rattle.report_text.specs.declared.report.Version.TheVariants.{One};
+ghost use Rattle.report_text.specs.declared.report.Version.TheVariants.{One, Three};
 ghost use Rattle.report_text.specs.declared.report.Outcome as outcomes;
 ghost use Rattle.sched_core.specs.declared.setting.Grain as grains;
 ghost use Rattle.sched_core.specs.declared.setting.Grain.TheVariants.{Process};
+ghost use Rattle.report_text.specs.WellFormed.{HasViews};
 
 use crate::letters::is_name;
 use crate::reader::Reader;
 use crate::report::{Outcome, Version};
-use crate::words::{grain_of, outcome_of};
-use sched_core::setting::Grain;
+use crate::words::{departures_of, grain_of, looked_of, outcome_of};
 use std::marker::Model;
+use sched_core::setting::{Departures, Grain, Looked};
 
 /// The last time limit.
 const LAST_UNTIL: u64 = 4_611_686_018_427_387_903;
@@ -38,6 +40,8 @@ pub struct Heading<'a> {
     pub depart: u64,
     pub steps: u64,
     pub grain: Grain,
+    pub departures: Departures,
+    pub looked: Looked,
     pub outcome: Outcome,
 }
 
@@ -53,6 +57,8 @@ impl<'a> Model for Heading<'a> {
       depart = h.depart;
       steps = h.steps;
       grain = h.grain;
+      departures = h.departures;
+      looked = h.looked;
       outcome = h.outcome;
     } };
 }
@@ -89,8 +95,14 @@ fn version_line(reader: &mut Reader) -> Version
     ensures read { HasTaken reader.old reader.new headings.IsVersionLine result }
     ensures each { TakesEach reader.old reader.new headings.IsVersionLine result }
 {
-    let n = number_line(reader, b"vrace report ", 1, 2);
-    if n == 1 { Version::One } else { Version::Two }
+    let n = number_line(reader, b"vrace report ", 1, 3);
+    if n == 1 {
+        return Version::One;
+    }
+    if n == 2 {
+        return Version::Two;
+    }
+    Version::Three
 }
 
 // Takes the line of the top.
@@ -103,6 +115,20 @@ fn top_line<'a>(reader: &mut Reader<'a>) -> &'a [u8]
     top
 }
 
+// Takes the line of the grain.
+fn named_grain(reader: &mut Reader) -> Grain
+    ensures read { HasTaken reader.old reader.new headings.IsGrainLine result }
+    ensures each { TakesEach reader.old reader.new headings.IsGrainLine result }
+{
+    match grain_of(label_line(reader, b"grain ")) {
+        Some(grain) => grain,
+        None => {
+            reader.require(false);
+            Grain::Process
+        }
+    }
+}
+
 // Takes the line of the grain, where this version has one; else the grain is process.
 fn grain_line(reader: &mut Reader, version: Version) -> Grain
     ensures read { HasSpelled reader.old reader.new (IsGrainIn version) (grain_before version)
@@ -112,13 +138,68 @@ fn grain_line(reader: &mut Reader, version: Version) -> Grain
 {
     match version {
         Version::One => Grain::Process,
-        Version::Two => match grain_of(label_line(reader, b"grain ")) {
-            Some(grain) => grain,
-            None => {
-                reader.require(false);
-                Grain::Process
-            }
-        },
+        Version::Two => named_grain(reader),
+        Version::Three => named_grain(reader),
+    }
+}
+
+// Takes the line of the departures.
+fn departures_line(reader: &mut Reader) -> Departures
+    ensures read { HasTaken reader.old reader.new headings.IsDeparturesLine result }
+    ensures each { TakesEach reader.old reader.new headings.IsDeparturesLine result }
+{
+    match departures_of(label_line(reader, b"departures ")) {
+        Some(departures) => departures,
+        None => {
+            reader.require(false);
+            Departures::Taking
+        }
+    }
+}
+
+// Takes the line of what is looked at.
+fn looked_line(reader: &mut Reader) -> Looked
+    ensures read { HasTaken reader.old reader.new headings.IsLookedLine result }
+    ensures each { TakesEach reader.old reader.new headings.IsLookedLine result }
+{
+    match looked_of(label_line(reader, b"looked ")) {
+        Some(looked) => looked,
+        None => {
+            reader.require(false);
+            Looked::Values
+        }
+    }
+}
+
+// Whether a version before the third couldn't tell these.
+fn are_new(departures: Departures, looked: Looked) -> bool
+    ensures { IsTrue result ↔ HasViews Three departures looked }
+{
+    departures == Departures::Holding || looked == Looked::Lines
+}
+
+// Takes the lines that tell which departures there are and what is looked at.
+fn named_views(reader: &mut Reader) -> (Departures, Looked)
+    ensures read { HasSpelled reader.old reader.new (AreViewsIn Three) named_views_before result }
+    ensures each { TakesSpelled reader.old reader.new (AreViewsIn Three) named_views_before result }
+{
+    let departures = departures_line(reader);
+    let looked = looked_line(reader);
+    reader.require(are_new(departures, looked));
+    (departures, looked)
+}
+
+// Takes these lines, where this version has them; else departures take, and values are looked at.
+fn view_lines(reader: &mut Reader, version: Version) -> (Departures, Looked)
+    ensures read { HasSpelled reader.old reader.new (AreViewsIn version) (views_before version)
+        result }
+    ensures each { TakesSpelled reader.old reader.new (AreViewsIn version) (views_before version)
+        result }
+{
+    match version {
+        Version::One => (Departures::Taking, Looked::Values),
+        Version::Two => (Departures::Taking, Looked::Values),
+        Version::Three => named_views(reader),
     }
 }
 
@@ -147,6 +228,7 @@ pub fn read_heading<'a>(reader: &mut Reader<'a>) -> Heading<'a>
     let depart = number_line(reader, b"depart ", 0, MOST_DEPARTURES);
     let steps = number_line(reader, b"steps ", 1, MOST_STEPS);
     let grain = grain_line(reader, version);
+    let (departures, looked) = view_lines(reader, version);
     let outcome = outcome_line(reader);
     Heading {
         version,
@@ -155,6 +237,8 @@ pub fn read_heading<'a>(reader: &mut Reader<'a>) -> Heading<'a>
         depart,
         steps,
         grain,
+        departures,
+        looked,
         outcome,
     }
 }

@@ -1,4 +1,4 @@
-// Tests of the bytes of a word: names, names joined by dots, values.
+// Tests of the bytes of words: names, names joined by dots, values; and which of two stands first.
 
 ghost use Rattle.std.specs.Prelude.{◌≡◌, ◌↔◌, IsTrue};
 ghost use Rattle.std.specs.List.{list_all};
@@ -6,6 +6,8 @@ ghost use Rattle.vast.specs.Words as words;
 ghost use Rattle.report_text.specs.Inner.Fronts.{goes_on};
 ghost use Rattle.report_text.specs.WellFormed as well_formed;
 ghost use Rattle.vast.specs.Names as names;
+
+use std::cmp::Ordering;
 
 // 3.7: a letter or `_`
 fn begins_name(byte: u8) -> bool
@@ -92,4 +94,18 @@ pub fn is_value(width: u32, word: &[u8]) -> bool
     ensures { IsTrue result ↔ well_formed.IsValue width word.now }
 {
     word.len() == width as usize && are_digits(word)
+}
+
+/// Whether one text stands before another in the order of their bytes.
+pub fn is_less(a: &[u8], b: &[u8]) -> bool
+    ensures { IsTrue result ↔ well_formed.IsTextLess a.now b.now }
+{
+    a.cmp(b) == Ordering::Less
+}
+
+/// Whether these are the same bytes.
+pub fn is_same(a: &[u8], b: &[u8]) -> bool
+    ensures { IsTrue result ↔ (a.now ≡ b.now) }
+{
+    a == b
 }

@@ -9,6 +9,7 @@ mod front;
 mod heading_lines;
 mod law;
 mod letters;
+mod lines;
 mod names;
 mod pieces;
 mod races;

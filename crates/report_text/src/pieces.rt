@@ -3,13 +3,17 @@
 ghost use Rattle.std.specs.Prelude.{◌≡◌, ◌++◌, ◌∷◌, [], codes, decimal, slice_get, IfOk, OnOk};
 ghost use Rattle.report_text.specs.Inner.Lists.{PutsBytes};
 ghost use Rattle.report_text.specs.ReportText as spec;
+ghost use Rattle.report_text.specs.declared.report.Version.TheVariants.{Three};
 
 use crate::report::{Column, End, Race, RaceValue, Report, Version};
-use crate::words::{cause_word, grain_word, outcome_words, version_number};
+use crate::words::{
+    cause_word, departures_word, grain_word, looked_word, outcome_words, version_number,
+};
 use basis::NoMemory;
 use itoa::Buffer;
 use sched_core::append_log;
 use std::alloc::Global;
+use sched_core::bag::{Bag, PrintedLine};
 
 // Puts the word last, and a space.
 fn put_word(text: &mut Vec<u8>, word: &[u8]) -> Result<(), NoMemory>
@@ -67,6 +71,28 @@ fn put_grain(text: &mut Vec<u8>, report: &Report) -> Result<(), NoMemory>
     match report.version {
         Version::One => Ok(()),
         Version::Two => put_word_line(text, b"grain", grain_word(report.grain)),
+        Version::Three => put_word_line(text, b"grain", grain_word(report.grain)),
+    }
+}
+
+// Puts the lines last that tell which departures there are and what is looked at.
+fn put_named_views(text: &mut Vec<u8>, report: &Report) -> Result<(), NoMemory>
+    ensures { PutsBytes text.old text.new result
+        (spec.view_lines Three report.now.departures report.now.looked) }
+{
+    put_word_line(text, b"departures", departures_word(report.departures))?;
+    put_word_line(text, b"looked", looked_word(report.looked))
+}
+
+// Puts these lines last, where this version has them.
+fn put_views(text: &mut Vec<u8>, report: &Report) -> Result<(), NoMemory>
+    ensures { PutsBytes text.old text.new result
+        (spec.view_lines report.now.version report.now.departures report.now.looked) }
+{
+    match report.version {
+        Version::One => Ok(()),
+        Version::Two => Ok(()),
+        Version::Three => put_named_views(text, report),
     }
 }
 
@@ -82,6 +108,7 @@ pub fn head_lines(alloc: Global, report: &Report) -> Result<Vec<u8>, NoMemory>
     put_number_line(&mut text, b"depart", report.depart as u64)?;
     put_number_line(&mut text, b"steps", report.steps as u64)?;
     put_grain(&mut text, report)?;
+    put_views(&mut text, report)?;
     put_word_line(&mut text, b"state", outcome_words(report.outcome))?;
     put_number_line(&mut text, b"vars", report.variables.len() as u64)?;
     put_columns(&mut text, &report.variables)?;
@@ -89,7 +116,32 @@ pub fn head_lines(alloc: Global, report: &Report) -> Result<Vec<u8>, NoMemory>
     Ok(text)
 }
 
-/// The two lines of an end: the dump of its run follows them. The error is want of memory, E901.
+// Puts these lines last, each by the count of its bytes.
+fn put_texts(text: &mut Vec<u8>, lines: &[PrintedLine]) -> Result<(), NoMemory>
+    ensures { PutsBytes text.old text.new result (spec.counted_texts lines.now) }
+{
+    for printed in lines {
+        put_number_line(text, b"line", printed.as_bytes().len() as u64)?;
+        text.extend_from_slice(printed.as_bytes())?;
+    }
+    Ok(())
+}
+
+// Puts the lines of an end last, where they are looked at.
+fn put_printed(text: &mut Vec<u8>, printed: &Option<Bag>) -> Result<(), NoMemory>
+    ensures { PutsBytes text.old text.new result (spec.printed_lines printed.now) }
+{
+    match printed {
+        None => Ok(()),
+        Some(bag) => {
+            put_number_line(text, b"lines", bag.as_slice().len() as u64)?;
+            put_texts(text, bag.as_slice())
+        }
+    }
+}
+
+/// The two lines of an end, and where lines are looked at those of its last slot: the dump of its run follows them. The error
+/// is want of memory, E901.
 pub fn end_lines(alloc: Global, end: &End) -> Result<Vec<u8>, NoMemory>
     ensures { IfOk result (λ text. text.items ≡ spec.end_text end.now) }
 {
@@ -104,6 +156,7 @@ pub fn end_lines(alloc: Global, end: &End) -> Result<Vec<u8>, NoMemory>
     text.push(b'\n')?;
     text.extend_from_slice(&end.line)?;
     text.push(b'\n')?;
+    put_printed(&mut text, &end.printed)?;
     Ok(text)
 }
 

@@ -10,8 +10,8 @@ ghost use Rattle.report_text.specs.ReportText as spelled;
 ghost use Rattle.report_text.specs.WellFormed.{EachTwo, Each, IsColumn, IsRaceBefore};
 
 use crate::columns::copy_of;
-use crate::ends::{is_less, take_log};
-use crate::letters::is_value;
+use crate::ends::take_log;
+use crate::letters::{is_less, is_value};
 use crate::names::Names;
 use crate::reader::Reader;
 use crate::report::{Column, Race, RaceValue};

@@ -20,6 +20,7 @@ use crate::reader::Reader;
 use crate::report::{Column, End, Race, Report, ReportFault, ReportWithDumps};
 use basis::{NoMemory, OrMemory};
 use std::alloc::Global;
+use sched_core::setting::Looked;
 
 // A text has no more bytes than a number of 64 bits counts.
 fn has_size(text: &[u8]) -> u64
@@ -52,15 +53,16 @@ fn read_body<'a>(
     reader: &mut Reader<'a>,
     columns: &[Column],
     names: &Names<'a>,
+    looked: Looked,
 ) -> Result<(Vec<End>, Vec<&'a [u8]>, Vec<Race>), NoMemory>
     requires shown { names.now ≡ map (λ c. c.name) columns.now }
     requires columns { Listed IsColumn Differ columns.now }
     ensures read { IfOk result (λ p.
-        HasBody columns.now reader.old reader.new p.0.items p.1.items p.2.items) }
-    ensures each { EachBody columns.now reader.old reader.new result }
+        HasBody looked columns.now reader.old reader.new p.0.items p.1.items p.2.items) }
+    ensures each { EachBody looked columns.now reader.old reader.new result }
 {
     let count = number_line(reader, b"ends ", 0, u64::MAX);
-    let (ends, dumps) = read_ends(alloc, reader, columns, count)?;
+    let (ends, dumps) = read_ends(alloc, reader, columns, looked, count)?;
     let count = number_line(reader, b"races ", 0, u64::MAX);
     let races = read_races(alloc, reader, columns, names, count)?;
     Ok((ends, dumps, races))
@@ -68,7 +70,7 @@ fn read_body<'a>(
 
 /// Reads the text of a report with the dumps of its ends.
 ///
-/// It accepts exactly the texts of reports, of version 1 and 2 (docs/FORMATS.md, "Reports"), in one pass. Any other is
+/// It accepts exactly the texts of reports, of version 1, 2 and 3 (docs/FORMATS.md, "Reports"), in one pass. Any other is
 /// `ReportFault::IllFormed`, E501. The error may also be want of memory, E901.
 pub fn read_report<'a>(
     alloc: Global,
@@ -84,7 +86,7 @@ pub fn read_report<'a>(
     if !reader.is_ok() {
         return Err(OrMemory::Fault(ReportFault::IllFormed));
     }
-    let (ends, dumps, races) = read_body(alloc, &mut reader, &variables, &names)?;
+    let (ends, dumps, races) = read_body(alloc, &mut reader, &variables, &names, heading.looked)?;
     reader.require(reader.is_done());
     if !reader.is_ok() {
         return Err(OrMemory::Fault(ReportFault::IllFormed));
@@ -97,6 +99,8 @@ pub fn read_report<'a>(
         depart: heading.depart as u32,
         steps: heading.steps as u32,
         grain: heading.grain,
+        departures: heading.departures,
+        looked: heading.looked,
         outcome: heading.outcome,
         variables,
         ends,

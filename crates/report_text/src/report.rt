@@ -1,15 +1,18 @@
 // A report of an exploration (docs/FORMATS.md, "Reports").
 
 use sched_core::Log;
+use sched_core::bag::Bag;
 use sched_core::end::Cause;
-use sched_core::setting::Grain;
+use sched_core::setting::{Departures, Grain, Looked};
 use std::marker::Model;
 
-/// The version of a report's text. Version 1 has no line for the grain, which is process.
+/// The version of a report's text. Version 1 has no line for the grain, which is process. Version 3 tells which departures
+/// there are and what is looked at; in the others departures take and values are looked at.
 #[derive(Clone, Copy, Debug, PartialEq, Eq)]
 pub enum Version {
     One,
     Two,
+    Three,
 }
 
 /// How an exploration went: nothing within its limits was missed, or why it stopped short.
@@ -37,7 +40,8 @@ impl Model for Column {
 }
 
 /// An end that runs come to: its time, in units of the precision, its cause, a log that leads there, how many bytes the
-/// dump of that run has, and the line that tells the values of all variables.
+/// dump of that run has, the line that tells the values of all variables, and where lines are looked at those that its last
+/// slot printed.
 #[derive(Drop)]
 pub struct End {
     pub time: u64,
@@ -45,6 +49,7 @@ pub struct End {
     pub log: Log,
     pub bytes: u64,
     pub line: Vec<u8>,
+    pub printed: Option<Bag>,
 }
 
 impl Model for End {
@@ -52,7 +57,14 @@ impl Model for End {
 
     ghost Value = { reports.End };
 
-    ghost view = { λ e. record { time = e.time; cause = e.cause; log = e.log; bytes = e.bytes; line = e.line.items } };
+    ghost view = { λ e. record {
+      time = e.time;
+      cause = e.cause;
+      log = e.log;
+      bytes = e.bytes;
+      line = e.line.items;
+      printed = e.printed;
+    } };
 }
 
 /// A value that a variable has at the end of a slot, as its digits, leftmost first, and the log of a run that shows it.
@@ -95,6 +107,8 @@ pub struct Report {
     pub depart: u32,
     pub steps: u32,
     pub grain: Grain,
+    pub departures: Departures,
+    pub looked: Looked,
     pub outcome: Outcome,
     pub variables: Vec<Column>,
     pub ends: Vec<End>,
@@ -113,6 +127,8 @@ impl Model for Report {
       depart = r.depart;
       steps = r.steps;
       grain = r.grain;
+      departures = r.departures;
+      looked = r.looked;
       outcome = r.outcome;
       variables = r.variables.items;
       ends = r.ends.items;

@@ -1,14 +1,16 @@
-// The words that stand for versions, grains, causes and outcomes.
+// The words that stand for versions, grains, departures, what is looked at, causes and outcomes.
 
 ghost use Rattle.std.specs.Prelude.{◌≡◌, ◌≢◌, IfSome, IfNone};
 ghost use Rattle.report_text.specs.declared.report.Outcome as outcomes;
 ghost use Rattle.sched_core.specs.declared.end.Cause as causes;
+ghost use Rattle.sched_core.specs.declared.setting.Departures as ways;
 ghost use Rattle.sched_core.specs.declared.setting.Grain as grains;
+ghost use Rattle.sched_core.specs.declared.setting.Looked as looks;
 ghost use Rattle.report_text.specs.ReportText as text;
 
 use crate::report::{Outcome, Version};
 use sched_core::end::Cause;
-use sched_core::setting::Grain;
+use sched_core::setting::{Departures, Grain, Looked};
 
 /// The number of the version.
 pub fn version_number(version: Version) -> u64
@@ -17,6 +19,7 @@ pub fn version_number(version: Version) -> u64
     match version {
         Version::One => 1,
         Version::Two => 2,
+        Version::Three => 3,
     }
 }
 
@@ -27,6 +30,26 @@ pub fn grain_word(grain: Grain) -> &'static [u8]
     match grain {
         Grain::Process => b"process",
         Grain::Statement => b"statement",
+    }
+}
+
+/// The word of the departures.
+pub fn departures_word(departures: Departures) -> &'static [u8]
+    ensures { result.now ≡ text.departures_word departures }
+{
+    match departures {
+        Departures::Taking => b"taking",
+        Departures::Holding => b"holding",
+    }
+}
+
+/// The word of what is looked at.
+pub fn looked_word(looked: Looked) -> &'static [u8]
+    ensures { result.now ≡ text.looked_word looked }
+{
+    match looked {
+        Looked::Values => b"values",
+        Looked::Lines => b"lines",
     }
 }
 
@@ -64,6 +87,34 @@ pub fn grain_of(word: &[u8]) -> Option<Grain>
     }
     if word == b"statement".as_slice() {
         return Some(Grain::Statement);
+    }
+    None
+}
+
+/// The departures that the word stands for.
+pub fn departures_of(word: &[u8]) -> Option<Departures>
+    ensures read { IfSome result (λ x. word.now ≡ text.departures_word x) }
+    ensures none { IfNone result ((x : ways.Departures) → word.now ≢ text.departures_word x) }
+{
+    if word == b"taking".as_slice() {
+        return Some(Departures::Taking);
+    }
+    if word == b"holding".as_slice() {
+        return Some(Departures::Holding);
+    }
+    None
+}
+
+/// What is looked at, by its word.
+pub fn looked_of(word: &[u8]) -> Option<Looked>
+    ensures read { IfSome result (λ x. word.now ≡ text.looked_word x) }
+    ensures none { IfNone result ((x : looks.Looked) → word.now ≢ text.looked_word x) }
+{
+    if word == b"values".as_slice() {
+        return Some(Looked::Values);
+    }
+    if word == b"lines".as_slice() {
+        return Some(Looked::Lines);
     }
     None
 }

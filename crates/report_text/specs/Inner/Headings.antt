@@ -2,10 +2,13 @@
 use Rattle.std.specs.Prelude.{◌≡◌, ℕ, ◌<◌, ◌≤◌, ◌^◌, true, List, ◌∷◌, ◌++◌, codes, decimal}
 use Rattle.sched_core.specs.declared.setting.Grain.{Grain}
 use Rattle.sched_core.specs.declared.setting.Grain.TheVariants.{Process}
+use Rattle.sched_core.specs.declared.setting.Departures.{Departures}
+use Rattle.sched_core.specs.declared.setting.Looked.{Looked}
 use Rattle.report_text.specs.declared.report.Version.{Version}
-use Rattle.report_text.specs.declared.report.Version.TheVariants.{One, Two}
+use Rattle.report_text.specs.declared.report.Version.TheVariants.{One, Two, Three}
 use Rattle.report_text.specs.declared.report.Outcome.{Outcome}
-use Rattle.report_text.specs.ReportText.{version_number, grain_word, outcome_words}
+use Rattle.report_text.specs.ReportText.{version_number, grain_word, departures_word, looked_word, outcome_words}
+use Rattle.report_text.specs.WellFormed.{HasViews}
 use Rattle.vast.specs.Names.{has_letters_of_name}
 use Rattle.report_text.specs.Inner.Fronts.{lacks}
 
@@ -28,6 +31,8 @@ pub record Heading : Type 0 where
   pub depart : ℕ
   pub steps : ℕ
   pub grain : Grain
+  pub departures : Departures
+  pub looked : Looked
   pub outcome : Outcome
 
 -- a label and a value, before the rest
@@ -37,6 +42,20 @@ label_line_before label value rest = label ++ (value ++ 10 ∷ rest)
 abbrev pub grain_before : Version → Grain → List ℕ → List ℕ
 grain_before One grain rest = rest
 grain_before Two grain rest = label_line_before (codes "grain ") (grain_word grain) rest
+grain_before Three grain rest = label_line_before (codes "grain ") (grain_word grain) rest
+
+-- which departures there are, and what is looked at
+abbrev pub Views : Type 0
+Views = Departures × Looked
+
+abbrev pub named_views_before : Views → List ℕ → List ℕ
+named_views_before views rest =
+    label_line_before (codes "departures ") (departures_word views.0) (label_line_before (codes "looked ") (looked_word views.1) rest)
+
+abbrev pub views_before : Version → Views → List ℕ → List ℕ
+views_before One views rest = rest
+views_before Two views rest = rest
+views_before Three views rest = named_views_before views rest
 
 -- these lines, before the rest
 abbrev pub heading_before : Heading → List ℕ → List ℕ
@@ -47,7 +66,8 @@ heading_before h rest =
     (label_line_before (codes "depart ") (decimal h.depart)
     (label_line_before (codes "steps ") (decimal h.steps)
     (grain_before h.version h.grain
-    (label_line_before (codes "state ") (outcome_words h.outcome) rest))))))
+    (views_before h.version (h.departures, h.looked)
+    (label_line_before (codes "state ") (outcome_words h.outcome) rest)))))))
 
 pub record IsHeading (h : Heading) : Type 0 where
   pub top : has_letters_of_name h.top ≡ true
@@ -56,6 +76,7 @@ pub record IsHeading (h : Heading) : Type 0 where
   pub some_steps : 1 ≤ h.steps
   pub few_steps : h.steps ≤ 1000000
   pub grain : h.version ≡ One → h.grain ≡ Process
+  pub views : HasViews h.version h.departures h.looked
 
 abbrev pub IsVersionLine : List ℕ → Version → List ℕ → Type 0
 IsVersionLine text version rest = text ≡ label_line_before (codes "vrace report ") (decimal (version_number version)) rest
@@ -70,3 +91,16 @@ IsTop top = has_letters_of_name top ≡ true
 -- a report of the first version is of grain process
 abbrev pub IsGrainIn : Version → Grain → Type 0
 IsGrainIn version grain = version ≡ One → grain ≡ Process
+
+abbrev pub IsGrainLine : List ℕ → Grain → List ℕ → Type 0
+IsGrainLine text grain rest = text ≡ label_line_before (codes "grain ") (grain_word grain) rest
+
+abbrev pub IsDeparturesLine : List ℕ → Departures → List ℕ → Type 0
+IsDeparturesLine text departures rest = text ≡ label_line_before (codes "departures ") (departures_word departures) rest
+
+abbrev pub IsLookedLine : List ℕ → Looked → List ℕ → Type 0
+IsLookedLine text looked rest = text ≡ label_line_before (codes "looked ") (looked_word looked) rest
+
+-- this version can tell these
+abbrev pub AreViewsIn : Version → Views → Type 0
+AreViewsIn version views = HasViews version views.0 views.1

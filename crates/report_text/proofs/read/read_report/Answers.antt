@@ -36,8 +36,10 @@ returns-then-not-is_ok-2-clause-ill_formed c = λ r dumps is e.
     let w = c.in_ok-heading.ensures.each (heading_of r) r.variables (body_before r dumps) c.new-reader.ensures.0
     (subst (λ t. IsHeadTaken t (heading_of r) r.variables (body_before r dumps)) (sym c.new-reader.ensures.1) f.head) in
     let columns : c.deref.result.now ≡ r.variables = c.deref.ensures.value ∙ w.1 in
+    let looked : r.looked ≡ c.heading.inside.looked = ap (λ k. k.looked) (sym w.0) ∙ ap (λ k. k.looked) (sym c.heading.view_is) in
     let b = c.in_ok-ends.ensures.each f.all r.races [] w.2.0
-    (subst (λ t. IsBodyTaken c.deref.result.now t f.all r.races []) (sym w.2.1) (subst (λ cs. IsBodyTaken cs (body_before r dumps) f.all r.races []) (sym columns) f.body)) in
+    (subst (λ t. IsBodyTaken c.heading.inside.looked c.deref.result.now t f.all r.races []) (sym w.2.1)
+    (subst (λ cs. IsBodyTaken c.heading.inside.looked cs (body_before r dumps) f.all r.races []) (sym columns) (subst (λ l. IsBodyTaken l r.variables (body_before r dumps) f.all r.races []) looked f.body))) in
     let lost : c.require.new.self.ok ≡ false = sym c.is_ok-2.ensures ∙ c.if-not-is_ok-2.true in
     let fine : c.require.new.self.ok ≡ true = c.require.ensures.ok ∙ and_both _ _ b.3.0 (c.is_done.ensures ∙ ap (λ t. length t == 0) b.3.1) in
     absurd cc
@@ -52,8 +54,9 @@ returns-clause-read c =
     let h = c.in_ok-heading.ensures.read b.0 in
     let done : c.read_body.new.reader.rest ≡ [] = empty_from_test _ (sym c.is_done.ensures ∙ and_right c.read_body.new.reader.ok c.is_done.result s) in
     let head = subst (λ t. IsHeadTaken t c.in_ok-heading.heading c.in_ok-heading.variables.items c.read_head.new.reader.rest) c.new-reader.ensures.1 h.1.0 in
-    let body = subst (λ t. IsBodyTaken c.in_ok-heading.variables.items c.read_head.new.reader.rest b.1.0 c.in_ok-ends.races.items t) done
-    (subst (λ cs. IsBodyTaken cs c.read_head.new.reader.rest b.1.0 c.in_ok-ends.races.items c.read_body.new.reader.rest) c.deref.ensures.value b.1.1) in
+    let body = subst (λ t. IsBodyTaken c.in_ok-heading.heading.looked c.in_ok-heading.variables.items c.read_head.new.reader.rest b.1.0 c.in_ok-ends.races.items t) done
+    (subst (λ cs. IsBodyTaken c.in_ok-heading.heading.looked cs c.read_head.new.reader.rest b.1.0 c.in_ok-ends.races.items c.read_body.new.reader.rest) c.deref.ensures.value
+    (subst (λ l. IsBodyTaken l c.deref.result.now c.read_head.new.reader.rest b.1.0 c.in_ok-ends.races.items c.read_body.new.reader.rest) (ap (λ k. k.looked) c.heading.view_is) b.1.1)) in
     let told = is_report c.in_ok-heading.heading c.in_ok-heading.variables.items b.1.0 c.in_ok-ends.races.items c.args.text.now c.read_head.new.reader.rest head body in
     subst (λ (k : Report × List (List ℕ)). IsReportText c.args.text.now k)
     (λ i. (
@@ -64,6 +67,8 @@ returns-clause-read c =
         depart = (sym c.heading.view_is i).depart;
         steps = (sym c.heading.view_is i).steps;
         grain = (sym c.heading.view_is i).grain;
+        departures = (sym c.heading.view_is i).departures;
+        looked = (sym c.heading.view_is i).looked;
         outcome = (sym c.heading.view_is i).outcome;
         variables = c.in_ok-heading.variables.items;
         ends = sym b.1.2 i;
@@ -79,8 +84,10 @@ returns-clause-accepts c = λ r dumps is e.
     let w = c.in_ok-heading.ensures.each (heading_of r) r.variables (body_before r dumps) c.new-reader.ensures.0
     (subst (λ t. IsHeadTaken t (heading_of r) r.variables (body_before r dumps)) (sym c.new-reader.ensures.1) f.head) in
     let columns : c.deref.result.now ≡ r.variables = c.deref.ensures.value ∙ w.1 in
+    let looked : r.looked ≡ c.heading.inside.looked = ap (λ k. k.looked) (sym w.0) ∙ ap (λ k. k.looked) (sym c.heading.view_is) in
     let b = c.in_ok-ends.ensures.each f.all r.races [] w.2.0
-    (subst (λ t. IsBodyTaken c.deref.result.now t f.all r.races []) (sym w.2.1) (subst (λ cs. IsBodyTaken cs (body_before r dumps) f.all r.races []) (sym columns) f.body)) in
+    (subst (λ t. IsBodyTaken c.heading.inside.looked c.deref.result.now t f.all r.races []) (sym w.2.1)
+    (subst (λ cs. IsBodyTaken c.heading.inside.looked cs (body_before r dumps) f.all r.races []) (sym columns) (subst (λ l. IsBodyTaken l r.variables (body_before r dumps) f.all r.races []) looked f.body))) in
     let same = same_report c.args.text.now r dumps f c.in_ok-heading.heading c.in_ok-heading.variables.items c.in_ok-ends.ends.items (map (λ dump. dump.now) c.in_ok-ends.dumps.items) c.in_ok-ends.races.items
     w.0 w.1 b.0 b.1 b.2 in (
       (λ i. record {
@@ -90,6 +97,8 @@ returns-clause-accepts c = λ r dumps is e.
         depart = (c.heading.view_is i).depart;
         steps = (c.heading.view_is i).steps;
         grain = (c.heading.view_is i).grain;
+        departures = (c.heading.view_is i).departures;
+        looked = (c.heading.view_is i).looked;
         outcome = (c.heading.view_is i).outcome;
         variables = c.in_ok-heading.variables.items;
         ends = c.in_ok-ends.ends.items;

@@ -1,0 +1,107 @@
+-- Printed lines in the order of their bytes, and their texts.
+use Rattle.std.proofs.Common.{◌≡◌, ◌≢◌, ℕ, zero, suc, ◌+◌, ◌<◌, ◌≤◌, ◌^◌, true, List, [], ◌∷◌, ◌++◌, length, slice_get, Option, Some, None, arith, ap, refl, sym, subst, ◌∙◌, append_assoc}
+use Rattle.std.specs.Prelude.{codes}
+use Rattle.std.specs.List.{flat_map}
+use Rattle.std.specs.Fmt.{decimal}
+use Rattle.std.specs.Ordering.{nat_cmp, is_eq, ordering_reverse}
+use Rattle.std.specs.Cmp.{IsTotalOrder}
+use Rattle.std.specs.Cmp.Lexicographic.{slice_cmp}
+use Rattle.std.specs.declared.cmp.Ordering.{Ordering}
+use Rattle.std.specs.declared.cmp.Ordering.TheVariants.{Less, Equal, Greater}
+use Rattle.std.proofs.lemmas.Cmp.{nat_list_cmp_total}
+use Rattle.std.proofs.lemmas.Map.Text.{is_eq-slice_cmp}
+use Rattle.std.proofs.lemmas.Slice.Eq.{bytes_eq-Decides}
+use Rattle.sched_core.specs.declared.setting.Looked.TheVariants.{Values, Lines}
+use Rattle.sched_core.specs.Bags.{placed, with_line, AreLinesInOrder}
+use Rattle.report_text.specs.ReportText.{number_line, counted_text, counted_texts, printed_lines}
+use Rattle.report_text.specs.Inner.Headings.{label_line_before}
+use Rattle.report_text.specs.Inner.Lines.{IsNotAfter, HasCountable, ArePrintedTaken}
+use Rattle.report_text.specs.Inner.Places.{Place, Stands, TakesEach}
+use Rattle.report_text.proofs.SpellingLemmas.{line_before, left_le, right_le, items_le, item_le, line_some}
+
+total : IsTotalOrder (slice_cmp nat_cmp)
+total = nat_list_cmp_total
+
+pub not_after_trans : (a b c : List ℕ) → IsNotAfter a b → IsNotAfter b c → IsNotAfter a c
+not_after_trans a b c h k less = by (slice_cmp nat_cmp c b) refl
+  where
+    by : (o : Ordering) → slice_cmp nat_cmp c b ≡ o → ⊥
+    by Less is = k is
+    by Equal is = h (sym (total.congr c b a is) ∙ less)
+    by Greater is = h (total.trans b c a (total.antisymm b c ∙ ap ordering_reverse is) less)
+
+same_line : (a b : List ℕ) → slice_cmp nat_cmp a b ≡ Equal → a ≡ b
+same_line a b e = (bytes_eq-Decides a b).0 (sym (is_eq-slice_cmp a b) ∙ ap is_eq e)
+
+first_placed : (o : Ordering) (line x : List ℕ) (later xs : List (List ℕ)) → slice_cmp nat_cmp line x ≡ o → IsNotAfter line x → placed o line x later xs ≡ line ∷ x ∷ xs
+first_placed Less line x later xs is low = refl
+first_placed Equal line x later xs is low = refl
+first_placed Greater line x later xs is low = absurd (low (total.antisymm x line ∙ ap ordering_reverse is))
+
+-- a line that is greater than none of a bag is put first
+put_first : (line : List ℕ) (bag : List (List ℕ)) → ((j : ℕ) (x : List ℕ) → slice_get bag j ≡ Some x → IsNotAfter line x) → with_line line bag ≡ line ∷ bag
+put_first line [] low = refl
+put_first line (x ∷ xs) low = first_placed (slice_cmp nat_cmp line x) line x (with_line line xs) xs refl (low 0 x refl)
+
+last_placed : (o : Ordering) (line first : List ℕ) (rest : List (List ℕ)) → slice_cmp nat_cmp line first ≡ o → IsNotAfter first line → AreLinesInOrder (first ∷ rest) →
+    with_line line rest ≡ rest ++ line ∷ [] → placed o line first (with_line line rest) rest ≡ first ∷ rest ++ line ∷ []
+last_placed Greater line first rest is high order later = ap (λ (t : List (List ℕ)). first ∷ t) later
+last_placed Less line first rest is high order later = absurd (high is)
+last_placed Equal line first rest is high order later =
+    let same : line ≡ first = same_line line first is in
+    let front : with_line line rest ≡ line ∷ rest = put_first line rest (λ j x at. subst (λ (t : List ℕ). IsNotAfter t x) (sym same) (order 0 (suc j) first x (omega arith) refl at)) in
+    (λ i. same i ∷ sym same i ∷ rest) ∙ ap (λ (t : List (List ℕ)). first ∷ t) (sym front ∙ later)
+
+-- a line that is less than none of a bag is put last
+pub put_last : (line : List ℕ) (bag : List (List ℕ)) → AreLinesInOrder bag → ((j : ℕ) (x : List ℕ) → slice_get bag j ≡ Some x → IsNotAfter x line) → with_line line bag ≡ bag ++ line ∷ []
+put_last line [] order high = refl
+put_last line (first ∷ rest) order high =
+    last_placed (slice_cmp nat_cmp line first) line first rest refl (high 0 first refl) order
+    (put_last line rest (λ i j a b lt at there. order (suc i) (suc j) a b (omega (arith, lt)) at there) (λ j x at. high (suc j) x at))
+
+-- ---- texts
+
+pub text_spelled : (text rest : List ℕ) → counted_text text ++ rest ≡ label_line_before (codes "line ") (decimal (length text)) (text ++ rest)
+text_spelled text rest = append_assoc (number_line (codes "line") (length text)) text rest ∙ line_before (codes "line") (decimal (length text)) (text ++ rest)
+
+pub texts_spelled : (texts : List (List ℕ)) → flat_map counted_text texts ≡ counted_texts texts
+texts_spelled [] = refl
+texts_spelled (text ∷ texts) = ap (λ t. counted_text text ++ t) (texts_spelled texts)
+
+pub bag_spelled : (bag : List (List ℕ)) (rest : List ℕ) → printed_lines (Some bag) ++ rest ≡ label_line_before (codes "lines ") (decimal (length bag)) (counted_texts bag ++ rest)
+bag_spelled bag rest = append_assoc (number_line (codes "lines") (length bag)) (counted_texts bag) rest ∙ line_before (codes "lines") (decimal (length bag)) (counted_texts bag ++ rest)
+
+-- where lines are looked at, they are there
+pub some_each : (bag : List (List ℕ)) (old new : Place) → ((all : List (List ℕ)) (rest : List ℕ) → old.ok ≡ true → ArePrintedTaken Lines old.rest (Some all) rest → (bag ≡ all) × Stands new rest) →
+    TakesEach old new (ArePrintedTaken Lines) (Some bag)
+some_each bag old new each None rest ok h = absurd h.0.0
+some_each bag old new each (Some all) rest ok h = let w = each all rest ok h in (ap Some w.0, w.1)
+
+-- where values are looked at, there are none
+pub none_each : (old : Place) → TakesEach old old (ArePrintedTaken Values) None
+none_each old None rest ok h = (refl, (ok, h.1))
+none_each old (Some bag) rest ok h = absurd h.0.0
+
+counted_one : (text : List ℕ) → 1 ≤ length (counted_text text)
+counted_one text =
+    let a = left_le (number_line (codes "line") (length text)) text in
+    let b : 1 ≤ length (number_line (codes "line") (length text)) = line_some (codes "line" ++ 32 ∷ decimal (length text)) in
+    omega (arith, a, b)
+
+-- what stands in a text that can be counted can be counted
+pub texts_fit : (n : ℕ) (texts : List (List ℕ)) → n < 2 ^ 64 → length (counted_texts texts) ≤ n → HasCountable (Some texts)
+texts_fit n texts small le =
+    let same : length (flat_map counted_text texts) ≡ length (counted_texts texts) = ap length (texts_spelled texts) in
+    (
+      λ i x at.
+          let a = item_le counted_text texts i x at in
+          let b = right_le (number_line (codes "line") (length x)) x in
+          omega (arith, same, small, le, a, b),
+      (let a = items_le counted_text texts counted_one in omega (arith, same, small, le, a)),
+    )
+
+pub printed_fit : (n : ℕ) (printed : Option (List (List ℕ))) → n < 2 ^ 64 → length (printed_lines printed) ≤ n → HasCountable printed
+printed_fit n None small le = tt
+printed_fit n (Some bag) small le =
+    let a = right_le (number_line (codes "lines") (length bag)) (counted_texts bag) in
+    texts_fit n bag small (omega (arith, le, a))
