@@ -1,5 +1,6 @@
 -- Slot states and the runs that they are of.
-use Rattle.std.proofs.Common.{◌≡◌, ℕ, ◌+◌, ◌<◌, ◌≤◌, ◌⊎◌, ◌==◌, ◌&&◌, ◌||◌, Bool, true, false, cond, is_some, is_none, List, [], ◌∷◌, ◌++◌, length, slice_get, get_or, Option, Some, None, refl, sym, ap, ◌∙◌, subst, inl, inr, arith}
+use Rattle.std.proofs.Common.{◌≡◌, ◌≢◌, ℕ, ◌+◌, ◌<◌, ◌≤◌, ◌⊎◌, ◌==◌, ◌&&◌, ◌||◌, Bool, true, false, cond, is_some, is_none, List, [], ◌∷◌, ◌++◌, length, slice_get, get_or, Option, Some, None, refl, sym, ap, ◌∙◌, subst, inl, inr, arith}
+use Rattle.std.specs.List.{Contains}
 use Rattle.std.specs.List.Sorted.{IsNonDecreasingBy, IsPermutation}
 use Rattle.std.proofs.lemmas.Bool.{cases_lt}
 use Rattle.std.proofs.lemmas.List.Elements.{Contains-append_left, Contains-push, Contains-push_cases}
@@ -7,7 +8,7 @@ use Rattle.std.proofs.lemmas.List.Sorted.{Contains-permutation, IsPermutation-sy
 use Rattle.std.proofs.lemmas.Option.{slice_get_within, get_or_from_slice_get, same_Some}
 use Rattle.basis.proofs.Lists.{empty_from_test}
 use Rattle.vbits.specs.Vectors.{Vector}
-use Rattle.sched_core.specs.Rules.{IsRun, stands}
+use Rattle.sched_core.specs.Rules.{IsRun, NamesBelow, stands}
 use Rattle.statebook.specs.Covered.{IsCovered}
 use Rattle.statebook.specs.declared.limits.Limits.{Limits}
 use Rattle.explore.specs.Found.{AreFound, IsListedMark}
@@ -19,9 +20,10 @@ use Rattle.vmachine.specs.declared.machine_state.MachineState.{MachineState}
 use Rattle.vmachine.specs.Machines.{Stands, machine_rules}
 use Rattle.vmachine.specs.Reads.{slot_in}
 use Rattle.racebook.specs.declared.slot_state.SlotState.{SlotState}
-use Rattle.racebook.specs.Order.{AreInTextOrder, IsTextBefore}
+use Rattle.racebook.specs.Order.{AreInTextOrder, IsEarlier, IsTextBefore}
 use Rattle.racebook.specs.Races.{Race, EachRace, HasFewest, IsRace, ShowsValue, IsWitness, ListsEveryValue, ListsValue}
-use Rattle.racebook.specs.Inner.{AreAll, AreSlotStates, AreSlotStatesBelow, AreInTime, AreWide, Disagree, IsSlotState, IsNoSlot, IsOfSome, IsSeen}
+use Rattle.racebook.specs.LineRaces.{LineRace, Texts, AreAllSidesInOrder, AreLineRacesInOrder, EachLineRace, HasFewestOfLines, IsLineRace, IsLinesWitness, ListsAllLines, ListsLines, ShowsLines}
+use Rattle.racebook.specs.Inner.{AreAllLineRaces, AreAllRaces, AreShown, AreSlotStates, AreSlotStatesBelow, AreInTime, AreWide, Disagree, IsSlotState, IsNoSlot, IsOfSome, IsSeen, printed_of, value_of}
 
 -- ---- what stands at the end of a slot
 
@@ -158,58 +160,172 @@ MarkAlike setting = (s : MachineState) (t : State) → Stands setting s t → (m
 abbrev pub HasVariables : Setting → Type 0
 HasVariables setting = (log : List (ℕ × ℕ)) (n : ℕ) → length (state_after setting log n).values ≡ length setting.design.variables
 
--- what is seen is a witness
-pub seen_witness : (setting : Setting) (limits : Limits) (marks : List (MachineState × List (ℕ × ℕ))) (gs : List SlotState) → Alike setting → AllStand setting → RunThere setting →
-    AreFound (machine_rules setting) limits marks → AreSlotStates setting marks gs → (time variable : ℕ) (v : Vector) (log : List (ℕ × ℕ)) → IsSeen gs time variable v log →
-    IsWitness setting limits time variable v log
-seen_witness setting limits marks gs alike all there found are time variable v log seen =
-    let g = seen.slot_state in
-    let p = are.each g seen.among in
+-- the run under the log stands, within the limits, at the end of the slot, with what its state shows
+record IsReached (setting : Setting) (limits : Limits) (g : SlotState) (log : List (ℕ × ℕ)) : Type 0 where
+  steps : ℕ
+  run : IsRun (rules_of setting) log steps
+  slot : IsSlotEnd g.time (state_after setting log steps).values (state_after setting log steps)
+  values_are : g.values.now ≡ (state_after setting log steps).values
+  printed_are : printed_of g ≡ (state_after setting log steps).printed
+  within : steps ≤ limits.steps
+  names : NamesBelow log steps
+  short : length log ≤ limits.depart
+
+reached : (setting : Setting) (limits : Limits) (marks : List (MachineState × List (ℕ × ℕ))) (gs : List SlotState) → Alike setting → AllStand setting → RunThere setting →
+    AreFound (machine_rules setting) limits marks → AreSlotStates setting marks gs → (g : SlotState) → Contains gs g → IsReached setting limits g g.log.now
+reached setting limits marks gs alike all there found are g among =
+    let p = are.each g among in
     let f = found p.place p.found p.at in
     let t = state_after setting p.found.1 f.steps in
     let st : Stands setting p.found.0 t = alike (stands (machine_rules setting) p.found.1 f.steps) p.found.0 t (all p.found.1 f.steps) f.at in
-    let slot : IsSlotEnd g.time t.values t = slot_ends t g.time (p.of.slot t st) in
-    let value : slice_get t.values variable ≡ Some v = ap (λ (xs : List Vector). slice_get xs variable) (sym (p.of.values_are t st)) ∙ seen.value_is in
-    let here : IsWitness setting limits g.time variable v p.found.1 = record {
+    let here : IsReached setting limits g p.found.1 = record {
       steps = f.steps;
-      shown = record { run = there p.found.1 f.steps f.run; values = t.values; slot = slot; value_is = value };
+      run = there p.found.1 f.steps f.run;
+      slot = slot_ends t g.time (p.of.slot t st);
+      values_are = p.of.values_are t st;
+      printed_are = p.of.printed_are t st;
       within = f.within;
       names = f.names;
       short = f.short;
     } in
-    let log_is : p.found.1 ≡ log = sym p.of.log_is ∙ seen.log_is in
-    subst (λ (x : ℕ). IsWitness setting limits x variable v log) seen.time_is (subst (λ (x : List (ℕ × ℕ)). IsWitness setting limits g.time variable v x) log_is here)
+    subst (λ (x : List (ℕ × ℕ)). IsReached setting limits g x) (sym p.of.log_is) here
+
+-- what is seen is a witness
+pub seen_witness : (setting : Setting) (limits : Limits) (marks : List (MachineState × List (ℕ × ℕ))) (gs : List SlotState) → Alike setting → AllStand setting → RunThere setting →
+    AreFound (machine_rules setting) limits marks → AreSlotStates setting marks gs → (time variable : ℕ) (v : Vector) (log : List (ℕ × ℕ)) → IsSeen (value_of variable) gs time v log →
+    IsWitness setting limits time variable v log
+seen_witness setting limits marks gs alike all there found are time variable v log seen =
+    let g = seen.slot_state in
+    let r = reached setting limits marks gs alike all there found are g seen.among in
+    let here : IsWitness setting limits g.time variable v g.log.now = record {
+      steps = r.steps;
+      shown = record {
+        run = r.run;
+        values = (state_after setting g.log.now r.steps).values;
+        slot = r.slot;
+        value_is = ap (λ (xs : List Vector). slice_get xs variable) (sym r.values_are) ∙ seen.value_is;
+      };
+      within = r.within;
+      names = r.names;
+      short = r.short;
+    } in
+    subst (λ (x : ℕ). IsWitness setting limits x variable v log) seen.time_is (subst (λ (x : List (ℕ × ℕ)). IsWitness setting limits g.time variable v x) seen.log_is here)
+
+pub lines_witness : (setting : Setting) (limits : Limits) (marks : List (MachineState × List (ℕ × ℕ))) (gs : List SlotState) → Alike setting → AllStand setting → RunThere setting →
+    AreFound (machine_rules setting) limits marks → AreSlotStates setting marks gs → (time : ℕ) (lines : Texts) (log : List (ℕ × ℕ)) → IsSeen printed_of gs time lines log →
+    IsLinesWitness setting limits time lines log
+lines_witness setting limits marks gs alike all there found are time lines log seen =
+    let g = seen.slot_state in
+    let r = reached setting limits marks gs alike all there found are g seen.among in
+    let here : IsLinesWitness setting limits g.time lines g.log.now = record {
+      steps = r.steps;
+      shown = record {
+        run = r.run;
+        values = (state_after setting g.log.now r.steps).values;
+        slot = r.slot;
+        printed = sym r.printed_are ∙ seen.value_is;
+      };
+      within = r.within;
+      names = r.names;
+      short = r.short;
+    } in
+    subst (λ (x : ℕ). IsLinesWitness setting limits x lines log) seen.time_is (subst (λ (x : List (ℕ × ℕ)). IsLinesWitness setting limits g.time lines x) seen.log_is here)
 
 -- what a run shows is seen, under a log of no more departures
-pub record IsSeenWithin (gs : List SlotState) (time variable : ℕ) (v : Vector) (departures : ℕ) : Type 0 where
+pub record IsSeenWithin {V : Type 0} (shown : SlotState → Option V) (gs : List SlotState) (time : ℕ) (v : V) (departures : ℕ) : Type 0 where
   pub log : List (ℕ × ℕ)
-  pub seen : IsSeen gs time variable v log
+  pub seen : IsSeen shown gs time v log
   pub short : length log ≤ departures
+
+-- a slot state shows what the state does
+record ShowsState (gs : List SlotState) (time : ℕ) (t : State) (departures : ℕ) : Type 0 where
+  slot_state : SlotState
+  among : Contains gs slot_state
+  time_is : slot_state.time ≡ time
+  values_are : slot_state.values.now ≡ t.values
+  printed_are : printed_of slot_state ≡ t.printed
+  short : length slot_state.log.now ≤ departures
+
+-- so does one of each slot end of a run
+end_shown : (setting : Setting) (depart : ℕ) (marks : List (MachineState × List (ℕ × ℕ))) (gs : List SlotState) → Alike setting → AllStand setting → RunHere setting → MarkAlike setting → HasVariables setting →
+    IsCovered (machine_rules setting) depart (IsListedMark (machine_rules setting) marks) → AreSlotStates setting marks gs → (time : ℕ) (values : List Vector) (log : List (ℕ × ℕ)) (steps : ℕ) →
+    length log ≤ depart → IsRun (rules_of setting) log steps → IsSlotEnd time values (state_after setting log steps) → ShowsState gs time (state_after setting log steps) (length log)
+end_shown setting depart marks gs alike all here mark_alike wide covered are time values log steps short run is =
+    let s = stands (machine_rules setting) log steps in
+    let t = state_after setting log steps in
+    let mark : (machine_rules setting).mark s ≡ true = mark_alike s t (all log steps) ∙ mark_of setting t ∙ ends_mark t time values is in
+    let l = covered log steps short (here log steps run) mark in
+    let st : Stands setting l.found.0 t = alike s l.found.0 t (all log steps) l.same in
+    let slot : slot_in t ≡ Some time = ends_slot t time values is in
+    let h = are.whole l.place l.found t time (slice_get_within marks l.place l.found l.at) l.at st (wide log steps) slot in
+    record {
+      slot_state = h.slot_state;
+      among = h.among;
+      time_is = same_Some h.slot_state.time time (sym (h.of.slot t st) ∙ slot);
+      values_are = h.of.values_are t st;
+      printed_are = h.of.printed_are t st;
+      short = subst (λ (x : List (ℕ × ℕ)). length x ≤ length log) (sym h.of.log_is) l.departures;
+    }
 
 pub shown_seen : (setting : Setting) (depart : ℕ) (marks : List (MachineState × List (ℕ × ℕ))) (gs : List SlotState) → Alike setting → AllStand setting → RunHere setting → MarkAlike setting → HasVariables setting →
     IsCovered (machine_rules setting) depart (IsListedMark (machine_rules setting) marks) → AreSlotStates setting marks gs →
-    (time variable : ℕ) (v : Vector) (log : List (ℕ × ℕ)) (steps : ℕ) → length log ≤ depart → ShowsValue setting time variable v log steps → IsSeenWithin gs time variable v (length log)
+    (time variable : ℕ) (v : Vector) (log : List (ℕ × ℕ)) (steps : ℕ) → length log ≤ depart → ShowsValue setting time variable v log steps → IsSeenWithin (value_of variable) gs time v (length log)
 shown_seen setting depart marks gs alike all here mark_alike wide covered are time variable v log steps short shown =
-    let s = stands (machine_rules setting) log steps in
-    let t = state_after setting log steps in
-    let mark : (machine_rules setting).mark s ≡ true = mark_alike s t (all log steps) ∙ mark_of setting t ∙ ends_mark t time shown.values shown.slot in
-    let l = covered log steps short (here log steps shown.run) mark in
-    let st : Stands setting l.found.0 t = alike s l.found.0 t (all log steps) l.same in
-    let slot : slot_in t ≡ Some time = ends_slot t time shown.values shown.slot in
-    let h = are.whole l.place l.found t time (slice_get_within marks l.place l.found l.at) l.at st (wide log steps) slot in
-    let g = h.slot_state in
-    let values : g.values.now ≡ shown.values = h.of.values_are t st ∙ shown.slot.values_are in
+    let e = end_shown setting depart marks gs alike all here mark_alike wide covered are time shown.values log steps short shown.run shown.slot in
+    let values : e.slot_state.values.now ≡ shown.values = e.values_are ∙ shown.slot.values_are in
     record {
-      log = l.found.1;
+      log = e.slot_state.log.now;
       seen = record {
-        slot_state = g;
-        among = h.among;
-        time_is = same_Some g.time time (sym (h.of.slot t st) ∙ slot);
+        slot_state = e.slot_state;
+        among = e.among;
+        time_is = e.time_is;
         value_is = ap (λ (xs : List Vector). slice_get xs variable) values ∙ shown.value_is;
-        log_is = h.of.log_is;
+        log_is = refl;
       };
-      short = l.departures;
+      short = e.short;
     }
+
+pub lines_seen : (setting : Setting) (depart : ℕ) (marks : List (MachineState × List (ℕ × ℕ))) (gs : List SlotState) → Alike setting → AllStand setting → RunHere setting → MarkAlike setting → HasVariables setting →
+    IsCovered (machine_rules setting) depart (IsListedMark (machine_rules setting) marks) → AreSlotStates setting marks gs →
+    (time : ℕ) (lines : Texts) (log : List (ℕ × ℕ)) (steps : ℕ) → length log ≤ depart → ShowsLines setting time lines log steps → IsSeenWithin printed_of gs time lines (length log)
+lines_seen setting depart marks gs alike all here mark_alike wide covered are time lines log steps short shown =
+    let e = end_shown setting depart marks gs alike all here mark_alike wide covered are time shown.values log steps short shown.run shown.slot in
+    record {
+      log = e.slot_state.log.now;
+      seen = record {
+        slot_state = e.slot_state;
+        among = e.among;
+        time_is = e.time_is;
+        value_is = e.printed_are ∙ shown.printed;
+        log_is = refl;
+      };
+      short = e.short;
+    }
+
+-- two that are seen and differ
+disagreement : {V : Type 0} (shown : SlotState → Option V) (gs : List SlotState) (time : ℕ) (v w : V) (m n : ℕ) → IsSeenWithin shown gs time v m → IsSeenWithin shown gs time w n → v ≢ w →
+    Disagree shown gs time
+disagreement shown gs time v w m n one other differ = record {
+  one = v;
+  other = w;
+  log = one.log;
+  other_log = other.log;
+  sees_one = one.seen;
+  sees_other = other.seen;
+  differ = differ;
+}
+
+-- a log within the limit of departures is no shorter, as what its run shows is seen; and one beyond isn't either
+fewest_by : {V : Type 0} {AreInOrder : List (V × List (ℕ × ℕ)) → Type 0} (shown : SlotState → Option V) (gs : List SlotState) (time depart : ℕ) (values : List (V × List (ℕ × ℕ))) (i : ℕ) (s : V × List (ℕ × ℕ)) (log : List (ℕ × ℕ)) →
+    AreShown shown AreInOrder gs time values → slice_get values i ≡ Some s → length s.1 ≤ depart → (length log ≤ depart → IsSeenWithin shown gs time s.0 (length log)) → length s.1 ≤ length log
+fewest_by shown gs time depart values i s log are at short see = elim (cases_lt depart (length log)) [
+  | inl long ↦ omega arith
+  | inr within ↦
+      let seen = see within in
+      let le = are.fewest i s seen.log at seen.seen in
+      let le' = seen.short in
+      omega arith
+]
 
 -- ---- the races
 
@@ -221,7 +337,7 @@ not_itself : (v w : Vector) → IsTextBefore v w → v ≡ w → ⊥
 not_itself v w before e = itself v (subst (λ (x : Vector). IsTextBefore v x) (sym e) before)
 
 pub races_found : (setting : Setting) (limits : Limits) (marks : List (MachineState × List (ℕ × ℕ))) (gs : List SlotState) (races : List Race) → Alike setting → AllStand setting → RunThere setting →
-    AreFound (machine_rules setting) limits marks → AreSlotStates setting marks gs → AreAll gs races → EachRace (IsRace setting limits) races
+    AreFound (machine_rules setting) limits marks → AreSlotStates setting marks gs → AreAllRaces gs races → EachRace (IsRace setting limits) races
 races_found setting limits marks gs races alike all there found are book = λ i race at.
     let r = book.each i race at in
     record {
@@ -231,13 +347,13 @@ races_found setting limits marks gs races alike all there found are book = λ i 
     }
 
 -- where slot states disagree, the race lists each value that is seen
-pub listed : (gs : List SlotState) (races : List Race) → AreAll gs races → (time variable : ℕ) (value : Vector) (log : List (ℕ × ℕ)) →
-    Disagree gs time variable → IsSeen gs time variable value log → ListsValue races time variable value
+pub listed : (gs : List SlotState) (races : List Race) → AreAllRaces gs races → (time variable : ℕ) (value : Vector) (log : List (ℕ × ℕ)) →
+    Disagree (value_of variable) gs time → IsSeen (value_of variable) gs time value log → ListsValue races time variable value
 listed gs races book time variable value log two seen =
     let l = book.all time variable two in
     let r = book.each l.0 l.1 l.2 in
-    let there : IsSeen gs l.1.time l.1.variable value log =
-    subst (λ (x : ℕ). IsSeen gs l.1.time x value log) (sym l.4) (subst (λ (x : ℕ). IsSeen gs x variable value log) (sym l.3) seen) in
+    let there : IsSeen (value_of l.1.variable) gs l.1.time value log =
+    subst (λ (x : ℕ). IsSeen (value_of x) gs l.1.time value log) (sym l.4) (subst (λ (x : ℕ). IsSeen (value_of variable) gs x value log) (sym l.3) seen) in
     let v = r.all value log there in
     record {
       place = l.0;
@@ -252,39 +368,83 @@ listed gs races book time variable value log two seen =
     }
 
 pub races_all : (setting : Setting) (depart : ℕ) (marks : List (MachineState × List (ℕ × ℕ))) (gs : List SlotState) (races : List Race) → Alike setting → AllStand setting → RunHere setting → MarkAlike setting → HasVariables setting →
-    IsCovered (machine_rules setting) depart (IsListedMark (machine_rules setting) marks) → AreSlotStates setting marks gs → AreAll gs races → ListsEveryValue setting depart races
+    IsCovered (machine_rules setting) depart (IsListedMark (machine_rules setting) marks) → AreSlotStates setting marks gs → AreAllRaces gs races → ListsEveryValue setting depart races
 races_all setting depart marks gs races alike all here mark_alike wide covered are book = λ time variable value differ shows.
     let see = shown_seen setting depart marks gs alike all here mark_alike wide covered are time variable in
     let one = see differ.one differ.shows_one.log differ.shows_one.steps differ.shows_one.short differ.shows_one.shown in
     let other = see differ.other differ.shows_other.log differ.shows_other.steps differ.shows_other.short differ.shows_other.shown in
     let third = see value shows.log shows.steps shows.short shows.shown in
-    let two : Disagree gs time variable = record {
-      one = differ.one;
-      other = differ.other;
-      log = one.log;
-      other_log = other.log;
-      sees_one = one.seen;
-      sees_other = other.seen;
-      differ = differ.differ;
-    } in
+    let two = disagreement (value_of variable) gs time differ.one differ.other (length differ.shows_one.log) (length differ.shows_other.log) one other differ.differ in
     listed gs races book time variable value third.log two third.seen
 
 pub races_fewest : (setting : Setting) (limits : Limits) (marks : List (MachineState × List (ℕ × ℕ))) (gs : List SlotState) (races : List Race) → Alike setting → AllStand setting → RunThere setting → RunHere setting → MarkAlike setting → HasVariables setting →
     AreFound (machine_rules setting) limits marks → IsCovered (machine_rules setting) limits.depart (IsListedMark (machine_rules setting) marks) →
-    AreSlotStates setting marks gs → AreAll gs races → EachRace (HasFewest setting) races
+    AreSlotStates setting marks gs → AreAllRaces gs races → EachRace (HasFewest setting) races
 races_fewest setting limits marks gs races alike all there here mark_alike wide found covered are book = λ i race at j s log steps at' shown.
     let r = book.each i race at in
-    elim (cases_lt limits.depart (length log)) [
-      | inl long ↦
-          let witness = seen_witness setting limits marks gs alike all there found are race.time race.variable s.0 s.1 (r.seen j s at') in
-          let short = witness.short in
-          omega arith
-      | inr short ↦
-          let seen = shown_seen setting limits.depart marks gs alike all here mark_alike wide covered are race.time race.variable s.0 log steps short shown in
-          let le = r.fewest j s seen.log at' seen.seen in
-          let le' = seen.short in
-          omega arith
-    ]
+    let witness = seen_witness setting limits marks gs alike all there found are race.time race.variable s.0 s.1 (r.seen j s at') in
+    fewest_by (value_of race.variable) gs race.time limits.depart race.values j s log r at' witness.short
+    (λ short. shown_seen setting limits.depart marks gs alike all here mark_alike wide covered are race.time race.variable s.0 log steps short shown)
 
-pub races_order : (gs : List SlotState) (races : List Race) → AreAll gs races → EachRace (λ race. AreInTextOrder race.values) races
+pub races_order : (gs : List SlotState) (races : List Race) → AreAllRaces gs races → EachRace (λ race. AreInTextOrder race.values) races
 races_order gs races book = λ i race at. (book.each i race at).order
+
+-- ---- the races of lines
+
+pub lines_found : (setting : Setting) (limits : Limits) (marks : List (MachineState × List (ℕ × ℕ))) (gs : List SlotState) (races : List LineRace) → Alike setting → AllStand setting → RunThere setting →
+    AreFound (machine_rules setting) limits marks → AreSlotStates setting marks gs → AreAllLineRaces gs races → EachLineRace (IsLineRace setting limits) races
+lines_found setting limits marks gs races alike all there found are book = λ i race at.
+    let r = book.each i race at in
+    record {
+      two = r.two;
+      order = r.order;
+      seen = λ i s here. lines_witness setting limits marks gs alike all there found are race.time s.0 s.1 (r.seen i s here);
+    }
+
+-- where slot states disagree, the race lists all lines that are seen
+pub lines_listed : (gs : List SlotState) (races : List LineRace) → AreAllLineRaces gs races → (time : ℕ) (lines : Texts) (log : List (ℕ × ℕ)) →
+    Disagree printed_of gs time → IsSeen printed_of gs time lines log → ListsLines races time lines
+lines_listed gs races book time lines log two seen =
+    let l = book.all time 0 (two, refl) in
+    let r = book.each l.0 l.1 l.2 in
+    let v = r.all lines log (subst (λ (x : ℕ). IsSeen printed_of gs x lines log) (sym l.3) seen) in
+    record {
+      place = l.0;
+      race = l.1;
+      at = l.2;
+      time_is = l.3;
+      side_place = v.0;
+      side = v.1;
+      side_at = v.2;
+      lines_are = v.3;
+    }
+
+pub lines_all : (setting : Setting) (depart : ℕ) (marks : List (MachineState × List (ℕ × ℕ))) (gs : List SlotState) (races : List LineRace) → Alike setting → AllStand setting → RunHere setting → MarkAlike setting → HasVariables setting →
+    IsCovered (machine_rules setting) depart (IsListedMark (machine_rules setting) marks) → AreSlotStates setting marks gs → AreAllLineRaces gs races → ListsAllLines setting depart races
+lines_all setting depart marks gs races alike all here mark_alike wide covered are book = λ time lines differ prints.
+    let see = lines_seen setting depart marks gs alike all here mark_alike wide covered are time in
+    let one = see differ.one differ.prints_one.log differ.prints_one.steps differ.prints_one.short differ.prints_one.shown in
+    let other = see differ.other differ.prints_other.log differ.prints_other.steps differ.prints_other.short differ.prints_other.shown in
+    let third = see lines prints.log prints.steps prints.short prints.shown in
+    let two = disagreement printed_of gs time differ.one differ.other (length differ.prints_one.log) (length differ.prints_other.log) one other differ.differ in
+    lines_listed gs races book time lines third.log two third.seen
+
+pub lines_fewest : (setting : Setting) (limits : Limits) (marks : List (MachineState × List (ℕ × ℕ))) (gs : List SlotState) (races : List LineRace) → Alike setting → AllStand setting → RunThere setting → RunHere setting → MarkAlike setting → HasVariables setting →
+    AreFound (machine_rules setting) limits marks → IsCovered (machine_rules setting) limits.depart (IsListedMark (machine_rules setting) marks) →
+    AreSlotStates setting marks gs → AreAllLineRaces gs races → EachLineRace (HasFewestOfLines setting) races
+lines_fewest setting limits marks gs races alike all there here mark_alike wide found covered are book = λ i race at j s log steps at' shown.
+    let r = book.each i race at in
+    let witness = lines_witness setting limits marks gs alike all there found are race.time s.0 s.1 (r.seen j s at') in
+    fewest_by printed_of gs race.time limits.depart race.sides j s log r at' witness.short
+    (λ short. lines_seen setting limits.depart marks gs alike all here mark_alike wide covered are race.time s.0 log steps short shown)
+
+-- by time alone
+later_time : (t u : ℕ) → IsEarlier t 0 u 0 → t < u
+later_time t u (inl lt) = lt
+later_time t u (inr same) = absurd (let h = same.1 in omega arith)
+
+pub lines_order : (gs : List SlotState) (races : List LineRace) → AreAllLineRaces gs races → AreLineRacesInOrder races
+lines_order gs races book = λ i j a b lt at at'. later_time a.time b.time (book.order i j a b lt at at')
+
+pub sides_order : (gs : List SlotState) (races : List LineRace) → AreAllLineRaces gs races → AreAllSidesInOrder races
+sides_order gs races book = λ i race at. (book.each i race at).order

@@ -4,4 +4,5 @@ pub mod BestLemmas
 pub mod RaceLemmas
 pub mod SlotLemmas
 pub mod FoundLemmas
+pub mod PrintingLemmas
 mod MarkedLemmas

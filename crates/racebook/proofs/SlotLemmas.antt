@@ -4,10 +4,8 @@ use Rattle.std.proofs.lemmas.Bool.{cases_lt}
 use Rattle.std.proofs.lemmas.Option.{slice_get_within, slice_get-get_or, same_Some}
 use Rattle.basis.proofs.Lists.{taken_at, at_contains}
 use Rattle.racebook.specs.declared.slot_state.SlotState.{SlotState}
-use Rattle.vbits.specs.Vectors.{Vector}
 use Rattle.racebook.specs.Order.{IsEarlier}
-use Rattle.racebook.specs.Races.{Race}
-use Rattle.racebook.specs.Inner.{AreAll, AreInTime, AreUpTo, AreWide, IsSeen, IsSlotEndAt, IsSlotOf}
+use Rattle.racebook.specs.Inner.{AreAll, AreInTime, AreUpTo, AreWide, DifferIn, DifferInLines, IsSlotEndAt, IsSlotOf}
 use Rattle.racebook.proofs.ListLemmas.{contains_at}
 
 -- the slot states before the place are of earlier times
@@ -95,58 +93,10 @@ gap_on slot_states start end first is order gap at = λ i j g h lt le here there
       | inr same ↦ omega arith
     ])
 
--- before variable 0 of a time stand earlier times alone
-earlier_time : (t v time : ℕ) → IsEarlier t v time 0 → t < time
-earlier_time t v time (inl lt) = lt
-earlier_time t v time (inr same) = absurd (let h = same.1 in omega arith)
-
--- what is seen stands within
-seen_within : (slot_states : List SlotState) (count t v : ℕ) (w : Vector) (log : List (ℕ × ℕ)) → AreWide count slot_states → IsSeen slot_states t v w log → v < count
-seen_within slot_states count t v w log wide seen =
-    let lt = slice_get_within seen.slot_state.values.now v w seen.value_is in
-    let e = wide seen.slot_state seen.among in
-    omega arith
-
-pub up_on : (slot_states : List SlotState) (start end count : ℕ) (first : SlotState) (races : List Race) → IsSlotEndAt slot_states start end → HasGap slot_states start → AreWide count slot_states →
-    slice_get slot_states start ≡ Some first → AreUpTo slot_states races first.time count →
-    (time : ℕ) → ComeBefore slot_states end time → ComeFrom slot_states end time → AreUpTo slot_states races time 0
-up_on slot_states start end count first races is gap wide at up time before from =
-    let more = is.more in
-    let here : first.time < time = before start first more at in
-    record {
-      each = up.each;
-      before = λ i race there. elim (up.before i race there) [
-        | inl less ↦ inl (omega arith)
-        | inr same ↦ (let e = same.0 in inl (omega arith))
-      ];
-      all = λ t v earlier differ. (let lt : t < time = earlier_time t v time earlier in
-          let seen = differ.sees_one in
-          let p = at_contains slot_states seen.slot_state seen.among in
-          let e = seen.time_is in
-          elim (cases_lt p.0 end) [
-            | inl inside ↦ elim (not_later slot_states start end first is gap at p.0 seen.slot_state inside p.1) [
-              | inl less ↦ up.all t v (inl (omega arith)) differ
-              | inr same ↦ up.all t v (inr (sym e ∙ same, seen_within slot_states count t v differ.one differ.log wide seen)) differ
-            ]
-            | inr after ↦ absurd (let h : time ≤ seen.slot_state.time = from p.0 seen.slot_state after p.1 in omega arith)
-          ]);
-      order = up.order;
-    }
-
--- ---- at the start and at the end
-
-pub nothing_yet : (slot_states : List SlotState) (time : ℕ) → ComeFrom slot_states 0 time → AreUpTo slot_states [] time 0
-nothing_yet slot_states time from = record {
-  each = λ i race at. absurd (cc);
-  before = λ i race at. absurd (cc);
-  all = λ t v earlier differ. absurd (
-      let lt : t < time = earlier_time t v time earlier in
-      let seen = differ.sees_one in
-      let p = at_contains slot_states seen.slot_state seen.among in
-      let e = seen.time_is in
-      let h : time ≤ seen.slot_state.time = from p.0 seen.slot_state (omega arith) p.1 in omega arith);
-  order = λ i j a b lt at at'. absurd (cc);
-}
+-- before number 0 of a time stand earlier times alone
+earlier_time : (t n time : ℕ) → IsEarlier t n time 0 → t < time
+earlier_time t n time (inl lt) = lt
+earlier_time t n time (inr same) = absurd (let h = same.1 in omega arith)
 
 abbrev top : List SlotState → ℕ
 top [] = 0
@@ -157,17 +107,82 @@ below_top [] i g at = absurd (cc)
 below_top (h ∷ gs) zero g at = let e : h.time ≡ g.time = ap (λ (x : SlotState). x.time) (same_Some h g at) in omega arith
 below_top (h ∷ gs) (suc i) g at = let l = below_top gs i g at in omega arith
 
-pub at_end : (slot_states : List SlotState) (start : ℕ) (races : List Race) → length slot_states ≤ start →
-    ((time : ℕ) → ComeBefore slot_states start time → ComeFrom slot_states start time → AreUpTo slot_states races time 0) → AreAll slot_states races
-at_end slot_states start races le up_to =
-    let up = up_to (top slot_states) (λ i g lt at. below_top slot_states i g at) (λ i g from at. absurd (let l = slice_get_within slot_states i g at in omega arith)) in
-    record {
-      each = up.each;
-      all = λ t v differ.
-          (let seen = differ.sees_one in
-          let p = at_contains slot_states seen.slot_state seen.among in
-          let e = seen.time_is in
-          let l = below_top slot_states p.0 seen.slot_state p.1 in
-          up.all t v (inl (omega arith)) differ);
-      order = up.order;
-    }
+-- ---- what slot states differ in
+
+-- what differs does so at the time of a slot state, under a number below this one
+pub record IsDifference (slot_states : List SlotState) (count t n : ℕ) : Type 0 where
+  pub place : ℕ
+  pub slot_state : SlotState
+  pub at : slice_get slot_states place ≡ Some slot_state
+  pub time_is : slot_state.time ≡ t
+  pub below : n < count
+
+pub value_differs : (slot_states : List SlotState) (count : ℕ) → AreWide count slot_states → (t n : ℕ) → DifferIn slot_states t n → IsDifference slot_states count t n
+value_differs slot_states count wide t n differ =
+    let seen = differ.sees_one in
+    let p = at_contains slot_states seen.slot_state seen.among in
+    let lt = slice_get_within seen.slot_state.values.now n differ.one seen.value_is in
+    let e = wide seen.slot_state seen.among in
+    record { place = p.0; slot_state = seen.slot_state; at = p.1; time_is = seen.time_is; below = omega arith }
+
+pub lines_differ : (slot_states : List SlotState) (t n : ℕ) → DifferInLines slot_states t n → IsDifference slot_states 1 t n
+lines_differ slot_states t n differ =
+    let seen = differ.0.sees_one in
+    let p = at_contains slot_states seen.slot_state seen.among in
+    let e = differ.1 in
+    record { place = p.0; slot_state = seen.slot_state; at = p.1; time_is = seen.time_is; below = omega arith }
+
+-- ---- slot by slot
+
+module _ {R : Type 0} (place : R → ℕ × ℕ) (Is : R → Type 0) (Differ : ℕ → ℕ → Type 0) (slot_states : List SlotState) (count : ℕ)
+    (difference : (t n : ℕ) → Differ t n → IsDifference slot_states count t n) where
+  pub up_on : (start end : ℕ) (first : SlotState) (races : List R) → IsSlotEndAt slot_states start end → HasGap slot_states start →
+      slice_get slot_states start ≡ Some first → AreUpTo place Is Differ races first.time count →
+      (time : ℕ) → ComeBefore slot_states end time → ComeFrom slot_states end time → AreUpTo place Is Differ races time 0
+  up_on start end first races is gap at up time before from =
+      let more = is.more in
+      let here : first.time < time = before start first more at in
+      record {
+        each = up.each;
+        before = λ i race there. elim (up.before i race there) [
+          | inl less ↦ inl (omega arith)
+          | inr same ↦ (let e = same.0 in inl (omega arith))
+        ];
+        all = λ t n earlier differ. (let lt : t < time = earlier_time t n time earlier in
+            let d = difference t n differ in
+            let e = d.time_is in
+            elim (cases_lt d.place end) [
+              | inl inside ↦ elim (not_later slot_states start end first is gap at d.place d.slot_state inside d.at) [
+                | inl less ↦ up.all t n (inl (omega arith)) differ
+                | inr same ↦ up.all t n (inr (sym e ∙ same, d.below)) differ
+              ]
+              | inr after ↦ absurd (let h : time ≤ d.slot_state.time = from d.place d.slot_state after d.at in omega arith)
+            ]);
+        order = up.order;
+      }
+
+  pub nothing_yet : (time : ℕ) → ComeFrom slot_states 0 time → AreUpTo place Is Differ [] time 0
+  nothing_yet time from = record {
+    each = λ i race at. absurd (cc);
+    before = λ i race at. absurd (cc);
+    all = λ t n earlier differ. absurd (
+        let lt : t < time = earlier_time t n time earlier in
+        let d = difference t n differ in
+        let e = d.time_is in
+        let h : time ≤ d.slot_state.time = from d.place d.slot_state (omega arith) d.at in omega arith);
+    order = λ i j a b lt at at'. absurd (cc);
+  }
+
+  pub at_end : (start : ℕ) (races : List R) → length slot_states ≤ start →
+      ((time : ℕ) → ComeBefore slot_states start time → ComeFrom slot_states start time → AreUpTo place Is Differ races time 0) → AreAll place Is Differ races
+  at_end start races le up_to =
+      let up = up_to (top slot_states) (λ i g lt at. below_top slot_states i g at) (λ i g from at. absurd (let l = slice_get_within slot_states i g at in omega arith)) in
+      record {
+        each = up.each;
+        all = λ t n differ.
+            (let d = difference t n differ in
+            let e = d.time_is in
+            let l = below_top slot_states d.place d.slot_state d.at in
+            up.all t n (inl (omega arith)) differ);
+        order = up.order;
+      }

@@ -1,6 +1,9 @@
--- *internal*: Words for the contracts of calls within: states of slot ends, gone through by time and variable.
-use Rattle.std.specs.Prelude.{◌≡◌, ◌≢◌, Bool, ℕ, ◌<◌, ◌≤◌, List, [], length, slice_get, map, Option, Some, None, unwrap_or}
-use Rattle.std.specs.List.{Contains}
+-- *internal*: Words for the contracts of calls within: states of slot ends, gone through by time and variable. Those for the values of a
+-- variable serve the lines of a slot too: they take the type of what is compared, and its order, as parameters.
+use Rattle.std.specs.Prelude.{◌≡◌, ◌≢◌, Bool, ℕ, ◌<◌, ◌≤◌, List, [], length, slice_get, map, is_some, Option, Some, None, option_map, unwrap_or}
+use Rattle.std.specs.List.{Contains, filter}
+use Rattle.std.specs.List.Sorted.{IsPermutation}
+use Rattle.std.specs.Option.{IsSome}
 use Rattle.std.specs.declared.cmp.Ordering.{Ordering}
 use Rattle.std.specs.Ordering.{nat_cmp, ordering_then}
 use Rattle.std.specs.BTreeMap.{BTreeMap, get}
@@ -15,15 +18,21 @@ use Rattle.vmachine.specs.Machines.{Stands}
 use Rattle.vmachine.specs.Reads.{slot_in}
 use Rattle.racebook.specs.declared.slot_state.SlotState.{SlotState}
 use Rattle.racebook.specs.Order.{IsEarlier, shape_of, text_number, AreInTextOrder}
-use Rattle.racebook.specs.Races.{Race, EachRace, AreRacesInOrder}
+use Rattle.racebook.specs.Races.{Race}
+use Rattle.racebook.specs.LineRaces.{LineRace, Texts, AreSidesInOrder}
 
 -- ---- what is seen of a mark
+
+-- the lines that its slot printed, where lines are looked at
+abbrev pub printed_of : SlotState → Option Texts
+printed_of slot_state = option_map (λ bag. bag.now) slot_state.printed
 
 -- the slot state is of this mark, which is the end of a slot
 pub record IsSlotState (setting : Setting) (found : MachineState × List (ℕ × ℕ)) (slot_state : SlotState) : Type 0 where
   pub log_is : slot_state.log.now ≡ found.1
   pub slot : (t : State) → Stands setting found.0 t → slot_in t ≡ Some slot_state.time
   pub values_are : (t : State) → Stands setting found.0 t → slot_state.values.now ≡ t.values
+  pub printed_are : (t : State) → Stands setting found.0 t → printed_of slot_state ≡ t.printed
   pub wide : length slot_state.values.now ≡ length setting.design.variables
 
 -- the mark is the end of no slot
@@ -68,18 +77,51 @@ abbrev pub AreInTime : List SlotState → Type 0
 AreInTime slot_states = (i j : ℕ) (g h : SlotState) →
     i ≤ j → slice_get slot_states i ≡ Some g → slice_get slot_states j ≡ Some h → g.time ≤ h.time
 
--- ---- the values of one variable in one slot
+-- each has lines
+abbrev pub HavePrinted : List SlotState → Type 0
+HavePrinted slot_states = (slot_state : SlotState) → Contains slot_states slot_state → IsSome slot_state.printed
+
+-- those that have lines
+abbrev pub printing_among : List SlotState → List SlotState
+printing_among slot_states = filter (λ slot_state. is_some slot_state.printed) slot_states
+
+-- they are those that have lines among what is seen of all marks of the findings
+pub record ArePrintingStatesOf (setting : Setting) (findings : Findings MachineState) (printing : List SlotState) : Type 0 where
+  pub all : List SlotState
+  pub are : AreSlotStatesOf setting findings all
+  pub moved : IsPermutation (printing_among all) printing
+
+-- ---- what the states of one slot show
+
+-- the value of the variable, where there is one
+abbrev pub value_of : ℕ → SlotState → Option Vector
+value_of variable slot_state = slice_get slot_state.values.now variable
+
+-- what is shown, or else this
+abbrev pub shown_or : {V : Type 0} → V → (SlotState → Option V) → SlotState → V
+shown_or none shown slot_state = unwrap_or (shown slot_state) none
 
 -- the value of the variable; x, one bit wide, where there is none
 abbrev pub value_in : ℕ → SlotState → Vector
-value_in variable slot_state = unwrap_or (slice_get slot_state.values.now variable) (filled 1 X)
+value_in variable slot_state = shown_or (filled 1 X) (value_of variable) slot_state
 
--- the value and the log
-abbrev pub row_of : ℕ → SlotState → Vector × List (ℕ × ℕ)
-row_of variable slot_state = (value_in variable slot_state, slot_state.log.now)
+-- the lines; none, where none are looked at
+abbrev pub lines_in : SlotState → Texts
+lines_in slot_state = shown_or [] printed_of slot_state
 
+-- what is shown, with the log
+abbrev pub row_by : {V : Type 0} → (SlotState → V) → SlotState → V × List (ℕ × ℕ)
+row_by value slot_state = (value slot_state, slot_state.log.now)
+
+abbrev pub rows_by : {V : Type 0} → (SlotState → V) → List SlotState → List (V × List (ℕ × ℕ))
+rows_by value slot = map (row_by value) slot
+
+-- the values of the variable, and the lines, each with its log
 abbrev pub rows_of : ℕ → List SlotState → List (Vector × List (ℕ × ℕ))
-rows_of variable slot = map (row_of variable) slot
+rows_of variable slot = rows_by (value_in variable) slot
+
+abbrev pub rows_of_lines : List SlotState → List (Texts × List (ℕ × ℕ))
+rows_of_lines slot = rows_by lines_in slot
 
 -- what texts are compared by
 abbrev pub key_of : Vector → ℕ × ℕ
@@ -88,12 +130,16 @@ key_of value = (shape_of value, text_number value.letters)
 abbrev pub key_cmp : ℕ × ℕ → ℕ × ℕ → Ordering
 key_cmp a b = ordering_then (nat_cmp a.0 b.0) (nat_cmp a.1 b.1)
 
-abbrev pub AllSame : List (Vector × List (ℕ × ℕ)) → Type 0
-AllSame rows = (r s : Vector × List (ℕ × ℕ)) → Contains rows r → Contains rows s → r.0 ≡ s.0
+-- lines are their own key
+abbrev pub themselves : Texts → Texts
+themselves lines = lines
 
-pub record HasTwo (rows : List (Vector × List (ℕ × ℕ))) : Type 0 where
-  pub one : Vector × List (ℕ × ℕ)
-  pub other : Vector × List (ℕ × ℕ)
+abbrev pub AllSame : {V : Type 0} → List (V × List (ℕ × ℕ)) → Type 0
+AllSame {V} rows = (r s : V × List (ℕ × ℕ)) → Contains rows r → Contains rows s → r.0 ≡ s.0
+
+pub record HasTwo {V : Type 0} (rows : List (V × List (ℕ × ℕ))) : Type 0 where
+  pub one : V × List (ℕ × ℕ)
+  pub other : V × List (ℕ × ℕ)
   pub has_one : Contains rows one
   pub has_other : Contains rows other
   pub differ : one.0 ≢ other.0
@@ -103,88 +149,137 @@ abbrev pub HaveValue : ℕ → List SlotState → Type 0
 HaveValue variable slot = (slot_state : SlotState) → Contains slot slot_state → variable < length slot_state.values.now
 
 -- whether two rows differ
-abbrev pub TellsTwo : List (Vector × List (ℕ × ℕ)) → Bool → Type 0
+abbrev pub TellsTwo : {V : Type 0} → List (V × List (ℕ × ℕ)) → Bool → Type 0
 TellsTwo rows answer = MatchBool answer (HasTwo rows) (AllSame rows)
 
 -- of the first rows those with the key have no fewer departures than the one at the place
-pub record IsBestAt (rows : List (Vector × List (ℕ × ℕ))) (count : ℕ) (key : ℕ × ℕ) (place : ℕ) : Type 0 where
-  pub row : Vector × List (ℕ × ℕ)
+pub record IsBestAt {V K : Type 0} (key_is_of : V → K) (rows : List (V × List (ℕ × ℕ))) (count : ℕ) (key : K) (place : ℕ) : Type 0 where
+  pub row : V × List (ℕ × ℕ)
   pub at : slice_get rows place ≡ Some row
-  pub key_is : key_of row.0 ≡ key
-  pub fewest : (j : ℕ) (r : Vector × List (ℕ × ℕ)) → j < count → slice_get rows j ≡ Some r → key_of r.0 ≡ key → length row.1 ≤ length r.1
+  pub key_is : key_is_of row.0 ≡ key
+  pub fewest : (j : ℕ) (r : V × List (ℕ × ℕ)) → j < count → slice_get rows j ≡ Some r → key_is_of r.0 ≡ key → length row.1 ≤ length r.1
 
-abbrev pub HasBestAt : List (Vector × List (ℕ × ℕ)) → ℕ → ℕ × ℕ → Option ℕ → Type 0
-HasBestAt rows count key None = (j : ℕ) (r : Vector × List (ℕ × ℕ)) → j < count → slice_get rows j ≡ Some r → key_of r.0 ≢ key
-HasBestAt rows count key (Some place) = IsBestAt rows count key place
+abbrev pub HasBestAt : {V K : Type 0} → (V → K) → List (V × List (ℕ × ℕ)) → ℕ → K → Option ℕ → Type 0
+HasBestAt {V} {K} key_is_of rows count key None = (j : ℕ) (r : V × List (ℕ × ℕ)) → j < count → slice_get rows j ≡ Some r → key_is_of r.0 ≢ key
+HasBestAt {V} {K} key_is_of rows count key (Some place) = IsBestAt key_is_of rows count key place
 
-abbrev pub IsBestBelow : List (Vector × List (ℕ × ℕ)) → ℕ → BTreeMap (ℕ × ℕ) ℕ → Type 0
-IsBestBelow rows count best = (key : ℕ × ℕ) → HasBestAt rows count key (get key_cmp best key)
+-- for each key the best of the first rows is noted
+abbrev pub IsBestBelow : {V K : Type 0} → (V → K) → (K → K → Ordering) → List (V × List (ℕ × ℕ)) → ℕ → BTreeMap K ℕ → Type 0
+IsBestBelow {V} {K} key_is_of cmp rows count best = (key : K) → HasBestAt key_is_of rows count key (get cmp best key)
 
-abbrev pub KeepsBest : List (Vector × List (ℕ × ℕ)) → BTreeMap (ℕ × ℕ) ℕ → Type 0
-KeepsBest rows best = IsBestBelow rows (length rows) best
+abbrev pub KeepsBest : {V K : Type 0} → (V → K) → (K → K → Ordering) → List (V × List (ℕ × ℕ)) → BTreeMap K ℕ → Type 0
+KeepsBest key_is_of cmp rows best = IsBestBelow key_is_of cmp rows (length rows) best
 
--- the row that an entry names
-abbrev pub row_of_entry : List (Vector × List (ℕ × ℕ)) → (ℕ × ℕ) × ℕ → Vector × List (ℕ × ℕ)
-row_of_entry rows entry = unwrap_or (slice_get rows entry.1) (filled 1 X, [])
+-- the row that an entry names; one of this value, where it names none
+abbrev pub row_of_entry : {V K : Type 0} → V → List (V × List (ℕ × ℕ)) → K × ℕ → V × List (ℕ × ℕ)
+row_of_entry none rows entry = unwrap_or (slice_get rows entry.1) (none, [])
 
 -- the value stands among these
-abbrev pub HasValue : List (Vector × List (ℕ × ℕ)) → Vector → Type 0
-HasValue values value = (i : ℕ) × (s : Vector × List (ℕ × ℕ)) × (slice_get values i ≡ Some s) × (s.0 ≡ value)
+abbrev pub HasValue : {V : Type 0} → List (V × List (ℕ × ℕ)) → V → Type 0
+HasValue {V} values value = (i : ℕ) × (s : V × List (ℕ × ℕ)) × (slice_get values i ≡ Some s) × (s.0 ≡ value)
 
--- each value of the rows once, with the log of the fewest departures, in the order of texts
-pub record AreBest (rows : List (Vector × List (ℕ × ℕ))) (values : List (Vector × List (ℕ × ℕ))) : Type 0 where
-  pub seen : (i : ℕ) (s : Vector × List (ℕ × ℕ)) → slice_get values i ≡ Some s → Contains rows s
-  pub fewest : (i : ℕ) (s r : Vector × List (ℕ × ℕ)) → slice_get values i ≡ Some s → Contains rows r → r.0 ≡ s.0 → length s.1 ≤ length r.1
-  pub all : (r : Vector × List (ℕ × ℕ)) → Contains rows r → HasValue values r.0
-  pub order : AreInTextOrder values
+-- each value of the rows once, with the log of the fewest departures, in their order
+pub record AreBest {V : Type 0} (AreInOrder : List (V × List (ℕ × ℕ)) → Type 0) (rows values : List (V × List (ℕ × ℕ))) : Type 0 where
+  pub seen : (i : ℕ) (s : V × List (ℕ × ℕ)) → slice_get values i ≡ Some s → Contains rows s
+  pub fewest : (i : ℕ) (s r : V × List (ℕ × ℕ)) → slice_get values i ≡ Some s → Contains rows r → r.0 ≡ s.0 → length s.1 ≤ length r.1
+  pub all : (r : V × List (ℕ × ℕ)) → Contains rows r → HasValue values r.0
+  pub order : AreInOrder values
 
 -- the race of these rows, if there is one
 abbrev pub TellsRace : List (Vector × List (ℕ × ℕ)) → ℕ → ℕ → Option Race → Type 0
 TellsRace rows time variable None = AllSame rows
-TellsRace rows time variable (Some race) = (race.time ≡ time) × (race.variable ≡ variable) × HasTwo rows × AreBest rows race.values
+TellsRace rows time variable (Some race) =
+    (race.time ≡ time) × (race.variable ≡ variable) × HasTwo rows × AreBest AreInTextOrder rows race.values
+
+abbrev pub TellsLineRace : List (Texts × List (ℕ × ℕ)) → ℕ → Option LineRace → Type 0
+TellsLineRace rows time None = AllSame rows
+TellsLineRace rows time (Some race) = (race.time ≡ time) × HasTwo rows × AreBest AreSidesInOrder rows race.sides
 
 -- ---- races among slot states
 
--- a slot state of this time has the value, under the log
-pub record IsSeen (slot_states : List SlotState) (time variable : ℕ) (value : Vector) (log : List (ℕ × ℕ)) : Type 0 where
+-- a slot state of this time shows the value, under the log
+pub record IsSeen {V : Type 0} (shown : SlotState → Option V) (slot_states : List SlotState) (time : ℕ) (value : V) (log : List (ℕ × ℕ)) : Type 0 where
   pub slot_state : SlotState
   pub among : Contains slot_states slot_state
   pub time_is : slot_state.time ≡ time
-  pub value_is : slice_get slot_state.values.now variable ≡ Some value
+  pub value_is : shown slot_state ≡ Some value
   pub log_is : slot_state.log.now ≡ log
 
-pub record Disagree (slot_states : List SlotState) (time variable : ℕ) : Type 0 where
-  pub one : Vector
-  pub other : Vector
+pub record Disagree {V : Type 0} (shown : SlotState → Option V) (slot_states : List SlotState) (time : ℕ) : Type 0 where
+  pub one : V
+  pub other : V
   pub log : List (ℕ × ℕ)
   pub other_log : List (ℕ × ℕ)
-  pub sees_one : IsSeen slot_states time variable one log
-  pub sees_other : IsSeen slot_states time variable other other_log
+  pub sees_one : IsSeen shown slot_states time one log
+  pub sees_other : IsSeen shown slot_states time other other_log
   pub differ : one ≢ other
 
-pub record IsRaceAmong (slot_states : List SlotState) (race : Race) : Type 0 where
-  pub two : 2 ≤ length race.values
-  pub seen : (i : ℕ) (s : Vector × List (ℕ × ℕ)) → slice_get race.values i ≡ Some s → IsSeen slot_states race.time race.variable s.0 s.1
-  pub fewest : (i : ℕ) (s : Vector × List (ℕ × ℕ)) (log : List (ℕ × ℕ)) → slice_get race.values i ≡ Some s →
-      IsSeen slot_states race.time race.variable s.0 log → length s.1 ≤ length log
-  pub all : (value : Vector) (log : List (ℕ × ℕ)) → IsSeen slot_states race.time race.variable value log → HasValue race.values value
-  pub order : AreInTextOrder race.values
+-- two values or more: those that the slot states of this time show, each with the log of the fewest departures, in their order
+pub record AreShown {V : Type 0} (shown : SlotState → Option V) (AreInOrder : List (V × List (ℕ × ℕ)) → Type 0) (slot_states : List SlotState) (time : ℕ) (values : List (V × List (ℕ × ℕ))) : Type 0 where
+  pub two : 2 ≤ length values
+  pub seen : (i : ℕ) (s : V × List (ℕ × ℕ)) → slice_get values i ≡ Some s → IsSeen shown slot_states time s.0 s.1
+  pub fewest : (i : ℕ) (s : V × List (ℕ × ℕ)) (log : List (ℕ × ℕ)) → slice_get values i ≡ Some s →
+      IsSeen shown slot_states time s.0 log → length s.1 ≤ length log
+  pub all : (value : V) (log : List (ℕ × ℕ)) → IsSeen shown slot_states time value log → HasValue values value
+  pub order : AreInOrder values
 
-abbrev pub ListsRace : List Race → ℕ → ℕ → Type 0
-ListsRace races time variable = (i : ℕ) × (race : Race) × (slice_get races i ≡ Some race) × (race.time ≡ time) × (race.variable ≡ variable)
+abbrev pub IsRaceAmong : List SlotState → Race → Type 0
+IsRaceAmong slot_states race = AreShown (value_of race.variable) AreInTextOrder slot_states race.time race.values
 
--- the races are those before this time and variable
-pub record AreUpTo (slot_states : List SlotState) (races : List Race) (time variable : ℕ) : Type 0 where
-  pub each : EachRace (IsRaceAmong slot_states) races
-  pub before : EachRace (λ race. IsEarlier race.time race.variable time variable) races
-  pub all : (t v : ℕ) → IsEarlier t v time variable → Disagree slot_states t v → ListsRace races t v
-  pub order : AreRacesInOrder races
+abbrev pub IsLineRaceAmong : List SlotState → LineRace → Type 0
+IsLineRaceAmong slot_states race = AreShown printed_of AreSidesInOrder slot_states race.time race.sides
+
+-- where two slot states of the time differ in the variable
+abbrev pub DifferIn : List SlotState → ℕ → ℕ → Type 0
+DifferIn slot_states time variable = Disagree (value_of variable) slot_states time
+
+-- races of lines are of no variable: they stand at number 0 of their time
+abbrev pub DifferInLines : List SlotState → ℕ → ℕ → Type 0
+DifferInLines slot_states time number = Disagree printed_of slot_states time × (number ≡ 0)
+
+-- ---- lists of races, of which each has a time and a number
+
+-- the numbers of races
+abbrev pub place_of : Race → ℕ × ℕ
+place_of race = (race.time, race.variable)
+
+abbrev pub place_of_lines : LineRace → ℕ × ℕ
+place_of_lines race = (race.time, 0)
+
+abbrev pub ListsAt : {R : Type 0} → (R → ℕ × ℕ) → List R → ℕ → ℕ → Type 0
+ListsAt {R} place races time number = (i : ℕ) × (race : R) × (slice_get races i ≡ Some race) × ((place race).0 ≡ time) × ((place race).1 ≡ number)
+
+abbrev pub AreInOrderOf : {R : Type 0} → (R → ℕ × ℕ) → List R → Type 0
+AreInOrderOf {R} place races = (i j : ℕ) (a b : R) → i < j → slice_get races i ≡ Some a → slice_get races j ≡ Some b →
+    IsEarlier (place a).0 (place a).1 (place b).0 (place b).1
+
+-- the races are those before this time and number
+pub record AreUpTo {R : Type 0} (place : R → ℕ × ℕ) (Is : R → Type 0) (Differ : ℕ → ℕ → Type 0) (races : List R) (time number : ℕ) : Type 0 where
+  pub each : (i : ℕ) (race : R) → slice_get races i ≡ Some race → Is race
+  pub before : (i : ℕ) (race : R) → slice_get races i ≡ Some race → IsEarlier (place race).0 (place race).1 time number
+  pub all : (t n : ℕ) → IsEarlier t n time number → Differ t n → ListsAt place races t n
+  pub order : AreInOrderOf place races
 
 -- and those are all
-pub record AreAll (slot_states : List SlotState) (races : List Race) : Type 0 where
-  pub each : EachRace (IsRaceAmong slot_states) races
-  pub all : (t v : ℕ) → Disagree slot_states t v → ListsRace races t v
-  pub order : AreRacesInOrder races
+pub record AreAll {R : Type 0} (place : R → ℕ × ℕ) (Is : R → Type 0) (Differ : ℕ → ℕ → Type 0) (races : List R) : Type 0 where
+  pub each : (i : ℕ) (race : R) → slice_get races i ≡ Some race → Is race
+  pub all : (t n : ℕ) → Differ t n → ListsAt place races t n
+  pub order : AreInOrderOf place races
+
+-- the races of variables up to a time and variable, and all
+abbrev pub AreRacesUpTo : List SlotState → List Race → ℕ → ℕ → Type 0
+AreRacesUpTo slot_states races time variable = AreUpTo place_of (IsRaceAmong slot_states) (DifferIn slot_states) races time variable
+
+abbrev pub AreAllRaces : List SlotState → List Race → Type 0
+AreAllRaces slot_states races = AreAll place_of (IsRaceAmong slot_states) (DifferIn slot_states) races
+
+-- those of lines
+abbrev pub AreLineRacesUpTo : List SlotState → List LineRace → ℕ → ℕ → Type 0
+AreLineRacesUpTo slot_states races time number =
+    AreUpTo place_of_lines (IsLineRaceAmong slot_states) (DifferInLines slot_states) races time number
+
+abbrev pub AreAllLineRaces : List SlotState → List LineRace → Type 0
+AreAllLineRaces slot_states races = AreAll place_of_lines (IsLineRaceAmong slot_states) (DifferInLines slot_states) races
 
 -- the slot is of all the slot states of this time
 pub record IsSlotOf (slot_states slot : List SlotState) (time : ℕ) : Type 0 where
@@ -195,7 +290,11 @@ pub record IsSlotOf (slot_states slot : List SlotState) (time : ℕ) : Type 0 wh
 -- from the races before this slot to those of it too
 abbrev pub GoesThrough : ℕ → ℕ → List SlotState → List Race → List Race → Type 0
 GoesThrough time count slot old new = (slot_states : List SlotState) → IsSlotOf slot_states slot time → AreWide count slot_states →
-    AreUpTo slot_states old time 0 → AreUpTo slot_states new time count
+    AreRacesUpTo slot_states old time 0 → AreRacesUpTo slot_states new time count
+
+abbrev pub GoesThroughLines : ℕ → List SlotState → List LineRace → List LineRace → Type 0
+GoesThroughLines time slot old new = (slot_states : List SlotState) → IsSlotOf slot_states slot time →
+    AreLineRacesUpTo slot_states old time 0 → AreLineRacesUpTo slot_states new time 1
 
 -- where the slot that begins at start ends
 pub record IsSlotEndAt (slot_states : List SlotState) (start end : ℕ) : Type 0 where

@@ -1,12 +1,14 @@
 // The races of all slots, by time.
 
 ghost use Rattle.std.specs.Prelude.{◌≡◌, ◌<◌, IfOk, length};
+ghost use Rattle.racebook.specs.LineRaces.{AreAllSidesInOrder, AreLineRacesInOrder, GivesFewestOfLines, ListsAllLineRaces, ListsEveryMarkOfLines, ListsLineRaces, ListsShortestOfLines};
 ghost use Rattle.racebook.specs.Races.{AreRacesInOrder, AreValuesInOrder, ListsAllRaces, ListsEveryMark, ListsShortest, GivesFewest, ListsRaces};
-ghost use Rattle.racebook.specs.Inner.{AreAll, AreInTime, AreWide, IsSlotEndAt};
+ghost use Rattle.racebook.specs.Inner.{AreAllLineRaces, AreAllRaces, AreInTime, AreWide, HavePrinted, IsSlotEndAt};
 
+use crate::line_race::LineRace;
 use crate::race::Race;
-use crate::slot::put_races;
-use crate::slot_state::{SlotState, slot_states_in_time};
+use crate::slot::{put_line_race, put_races};
+use crate::slot_state::{SlotState, printing_states_in_time, slot_states_in_time};
 use basis::NoMemory;
 use explore::Findings;
 use std::alloc::Global;
@@ -34,7 +36,7 @@ fn races_among(
 ) -> Result<Vec<Race>, NoMemory>
     requires wide { AreWide count slot_states.now }
     requires order { AreInTime slot_states.now }
-    ensures { IfOk result (λ races. AreAll slot_states.now races.items) }
+    ensures { IfOk result (λ races. AreAllRaces slot_states.now races.items) }
 {
     let mut races = Vec::new(alloc);
     let mut start = 0;
@@ -73,4 +75,50 @@ pub fn races(
     run_law();
     let slot_states = slot_states_in_time(alloc, machine, findings)?;
     races_among(alloc, &slot_states, machine.design().variables.len())
+}
+
+// The races of lines among slot states that stand in the order of their times.
+fn line_races_among(alloc: Global, slot_states: &[SlotState]) -> Result<Vec<LineRace>, NoMemory>
+    requires printed { HavePrinted slot_states.now }
+    requires order { AreInTime slot_states.now }
+    ensures { IfOk result (λ races. AreAllLineRaces slot_states.now races.items) }
+{
+    let mut races = Vec::new(alloc);
+    let mut start = 0;
+    'slots: while start < slot_states.len() {
+        let time = slot_states[start].time;
+        let end = slot_end(slot_states, start);
+        put_line_race(alloc, &mut races, &slot_states[start..end], time)?;
+        start = end;
+    }
+    Ok(races)
+}
+
+/// The races of lines that an explorer's findings show: the times at which two marks that are ends of slots have different
+/// printed lines, in whichever order they were printed, each side with the log of the fewest departures among them,
+/// whatever the status. A machine that doesn't look at lines has none.
+///
+/// Where the findings are those of an exploration of this machine, each race listed is one. Where they are all, so are the
+/// races: the times at which two runs within the limit of departures print different lines are listed, with all lines that
+/// any such run prints there, and no run at all prints them there with fewer departures than their log.
+///
+/// The time it takes grows as a sort with the marks and their lines. A slot whose lines are the same in all marks takes no
+/// memory beyond its marks. E901 is the only refusal.
+pub fn line_races(
+    alloc: Global,
+    machine: &Machine,
+    findings: &Findings<MachineState>,
+) -> Result<Vec<LineRace>, NoMemory>
+    ensures found { IfOk result (λ races. ListsLineRaces machine.now findings.now races.items) }
+    ensures all { IfOk result (λ races. ListsAllLineRaces machine.now findings.now races.items) }
+    ensures fewest { IfOk result (λ races. GivesFewestOfLines machine.now findings.now races.items) }
+    ensures marked { IfOk result (λ races. ListsEveryMarkOfLines machine.now findings.now races.items) }
+    ensures shortest { IfOk result (λ races. ListsShortestOfLines machine.now findings.now races.items) }
+    ensures order { IfOk result (λ races. AreLineRacesInOrder races.items) }
+    ensures sides { IfOk result (λ races. AreAllSidesInOrder races.items) }
+{
+    machine_law();
+    run_law();
+    let printing = printing_states_in_time(alloc, machine, findings)?;
+    line_races_among(alloc, &printing)
 }

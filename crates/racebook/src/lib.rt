@@ -1,14 +1,18 @@
 // From an explorer's findings to races. In go a machine and the findings of its exploration; out come the times and
-// variables at which two runs differ, each value with the departures of a run that shows it.
+// variables at which two runs differ, each value with the departures of a run that shows it, and the times at which they
+// print different lines.
 // The law: what is listed is a race; where the findings are all, every race is listed, with the fewest departures.
 #![tactic(auto)]
 
 mod book;
 mod key;
+mod line_race;
+mod lines;
 mod race;
 mod slot;
 mod slot_state;
 mod values;
 
-pub use book::races;
+pub use book::{line_races, races};
+pub use line_race::{LineRace, Side};
 pub use race::{Race, Witness};

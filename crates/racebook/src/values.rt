@@ -1,7 +1,8 @@
 // The different values of one variable in one slot, each with the fewest departures that lead to it.
 
 ghost use Rattle.std.specs.Prelude.{◌≡◌, ◌+◌, ◌<◌, IfOk, OnOk, Some, length, slice_get};
-ghost use Rattle.racebook.specs.Inner.{AreBest, HaveValue, KeepsBest, IsBestBelow, TellsTwo, rows_of, value_in};
+ghost use Rattle.racebook.specs.Order.{AreInTextOrder};
+ghost use Rattle.racebook.specs.Inner.{AreBest, HaveValue, KeepsBest, IsBestBelow, TellsTwo, key_cmp, key_of, rows_of, value_in};
 
 use crate::key::{Key, key};
 use crate::race::Witness;
@@ -20,16 +21,16 @@ fn value_at(slot_state: &SlotState, variable: usize) -> Vec4
     values[variable]
 }
 
-// The slot state at a place of the slot.
-fn slot_state_at<'s, 'f>(slot: &'s [SlotState<'f>], place: usize) -> &'s SlotState<'f>
+/// The slot state at a place of the slot.
+pub fn slot_state_at<'s, 'f>(slot: &'s [SlotState<'f>], place: usize) -> &'s SlotState<'f>
     requires { place < length slot.now }
     ensures { slice_get slot.now place ≡ Some result.now }
 {
     &slot[place]
 }
 
-// How many departures lead to the slot state.
-fn departures(slot_state: &SlotState) -> usize
+/// How many departures lead to the slot state.
+pub fn departures(slot_state: &SlotState) -> usize
     ensures { result ≡ length slot_state.now.log.now }
 {
     slot_state.log.members().len()
@@ -61,8 +62,8 @@ fn note(
 ) -> Result<(), NoMemory>
     requires have { HaveValue variable slot.now }
     requires within { place < length slot.now }
-    requires best { IsBestBelow (rows_of variable slot.now) place best.old }
-    ensures { OnOk result (IsBestBelow (rows_of variable slot.now) (place + 1) best.new) }
+    requires best { IsBestBelow key_of key_cmp (rows_of variable slot.now) place best.old }
+    ensures { OnOk result (IsBestBelow key_of key_cmp (rows_of variable slot.now) (place + 1) best.new) }
 {
     let slot_state = slot_state_at(slot, place);
     let key = key(value_at(slot_state, variable));
@@ -83,7 +84,7 @@ fn best_of(
     variable: usize,
 ) -> Result<BTreeMap<Key, usize>, NoMemory>
     requires { HaveValue variable slot.now }
-    ensures { IfOk result (KeepsBest (rows_of variable slot.now)) }
+    ensures { IfOk result (KeepsBest key_of key_cmp (rows_of variable slot.now)) }
 {
     let mut best = BTreeMap::new(alloc);
     for place in 0..slot.len() {
@@ -100,8 +101,8 @@ fn list_of(
     best: &BTreeMap<Key, usize>,
 ) -> Result<Vec<Witness>, NoMemory>
     requires have { HaveValue variable slot.now }
-    requires best { KeepsBest (rows_of variable slot.now) best.now }
-    ensures { IfOk result (λ values. AreBest (rows_of variable slot.now) values.items) }
+    requires best { KeepsBest key_of key_cmp (rows_of variable slot.now) best.now }
+    ensures { IfOk result (λ values. AreBest AreInTextOrder (rows_of variable slot.now) values.items) }
 {
     let mut values = Vec::new(alloc);
     for (_key, place) in best.iter() {
@@ -122,7 +123,7 @@ pub fn values_of(
     variable: usize,
 ) -> Result<Vec<Witness>, NoMemory>
     requires { HaveValue variable slot.now }
-    ensures { IfOk result (λ values. AreBest (rows_of variable slot.now) values.items) }
+    ensures { IfOk result (λ values. AreBest AreInTextOrder (rows_of variable slot.now) values.items) }
 {
     let best = best_of(alloc, slot, variable)?;
     list_of(alloc, slot, variable, &best)

@@ -1,7 +1,8 @@
 use Rattle.std.proofs.Common.{◌≡◌, slice_get, get_or, Some, arith}
 use Rattle.std.proofs.lemmas.Option.{slice_get-get_or}
 use Rattle.racebook.specs.declared.slot_state.SlotState.{SlotState}
-use Rattle.racebook.proofs.SlotLemmas.{slot_of, gap_on, up_on, at_end}
+use Rattle.racebook.specs.Inner.{DifferIn, IsRaceAmong, place_of}
+use Rattle.racebook.proofs.SlotLemmas.{slot_of, gap_on, up_on, at_end, value_differs}
 use Rattle.racebook.proofs.book.races_among.Goals as goal
 
 pub slots-preserved : goal.slots-preserved
@@ -19,9 +20,11 @@ slots-preserved c =
     let up = c.in_ok-put_races.ensures gs of c.requires.wide old in
     record {
       within = is.within;
-      up_to = up_on gs start end c.args.count first c.put_races.new.races.items is gap c.requires.wide at up;
+      up_to = up_on place_of (IsRaceAmong gs) (DifferIn gs) gs c.args.count (value_differs gs c.args.count c.requires.wide) start end first c.put_races.new.races.items is gap at up;
       gap = gap_on gs start end first is order gap at;
     }
 
 pub returns : goal.returns
-returns c = at_end c.args.slot_states.now c.slots.start c.slots.races.items (omega (arith, c.slots-test.false)) c.slots.invariant.up_to
+returns c =
+    let gs = c.args.slot_states.now in
+    at_end place_of (IsRaceAmong gs) (DifferIn gs) gs c.args.count (value_differs gs c.args.count c.requires.wide) c.slots.start c.slots.races.items (omega (arith, c.slots-test.false)) c.slots.invariant.up_to

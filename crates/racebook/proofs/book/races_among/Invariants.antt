@@ -1,12 +1,12 @@
 use Rattle.std.proofs.Common.{ℕ, ◌-◌, ◌≤◌, length}
-use Rattle.racebook.specs.Inner.{AreUpTo}
+use Rattle.racebook.specs.Inner.{AreRacesUpTo}
 use Rattle.racebook.proofs.SlotLemmas.{ComeBefore, ComeFrom, HasGap}
 use Rattle.racebook.proofs.book.races_among.Given as goal
 
 abbrev pub invariant-slots : goal.invariant-slots
 invariant-slots l = record {
   within : l.start ≤ length l.slot_states;
-  up_to : (time : ℕ) → ComeBefore l.slot_states l.start time → ComeFrom l.slot_states l.start time → AreUpTo l.slot_states l.races.items time 0;
+  up_to : (time : ℕ) → ComeBefore l.slot_states l.start time → ComeFrom l.slot_states l.start time → AreRacesUpTo l.slot_states l.races.items time 0;
   gap : HasGap l.slot_states l.start;
 }
 

@@ -25,7 +25,7 @@ returns-then-ne c =
     let at : slice_get slot i ≡ Some c.slot_state-item.result = slice_get_read slot (length slot) i c.slot_state-item.result refl (omega arith) c.slot_state-item.is in
     let first : slice_get slot 0 ≡ Some c.index-slot-0.result = slice_get_read slot (length slot) 0 c.index-slot-0.result refl (omega arith) c.index-slot-0.is in
     let differ = apart c.value_at.result c.value_at-first.result (sym c.if-ne.true ∙ c.ne.ensures) in
-    two_differ c.args.variable slot i 0 c.slot_state-item.result c.index-slot-0.result at first
+    two_differ (value_in c.args.variable) slot i 0 c.slot_state-item.result c.index-slot-0.result at first
     (λ same. differ (c.value_at.ensures ∙ same ∙ sym c.value_at-first.ensures))
 
 pub loop-slot_state-preserved : goal.loop-slot_state-preserved
@@ -42,5 +42,5 @@ loop-slot_state-preserved c = λ k g lt there. elim (cases_lt k c.loop-slot_stat
 ]
 
 pub returns : goal.returns
-returns c = all_same c.args.variable c.args.slot.now c.value_at-first.result (λ k g at.
+returns c = all_same (value_in c.args.variable) c.args.slot.now c.value_at-first.result (λ k g at.
     c.loop-slot_state.invariant k g (let lt = slice_get_within c.args.slot.now k g at in omega (arith, c.loop-slot_state-test.false)) at)

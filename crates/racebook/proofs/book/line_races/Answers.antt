@@ -1,0 +1,69 @@
+use Rattle.std.proofs.Common.{List, sym, subst}
+use Rattle.std.proofs.lemmas.Result.{IfOk-weaker}
+use Rattle.racebook.specs.declared.slot_state.SlotState.{SlotState}
+use Rattle.racebook.specs.LineRaces.{AreAllSidesInOrder, AreLineRacesInOrder, GivesFewestOfLines, ListsAllLineRaces, ListsEveryMarkOfLines, ListsLineRaces, ListsShortestOfLines}
+use Rattle.racebook.specs.Inner.{AreAllLineRaces, ArePrintingStatesOf}
+use Rattle.racebook.proofs.FoundLemmas.{lines_found, lines_all, lines_fewest, lines_order, sides_order}
+use Rattle.racebook.proofs.MarkedLemmas.{lines_marked, lines_shortest}
+use Rattle.racebook.proofs.PrintingLemmas.{lines_in_all}
+use Rattle.racebook.proofs.book.line_races.Goals as goal
+
+pub returns-clause-found : goal.returns-clause-found
+returns-clause-found c =
+    let setting = c.args.machine.now in
+    let findings = c.args.findings.now in
+    let gs = c.deref.result.now in
+    let law = c.machine_law.ensures in
+    let of : ArePrintingStatesOf setting findings gs = subst (λ (xs : List SlotState). ArePrintingStatesOf setting findings xs) (sym c.deref.ensures.value) c.in_ok-printing.ensures.of in
+    IfOk-weaker c.line_races_among.result (λ races. AreAllLineRaces gs races.items) (λ races. ListsLineRaces setting findings races.items)
+    (λ races book. λ limits found. lines_found setting limits findings.marks.entries of.all races.items (law.same setting) (law.stands setting) (law.runs setting) found of.are (lines_in_all setting findings gs of races.items book)) c.line_races_among.ensures
+
+pub returns-clause-all : goal.returns-clause-all
+returns-clause-all c =
+    let setting = c.args.machine.now in
+    let findings = c.args.findings.now in
+    let gs = c.deref.result.now in
+    let law = c.machine_law.ensures in
+    let of : ArePrintingStatesOf setting findings gs = subst (λ (xs : List SlotState). ArePrintingStatesOf setting findings xs) (sym c.deref.ensures.value) c.in_ok-printing.ensures.of in
+    IfOk-weaker c.line_races_among.result (λ races. AreAllLineRaces gs races.items) (λ races. ListsAllLineRaces setting findings races.items)
+    (λ races book. λ limits whole. lines_all setting limits.depart findings.marks.entries of.all races.items (law.same setting) (law.stands setting) (law.runs_back setting) (law.mark setting)
+    (c.run_law.ensures.values setting) (whole.1 whole.0) of.are (lines_in_all setting findings gs of races.items book)) c.line_races_among.ensures
+
+pub returns-clause-fewest : goal.returns-clause-fewest
+returns-clause-fewest c =
+    let setting = c.args.machine.now in
+    let findings = c.args.findings.now in
+    let gs = c.deref.result.now in
+    let law = c.machine_law.ensures in
+    let of : ArePrintingStatesOf setting findings gs = subst (λ (xs : List SlotState). ArePrintingStatesOf setting findings xs) (sym c.deref.ensures.value) c.in_ok-printing.ensures.of in
+    IfOk-weaker c.line_races_among.result (λ races. AreAllLineRaces gs races.items) (λ races. GivesFewestOfLines setting findings races.items)
+    (λ races book. λ limits found whole. lines_fewest setting limits findings.marks.entries of.all races.items (law.same setting) (law.stands setting) (law.runs setting) (law.runs_back setting) (law.mark setting)
+    (c.run_law.ensures.values setting) found (whole.1 whole.0) of.are (lines_in_all setting findings gs of races.items book)) c.line_races_among.ensures
+
+pub returns-clause-marked : goal.returns-clause-marked
+returns-clause-marked c =
+    let setting = c.args.machine.now in
+    let findings = c.args.findings.now in
+    let gs = c.deref.result.now in
+    let of : ArePrintingStatesOf setting findings gs = subst (λ (xs : List SlotState). ArePrintingStatesOf setting findings xs) (sym c.deref.ensures.value) c.in_ok-printing.ensures.of in
+    IfOk-weaker c.line_races_among.result (λ races. AreAllLineRaces gs races.items) (λ races. ListsEveryMarkOfLines setting findings races.items)
+    (λ races book. lines_marked setting findings of.all of.are races.items (lines_in_all setting findings gs of races.items book)) c.line_races_among.ensures
+
+pub returns-clause-shortest : goal.returns-clause-shortest
+returns-clause-shortest c =
+    let setting = c.args.machine.now in
+    let findings = c.args.findings.now in
+    let gs = c.deref.result.now in
+    let of : ArePrintingStatesOf setting findings gs = subst (λ (xs : List SlotState). ArePrintingStatesOf setting findings xs) (sym c.deref.ensures.value) c.in_ok-printing.ensures.of in
+    IfOk-weaker c.line_races_among.result (λ races. AreAllLineRaces gs races.items) (λ races. ListsShortestOfLines setting findings races.items)
+    (λ races book. lines_shortest setting findings of.all of.are races.items (lines_in_all setting findings gs of races.items book)) c.line_races_among.ensures
+
+pub returns-clause-order : goal.returns-clause-order
+returns-clause-order c =
+    IfOk-weaker c.line_races_among.result (λ races. AreAllLineRaces c.deref.result.now races.items) (λ races. AreLineRacesInOrder races.items)
+    (λ races book. lines_order c.deref.result.now races.items book) c.line_races_among.ensures
+
+pub returns-clause-sides : goal.returns-clause-sides
+returns-clause-sides c =
+    IfOk-weaker c.line_races_among.result (λ races. AreAllLineRaces c.deref.result.now races.items) (λ races. AreAllSidesInOrder races.items)
+    (λ races book. sides_order c.deref.result.now races.items book) c.line_races_among.ensures
