@@ -1,9 +1,12 @@
 -- Ends and the runs that they are of.
-use Rattle.std.proofs.Common.{◌≡◌, ℕ, ◌+◌, ◌-◌, ◌<◌, ◌==◌, Bool, true, false, cond, List, length, slice_get, get_or, Decides, Some, None, refl, sym, ap, ◌∙◌, subst, arith}
+use Rattle.std.proofs.Common.{◌≡◌, ℕ, ◌+◌, ◌-◌, ◌<◌, ◌==◌, ◌^◌, Bool, true, false, cond, List, length, slice_get, get_or, Decides, Some, None, refl, sym, ap, ◌∙◌, subst, arith}
 use Rattle.std.proofs.lemmas.Bool.Decides.{nat_tests}
 use Rattle.std.proofs.lemmas.Option.{same_Some, slice_get-get_or}
-use Rattle.std.specs.Cmp.Lexicographic.{pointwise, bytes_decides}
-use lib.Dec.{eqb}
+use Rattle.std.specs.Option.{option_eq}
+use Rattle.sched_core.specs.Bags.{lines_same, HasLines}
+use Rattle.sched_core.specs.Logs.{IsLog}
+use Rattle.sched_core.specs.BagLaws.{lines_tell}
+use Rattle.sched_core.specs.Tests.{option_tells}
 use Rattle.std.specs.declared.cmp.Ordering.TheVariants.{Equal}
 use Rattle.basis.specs.Reasons.{Because}
 use Rattle.basis.specs.declared.memory.OrMemory.{OrMemory}
@@ -26,7 +29,7 @@ use Rattle.vreport.specs.declared.row.Row.{Row}
 use Rattle.vreport.specs.Dumps.{HasDump, IsRunDump}
 use Rattle.report_text.specs.Report.{End as ReportEnd}
 use Rattle.vreport.specs.Ends.{HasLongDump, HasSomeLongDump}
-use Rattle.vreport.specs.Inner.{CountsDump, HasTimeAndLog, IsEndOfRow, IsRow, IsRowAt, IsRowOfSome, Repeats, cause_of, key_cmp, order_of}
+use Rattle.vreport.specs.Inner.{CountsDump, IsEndOfRow, IsRow, IsRowAt, IsRowOfSome, Repeats, cause_of, key_cmp, order_of}
 use Rattle.vreport.proofs.DumpLemmas.{the_dump}
 use Rattle.vreport.proofs.OrderLemmas.{key_same, same_key}
 
@@ -35,6 +38,10 @@ Alike setting = (s r : MachineState) (t : State) → Stands setting s t → (mac
 
 abbrev pub AllStand : Setting → Type 0
 AllStand setting = (log : List (ℕ × ℕ)) (n : ℕ) → Stands setting (stands (machine_rules setting) log n) (state_after setting log n)
+
+-- lines are there where they are looked at
+abbrev pub LooksWhereAsked : Setting → Type 0
+LooksWhereAsked setting = (log : List (ℕ × ℕ)) (n : ℕ) → HasLines setting.looked (state_after setting log n).printed
 
 abbrev pub RunThere : Setting → Type 0
 RunThere setting = (log : List (ℕ × ℕ)) (n : ℕ) → IsRun (machine_rules setting) log n → IsRun (rules_of setting) log n
@@ -107,9 +114,9 @@ module _ (setting : Setting) (alike : Alike setting) (all : AllStand setting) (t
     its_long_dump long = (mark.1, (found row.place mark at).short, long)
 
     -- the end that is made of it
-    pub its_end : (end : ReportEnd) → end.time ≡ row.time → end.cause ≡ cause_of row.cause → end.line ≡ row.line.items → end.log ≡ mark.1 →
-        HasTimeAndLog end → CountsDump setting mark.1 limits.steps end.bytes → IsEndOfRow setting limits marks row end
-    its_end end time_is cause_is line_is log_is kept counts =
+    pub its_end : LooksWhereAsked setting → (end : ReportEnd) → end.time ≡ row.time → end.cause ≡ cause_of row.cause → end.line ≡ row.line.items → end.printed ≡ row.printed → end.log ≡ mark.1 →
+        end.time < 2 ^ 64 → IsLog end.log → CountsDump setting mark.1 limits.steps end.bytes → IsEndOfRow setting limits marks row end
+    its_end looks end time_is cause_is line_is printed_is log_is time log counts =
         let f = found row.place mark at in
         let t = state_after setting mark.1 f.steps in
         let told = its_row.at_end t (stood mark f) in
@@ -120,8 +127,9 @@ module _ (setting : Setting) (alike : Alike setting) (all : AllStand setting) (t
           time_is = time_is;
           cause_is = told.2.cause_is ∙ ap order_of (sym (cause_is ∙ ap cause_of told.2.cause_is ∙ cause_back told.0.cause));
           line_is = line_is;
+          printed_is = printed_is;
           log_is = log_is;
-          kept = kept;
+          kept = record { time = time; log = log; lines = subst (HasLines setting.looked) (sym (printed_is ∙ told.2.printed_is)) (looks mark.1 f.steps) };
           bytes = record {
             dump = counts.0;
             is_dump = subst (λ (l : List (ℕ × ℕ)). IsRunDump setting l limits.steps counts.0) (sym log_is) counts.1.0;
@@ -130,10 +138,10 @@ module _ (setting : Setting) (alike : Alike setting) (all : AllStand setting) (t
         }
 
 -- the same times, causes and lines
-pub same_end_when : (r s : Row) (b : Bool) → r.time ≡ s.time → r.cause ≡ s.cause → b ≡ pointwise eqb r.line.items s.line.items → Decides b (key_cmp r s ≡ Equal)
-same_end_when r s b e f g =
-    let exact = bytes_decides r.line.items s.line.items in
-    (λ h. key_same r s (record { time_same = e; cause_same = f; line_same = exact.0 (sym g ∙ h) }), λ h. g ∙ exact.1 (same_key r s h).line_same)
+pub same_end_when : (r s : Row) (b : Bool) → r.time ≡ s.time → r.cause ≡ s.cause → r.line.items ≡ s.line.items → b ≡ option_eq lines_same r.printed s.printed → Decides b (key_cmp r s ≡ Equal)
+same_end_when r s b e f g same =
+    let exact = option_tells lines_same lines_tell r.printed s.printed in
+    (λ h. key_same r s (record { time_same = e; cause_same = f; line_same = g; printed_same = exact.0 (sym same ∙ h) }), λ h. same ∙ exact.1 (same_key r s h).printed_same)
 
 pub repeats_when : (rows : List Row) (place : ℕ) (r s : Row) (b : Bool) → (place ≡ 0 → ⊥) → place < length rows → get_or rows (place - 1) r ≡ r → get_or rows place s ≡ s →
     Decides b (key_cmp r s ≡ Equal) → Decides b (Repeats rows place)

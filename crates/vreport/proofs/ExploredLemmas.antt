@@ -14,7 +14,7 @@ use Rattle.report_text.specs.declared.report.Outcome.TheVariants as outcome
 use Rattle.report_text.specs.Report.{Report}
 use Rattle.report_text.specs.WellFormed.{Each, EachTwo, IsEndBefore}
 use Rattle.vreport.specs.Ends.{GivesEveryEnd, IsTrueEnd}
-use Rattle.vreport.specs.Reports.{HasOutcome, IsExploration, IsHeadOf, MeansEntries, ShowsRaces, outcome_of}
+use Rattle.vreport.specs.Reports.{HasOutcome, IsExploration, IsHeadOf, MeansEntries, ShowsLineRaces, ShowsRaces, outcome_of}
 use Rattle.vreport.specs.declared.explored.Explored.{Explored}
 use Rattle.vreport.proofs.EntriesLemmas.{KnowsMachine, moved_entries}
 
@@ -32,8 +32,9 @@ was_cut (Cut Steps) e = refl
 
 pub exploration : (setting : Setting) → KnowsMachine setting → (limits : Limits) (findings : Findings MachineState) (report : Report) → ListsAll (machine_rules setting) limits findings →
     TellsSteps (machine_rules setting) limits findings → IsHeadOf setting limits report → HasOutcome findings.status report → Each (IsTrueEnd setting limits) report.ends → EachTwo IsEndBefore report.ends →
-    GivesEveryEnd setting limits findings report.ends → ShowsRaces setting limits findings report.races → IsExploration setting limits report
-exploration setting known limits findings report all tells head outcome_is ends order every races =
+    GivesEveryEnd setting limits findings report.ends → ShowsRaces setting limits findings report.races →
+    ShowsLineRaces setting limits findings report.line_races → IsExploration setting limits report
+exploration setting known limits findings report all tells head outcome_is ends order every races lines =
     let whole : report.outcome ≡ outcome.Exhausted → IsWhole setting limits findings = λ e. (was_exhausted findings.status (sym outcome_is ∙ e), all) in
     record {
       head = head;
@@ -48,6 +49,14 @@ exploration setting known limits findings report all tells head outcome_is ends 
         values_order = races.values_order;
         every = λ e. races.every (whole e);
         fewest = λ e. races.fewest (whole e);
+      };
+      line_races = record {
+        races = lines.races;
+        told_are = lines.told_are;
+        each = lines.each;
+        order = lines.order;
+        every = λ e. lines.every (whole e);
+        fewest = λ e. lines.fewest (whole e);
       };
       cut_for_steps = λ e. (let more = tells (was_cut findings.status (sym outcome_is ∙ e)) in
           record { log = more.log; steps = more.steps; short = more.short; run = known.there more.log more.steps more.run; more = more.more });

@@ -1,5 +1,5 @@
 -- What an explorer found makes a report that can be read.
-use Rattle.std.proofs.Common.{◌≡◌, ◌≢◌, ℕ, ◌≤◌, true, List, [], ◌∷◌, map, slice_get, Some, option_map, sym, ap, ◌∙◌, subst, arith}
+use Rattle.std.proofs.Common.{◌≡◌, ◌≢◌, ℕ, ◌≤◌, true, List, [], ◌∷◌, map, slice_get, Option, Some, None, option_map, refl, inl, inr, sym, ap, ◌∙◌, subst, arith}
 use Rattle.std.proofs.lemmas.List.{length-map}
 use Rattle.std.proofs.lemmas.Option.{slice_get-map, same_Some}
 use Rattle.basis.proofs.Lists.{listed_place, of_mapped}
@@ -12,15 +12,22 @@ use Rattle.vdesign.specs.Named.{AreNamed}
 use Rattle.vmodel.specs.Kept.{AreShaped, HasShape}
 use Rattle.vmodel.specs.Run.{Setting, state_after}
 use Rattle.vmachine.specs.declared.machine_state.MachineState.{MachineState}
+use Rattle.racebook.specs.LineRaces as lines
 use Rattle.racebook.specs.Races as found
 use Rattle.racebook.specs.Order.{AreInTextOrder}
-use Rattle.report_text.specs.declared.report.Version.TheVariants.{One, Two}
+use Rattle.report_text.specs.declared.report.Version.{Version}
+use Rattle.report_text.specs.declared.report.Version.TheVariants.{One}
+use Rattle.sched_core.specs.declared.setting.Departures.{Departures}
+use Rattle.sched_core.specs.declared.setting.Departures.TheVariants.{Taking, Holding}
+use Rattle.sched_core.specs.declared.setting.Looked.{Looked}
+use Rattle.sched_core.specs.declared.setting.Looked.TheVariants.{Values, Lines}
 use Rattle.report_text.specs.Report.{Column, End, Report}
-use Rattle.report_text.specs.WellFormed.{Each, EachTwo, HaveBytes, IsColumn, IsEnd, IsEndBefore, IsHead, IsLineOf, IsRaceForm, IsRaceBefore, IsTextLess, IsValue}
+use Rattle.report_text.specs.WellFormed.{Each, EachTwo, HaveBytes, IsColumn, IsEnd, HasViews, IsEndBefore, IsHead, IsLineOf, IsLineRaceBefore, IsLineRaceForm, IsRaceForm, IsRaceBefore, IsTextLess, IsValue}
 use Rattle.vreport.specs.Ends.{IsTrueEnd}
 use Rattle.vreport.specs.Formed.{IsFormed}
-use Rattle.vreport.specs.Inner.{HasTimeAndLog, HasTimeAndLogs, HasWidth}
-use Rattle.vreport.specs.Reports.{IsHeadOf, ShowsRaces, report_race, report_value}
+use Rattle.vreport.specs.Inner.{HasTimeAndLogs, HasTimeAndSideLogs, HasWidth, IsWritable}
+use Rattle.sched_core.specs.Bags.{AreLinesInOrder, HasLines}
+use Rattle.vreport.specs.Reports.{IsHeadOf, ShowsLineRaces, ShowsRaces, version_for, report_line_race, report_race, report_value}
 use Rattle.vreport.specs.Truth.{column_of}
 use Rattle.vreport.specs.Written.{AreDumps}
 use Rattle.vreport.proofs.LineLemmas.{its_variable, shaped_line, shaped_value}
@@ -33,6 +40,17 @@ AllShaped setting = (log : List (ℕ × ℕ)) (n : ℕ) → AreShaped setting.de
 
 -- ---- the head
 
+-- no report of an exploration is of the first version, and the version that it has tells its setting
+never_one : (departures : Departures) (looked : Looked) → version_for departures looked ≢ One
+never_one Taking Values e = cc
+never_one Taking Lines e = cc
+never_one Holding looked e = cc
+
+its_views : (departures : Departures) (looked : Looked) → HasViews (version_for departures looked) departures looked
+its_views Taking Values = (refl, refl)
+its_views Taking Lines = inr refl
+its_views Holding looked = inl refl
+
 formed_head : (setting : Setting) (limits : Limits) (report : Report) → IsHeadOf setting limits report → has_letters_of_name setting.design.top ≡ true →
     setting.until ≤ 4611686018427387903 → IsHead report
 formed_head setting limits report head top until = record {
@@ -41,7 +59,10 @@ formed_head setting limits report head top until = record {
   depart = (let e = head.depart_is in let few = limits.within.few_departures in omega (arith, e, few));
   some_steps = (let e = head.steps_is in let some = limits.within.some_steps in omega (arith, e, some));
   few_steps = (let e = head.steps_is in let few = limits.within.few_steps in omega (arith, e, few));
-  grain = λ one. absurd (let bad : Two ≡ One = sym head.version_is ∙ one in cc);
+  grain = λ one. absurd (never_one setting.departures setting.looked (sym head.version_is ∙ one));
+  views = subst (λ (version : Version). HasViews version report.departures report.looked) (sym head.version_is)
+      (subst (λ (departures : Departures). HasViews (version_for setting.departures setting.looked) departures report.looked) (sym head.setting_is.departures_are)
+      (subst (HasViews (version_for setting.departures setting.looked) setting.departures) (sym head.setting_is.looked_is) (its_views setting.departures setting.looked)));
 }
 
 -- ---- the names
@@ -55,16 +76,17 @@ formed_columns variables paths widths = λ i column at.
 
 -- ---- the ends
 
-formed_ends : (setting : Setting) (limits : Limits) → AllShaped setting → (ends : List End) → Each (IsTrueEnd setting limits) ends → Each HasTimeAndLog ends →
-    Each (IsEnd (map column_of setting.design.variables)) ends
+formed_ends : (setting : Setting) (limits : Limits) → AllShaped setting → (ends : List End) → Each (IsTrueEnd setting limits) ends → Each (IsWritable setting.looked) ends →
+    Each (IsEnd setting.looked (map column_of setting.design.variables)) ends
 formed_ends setting limits shaped ends true_ends kept = λ i end at.
     let t = true_ends i end at in
     let k = kept i end at in
     record {
-      time = k.0;
-      log = k.1;
+      time = k.time;
+      log = k.log;
       line = subst (IsLineOf (map column_of setting.design.variables)) (sym t.after.line_is)
           (shaped_line setting.design.variables (state_after setting end.log t.steps).values (shaped end.log t.steps));
+      lines = k.lines;
     }
 
 formed_bytes : (setting : Setting) (steps : ℕ) (ends : List End) (dumps : List (List ℕ)) → AreDumps setting steps ends dumps → HaveBytes ends dumps
@@ -116,12 +138,54 @@ formed_race setting limits shaped race is order kept =
           text_less s.0 t.0 (p.0 ∙ sym q.0) (p.1 ∙ sym q.1) (order i j s t lt at at'));
     }
 
+-- ---- the races of lines
+
+-- lines are there where they are looked at
+abbrev pub LooksWhereAsked : Setting → Type 0
+LooksWhereAsked setting = (log : List (ℕ × ℕ)) (n : ℕ) → HasLines setting.looked (state_after setting log n).printed
+
+lines_in_order : (looked : Looked) (printed : Option (List (List ℕ))) (texts : List (List ℕ)) → HasLines looked printed → printed ≡ Some texts → AreLinesInOrder texts
+lines_in_order Values None texts has is = absurd (cc)
+lines_in_order Values (Some bag) texts has is = absurd has
+lines_in_order Lines None texts has is = absurd has
+lines_in_order Lines (Some bag) texts has is = subst AreLinesInOrder (same_Some bag texts is) has
+
+side_in_order : (setting : Setting) (limits : Limits) → LooksWhereAsked setting → (time : ℕ) (side : lines.Side) → lines.IsLinesWitness setting limits time side.0 side.1 → AreLinesInOrder side.0
+side_in_order setting limits looks time side seen =
+    lines_in_order setting.looked (state_after setting side.1 seen.steps).printed side.0 (looks side.1 seen.steps) seen.shown.printed
+
+formed_line_race : (setting : Setting) (limits : Limits) → LooksWhereAsked setting → (race : lines.LineRace) → lines.IsLineRace setting limits race →
+    HasTimeAndSideLogs (report_line_race race) → IsLineRaceForm (report_line_race race)
+formed_line_race setting limits looks race is kept = record {
+  time = kept.0;
+  two = is.two;
+  lines = λ i side at. side_in_order setting limits looks race.time side (is.seen i side at);
+  logs = kept.1;
+  order = is.order;
+}
+
+-- where values are looked at there is none
+no_line_races : (setting : Setting) (limits : Limits) → LooksWhereAsked setting → (races : List lines.LineRace) → lines.EachLineRace (lines.IsLineRace setting limits) races →
+    setting.looked ≡ Values → map report_line_race races ≡ []
+no_line_races setting limits looks [] each values = refl
+no_line_races setting limits looks (race ∷ races) each values =
+    let is = each 0 race refl in
+    let (side, at) = listed_place race.sides 0 (let two = is.two in omega (arith, two)) in
+    let seen = is.seen 0 side at in
+    absurd (not_looked (state_after setting side.1 seen.steps).printed side.0
+    (subst (λ (looked : Looked). HasLines looked (state_after setting side.1 seen.steps).printed) values (looks side.1 seen.steps)) seen.shown.printed)
+  where
+    not_looked : (printed : Option (List (List ℕ))) (texts : List (List ℕ)) → HasLines Values printed → printed ≡ Some texts → ⊥
+    not_looked None texts has is = cc
+    not_looked (Some bag) texts has is = has
+
 -- ---- the whole
 
-pub formed : (setting : Setting) → AllShaped setting → (limits : Limits) (findings : Findings MachineState) (report : Report) → AreNamed setting.design → setting.until ≤ 4611686018427387903 →
-    IsHeadOf setting limits report → Each HasWidth report.variables → Each (IsTrueEnd setting limits) report.ends → Each HasTimeAndLog report.ends →
-    EachTwo IsEndBefore report.ends → ShowsRaces setting limits findings report.races → Each HasTimeAndLogs report.races → IsFormed setting report
-formed setting shaped limits findings report named until head widths true_ends ends_kept ends_order races races_kept dumps are =
+pub formed : (setting : Setting) → AllShaped setting → LooksWhereAsked setting → (limits : Limits) (findings : Findings MachineState) (report : Report) → AreNamed setting.design → setting.until ≤ 4611686018427387903 →
+    IsHeadOf setting limits report → Each HasWidth report.variables → Each (IsTrueEnd setting limits) report.ends → Each (IsWritable setting.looked) report.ends →
+    EachTwo IsEndBefore report.ends → ShowsRaces setting limits findings report.races → Each HasTimeAndLogs report.races →
+    ShowsLineRaces setting limits findings report.line_races → Each HasTimeAndSideLogs report.line_races → IsFormed setting report
+formed setting shaped looks limits findings report named until head widths true_ends ends_kept ends_order races races_kept line_races lines_kept dumps are =
     let variables = setting.design.variables in
     let columns : report.variables ≡ map column_of variables = head.setting_is.variables_are in
     let told : report.races ≡ map report_race races.races = races.told_are in
@@ -129,13 +193,22 @@ formed setting shaped limits findings report named until head widths true_ends e
     let each : Each (IsRaceForm (map column_of variables)) (map report_race races.races) = each_mapped report_race (IsRaceForm (map column_of variables)) races.races (λ i race at.
     formed_race setting limits shaped race (races.each i race at) (races.values_order i race at)
     (kept i (report_race race) (slice_get-map report_race races.races i ∙ ap (option_map report_race) at))) in
+    let line_told : report.line_races ≡ map report_line_race line_races.races = line_races.told_are in
+    let line_kept : Each HasTimeAndSideLogs (map report_line_race line_races.races) = subst (Each HasTimeAndSideLogs) line_told lines_kept in
+    let line_each : Each IsLineRaceForm (map report_line_race line_races.races) = each_mapped report_line_race IsLineRaceForm line_races.races (λ i race at.
+    formed_line_race setting limits looks race (line_races.each i race at)
+    (line_kept i (report_line_race race) (slice_get-map report_line_race line_races.races i ∙ ap (option_map report_line_race) at))) in
     record {
       head = formed_head setting limits report head named.top until;
       columns = subst (Each IsColumn) (sym columns) (formed_columns variables named.paths (subst (Each HasWidth) columns widths));
       names = subst (EachTwo (λ a b. a.name ≢ b.name)) (sym columns) (two_mapped column_of (λ a b. a.name ≢ b.name) variables named.distinct);
-      ends = subst (λ cs. Each (IsEnd cs) report.ends) (sym columns) (formed_ends setting limits shaped report.ends true_ends ends_kept);
+      ends = subst (λ (looked : Looked). Each (IsEnd looked report.variables) report.ends) (sym head.setting_is.looked_is)
+          (subst (λ cs. Each (IsEnd setting.looked cs) report.ends) (sym columns) (formed_ends setting limits shaped report.ends true_ends ends_kept));
       ends_order = ends_order;
       bytes = formed_bytes setting report.steps report.ends dumps are;
       races = subst (λ cs. Each (IsRaceForm cs) report.races) (sym columns) (subst (Each (IsRaceForm (map column_of variables))) (sym told) each);
       races_order = subst (EachTwo IsRaceBefore) (sym told) (two_mapped report_race IsRaceBefore races.races races.order);
+      line_races = subst (Each IsLineRaceForm) (sym line_told) line_each;
+      line_races_order = subst (EachTwo IsLineRaceBefore) (sym line_told) (two_mapped report_line_race IsLineRaceBefore line_races.races line_races.order);
+      no_lines = λ values. line_told ∙ no_line_races setting limits looks line_races.races line_races.each (sym head.setting_is.looked_is ∙ values);
     }

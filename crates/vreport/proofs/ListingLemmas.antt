@@ -1,5 +1,5 @@
 -- Rows that stand in order, gone through to list each end once.
-use Rattle.std.proofs.Common.{◌≡◌, ℕ, ◌+◌, ◌-◌, ◌<◌, ◌≤◌, ◌⊎◌, List, [], ◌∷◌, ◌++◌, length, slice_get, Some, refl, sym, ap, ◌∙◌, subst, inl, inr, arith}
+use Rattle.std.proofs.Common.{◌≡◌, ℕ, ◌+◌, ◌-◌, ◌<◌, ◌≤◌, ◌⊎◌, List, [], ◌∷◌, ◌++◌, length, slice_get, Option, Some, None, refl, sym, ap, ◌∙◌, subst, inl, inr, arith}
 use Rattle.std.specs.declared.cmp.Ordering.TheVariants.{Less, Equal}
 use Rattle.std.proofs.lemmas.Bool.{cases_lt}
 use Rattle.basis.proofs.Lists.{last_or_before, listed_place, place_within, stands_in_front, stands_last}
@@ -11,7 +11,11 @@ use Rattle.vmodel.specs.Run.{Setting}
 use Rattle.vmachine.specs.declared.machine_state.MachineState.{MachineState}
 use Rattle.report_text.specs.Report.{End as ReportEnd}
 use Rattle.report_text.specs.ReportText.{cause_word}
-use Rattle.report_text.specs.WellFormed.{IsEndBefore, IsTextLess}
+use Rattle.report_text.specs.WellFormed.{IsEndBefore, IsPrintedLess, IsTextLess}
+use Rattle.std.specs.Option.{option_cmp}
+use Rattle.sched_core.specs.Bags.{bag_cmp, HasLines}
+use Rattle.sched_core.specs.declared.setting.Looked.{Looked}
+use Rattle.sched_core.specs.declared.setting.Looked.TheVariants.{Values, Lines}
 use Rattle.vreport.specs.declared.row.Row.{Row}
 use Rattle.vreport.specs.Inner.{AreEndsBelow, AreSortedRows, HasEnd, IsEndOfRow, IsEndOfSome, IsNotAfter, Repeats, key_cmp, order_of}
 use Rattle.vreport.proofs.OrderLemmas.{key_before, key_between, same_key}
@@ -54,6 +58,15 @@ cause_exact Stop Finish e = absurd (omega arith)
 cause_exact Stop Limit e = absurd (omega arith)
 cause_exact Stop Quiet e = absurd (omega arith)
 
+-- of lines that are there, or not, as they are looked at
+less_printed : (looked : Looked) (a b : Option (List (List ℕ))) → HasLines looked a → HasLines looked b → option_cmp bag_cmp a b ≡ Less → IsPrintedLess a b
+less_printed Values None None h k less = absurd (cc)
+less_printed Values None (Some b) h k less = absurd k
+less_printed Values (Some a) b h k less = absurd h
+less_printed Lines None b h k less = absurd h
+less_printed Lines (Some a) None h k less = absurd k
+less_printed Lines (Some a) (Some b) h k less = less
+
 module _ (setting : Setting) (limits : Limits) (marks : List (MachineState × List (ℕ × ℕ))) (rows : List Row) (sorted : AreSortedRows rows) where
   -- ends of rows that stand in order
   in_order : (r s : Row) (e f : ReportEnd) → IsEndOfRow setting limits marks r e → IsEndOfRow setting limits marks s f → key_cmp r s ≡ Less → IsEndBefore e f
@@ -65,7 +78,13 @@ module _ (setting : Setting) (limits : Limits) (marks : List (MachineState × Li
         | inl cause ↦ inl (later_cause e.cause f.cause (subst (λ n. n < order_of f.cause) of.cause_is (subst (λ n. r.cause < n) of'.cause_is cause)))
         | inr alike ↦ inr (
           cause_exact e.cause f.cause (sym of.cause_is ∙ alike.0 ∙ of'.cause_is),
-          (subst (λ (text : List ℕ). IsTextLess text f.line) (sym of.line_is) (subst (λ (text : List ℕ). IsTextLess r.line.items text) (sym of'.line_is) alike.1)),
+          elim alike.1 [
+            | inl lines ↦ inl (subst (λ (text : List ℕ). IsTextLess text f.line) (sym of.line_is) (subst (λ (text : List ℕ). IsTextLess r.line.items text) (sym of'.line_is) lines))
+            | inr by ↦ inr (
+              of.line_is ∙ by.0 ∙ sym of'.line_is,
+              less_printed setting.looked e.printed f.printed of.kept.lines of'.kept.lines ((λ i. option_cmp bag_cmp (of.printed_is i) (of'.printed_is i)) ∙ by.1),
+            )
+          ],
         )
       ],
     )
@@ -125,6 +144,7 @@ module _ (setting : Setting) (limits : Limits) (marks : List (MachineState × Li
             time_is = has.time_is ∙ k.time_same;
             cause_is = sym k.cause_same ∙ has.cause_is;
             line_is = has.line_is ∙ k.line_same;
+            printed_is = has.printed_is ∙ k.printed_same;
             fewest = (let f = has.fewest in omega arith);
           })
     ];
@@ -150,6 +170,7 @@ module _ (setting : Setting) (limits : Limits) (marks : List (MachineState × Li
         time_is = has.time_is;
         cause_is = has.cause_is;
         line_is = has.line_is;
+        printed_is = has.printed_is;
         fewest = has.fewest;
       })
       | inr here ↦ (let same : row ≡ r = same_Some row r (sym row_at ∙ ap (slice_get rows) (sym here) ∙ at) in
@@ -160,6 +181,7 @@ module _ (setting : Setting) (limits : Limits) (marks : List (MachineState × Li
             time_is = of.time_is;
             cause_is = of.cause_is;
             line_is = of.line_is;
+            printed_is = of.printed_is;
             fewest = (let a = of.of.departures_are in let b = ap length of.log_is in omega arith);
           }))
     ];

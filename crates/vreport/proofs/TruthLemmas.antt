@@ -3,13 +3,14 @@ use Rattle.std.proofs.Common.{◌≡◌, ℕ, suc, List, [], ◌∷◌, refl, sy
 use Rattle.statebook.specs.declared.limits.Limits.{Limits}
 use Rattle.vbits.specs.Vectors.{Vector}
 use Rattle.vmodel.specs.Run.{Setting}
+use Rattle.racebook.specs.LineRaces as lines
 use Rattle.racebook.specs.Races as found
 use Rattle.report_text.specs.Report.{End, Report}
 use Rattle.report_text.specs.WellFormed.{Each}
 use Rattle.vreport.specs.Ends.{IsTrueEnd}
 use Rattle.vreport.specs.Formed.{IsTrueWithDumps}
-use Rattle.vreport.specs.Reports.{IsExploration, report_race, report_value}
-use Rattle.vreport.specs.Truth.{AreTrueEnds, IsTrueEndOf, IsTrueRace, IsTrueWitness}
+use Rattle.vreport.specs.Reports.{IsExploration, report_line_race, report_race, report_value}
+use Rattle.vreport.specs.Truth.{AreTrueEnds, IsTrueEndOf, IsTrueLineRace, IsTrueLines, IsTrueRace, IsTrueWitness}
 use Rattle.vreport.specs.Written.{AreDumps, IsDumpOf}
 use Rattle.vreport.proofs.MappedLemmas.{each_mapped}
 
@@ -47,10 +48,28 @@ module _ (setting : Setting) (limits : Limits) (report : Report) (depart_is : re
   true_race : (race : found.Race) → found.IsRace setting limits race → IsTrueRace setting report (report_race race)
   true_race race is = each_mapped report_value (IsTrueWitness setting report race.time race.variable) race.values (λ i seen at. true_witness race.time race.variable seen (is.seen i seen at))
 
+  true_lines : (time : ℕ) (side : lines.Side) → lines.IsLinesWitness setting limits time side.0 side.1 → IsTrueLines setting report time side
+  true_lines time side s = record {
+    steps = s.steps;
+    run = s.shown.run;
+    names = s.names;
+    within = (let few = s.within in omega (arith, few, steps_is));
+    at = s.steps;
+    reached = omega arith;
+    shown = s.shown;
+    short = (let few = s.short in omega (arith, few, depart_is));
+  }
+
+  true_line_race : (race : lines.LineRace) → lines.IsLineRace setting limits race → IsTrueLineRace setting report (report_line_race race)
+  true_line_race race is = λ i side at. true_lines race.time side (is.seen i side at)
+
 pub exploration_true : (setting : Setting) (limits : Limits) (report : Report) → IsExploration setting limits report → IsTrueWithDumps setting report
 exploration_true setting limits report x dumps are = record {
   head = x.head.setting_is;
   ends = true_ends setting limits report x.head.depart_is x.head.steps_is report.ends dumps x.ends are;
   races = subst (Each (IsTrueRace setting report)) (sym x.races.told_are)
       (each_mapped report_race (IsTrueRace setting report) x.races.races (λ i race at. true_race setting limits report x.head.depart_is x.head.steps_is race (x.races.each i race at)));
+  line_races = subst (Each (IsTrueLineRace setting report)) (sym x.line_races.told_are)
+      (each_mapped report_line_race (IsTrueLineRace setting report) x.line_races.races
+      (λ i race at. true_line_race setting limits report x.head.depart_is x.head.steps_is race (x.line_races.each i race at)));
 }

@@ -1,5 +1,5 @@
 -- The ends that are listed are those of runs, and where the findings are all, they are all.
-use Rattle.std.proofs.Common.{◌≡◌, ℕ, ◌≤◌, ◌⊎◌, true, List, length, slice_get, Some, refl, sym, ap, ◌∙◌, subst, inl, inr, le_refl, arith}
+use Rattle.std.proofs.Common.{◌≡◌, ℕ, ◌≤◌, ◌⊎◌, true, List, length, slice_get, Option, Some, refl, sym, ap, ◌∙◌, subst, inl, inr, le_refl, arith}
 use Rattle.std.proofs.lemmas.Option.{same_Some}
 use Rattle.basis.proofs.Lists.{place_within, at_contains}
 use Rattle.sched_core.specs.Rules.{IsRun, stands}
@@ -21,7 +21,7 @@ use Rattle.report_text.specs.WellFormed.{Each}
 use Rattle.vreport.specs.declared.row.Row.{Row}
 use Rattle.vreport.specs.Ends.{HasBytes, IsEndAfter, IsTrueEnd, ListsEnd, ListsEveryEnd}
 use Rattle.vreport.specs.Values.{values_line}
-use Rattle.vreport.specs.Inner.{AreEnds, AreRows, HasTimeAndLog, HasRow, IsEndOfRow, IsNoEnd, order_of}
+use Rattle.vreport.specs.Inner.{AreEnds, AreRows, HasRow, IsEndOfRow, IsNoEnd, IsWritable, order_of}
 use Rattle.vreport.proofs.EndLemmas.{Alike, AllStand, RunThere, row_finishes, told_where_ended}
 use Rattle.vreport.proofs.ListingLemmas.{cause_exact}
 
@@ -41,14 +41,15 @@ module _ (setting : Setting) (alike : Alike setting) (all : AllStand setting) (t
       let time_is : end.time ≡ p.0.time = of.time_is ∙ p.2.time_is in
       let cause_is : end.cause ≡ p.0.cause = cause_exact end.cause p.0.cause (sym of.cause_is ∙ p.2.cause_is) in
       let told : p.0 ≡ record { time = end.time; cause = end.cause } = λ i. record { time = (sym time_is) i; cause = (sym cause_is) i } in
-      let here : IsEndAfter setting of.found.1 f.steps end.time end.cause end.line = record {
+      let here : IsEndAfter setting of.found.1 f.steps end.time end.cause end.line end.printed = record {
         ends = p.1.ends;
         end_is = sym p.1.end_is ∙ told;
         line_is = of.line_is ∙ p.2.line_is;
+        printed_is = of.printed_is ∙ p.2.printed_is;
       } in
       record {
         steps = f.steps;
-        after = subst (λ (l : List (ℕ × ℕ)). IsEndAfter setting l f.steps end.time end.cause end.line) (sym of.log_is) here;
+        after = subst (λ (l : List (ℕ × ℕ)). IsEndAfter setting l f.steps end.time end.cause end.line end.printed) (sym of.log_is) here;
         within = f.within;
         short = (let a = f.short in let b = ap length of.log_is in omega arith);
       }
@@ -59,15 +60,15 @@ module _ (setting : Setting) (alike : Alike setting) (all : AllStand setting) (t
   pub ends_bytes : Each (HasBytes setting limits.steps) ends
   ends_bytes = λ i end at. (are.each i end at).of.bytes
 
-  pub ends_kept : Each HasTimeAndLog ends
+  pub ends_kept : Each (IsWritable setting.looked) ends
   ends_kept = λ i end at. (are.each i end at).of.kept
 
   module _ (here : RunHere setting) (mark_alike : MarkAlike setting) (of_marks : AreRows setting marks rows) where
-    row_listed : (found : MachineState × List (ℕ × ℕ)) (place : ℕ) (t : State) (time : ℕ) (cause : Cause) (line : List ℕ) (departures : ℕ) → Stands setting found.0 t →
-        end_in t ≡ Some (record { time = time; cause = cause }) → line ≡ values_line t.values → length found.1 ≤ departures →
-        HasRow setting found place rows ⊎ IsNoEnd setting found.0 → ListsEnd ends time cause line departures
-    row_listed found place t time cause line departures st told line_is few (inr bare) = absurd (let bad = bare t st in cc)
-    row_listed found place t time cause line departures st told line_is few (inl has) =
+    row_listed : (found : MachineState × List (ℕ × ℕ)) (place : ℕ) (t : State) (time : ℕ) (cause : Cause) (line : List ℕ) (printed : Option (List (List ℕ))) (departures : ℕ) →
+        Stands setting found.0 t → end_in t ≡ Some (record { time = time; cause = cause }) → line ≡ values_line t.values → printed ≡ t.printed → length found.1 ≤ departures →
+        HasRow setting found place rows ⊎ IsNoEnd setting found.0 → ListsEnd ends time cause line printed departures
+    row_listed found place t time cause line printed departures st told line_is printed_is few (inr bare) = absurd (let bad = bare t st in cc)
+    row_listed found place t time cause line printed departures st told line_is printed_is few (inl has) =
         let at = at_contains rows has.row has.among in
         let listed = are.whole at.0 has.row (place_within rows at.0 has.row at.1) at.1 in
         let (end, is, row_at) = has.of.at_end t st in
@@ -79,22 +80,23 @@ module _ (setting : Setting) (alike : Alike setting) (all : AllStand setting) (t
           time_is = listed.time_is ∙ row_at.time_is ∙ ap (λ (e : End). e.time) same;
           cause_is = cause_exact listed.end.cause cause (sym listed.cause_is ∙ row_at.cause_is ∙ ap (λ (e : End). order_of e.cause) same);
           line_is = listed.line_is ∙ row_at.line_is ∙ sym line_is;
+          printed_is = listed.printed_is ∙ row_at.printed_is ∙ sym printed_is;
           fewest = (let a = listed.fewest in let b = has.of.departures_are in omega arith);
         }
 
     -- every end among the marks
     pub ends_marked : (place : ℕ) (found : MachineState × List (ℕ × ℕ)) (t : State) (time : ℕ) (cause : Cause) → slice_get marks place ≡ Some found → Stands setting found.0 t →
-        end_in t ≡ Some (record { time = time; cause = cause }) → ListsEnd ends time cause (values_line t.values) (length found.1)
+        end_in t ≡ Some (record { time = time; cause = cause }) → ListsEnd ends time cause (values_line t.values) t.printed (length found.1)
     ends_marked place found t time cause at st told =
-        row_listed found place t time cause (values_line t.values) (length found.1) st told refl (le_refl (length found.1)) (of_marks.whole place found (place_within marks place found at) at)
+        row_listed found place t time cause (values_line t.values) t.printed (length found.1) st told refl refl (le_refl (length found.1)) (of_marks.whole place found (place_within marks place found at) at)
 
     pub ends_all : (depart : ℕ) → IsCovered (machine_rules setting) depart (IsListedMark (machine_rules setting) marks) → ListsEveryEnd setting depart ends
-    ends_all depart covered = λ log steps time cause line short after.
+    ends_all depart covered = λ log steps time cause line printed short after.
         let s = stands (machine_rules setting) log steps in
         let t = state_after setting log steps in
         let mark : (machine_rules setting).mark s ≡ true = mark_alike s t (all log steps) ∙ (lawful setting).end_is_mark t after.ends.end in
         let l = covered log steps short (here log steps after.ends.run) mark in
         let st : Stands setting l.found.0 t = alike s l.found.0 t (all log steps) l.same in
         let none : length (choices t) ≡ 0 = sym (width_is setting t) ∙ after.ends.end in
-        row_listed l.found l.place t time cause line (length log) st (told_where_ended t none ∙ ap Some after.end_is) after.line_is l.departures
+        row_listed l.found l.place t time cause line printed (length log) st (told_where_ended t none ∙ ap Some after.end_is) after.line_is after.printed_is l.departures
         (of_marks.whole l.place l.found (place_within marks l.place l.found l.at) l.at)

@@ -9,14 +9,14 @@ use Rattle.vmodel.specs.Run.{Setting, rules_of, history_after}
 use Rattle.vcd_text.specs.DumpText.{vcd}
 use Rattle.vcd_text.specs.ByteSinks.{IsByteSink, Stopped}
 use Rattle.vcd_text.specs.ByteSinkLaws.{stopped_before, stopped_after}
-use Rattle.report_text.specs.Report.{Column, End, Race}
-use Rattle.report_text.specs.ReportText.{end_text, ends_text, race_text, races_text}
+use Rattle.report_text.specs.Report.{End}
+use Rattle.report_text.specs.ReportText.{end_text, ends_text, races_text}
 use Rattle.report_text.specs.WellFormed.{Each}
 use Rattle.vreport.specs.Dumps.{IsRunDump, StopsDump, TakesDump}
 use Rattle.vreport.specs.Ends.{HasBytes}
 use Rattle.vreport.specs.RunLaws.{same_end}
 use Rattle.report_text.specs.Report.{Report}
-use Rattle.report_text.specs.ReportText.{head_text, number_line}
+use Rattle.report_text.specs.ReportText.{head_text, line_races_part, number_line}
 use Rattle.vreport.specs.Written.{AreDumps, IsDumpOf, StopsEnd, StopsEnds, StopsReport, TakesEnd, TakesEnds, TakesReport}
 use Rattle.vreport.proofs.LeadLemmas.{Leads, leads_first, leads_on, leads_stop, leads_end}
 
@@ -116,38 +116,37 @@ module _ {O F : Type 0} (takes : O → List ℕ → O → Type 0) (fails : O →
         leads_end takes fails laws old now (ends_text ends dumps)
         (subst (λ (es : List End). Leads takes fails laws old (ends_text ends dumps) now (ends_text es (drop i dumps))) none (lead dumps are))
 
-  -- ---- races
+  -- ---- a list of things, each told by a text
 
-  module _ (columns : List Column) where
-    abbrev pub RacesLead : List Race → ℕ → O → O → Type 0
-    RacesLead races i old now = Leads takes fails laws old (races_text columns races) now (races_text columns (drop i races))
+  module _ {A : Type 0} (one : A → List ℕ) (all : List A → List ℕ) (first : (x : A) (xs : List A) → all (x ∷ xs) ≡ one x ++ all xs) where
+    abbrev pub ItemsLead : List A → ℕ → O → O → Type 0
+    ItemsLead items i old now = Leads takes fails laws old (all items) now (all (drop i items))
 
-    race_here : (races : List Race) (i : ℕ) (race : Race) → race ≡ get_or races i race → i < length races → races_text columns (drop i races) ≡ race_text columns race ++ races_text columns (drop (i + 1) races)
-    race_here races i race is lt = sym (ap (races_text columns) (left_from races i race is lt))
+    item_here : (items : List A) (i : ℕ) (item : A) → item ≡ get_or items i item → i < length items → all (drop i items) ≡ one item ++ all (drop (i + 1) items)
+    item_here items i item is lt = sym (ap all (left_from items i item is lt)) ∙ first item (drop (i + 1) items)
 
-    pub races_on : (races : List Race) (i : ℕ) (race : Race) (lines : List ℕ) (old now next : O) → race ≡ get_or races i race → i < length races → lines ≡ race_text columns race →
-        RacesLead races i old now → takes now lines next → RacesLead races (i + 1) old next
-    races_on races i race lines old now next is lt lines_are lead taken =
-        let here = subst (λ (rest : List ℕ). Leads takes fails laws old (races_text columns races) now rest) (race_here races i race is lt) lead in
-        leads_on takes fails laws old now next (races_text columns races) (race_text columns race) (races_text columns (drop (i + 1) races)) here
-        (subst (λ (text : List ℕ). takes now text next) lines_are taken)
+    pub items_on : (items : List A) (i : ℕ) (item : A) (lines : List ℕ) (old now next : O) → item ≡ get_or items i item → i < length items → lines ≡ one item →
+        ItemsLead items i old now → takes now lines next → ItemsLead items (i + 1) old next
+    items_on items i item lines old now next is lt lines_are lead taken =
+        let here = subst (λ (rest : List ℕ). Leads takes fails laws old (all items) now rest) (item_here items i item is lt) lead in
+        leads_on takes fails laws old now next (all items) (one item) (all (drop (i + 1) items)) here (subst (λ (text : List ℕ). takes now text next) lines_are taken)
 
-    pub races_stop : (races : List Race) (i : ℕ) (race : Race) (lines : List ℕ) (old now new : O) (fault : OrMemory F) → race ≡ get_or races i race → i < length races → lines ≡ race_text columns race →
-        RacesLead races i old now → Stopped takes fails now lines fault new → Stopped takes fails old (races_text columns races) fault new
-    races_stop races i race lines old now new fault is lt lines_are lead stopped =
-        let here = subst (λ (rest : List ℕ). Leads takes fails laws old (races_text columns races) now rest) (race_here races i race is lt) lead in
-        leads_stop takes fails laws old now new (races_text columns races) (race_text columns race) (races_text columns (drop (i + 1) races)) fault here
+    pub items_stop : (items : List A) (i : ℕ) (item : A) (lines : List ℕ) (old now new : O) (fault : OrMemory F) → item ≡ get_or items i item → i < length items → lines ≡ one item →
+        ItemsLead items i old now → Stopped takes fails now lines fault new → Stopped takes fails old (all items) fault new
+    items_stop items i item lines old now new fault is lt lines_are lead stopped =
+        let here = subst (λ (rest : List ℕ). Leads takes fails laws old (all items) now rest) (item_here items i item is lt) lead in
+        leads_stop takes fails laws old now new (all items) (one item) (all (drop (i + 1) items)) fault here
         (subst (λ (text : List ℕ). Stopped takes fails now text fault new) lines_are stopped)
 
-    pub races_first : (races : List Race) (old : O) → RacesLead races 0 old old
-    races_first races old = leads_first takes fails laws old (races_text columns races)
+    pub items_first : (items : List A) (old : O) → ItemsLead items 0 old old
+    items_first items old = leads_first takes fails laws old (all items)
 
-    pub races_over : (races : List Race) (i : ℕ) (old now : O) → drop i races ≡ [] → RacesLead races i old now → takes old (races_text columns races) now
-    races_over races i old now none lead =
-        leads_end takes fails laws old now (races_text columns races)
-        (subst (λ (rs : List Race). Leads takes fails laws old (races_text columns races) now (races_text columns rs)) none lead)
+    pub items_over : all [] ≡ [] → (items : List A) (i : ℕ) (old now : O) → drop i items ≡ [] → ItemsLead items i old now → takes old (all items) now
+    items_over empty items i old now none lead =
+        leads_end takes fails laws old now (all items)
+        (subst (λ (rest : List ℕ). Leads takes fails laws old (all items) now rest) (ap all none ∙ empty) lead)
 
-  -- ---- four texts, one behind another
+  -- ---- four texts, one after another
 
   module _ (one two three four : List ℕ) where
     pub taken_all : (a b c d e : O) → takes a one b → takes b two c → takes c three d → takes d four e → takes a (one ++ two ++ three ++ four) e
@@ -189,26 +188,42 @@ module _ {O F : Type 0} (takes : O → List ℕ → O → Type 0) (fails : O →
     abbrev pub last : List ℕ
     last = races_text r.variables r.races
 
-    pub report_taken : (a b c d e : O) → takes a top b → TakesEnds takes setting r.steps r.ends b c → takes c turn d → takes d last e → TakesReport takes setting r a e
-    report_taken a b c d e p q s t = record {
+    abbrev pub part : List ℕ
+    part = line_races_part r.looked r.line_races
+
+    -- all but the part of the lines
+    abbrev before_part : List ℕ
+    before_part = top ++ ends_text r.ends its_dumps ++ turn ++ last
+
+    taken_before : (a b c d e : O) → takes a top b → TakesEnds takes setting r.steps r.ends b c → takes c turn d → takes d last e → takes a before_part e
+    taken_before a b c d e p q s t = taken_all top (ends_text r.ends its_dumps) turn last a b c d e p (q its_dumps are_its) s t
+
+    stopped_early : (a e : O) (fault : OrMemory F) → Stopped takes fails a before_part fault e → StopsReport takes fails setting r a fault e
+    stopped_early a e fault p = record { dumps = its_dumps; are_dumps = are_its; stopped = stopped_before takes fails laws a e before_part part fault p }
+
+    pub report_taken : (a b c d e f : O) → takes a top b → TakesEnds takes setting r.steps r.ends b c → takes c turn d → takes d last e → takes e part f → TakesReport takes setting r a f
+    report_taken a b c d e f p q s t u = record {
       dumps = its_dumps;
       are_dumps = are_its;
-      taken = taken_all top (ends_text r.ends its_dumps) turn last a b c d e p (q its_dumps are_its) s t;
+      taken = laws.joins a e f before_part part (taken_before a b c d e p q s t) u;
     }
 
     pub report_stops_first : (a b : O) (fault : OrMemory F) → Stopped takes fails a top fault b → StopsReport takes fails setting r a fault b
-    report_stops_first a b fault p = record { dumps = its_dumps; are_dumps = are_its; stopped = stopped_first top (ends_text r.ends its_dumps) turn last a b fault p }
+    report_stops_first a b fault p = stopped_early a b fault (stopped_first top (ends_text r.ends its_dumps) turn last a b fault p)
 
     pub report_stops_second : (a b c : O) (fault : OrMemory F) → takes a top b → StopsEnds takes fails setting r.steps r.ends b fault c → StopsReport takes fails setting r a fault c
-    report_stops_second a b c fault p q =
-        record { dumps = its_dumps; are_dumps = are_its; stopped = stopped_second top (ends_text r.ends its_dumps) turn last a b c fault p (q its_dumps are_its) }
+    report_stops_second a b c fault p q = stopped_early a c fault (stopped_second top (ends_text r.ends its_dumps) turn last a b c fault p (q its_dumps are_its))
 
     pub report_stops_third : (a b c d : O) (fault : OrMemory F) → takes a top b → TakesEnds takes setting r.steps r.ends b c → Stopped takes fails c turn fault d →
         StopsReport takes fails setting r a fault d
-    report_stops_third a b c d fault p q s =
-        record { dumps = its_dumps; are_dumps = are_its; stopped = stopped_third top (ends_text r.ends its_dumps) turn last a b c d fault p (q its_dumps are_its) s }
+    report_stops_third a b c d fault p q s = stopped_early a d fault (stopped_third top (ends_text r.ends its_dumps) turn last a b c d fault p (q its_dumps are_its) s)
 
-    pub report_stops_last : (a b c d e : O) (fault : OrMemory F) → takes a top b → TakesEnds takes setting r.steps r.ends b c → takes c turn d → Stopped takes fails d last fault e →
+    pub report_stops_fourth : (a b c d e : O) (fault : OrMemory F) → takes a top b → TakesEnds takes setting r.steps r.ends b c → takes c turn d → Stopped takes fails d last fault e →
         StopsReport takes fails setting r a fault e
-    report_stops_last a b c d e fault p q s t =
-        record { dumps = its_dumps; are_dumps = are_its; stopped = stopped_last top (ends_text r.ends its_dumps) turn last a b c d e fault p (q its_dumps are_its) s t }
+    report_stops_fourth a b c d e fault p q s t =
+        stopped_early a e fault (stopped_last top (ends_text r.ends its_dumps) turn last a b c d e fault p (q its_dumps are_its) s t)
+
+    pub report_stops_last : (a b c d e f : O) (fault : OrMemory F) → takes a top b → TakesEnds takes setting r.steps r.ends b c → takes c turn d → takes d last e →
+        Stopped takes fails e part fault f → StopsReport takes fails setting r a fault f
+    report_stops_last a b c d e f fault p q s t u =
+        record { dumps = its_dumps; are_dumps = are_its; stopped = stopped_after takes fails laws a e f before_part part fault (taken_before a b c d e p q s t) u }

@@ -1,21 +1,22 @@
 -- *product rule*: When two reports tell the same ends and the same races; the logs and the bytes of the dumps beside them aren't
 -- compared.
-use Rattle.std.specs.Prelude.{◌≡◌, ℕ, List, slice_get, Some}
+use Rattle.std.specs.Prelude.{◌≡◌, ℕ, List, slice_get, Option, Some}
 use Rattle.statebook.specs.declared.limits.Limits.{Limits}
 use Rattle.sched_core.specs.declared.end.Cause.{Cause}
 use Rattle.vmodel.specs.Run.{Setting}
 use Rattle.report_text.specs.declared.report.Outcome.TheVariants.{Exhausted}
-use Rattle.report_text.specs.Report.{End, Race, Report}
+use Rattle.report_text.specs.Report.{End, LineRace, Race, Report}
 use Rattle.vreport.specs.Reports.{IsExploration}
 
--- an end of this time, for this cause, with these values is listed
-pub record HasEnd (report : Report) (time : ℕ) (cause : Cause) (line : List ℕ) : Type 0 where
+-- an end of this time, for this cause, with these values and these printed lines is listed
+pub record HasEnd (report : Report) (time : ℕ) (cause : Cause) (line : List ℕ) (printed : Option (List (List ℕ))) : Type 0 where
   pub place : ℕ
   pub end : End
   pub at : slice_get report.ends place ≡ Some end
   pub time_is : end.time ≡ time
   pub cause_is : end.cause ≡ cause
   pub line_is : end.line ≡ line
+  pub printed_is : end.printed ≡ printed
 
 -- a race at this time, of this variable, is listed, and among its values this one, by its digits
 pub record HasRaced (report : Report) (time variable : ℕ) (digits : List ℕ) : Type 0 where
@@ -29,10 +30,23 @@ pub record HasRaced (report : Report) (time variable : ℕ) (digits : List ℕ) 
   pub value_at : slice_get race.values value_place ≡ Some seen
   pub digits_are : seen.0 ≡ digits
 
--- each end and each raced value of the one is listed in the other
+-- a race of lines at this time is listed, and among its sides these lines
+pub record HasPrinted (report : Report) (time : ℕ) (lines : List (List ℕ)) : Type 0 where
+  pub place : ℕ
+  pub race : LineRace
+  pub at : slice_get report.line_races place ≡ Some race
+  pub time_is : race.time ≡ time
+  pub side_place : ℕ
+  pub side : List (List ℕ) × List (ℕ × ℕ)
+  pub side_at : slice_get race.sides side_place ≡ Some side
+  pub lines_are : side.0 ≡ lines
+
+-- each end, each raced value and each side of a race of lines of the one is listed in the other
 pub record IsPartOf (one other : Report) : Type 0 where
-  pub ends : (time : ℕ) (cause : Cause) (line : List ℕ) → HasEnd one time cause line → HasEnd other time cause line
+  pub ends : (time : ℕ) (cause : Cause) (line : List ℕ) (printed : Option (List (List ℕ))) →
+      HasEnd one time cause line printed → HasEnd other time cause line printed
   pub races : (time variable : ℕ) (digits : List ℕ) → HasRaced one time variable digits → HasRaced other time variable digits
+  pub lines : (time : ℕ) (lines : List (List ℕ)) → HasPrinted one time lines → HasPrinted other time lines
 
 -- they tell the same
 abbrev pub Agree : Report → Report → Type 0

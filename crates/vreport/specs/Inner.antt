@@ -1,10 +1,13 @@
 -- *internal*: Words for the contracts of calls within: the marks at which runs end, as rows.
 use Rattle.std.specs.Prelude.{◌≡◌, ℕ, zero, suc, ◌+◌, ◌^◌, ◌<◌, ◌≤◌, ◌⊎◌, List, length, slice_get, Option, Some, None}
 use Rattle.std.specs.List.{Contains}
+use Rattle.std.specs.Option.{option_cmp}
 use Rattle.std.specs.Ordering.{nat_cmp, ordering_then}
 use Rattle.std.specs.declared.cmp.Ordering.{Ordering}
 use Rattle.std.specs.Cmp.Lexicographic.{slice_cmp}
 use Rattle.std.specs.declared.cmp.Ordering.TheVariants.{Less, Equal}
+use Rattle.sched_core.specs.Bags.{bag_cmp, HasLines}
+use Rattle.sched_core.specs.declared.setting.Looked.{Looked}
 use Rattle.sched_core.specs.Logs.{IsLog}
 use Rattle.sched_core.specs.declared.end.Cause.{Cause}
 use Rattle.sched_core.specs.declared.end.Cause.TheVariants.{Finish, Stop, Quiet, Limit}
@@ -16,7 +19,7 @@ use Rattle.vmachine.specs.Machines.{Stands}
 use Rattle.vmachine.specs.Reads.{end_in}
 use Rattle.vreport.specs.declared.row.Row.{Row}
 use Rattle.statebook.specs.declared.limits.Limits.{Limits}
-use Rattle.report_text.specs.Report.{Column, End as ReportEnd, Race}
+use Rattle.report_text.specs.Report.{Column, End as ReportEnd, LineRace, Race}
 use Rattle.report_text.specs.WellFormed.{Each, EachTwo, IsEndBefore}
 use Rattle.vreport.specs.Dumps.{IsRunDump}
 use Rattle.vreport.specs.Ends.{HasBytes}
@@ -35,11 +38,12 @@ cause_of (suc zero) = Limit
 cause_of (suc (suc zero)) = Quiet
 cause_of (suc (suc (suc n))) = Stop
 
--- the row is of this end and of these values
+-- the row is of this end, of these values and of these lines
 pub record IsRowAt (row : Row) (end : End) (t : State) : Type 0 where
   pub time_is : row.time ≡ end.time
   pub cause_is : row.cause ≡ order_of end.cause
   pub line_is : row.line.items ≡ values_line t.values
+  pub printed_is : row.printed ≡ t.printed
 
 -- the row is of this mark, at which a run ends
 pub record IsRow (setting : Setting) (found : MachineState × List (ℕ × ℕ)) (place : ℕ) (row : Row) : Type 0 where
@@ -76,9 +80,11 @@ AreRows setting marks rows = AreRowsBelow setting marks (length marks) rows
 
 -- ---- the order of rows
 
--- by time, then by the order of causes, then by the line of values
+-- by time, then by the order of causes, then by the line of values, then by the printed lines
 abbrev pub key_cmp : Row → Row → Ordering
-key_cmp r s = ordering_then (nat_cmp r.time s.time) (ordering_then (nat_cmp r.cause s.cause) (slice_cmp nat_cmp r.line.items s.line.items))
+key_cmp r s =
+    ordering_then (nat_cmp r.time s.time) (ordering_then (nat_cmp r.cause s.cause)
+    (ordering_then (slice_cmp nat_cmp r.line.items s.line.items) (option_cmp bag_cmp r.printed s.printed)))
 
 -- the end of one row stands before that of the other, or is the same under no more departures
 abbrev pub IsNotAfter : Row → Row → Type 0
@@ -103,9 +109,11 @@ pub record Repeats (rows : List Row) (place : ℕ) : Type 0 where
 abbrev pub HasWidth : Column → Type 0
 HasWidth column = (1 ≤ column.width) × (column.width ≤ 64)
 
--- the end's time has 64 bits, and its log is one
-abbrev pub HasTimeAndLog : ReportEnd → Type 0
-HasTimeAndLog end = (end.time < 2 ^ 64) × IsLog end.log
+-- the end's time has 64 bits, its log is one, and it has lines where they are looked at
+pub record IsWritable (looked : Looked) (end : ReportEnd) : Type 0 where
+  pub time : end.time < 2 ^ 64
+  pub log : IsLog end.log
+  pub lines : HasLines looked end.printed
 
 -- the log of the value is one
 abbrev pub HasLog : List ℕ × List (ℕ × ℕ) → Type 0
@@ -114,6 +122,14 @@ HasLog seen = IsLog seen.1
 -- so are those of the race's values, and its time has 64 bits
 abbrev pub HasTimeAndLogs : Race → Type 0
 HasTimeAndLogs race = (race.time < 2 ^ 64) × Each HasLog race.values
+
+-- the log of the side is one
+abbrev pub HasSideLog : List (List ℕ) × List (ℕ × ℕ) → Type 0
+HasSideLog side = IsLog side.1
+
+-- so are those of the sides, and the time has 64 bits
+abbrev pub HasTimeAndSideLogs : LineRace → Type 0
+HasTimeAndSideLogs race = (race.time < 2 ^ 64) × Each HasSideLog race.sides
 
 -- ---- ends of rows
 
@@ -133,8 +149,9 @@ pub record IsEndOfRow (setting : Setting) (limits : Limits) (marks : List (Machi
   pub time_is : end.time ≡ row.time
   pub cause_is : row.cause ≡ order_of end.cause
   pub line_is : end.line ≡ row.line.items
+  pub printed_is : end.printed ≡ row.printed
   pub log_is : end.log ≡ found.1
-  pub kept : HasTimeAndLog end
+  pub kept : IsWritable setting.looked end
   pub bytes : HasBytes setting limits.steps end
 
 -- the row's end is listed, under no more departures
@@ -145,6 +162,7 @@ pub record HasEnd (ends : List ReportEnd) (row : Row) : Type 0 where
   pub time_is : end.time ≡ row.time
   pub cause_is : row.cause ≡ order_of end.cause
   pub line_is : end.line ≡ row.line.items
+  pub printed_is : end.printed ≡ row.printed
   pub fewest : length end.log ≤ row.departures
 
 -- the end is that of one of the first rows

@@ -10,11 +10,17 @@ use Rattle.vdesign.specs.Named.{AreNamed}
 use Rattle.vbits.specs.Vectors.{Vector}
 use Rattle.vmodel.specs.Run.{Setting, rules_of}
 use Rattle.vmachine.specs.declared.machine_state.MachineState.{MachineState}
+use Rattle.racebook.specs.LineRaces as lines
 use Rattle.racebook.specs.Races as found
 use Rattle.report_text.specs.declared.report.Outcome.{Outcome}
 use Rattle.report_text.specs.declared.report.Outcome.TheVariants as outcome
-use Rattle.report_text.specs.declared.report.Version.TheVariants.{Two}
-use Rattle.report_text.specs.Report.{Race, Report}
+use Rattle.report_text.specs.declared.report.Version.{Version}
+use Rattle.report_text.specs.declared.report.Version.TheVariants.{Two, Three}
+use Rattle.sched_core.specs.declared.setting.Departures.{Departures}
+use Rattle.sched_core.specs.declared.setting.Departures.TheVariants.{Taking, Holding}
+use Rattle.sched_core.specs.declared.setting.Looked.{Looked}
+use Rattle.sched_core.specs.declared.setting.Looked.TheVariants.{Values, Lines}
+use Rattle.report_text.specs.Report.{LineRace, Race, Report}
 use Rattle.statebook.specs.Ways.{SomeRunExceeds}
 use Rattle.explore.specs.Found.{HasEntries}
 use Rattle.report_text.specs.WellFormed.{Each, EachTwo, IsEndBefore}
@@ -35,9 +41,15 @@ outcome_of (Cut Steps) = outcome.CutSteps
 abbrev pub HasOutcome : Status → Report → Type 0
 HasOutcome status report = report.outcome ≡ outcome_of status
 
+-- the version of a report: the third where departures hold back or lines are looked at
+abbrev pub version_for : Departures → Looked → Version
+version_for Taking Values = Two
+version_for Taking Lines = Three
+version_for Holding looked = Three
+
 -- the head is that of the setting and of the limits
 pub record IsHeadOf (setting : Setting) (limits : Limits) (report : Report) : Type 0 where
-  pub version_is : report.version ≡ Two
+  pub version_is : report.version ≡ version_for setting.departures setting.looked
   pub setting_is : IsTrueHead setting report
   pub depart_is : report.depart ≡ limits.depart
   pub steps_is : report.steps ≡ limits.steps
@@ -64,6 +76,21 @@ pub record ShowsRaces (setting : Setting) (limits : Limits) (findings : Findings
   pub marked : found.ListsEveryMark setting findings races
   pub shortest : found.ListsShortest setting findings races
 
+-- a race of lines, told as it was found
+abbrev pub report_line_race : lines.LineRace → LineRace
+report_line_race race = record { time = race.time; sides = race.sides }
+
+-- the same of races of lines
+pub record ShowsLineRaces (setting : Setting) (limits : Limits) (findings : Findings MachineState) (told : List LineRace) : Type 0 where
+  pub races : List lines.LineRace
+  pub told_are : told ≡ map report_line_race races
+  pub each : lines.EachLineRace (lines.IsLineRace setting limits) races
+  pub order : lines.AreLineRacesInOrder races
+  pub every : found.IsWhole setting limits findings → lines.ListsAllLines setting limits.depart races
+  pub fewest : found.IsWhole setting limits findings → lines.EachLineRace (lines.HasFewestOfLines setting) races
+  pub marked : lines.ListsEveryMarkOfLines setting findings races
+  pub shortest : lines.ListsShortestOfLines setting findings races
+
 -- ---- what an exploration reports
 
 -- The races told are races, in order, with their values in the order of their digits. Where nothing was missed, no race and
@@ -77,6 +104,16 @@ pub record AreRaces (setting : Setting) (limits : Limits) (report : Report) : Ty
   pub every : report.outcome ≡ outcome.Exhausted → found.ListsEveryValue setting limits.depart races
   pub fewest : report.outcome ≡ outcome.Exhausted → found.EachRace (found.HasFewest setting) races
 
+-- The races of lines that are told are such races, in order. Where nothing was missed none is missing and no side of one, and each log
+-- has the fewest departures.
+pub record AreLineRaces (setting : Setting) (limits : Limits) (report : Report) : Type 0 where
+  pub races : List lines.LineRace
+  pub told_are : report.line_races ≡ map report_line_race races
+  pub each : lines.EachLineRace (lines.IsLineRace setting limits) races
+  pub order : lines.AreLineRacesInOrder races
+  pub every : report.outcome ≡ outcome.Exhausted → lines.ListsAllLines setting limits.depart races
+  pub fewest : report.outcome ≡ outcome.Exhausted → lines.EachLineRace (lines.HasFewestOfLines setting) races
+
 -- The report is of this setting, explored under these limits. Each end is that of a run within the limits, each race is
 -- one. Where it says exhausted, every run of at most so many departures that ends does so in a listed end, with no fewer
 -- departures than its log. Where it says that it was cut for steps, such a run takes more steps than the limit.
@@ -86,6 +123,7 @@ pub record IsExploration (setting : Setting) (limits : Limits) (report : Report)
   pub ends_order : EachTwo IsEndBefore report.ends
   pub every_end : report.outcome ≡ outcome.Exhausted → ListsEveryEnd setting limits.depart report.ends
   pub races : AreRaces setting limits report
+  pub line_races : AreLineRaces setting limits report
   pub cut_for_steps : report.outcome ≡ outcome.CutSteps → SomeRunExceeds (rules_of setting) limits
 
 -- ---- of a report and the status of its exploration

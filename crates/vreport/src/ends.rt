@@ -9,10 +9,10 @@ ghost use Rattle.vmachine.specs.Machines.{machine_rules};
 ghost use Rattle.vreport.specs.Dumps.{HasDump, IsDumpFront};
 ghost use Rattle.vreport.specs.Ends.{GivesEveryEnd, HasBytes, HasLongDump, HasSomeLongDump, IsTrueEnd, ListsEveryMarkedEnd};
 ghost use Rattle.vreport.specs.Written.{AreHeld, IsHeld};
-ghost use Rattle.vreport.specs.Inner.{AreEnds, AreRows, AreSortedRows, CountsDump, HasTimeAndLog, IsCounted, IsEndOfRow, IsRowOfSome, Repeats, key_cmp};
+ghost use Rattle.vreport.specs.Inner.{AreEnds, AreRows, AreSortedRows, CountsDump, IsCounted, IsWritable, IsEndOfRow, IsRowOfSome, Repeats, key_cmp};
 
 use crate::dump::{DumpFront, HeldDump, hold_dump, write_dump, write_from};
-use crate::row::{Row, cause_of, rows_in_order};
+use crate::row::{Row, cause_of, copy_printed, rows_in_order};
 use basis::OrMemory;
 use explore::Findings;
 use report_text::End;
@@ -21,6 +21,7 @@ use statebook::Limits;
 use std::alloc::Global;
 use vcd_text::{Counter, HELD_BYTES, HeldText, TooMany};
 use vmachine::{Machine, MachineState, machine_law};
+use vmodel::run_law;
 
 // How many bytes the dump of the run has.
 fn dump_len(
@@ -107,7 +108,10 @@ fn is_same_end(first: &Row, second: &Row) -> bool
     if first.cause != second.cause {
         return false;
     }
-    first.line == second.line
+    if first.line != second.line {
+        return false;
+    }
+    first.printed == second.printed
 }
 
 // Whether the row at the place is of the same end as the one before it.
@@ -153,6 +157,7 @@ fn end_of(
     ensures long { IfFault result (λ _. HasSomeLongDump machine.now limits.now) }
 {
     machine_law();
+    run_law();
     let Some((_, log)) = findings.marks.get_index(row.place) else {
         unreachable!()
     };
@@ -167,6 +172,7 @@ fn end_of(
             log: log.copy()?,
             bytes: dump.bytes,
             line: Vec::from_slice(alloc, &row.line)?,
+            printed: copy_printed(alloc, row.printed.as_ref())?,
         },
         held: dump.held,
     })
@@ -243,7 +249,7 @@ pub fn ends_of(
         GivesEveryEnd machine.now limits.now findings.now found.ends.items) }
     ensures marked { IfOk result (λ found.
         ListsEveryMarkedEnd machine.now findings.now found.ends.items) }
-    ensures kept { IfOk result (λ found. Each HasTimeAndLog found.ends.items) }
+    ensures kept { IfOk result (λ found. Each (IsWritable machine.now.looked) found.ends.items) }
     ensures order { IfOk result (λ found. EachTwo IsEndBefore found.ends.items) }
     ensures held { IfOk result (λ found.
         AreHeld machine.now limits.now.steps found.ends.items found.held.items) }

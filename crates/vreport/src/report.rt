@@ -8,8 +8,8 @@ ghost use Rattle.vdesign.specs.Named.{AreNamed};
 ghost use Rattle.vmachine.specs.Machines.{machine_rules};
 ghost use Rattle.vreport.specs.Ends.{GivesEveryEnd, HasBytes, HasSomeLongDump, IsTrueEnd, ListsEveryMarkedEnd};
 ghost use Rattle.vreport.specs.Formed.{IsFormed};
-ghost use Rattle.vreport.specs.Inner.{HasLog, HasTimeAndLogs, HasWidth};
-ghost use Rattle.vreport.specs.Reports.{HasOutcome, IsHeadOf, ShowsRaces, outcome_of as outcome_by_status, report_race, report_value};
+ghost use Rattle.vreport.specs.Inner.{HasLog, HasSideLog, HasTimeAndLogs, HasTimeAndSideLogs, HasWidth};
+ghost use Rattle.vreport.specs.Reports.{HasOutcome, IsHeadOf, ShowsLineRaces, ShowsRaces, outcome_of as outcome_by_status, version_for as version_by, report_line_race, report_race, report_value};
 ghost use Rattle.vreport.specs.Truth.{column_of};
 ghost use Rattle.vreport.specs.Written.{AreHeld};
 
@@ -17,8 +17,9 @@ use crate::ends::{HeldEnds, ends_of};
 use crate::values::text_of_value;
 use basis::{NoMemory, OrMemory};
 use explore::{Findings, Reason, Status};
-use racebook::{Witness, races};
-use report_text::{Column, Outcome, Race, RaceValue, Report, Version};
+use racebook::{Side, Witness, line_races, races};
+use report_text::{Column, LineRace, Outcome, PrintedLines, Race, RaceValue, Report, Version};
+use sched_core::setting::{Departures, Looked};
 use statebook::Limits;
 use std::alloc::Global;
 use vcd_text::{HeldText, TooMany};
@@ -80,6 +81,55 @@ fn report_races(alloc: Global, races: &[racebook::Race]) -> Result<Vec<Race>, No
     Ok(listed)
 }
 
+// The version of a report: the third where departures hold back or lines are looked at.
+fn version_for(departures: Departures, looked: Looked) -> Version
+    ensures { result ≡ version_by departures looked }
+{
+    match (departures, looked) {
+        (Departures::Taking, Looked::Values) => Version::Two,
+        (Departures::Taking, Looked::Lines) => Version::Three,
+        (Departures::Holding, _) => Version::Three,
+    }
+}
+
+// The sides of a race of lines.
+fn sides_of(alloc: Global, sides: &[Side]) -> Result<Vec<PrintedLines>, NoMemory>
+    ensures same { IfOk result (λ told. told.items ≡ sides.now) }
+    ensures logs { IfOk result (λ told. Each HasSideLog told.items) }
+{
+    let mut told = Vec::with_capacity(alloc, sides.len())?;
+    for side in sides {
+        told.push(PrintedLines {
+            lines: side.lines.copy(alloc)?,
+            log: side.log.copy()?,
+        })?;
+    }
+    Ok(told)
+}
+
+// The time of a race of lines, a number of 64 bits.
+fn time_of_lines(race: &racebook::LineRace) -> u64
+    ensures same { result ≡ race.now.time }
+    ensures bits { result < 2 ^ 64 }
+{
+    race.time
+}
+
+// The races of lines, as a report tells them.
+fn report_line_races(alloc: Global, races: &[racebook::LineRace]) -> Result<Vec<LineRace>, NoMemory>
+    ensures told { IfOk result (λ listed. listed.items ≡ map report_line_race races.now) }
+    ensures kept { IfOk result (λ listed. Each HasTimeAndSideLogs listed.items) }
+{
+    let mut listed = Vec::with_capacity(alloc, races.len())?;
+    for race in races {
+        listed.push(LineRace {
+            time: time_of_lines(race),
+            sides: sides_of(alloc, &race.sides)?,
+        })?;
+    }
+    Ok(listed)
+}
+
 // How the exploration went.
 fn outcome_of(status: Status) -> Outcome
     ensures { result ≡ outcome_by_status status }
@@ -120,6 +170,8 @@ pub fn hold_report(
     ensures ends_order { IfOk result (λ with_dumps. EachTwo IsEndBefore with_dumps.report.ends) }
     ensures races { IfOk result (λ with_dumps.
         ShowsRaces machine.now limits.now findings.now with_dumps.report.races) }
+    ensures line_races { IfOk result (λ with_dumps.
+        ShowsLineRaces machine.now limits.now findings.now with_dumps.report.line_races) }
     ensures formed { AreNamed machine.now.design → machine.now.until ≤ 4611686018427387903 →
         IfOk result (λ with_dumps. IsFormed machine.now with_dumps.report) }
     ensures held { IfOk result (λ with_dumps.
@@ -132,18 +184,22 @@ pub fn hold_report(
         Err(fault) => return Err(fault),
     };
     let found = races(alloc, machine, findings)?;
+    let printed = line_races(alloc, machine, findings)?;
     let design = machine.design();
     let report = Report {
-        version: Version::Two,
+        version: version_for(machine.departures(), machine.looked()),
         top: Vec::from_slice(alloc, &design.top)?,
         until: machine.until(),
         depart: limits.depart,
         steps: limits.steps,
         grain: machine.grain(),
+        departures: machine.departures(),
+        looked: machine.looked(),
         outcome: outcome_of(findings.status),
         variables: columns_of(alloc, &design.variables)?,
         ends,
         races: report_races(alloc, &found)?,
+        line_races: report_line_races(alloc, &printed)?,
     };
     Ok(HeldReport { report, held })
 }
@@ -174,6 +230,8 @@ pub fn report_of(
     ensures ends_order { IfOk result (λ report. EachTwo IsEndBefore report.ends) }
     ensures races { IfOk result (λ report.
         ShowsRaces machine.now limits.now findings.now report.races) }
+    ensures line_races { IfOk result (λ report.
+        ShowsLineRaces machine.now limits.now findings.now report.line_races) }
     ensures formed { AreNamed machine.now.design → machine.now.until ≤ 4611686018427387903 →
         IfOk result (IsFormed machine.now) }
     ensures long { IfFault result (λ _. HasSomeLongDump machine.now limits.now) }

@@ -1,23 +1,26 @@
 // The marks at which runs end, in the order in which a report lists ends.
 
-ghost use Rattle.std.specs.Prelude.{◌≡◌, IfOk};
+ghost use Rattle.std.specs.Prelude.{◌≡◌, IfOk, option_map};
 ghost use Rattle.vreport.specs.Inner.{AreRows, AreSortedRows, TellsRow, cause_of as cause_by_order, order_of as cause_order};
 
 use crate::values::line_of_values;
 use basis::NoMemory;
 use explore::Findings;
 use sched_core::Log;
+use sched_core::bag::Bag;
 use sched_core::end::Cause;
 use std::alloc::Global;
 use vmachine::{Machine, MachineState};
 
-/// A mark at which a run ends: its time, the order of its cause, the line of its values, how many departures lead there,
-/// and the place of the mark. Rows are compared in the order of these.
+/// A mark at which a run ends: its time, the order of its cause, the line of its values, the lines that its last slot printed
+/// where these are looked at, how many departures lead there, and the place of the mark. Rows are compared in the order of
+/// these.
 #[derive(PartialEq, Eq, PartialOrd, Ord, Drop)]
 pub struct Row {
     pub time: u64,
     pub cause: u8,
     pub line: Vec<u8>,
+    pub printed: Option<Bag>,
     pub departures: usize,
     pub place: usize,
 }
@@ -46,6 +49,16 @@ pub fn cause_of(order: u8) -> Cause
     }
 }
 
+/// A bag of the same lines, where there is one.
+pub fn copy_printed(alloc: Global, printed: Option<&Bag>) -> Result<Option<Bag>, NoMemory>
+    ensures { IfOk result (λ copied. copied ≡ option_map (λ bag. bag.now) printed.entry) }
+{
+    match printed {
+        None => Ok(None),
+        Some(bag) => Ok(Some(bag.copy(alloc)?)),
+    }
+}
+
 // The row of one mark, if a run ends there.
 fn row_of(
     alloc: Global,
@@ -63,6 +76,7 @@ fn row_of(
         time: end.time,
         cause: order_of(end.cause),
         line: line_of_values(alloc, machine.values(machine_state))?,
+        printed: copy_printed(alloc, machine.printed(machine_state))?,
         departures: log.members().len(),
         place,
     }))

@@ -3,14 +3,18 @@
 ghost use Rattle.std.specs.Prelude.{◌≡◌, ℕ, List, OnOk, IfOk, IfErr};
 ghost use Rattle.vcd_text.specs.ByteSinks.{Stopped};
 ghost use Rattle.report_text.specs.WellFormed.{Each};
-ghost use Rattle.report_text.specs.ReportText.{races_text};
+ghost use Rattle.report_text.specs.ReportText.{line_races_part, line_races_text, races_text};
 ghost use Rattle.vreport.specs.Ends.{HasBytes};
 ghost use Rattle.vreport.specs.Dumps.{StopsDump, TakesDump};
 ghost use Rattle.vreport.specs.Written.{AreHeld, IsHeld, StopsEnd, StopsEnds, StopsReport, TakesEnd, TakesEnds, TakesReport};
 
 use crate::dump::write_dump;
 use basis::{NoMemory, OrMemory};
-use report_text::{Column, End, Race, Report, end_lines, head_lines, race_count_line, race_lines};
+use report_text::{
+    Column, End, LineRace, Race, Report, end_lines, head_lines, line_race_count_line,
+    line_race_lines, race_count_line, race_lines,
+};
+use sched_core::setting::Looked;
 use std::alloc::Global;
 use vcd_text::{ByteSink, HeldText, put};
 use vmachine::Machine;
@@ -118,6 +122,45 @@ fn put_races<O: ByteSink>(
     Ok(())
 }
 
+// The races of lines, one at a time.
+fn put_line_races<O: ByteSink>(
+    alloc: Global,
+    races: &[LineRace],
+    byte_sink: &mut O,
+) -> Result<(), OrMemory<O::Fault>>
+    ensures ok { OnOk result (O.takes byte_sink.old (line_races_text races.now) byte_sink.new) }
+    ensures err { IfErr result (λ fault.
+        Stopped O.takes O.fails byte_sink.old (line_races_text races.now) fault byte_sink.new) }
+{
+    for race in races {
+        match put_made(byte_sink, line_race_lines(alloc, race)) {
+            Ok(()) => {}
+            Err(fault) => return Err(fault),
+        }
+    }
+    Ok(())
+}
+
+// The last part of a report, where lines are looked at: the count of the races of lines, and these.
+fn put_lines_part<O: ByteSink>(
+    alloc: Global,
+    report: &Report,
+    byte_sink: &mut O,
+) -> Result<(), OrMemory<O::Fault>>
+    ensures ok { OnOk result
+        (O.takes byte_sink.old (line_races_part report.now.looked report.now.line_races) byte_sink.new) }
+    ensures err { IfErr result (λ fault.
+        Stopped O.takes O.fails byte_sink.old (line_races_part report.now.looked report.now.line_races) fault byte_sink.new) }
+{
+    if let Looked::Values = report.looked {
+        return Ok(());
+    }
+    match put_made(byte_sink, line_race_count_line(alloc, report)) {
+        Ok(()) => put_line_races(alloc, &report.line_races, byte_sink),
+        Err(fault) => Err(fault),
+    }
+}
+
 /// Writes the text of a report to the byte sink, and after each end its dump: the one that is held, else that of the run under
 /// its log, which is run again and written slot by slot. E901 where memory was refused; else a fault is the byte sink's. Then a
 /// front of the text stands written.
@@ -146,5 +189,8 @@ pub fn write_report<O: ByteSink>(
         Ok(()) => {}
         Err(fault) => return Err(fault),
     }
-    put_races(alloc, &report.variables, &report.races, byte_sink)
+    match put_races(alloc, &report.variables, &report.races, byte_sink) {
+        Ok(()) => put_lines_part(alloc, report, byte_sink),
+        Err(fault) => Err(fault),
+    }
 }

@@ -3,7 +3,7 @@ use Rattle.std.proofs.lemmas.Result.{IfOk-weaker}
 use Rattle.report_text.specs.WellFormed.{Each}
 use Rattle.vreport.specs.declared.row.Row.{Row}
 use Rattle.vreport.specs.Ends.{GivesEveryEnd, HasBytes, IsTrueEnd, ListsEveryMarkedEnd}
-use Rattle.vreport.specs.Inner.{AreEnds, AreRows, HasTimeAndLog}
+use Rattle.vreport.specs.Inner.{AreEnds, AreRows, IsWritable}
 use Rattle.vreport.proofs.WholeLemmas.{ends_all, ends_bytes, ends_kept, ends_marked, ends_true}
 use Rattle.vreport.proofs.ends.ends_of.Goals as goal
 
@@ -59,5 +59,5 @@ returns-clause-kept c =
     let marks = c.args.findings.now.marks.entries in
     let rows = c.deref.result.now in
     let law = c.machine_law.ensures in
-    IfOk-weaker c.ends_of_rows.result (λ found. AreEnds setting limits marks rows found.ends.items) (λ found. Each HasTimeAndLog found.ends.items)
+    IfOk-weaker c.ends_of_rows.result (λ found. AreEnds setting limits marks rows found.ends.items) (λ found. Each (IsWritable setting.looked) found.ends.items)
     (λ found are. ends_kept setting (law.same setting) (law.stands setting) (law.runs setting) limits marks rows found.ends.items are) c.ends_of_rows.ensures.ok

@@ -16,4 +16,4 @@ returns-clause-exploration c =
       only = law.only c.args.machine.now;
     } in
     exploration c.args.machine.now known c.args.limits.now c.args.findings.now c.in-Ok.told.report c.requires.exhausted c.requires.steps c.in-Ok.ensures.head c.in-Ok.ensures.outcome
-    c.in-Ok.ensures.true_ends c.in-Ok.ensures.ends_order c.in-Ok.ensures.every_end c.in-Ok.ensures.races
+    c.in-Ok.ensures.true_ends c.in-Ok.ensures.ends_order c.in-Ok.ensures.every_end c.in-Ok.ensures.races c.in-Ok.ensures.line_races
