@@ -1,5 +1,5 @@
 -- Printed lines in the order of their bytes, and their texts.
-use Rattle.std.proofs.Common.{◌≡◌, ◌≢◌, ℕ, zero, suc, ◌+◌, ◌<◌, ◌≤◌, ◌^◌, true, List, [], ◌∷◌, ◌++◌, length, slice_get, Option, Some, None, arith, ap, refl, sym, subst, ◌∙◌, append_assoc}
+use Rattle.std.proofs.Common.{◌≡◌, ℕ, suc, ◌<◌, ◌≤◌, ◌^◌, true, List, [], ◌∷◌, ◌++◌, length, slice_get, Option, Some, None, arith, ap, refl, sym, subst, ◌∙◌, append_assoc}
 use Rattle.std.specs.Prelude.{codes}
 use Rattle.std.specs.List.{flat_map}
 use Rattle.std.specs.Fmt.{decimal}
@@ -91,8 +91,7 @@ counted_one text =
 -- what stands in a text that can be counted can be counted
 pub texts_fit : (n : ℕ) (texts : List (List ℕ)) → n < 2 ^ 64 → length (counted_texts texts) ≤ n → HasCountable (Some texts)
 texts_fit n texts small le =
-    let same : length (flat_map counted_text texts) ≡ length (counted_texts texts) = ap length (texts_spelled texts) in
-    (
+    let same : length (flat_map counted_text texts) ≡ length (counted_texts texts) = ap length (texts_spelled texts) in (
       λ i x at.
           let a = item_le counted_text texts i x at in
           let b = right_le (number_line (codes "line") (length x)) x in

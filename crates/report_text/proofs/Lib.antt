@@ -6,6 +6,7 @@ pub mod FollowLemmas
 pub mod FrontLemmas
 pub mod HeadingLemmas
 pub mod LineLemmas
+pub mod LineRaceLemmas
 pub mod ListLemmas
 pub mod LogLemmas
 pub mod NameLemmas

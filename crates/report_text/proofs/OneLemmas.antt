@@ -14,7 +14,6 @@ use Rattle.sched_core.proofs.OneLemmas.{one_named_text}
 use Rattle.sched_core.specs.declared.setting.Grain.{Grain}
 use Rattle.sched_core.specs.declared.setting.Grain.TheVariants.{Process, Statement}
 use Rattle.sched_core.specs.declared.setting.Departures.{Departures}
-use Rattle.sched_core.specs.declared.setting.Departures.TheVariants.{Taking, Holding}
 use Rattle.sched_core.specs.declared.setting.Looked.{Looked}
 use Rattle.sched_core.specs.declared.setting.Looked.TheVariants.{Values, Lines}
 use Rattle.sched_core.specs.declared.end.Cause.{Cause}
@@ -23,14 +22,15 @@ use Rattle.report_text.specs.declared.report.Version.{Version}
 use Rattle.report_text.specs.declared.report.Version.TheVariants.{One, Two, Three}
 use Rattle.report_text.specs.declared.report.Outcome.{Outcome}
 use Rattle.report_text.specs.declared.report.Outcome.TheVariants.{Exhausted, CutMemory, CutEntries, CutSteps}
-use Rattle.report_text.specs.Report.{Column, Race, Report}
-use Rattle.report_text.specs.ReportText.{version_number, grain_word, departures_word, looked_word, cause_word, outcome_words, column_line, counted_text, counted_texts, printed_lines, race_text, report_text}
+use Rattle.report_text.specs.Report.{Column, Race, LineRace, Report}
+use Rattle.report_text.specs.ReportText.{version_number, grain_word, departures_word, looked_word, cause_word, outcome_words, column_line, counted_text, counted_texts, printed_lines, race_text, side_text, line_race_text, line_races_part, report_text}
 use Rattle.report_text.specs.WellFormed.{Each, EachTwo, HasViews, IsColumn, IsReport, IsValue}
 use Rattle.report_text.specs.Inner.Columns.{Differ}
 use Rattle.report_text.specs.Inner.Ends.{Ended, ended_text, IsEnded}
 use Rattle.report_text.specs.Inner.Fronts.{lacks}
 use Rattle.report_text.specs.Inner.Lines.{IsCountable, ArePrinted}
 use Rattle.report_text.specs.Inner.Headings.{Heading, IsHeading, heading_before, grain_before, views_before, label_line_before}
+use Rattle.report_text.specs.Inner.LineRaces.{Side, IsSide, IsCountedLines, AreLast}
 use Rattle.report_text.specs.Inner.Races.{Shown, shown_line, IsShown, IsCounted}
 use Rattle.report_text.specs.Inner.Wholes.{IsBodyTaken}
 use Rattle.report_text.proofs.FrontLemmas.{cut_unique}
@@ -39,6 +39,7 @@ use Rattle.report_text.proofs.HeadingLemmas.{name_lacks, departures_lacks}
 use Rattle.report_text.proofs.BagLemmas.{text_spelled, texts_spelled, bag_spelled}
 use Rattle.report_text.proofs.ColumnLemmas.{path_lacks, column_spelled, columns_spelled}
 use Rattle.report_text.proofs.LogLemmas.{log_lacks, value_lacks, feed_outside, is_spelling, end_spelled}
+use Rattle.report_text.proofs.LineRaceLemmas.{side_spelled, sides_spelled, sides_of, line_race_spelled, line_races_spelled, last_spelled}
 use Rattle.report_text.proofs.RaceLemmas.{shown_spelled, values_spelled, races_spelled, race_spelled}
 use Rattle.report_text.proofs.WordLemmas.{version_injective, grain_injective, departures_injective, looked_injective, cause_injective, outcome_injective}
 use Rattle.report_text.proofs.SpellingLemmas.{heading_of, body_before}
@@ -209,6 +210,31 @@ race_one columns each differ a b r s p q e =
     (ap (λ t. t ++ r) (values_spelled a.values) ∙ k.1 ∙ ap (λ t. t ++ s) (sym (values_spelled b.values))) in
     ((λ i. record { time = t.0 i; variable = variable i; values = v.0 i }), v.1)
 
+side_one : (a b : Side) (r s : List ℕ) → IsSide a → IsSide b → side_text a ++ r ≡ side_text b ++ s → (a ≡ b) × (r ≡ s)
+side_one a b r s p q e =
+    let whole = append_cancel_left (codes "lines ") _ _ (sym (side_spelled a r) ∙ e ∙ side_spelled b s) in
+    let n = space_number (length a.0) (length b.0) _ _ p.1.1 q.1.1 whole in
+    let l = cut_unique 10 (log_text a.1) (log_text b.1) _ _ (log_lacks 10 a.1 feed_outside p.2) (log_lacks 10 b.1 feed_outside q.2) n.1 in
+    let t = texts_one a.0 b.0 r s p.1.0 q.1.0 n.0 l.1 in
+    let log = log_one a.1 b.1 p.2 q.2 l.0 in
+    ((λ i. (t.0 i, log i)), t.1)
+
+line_race_one : (a b : LineRace) (r s : List ℕ) → IsCountedLines a → IsCountedLines b → line_race_text a ++ r ≡ line_race_text b ++ s → (a ≡ b) × (r ≡ s)
+line_race_one a b r s p q e =
+    let whole = append_cancel_left (codes "line race ") _ _ (sym (line_race_spelled a r) ∙ e ∙ line_race_spelled b s) in
+    let t = space_number a.time b.time _ _ p.0.time q.0.time whole in
+    let n = feed_number (length a.sides) (length b.sides) _ _ p.1 q.1 t.1 in
+    let v = flat_one side_text IsSide side_one a.sides b.sides r s (sides_of a p).0 (sides_of b q).0 n.0
+    (ap (λ t. t ++ r) (sides_spelled a.sides) ∙ n.1 ∙ ap (λ t. t ++ s) (sym (sides_spelled b.sides))) in
+    ((λ i. record { time = t.0 i; sides = v.0 i }), v.1)
+
+last_one : (looked : Looked) (a b : List LineRace) → AreLast looked a → AreLast looked b → line_races_part looked a ≡ line_races_part looked b → a ≡ b
+last_one Values a b h k e = h.2 refl ∙ sym (k.2 refl)
+last_one Lines a b h k e =
+    let n = number_one (codes "line races ") (length a) (length b) _ _ h.1 k.1 (sym (last_spelled a []) ∙ ap (λ t. t ++ []) e ∙ last_spelled b []) in
+    (flat_one line_race_text IsCountedLines line_race_one a b [] [] h.0.0 k.0.0 n.0
+    (ap (λ t. t ++ []) (line_races_spelled a) ∙ n.1 ∙ ap (λ t. t ++ []) (sym (line_races_spelled b)))).0
+
 pub report_one : (r s : Report) (dumps others : List (List ℕ)) → IsReport r dumps → IsReport s others → length (report_text r dumps) < 2 ^ 64 → report_text r dumps ≡ report_text s others → (r ≡ s) × (dumps ≡ others)
 report_one r s dumps others is js small e =
     let f = read_from (report_text r dumps) r dumps small is refl in
@@ -217,11 +243,14 @@ report_one r s dumps others is js small e =
     let n = number_one (codes "vars ") (length r.variables) (length s.variables) _ _ f.head.few g.head.few h.1 in
     let c = flat_one column_line IsColumn column_one r.variables s.variables (body_before r dumps) (body_before s others) f.head.listed.0 g.head.listed.0 n.0
     (ap (λ t. t ++ body_before r dumps) (columns_spelled r.variables) ∙ n.1 ∙ ap (λ t. t ++ body_before s others) (sym (columns_spelled s.variables))) in
-    let body : IsBodyTaken r.looked r.variables (body_before s others) g.all s.races [] =
-    subst (λ l. IsBodyTaken l r.variables (body_before s others) g.all s.races []) (ap (λ k. k.looked) (sym h.0)) (subst (λ cs. IsBodyTaken s.looked cs (body_before s others) g.all s.races []) (sym c.0) g.body) in
+    let looked : s.looked ≡ r.looked = ap (λ k. k.looked) (sym h.0) in
+    let body : IsBodyTaken r.looked r.variables (body_before s others) g.all s.races (line_races_part s.looked s.line_races) =
+    subst (λ l. IsBodyTaken l r.variables (body_before s others) g.all s.races (line_races_part s.looked s.line_races)) looked
+    (subst (λ cs. IsBodyTaken s.looked cs (body_before s others) g.all s.races (line_races_part s.looked s.line_races)) (sym c.0) g.body) in
     let m = number_one (codes "ends ") (length f.all) (length g.all) _ _ f.body.few_ends body.few_ends (sym f.body.whole ∙ c.1 ∙ body.whole) in
     let d = flat_one ended_text (IsEnded r.looked r.variables) (ended_one r.looked r.variables) f.all g.all _ _ f.body.ends.0 body.ends.0 m.0 m.1 in
     let k = number_one (codes "races ") (length r.races) (length s.races) _ _ f.body.few_races body.few_races d.1 in
-    let q = flat_one (race_text r.variables) (IsCounted r.variables) (race_one r.variables f.head.listed.0 f.head.listed.1) r.races s.races [] [] f.body.listed.0 body.listed.0 k.0
-    (ap (λ t. t ++ []) (races_spelled r.variables r.races) ∙ k.1 ∙ ap (λ t. t ++ []) (sym (races_spelled r.variables s.races))) in
-    same_report (report_text r dumps) s others g (heading_of r) r.variables r.ends dumps r.races h.0 c.0 (f.ends_are ∙ ap (map (λ x. x.0)) d.0) (f.dumps_are ∙ ap (map (λ x. x.1)) d.0) q.0
+    let q = flat_one (race_text r.variables) (IsCounted r.variables) (race_one r.variables f.head.listed.0 f.head.listed.1) r.races s.races (line_races_part r.looked r.line_races) (line_races_part s.looked s.line_races) f.body.listed.0 body.listed.0 k.0
+    (ap (λ t. t ++ line_races_part r.looked r.line_races) (races_spelled r.variables r.races) ∙ k.1 ∙ ap (λ t. t ++ line_races_part s.looked s.line_races) (sym (races_spelled r.variables s.races))) in
+    let last = last_one r.looked r.line_races s.line_races f.last.0 (subst (λ l. AreLast l s.line_races) looked g.last.0) (q.1 ∙ ap (λ l. line_races_part l s.line_races) looked) in
+    same_report (report_text r dumps) s others g (heading_of r) r.variables r.ends dumps r.races r.line_races h.0 c.0 (f.ends_are ∙ ap (map (λ x. x.0)) d.0) (f.dumps_are ∙ ap (map (λ x. x.1)) d.0) q.0 last

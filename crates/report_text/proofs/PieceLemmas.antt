@@ -4,7 +4,7 @@ use Rattle.std.proofs.lemmas.List.{take_more}
 use Rattle.sched_core.specs.LogText.{log_text}
 use Rattle.std.specs.Prelude.{codes, decimal}
 use Rattle.report_text.specs.Report.{Column, End}
-use Rattle.report_text.specs.ReportText.{line, joined_by_space, number_line, cause_word, column_line, column_lines, counted_text, counted_texts, printed_lines, end_text, value_lines}
+use Rattle.report_text.specs.ReportText.{line, joined_by_space, number_line, cause_word, column_line, column_lines, counted_text, counted_texts, printed_lines, end_text, side_text, side_texts, value_lines}
 
 pub column_lines-append : (xs : List Column) (x : Column) → column_lines (xs ++ x ∷ []) ≡ column_lines xs ++ column_line x
 column_lines-append [] x = append-nil (column_line x)
@@ -57,3 +57,18 @@ pub end_steps : (end : End) (a b c d e f g h i j k : List ℕ) → a ≡ codes "
     → k ≡ j ++ printed_lines end.printed → k ≡ end_text end
 end_steps end a b c d e f g h i j k ea eb ec ed ee ef eg eh ei ej ek =
     rw (ek, ej, ei, eh, eg, ef, ee, ed, ec, eb, ea) (simp append_assoc refl)
+
+abbrev pub PrintedSide : Type 0
+PrintedSide = List (List ℕ) × List (ℕ × ℕ)
+
+pub side_texts-append : (xs : List PrintedSide) (x : PrintedSide) → side_texts (xs ++ x ∷ []) ≡ side_texts xs ++ side_text x
+side_texts-append [] x = append-nil (side_text x)
+side_texts-append (y ∷ ys) x = ap (λ t. side_text y ++ t) (side_texts-append ys x) ∙ sym (append_assoc (side_text y) (side_texts ys) (side_text x))
+
+-- one more side of a race of lines
+pub sides_more : (start text now : List ℕ) (sides : List PrintedSide) (none : PrintedSide) (i : ℕ) → i < length sides → text ≡ start ++ side_texts (take i sides)
+    → now ≡ text ++ side_text (get_or sides i none) → now ≡ start ++ side_texts (take (i + 1) sides)
+sides_more start text now sides none i h e f =
+    f ∙ ap (λ t. t ++ side_text (get_or sides i none)) e
+    ∙ append_assoc start (side_texts (take i sides)) (side_text (get_or sides i none))
+    ∙ ap (λ t. start ++ t) (sym (ap side_texts (take_more sides i none h) ∙ side_texts-append (take i sides) (get_or sides i none)))

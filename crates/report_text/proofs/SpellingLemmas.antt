@@ -10,7 +10,7 @@ use Rattle.sched_core.specs.declared.setting.Looked.{Looked}
 use Rattle.report_text.specs.declared.report.Version.{Version}
 use Rattle.report_text.specs.declared.report.Version.TheVariants.{One, Two, Three}
 use Rattle.report_text.specs.Report.{Report}
-use Rattle.report_text.specs.ReportText.{line, joined_by_space, version_number, grain_word, departures_word, looked_word, outcome_words, grain_lines, view_lines, column_lines, head_text, ends_text, races_text, report_text}
+use Rattle.report_text.specs.ReportText.{line, joined_by_space, version_number, grain_word, departures_word, looked_word, outcome_words, grain_lines, view_lines, column_lines, head_text, ends_text, races_text, line_races_part, report_text}
 use Rattle.report_text.specs.Inner.Ends.{Ended, ended_text}
 use Rattle.report_text.specs.Inner.Headings.{Heading, Views, heading_before, grain_before, views_before, label_line_before}
 
@@ -69,16 +69,17 @@ head_spelled r y =
     ∙ ap (λ t. before (codes "vrace report") (decimal (version_number r.version)) (before (codes "top") r.top (before (codes "until") (decimal r.until) (before (codes "depart") (decimal r.depart) (before (codes "steps") (decimal r.steps) t)))))
     (grain_spelled r.version r.grain (view_lines r.version r.departures r.looked ++ last) ∙ ap (grain_before r.version r.grain) (views_spelled r.version r.departures r.looked last))
 
-body_peel : (h we ve e wr vr r : List ℕ) → (((h ++ line (joined_by_space we ve)) ++ e) ++ line (joined_by_space wr vr)) ++ r ≡ h ++ before we ve (e ++ before wr vr r)
-body_peel h we ve e wr vr r =
-    peel ((h ++ line (joined_by_space we ve)) ++ e) wr vr r ∙ append_assoc (h ++ line (joined_by_space we ve)) e (before wr vr r) ∙ peel h we ve (e ++ before wr vr r)
+body_peel : (h we ve e wr vr r p : List ℕ) → ((((h ++ line (joined_by_space we ve)) ++ e) ++ line (joined_by_space wr vr)) ++ r) ++ p ≡ h ++ before we ve (e ++ before wr vr (r ++ p))
+body_peel h we ve e wr vr r p =
+    append_assoc (((h ++ line (joined_by_space we ve)) ++ e) ++ line (joined_by_space wr vr)) r p
+    ∙ peel ((h ++ line (joined_by_space we ve)) ++ e) wr vr (r ++ p) ∙ append_assoc (h ++ line (joined_by_space we ve)) e (before wr vr (r ++ p)) ∙ peel h we ve (e ++ before wr vr (r ++ p))
 
 abbrev pub body_before : Report → List (List ℕ) → List ℕ
-body_before r dumps = label_line_before (codes "ends ") (decimal (length r.ends)) (ends_text r.ends dumps ++ label_line_before (codes "races ") (decimal (length r.races)) (races_text r.variables r.races))
+body_before r dumps = label_line_before (codes "ends ") (decimal (length r.ends)) (ends_text r.ends dumps ++ label_line_before (codes "races ") (decimal (length r.races)) (races_text r.variables r.races ++ line_races_part r.looked r.line_races))
 
 pub report_spelled : (r : Report) (dumps : List (List ℕ)) → report_text r dumps ≡ heading_before (heading_of r) (label_line_before (codes "vars ") (decimal (length r.variables)) (column_lines r.variables ++ body_before r dumps))
 report_spelled r dumps =
-    body_peel (head_text r) (codes "ends") (decimal (length r.ends)) (ends_text r.ends dumps) (codes "races") (decimal (length r.races)) (races_text r.variables r.races)
+    body_peel (head_text r) (codes "ends") (decimal (length r.ends)) (ends_text r.ends dumps) (codes "races") (decimal (length r.races)) (races_text r.variables r.races) (line_races_part r.looked r.line_races)
     ∙ head_spelled r (body_before r dumps)
 
 pub ends_spelled : (all : List Ended) → ends_text (map (λ e. e.0) all) (map (λ e. e.1) all) ≡ flat_map ended_text all

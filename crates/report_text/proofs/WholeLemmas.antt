@@ -1,4 +1,4 @@
--- A report is its head, its ends with their dumps, and its races.
+-- A report is its head, its ends with their dumps, its races and its races of lines.
 use Rattle.std.proofs.Common.{◌≡◌, ℕ, ◌<◌, ◌≤◌, ◌^◌, List, [], ◌∷◌, ◌++◌, map, length, slice_get, Some, zero, suc, arith, ap, refl, sym, subst, ◌∙◌, append-nil}
 use Rattle.std.specs.Prelude.{codes}
 use Rattle.std.specs.List.{flat_map}
@@ -7,16 +7,18 @@ use Rattle.std.proofs.lemmas.List.{length-map}
 use Rattle.basis.proofs.Lists.{of_mapped}
 use Rattle.sched_core.specs.LogText.{log_text}
 use Rattle.std.proofs.lemmas.Option.{same_Some}
-use Rattle.report_text.specs.Report.{Column, End, Race, Report}
-use Rattle.report_text.specs.ReportText.{line, joined_by_space, cause_word, name_at, column_line, column_lines, printed_lines, end_text, ends_text, race_text, races_text, value_lines, report_text}
+use Rattle.report_text.specs.Report.{Column, End, Race, LineRace, Report}
+use Rattle.report_text.specs.ReportText.{line, joined_by_space, cause_word, name_at, column_line, column_lines, printed_lines, end_text, ends_text, race_text, races_text, value_lines, line_races_part, report_text}
 use Rattle.report_text.specs.WellFormed.{Each, IsEnd, IsEndBefore, HaveBytes, IsReport}
 use Rattle.report_text.specs.Inner.Ends.{Ended, ended_text}
 use Rattle.report_text.specs.Inner.Headings.{Heading, heading_before, label_line_before}
 use Rattle.report_text.specs.Inner.Races.{shown_line}
+use Rattle.report_text.specs.Inner.LineRaces.{AreLastTaken}
 use Rattle.report_text.specs.Inner.Wholes.{IsHeadTaken, IsBodyTaken}
 use Rattle.report_text.proofs.BagLemmas.{printed_fit}
 use Rattle.report_text.proofs.EndedLemmas.{part_at}
 use Rattle.report_text.proofs.ColumnLemmas.{columns_spelled}
+use Rattle.report_text.proofs.LineRaceLemmas.{last_fit}
 use Rattle.report_text.proofs.RaceLemmas.{values_spelled, races_spelled}
 use Rattle.report_text.proofs.SpellingLemmas.{heading_of, body_before, report_spelled, ends_spelled, right_le, left_le, labelled_le, heading_le, items_le, item_le, line_some}
 
@@ -46,8 +48,8 @@ have_bytes : (all : List Ended) → Each IsSized all → HaveBytes (map (λ e. e
 have_bytes [] h = tt
 have_bytes (ended ∷ all) h = (h 0 ended refl, have_bytes all (λ i x at. h (suc i) x at))
 
-abbrev pub report_of : Heading → List Column → List End → List Race → Report
-report_of h columns ends races = record {
+abbrev pub report_of : Heading → List Column → List End → List Race → List LineRace → Report
+report_of h columns ends races line_races = record {
   version = h.version;
   top = h.top;
   until = h.until;
@@ -60,12 +62,13 @@ report_of h columns ends races = record {
   variables = columns;
   ends = ends;
   races = races;
+  line_races = line_races;
 }
 
 -- what was read is a report
-pub is_report : (h : Heading) (columns : List Column) (all : List Ended) (races : List Race) (text mid : List ℕ) → IsHeadTaken text h columns mid → IsBodyTaken h.looked columns mid all races [] →
-    IsReport (report_of h columns (map (λ e. e.0) all) races) (map (λ e. e.1) all) × (text ≡ report_text (report_of h columns (map (λ e. e.0) all) races) (map (λ e. e.1) all))
-is_report h columns all races text mid head body = (
+pub is_report : (h : Heading) (columns : List Column) (all : List Ended) (races : List Race) (line_races : List LineRace) (text mid last : List ℕ) → IsHeadTaken text h columns mid → IsBodyTaken h.looked columns mid all races last → AreLastTaken h.looked last line_races [] →
+    IsReport (report_of h columns (map (λ e. e.0) all) races line_races) (map (λ e. e.1) all) × (text ≡ report_text (report_of h columns (map (λ e. e.0) all) races line_races) (map (λ e. e.1) all))
+is_report h columns all races line_races text mid last head body end = (
   record {
     head = record { top = head.heading.top; until = head.heading.until; depart = head.heading.depart; some_steps = head.heading.some_steps; few_steps = head.heading.few_steps; grain = head.heading.grain; views = head.heading.views };
     columns = head.listed.0;
@@ -79,11 +82,14 @@ is_report h columns all races text mid head body = (
     bytes = have_bytes all (λ i x at. (body.ends.0 i x at).1);
     races = λ i x at. (body.listed.0 i x at).0;
     races_order = body.listed.1;
+    line_races = λ i x at. (end.0.0.0 i x at).0;
+    line_races_order = end.0.0.1;
+    no_lines = end.0.2;
   },
   head.whole
       ∙ ap (λ m. heading_before h (label_line_before (codes "vars ") (decimal (length columns)) (column_lines columns ++ m)))
-      (body.whole ∙ (λ i. label_line_before (codes "ends ") (decimal (sym (length-map all (λ e. e.0)) i)) (sym (ends_spelled all) i ++ label_line_before (codes "races ") (decimal (length races)) (append-nil (races_text columns races) i))))
-      ∙ sym (report_spelled (report_of h columns (map (λ e. e.0) all) races) (map (λ e. e.1) all)),
+      (body.whole ∙ (λ i. label_line_before (codes "ends ") (decimal (sym (length-map all (λ e. e.0)) i)) (sym (ends_spelled all) i ++ label_line_before (codes "races ") (decimal (length races)) (races_text columns races ++ (end.1 ∙ append-nil (line_races_part h.looked line_races)) i))))
+      ∙ sym (report_spelled (report_of h columns (map (λ e. e.0) all) races line_races) (map (λ e. e.1) all)),
 )
 
 -- a report as it is read from its text
@@ -92,7 +98,8 @@ pub record IsReadFrom (text : List ℕ) (r : Report) (dumps : List (List ℕ)) :
   pub ends_are : r.ends ≡ map (λ e. e.0) all
   pub dumps_are : dumps ≡ map (λ e. e.1) all
   pub head : IsHeadTaken text (heading_of r) r.variables (body_before r dumps)
-  pub body : IsBodyTaken r.looked r.variables (body_before r dumps) all r.races []
+  pub body : IsBodyTaken r.looked r.variables (body_before r dumps) all r.races (line_races_part r.looked r.line_races)
+  pub last : AreLastTaken r.looked (line_races_part r.looked r.line_races) r.line_races []
 
 race_some : (columns : List Column) (race : Race) → length race.values ≤ length (race_text columns race)
 race_some columns race =
@@ -130,11 +137,13 @@ record HasSizes (n : ℕ) (r : Report) (all : List Ended) : Type 0 where
   dumps : (i : ℕ) (x : Ended) → slice_get all i ≡ Some x → length x.1 ≤ n
   printed : (i : ℕ) (x : Ended) → slice_get all i ≡ Some x → length (printed_lines x.0.printed) ≤ n
   values : (i : ℕ) (x : Race) → slice_get r.races i ≡ Some x → length x.values ≤ n
+  last : length (line_races_part r.looked r.line_races) ≤ n
 
 sizes : (text : List ℕ) (r : Report) (dumps : List (List ℕ)) (all : List Ended) → text ≡ report_text r dumps → ends_text r.ends dumps ≡ flat_map ended_text all → HasSizes (length text) r all
 sizes text r dumps all e f =
     let whole : length text ≡ length (heading_before (heading_of r) (label_line_before (codes "vars ") (decimal (length r.variables)) (column_lines r.variables ++ body_before r dumps))) = ap length (e ∙ report_spelled r dumps) in
-    let tail : List ℕ = label_line_before (codes "races ") (decimal (length r.races)) (races_text r.variables r.races) in
+    let part : List ℕ = line_races_part r.looked r.line_races in
+    let tail : List ℕ = label_line_before (codes "races ") (decimal (length r.races)) (races_text r.variables r.races ++ part) in
     let a = heading_le (heading_of r) (label_line_before (codes "vars ") (decimal (length r.variables)) (column_lines r.variables ++ body_before r dumps)) in
     let b = labelled_le (codes "vars ") (decimal (length r.variables)) (column_lines r.variables ++ body_before r dumps) in
     let c = left_le (column_lines r.variables) (body_before r dumps) in
@@ -142,11 +151,13 @@ sizes text r dumps all e f =
     let g = labelled_le (codes "ends ") (decimal (length r.ends)) (ends_text r.ends dumps ++ tail) in
     let h = left_le (ends_text r.ends dumps) tail in
     let k = right_le (ends_text r.ends dumps) tail in
-    let l = labelled_le (codes "races ") (decimal (length r.races)) (races_text r.variables r.races) in
+    let l = labelled_le (codes "races ") (decimal (length r.races)) (races_text r.variables r.races ++ part) in
+    let m = left_le (races_text r.variables r.races) part in
+    let o = right_le (races_text r.variables r.races) part in
     let columns_len : length (column_lines r.variables) ≤ length text = omega (arith, whole, a, b, c) in
     let body_len : length (body_before r dumps) ≤ length text = omega (arith, whole, a, b, d) in
     let ends_len : length (flat_map ended_text all) ≤ length text = subst (λ t. length t ≤ length text) f (omega (arith, body_len, g, h)) in
-    let races_len : length (flat_map (race_text r.variables) r.races) ≤ length text = subst (λ t. length t ≤ length text) (sym (races_spelled r.variables r.races)) (omega (arith, body_len, g, k, l)) in
+    let races_len : length (flat_map (race_text r.variables) r.races) ≤ length text = subst (λ t. length t ≤ length text) (sym (races_spelled r.variables r.races)) (omega (arith, body_len, g, k, l, m)) in
     record {
       columns =
           let s = items_le column_line r.variables (λ column. line_some (joined_by_space column.name (decimal column.width))) in
@@ -161,6 +172,7 @@ sizes text r dumps all e f =
           let u = printed_le x.0 in
           omega (arith, s, t, u, ends_len);
       values = λ i x at. (let s = item_le (race_text r.variables) r.races i x at in let t = race_some r.variables x in omega (arith, s, t, races_len));
+      last = omega (arith, body_len, g, k, l, o);
     }
 
 -- each report's text is read so
@@ -169,6 +181,7 @@ read_from text r dumps small is e =
     let p = paired r.ends dumps is.bytes in
     let same : ends_text r.ends dumps ≡ flat_map ended_text p.all = (λ i. ends_text (p.ends_are i) (p.dumps_are i)) ∙ ends_spelled p.all in
     let s = sizes text r dumps p.all e same in
+    let few = last_fit (length text) r.looked r.line_races small s.last is.no_lines in
     let count : length r.ends ≡ length p.all = ap length p.ends_are ∙ length-map p.all (λ x. x.0) in
     record {
       all = p.all;
@@ -194,11 +207,15 @@ read_from text r dumps small is e =
         few_ends = omega (arith, small, s.ends);
         listed = (λ i x at. (is.races i x at, (let short : length x.values ≤ length text = s.values i x at in omega (arith, short, small))), is.races_order);
         few_races = omega (arith, small, s.races);
-        whole = λ i. label_line_before (codes "ends ") (decimal (count i)) (same i ++ label_line_before (codes "races ") (decimal (length r.races)) (sym (append-nil (races_text r.variables r.races)) i));
+        whole = λ i. label_line_before (codes "ends ") (decimal (count i)) (same i ++ label_line_before (codes "races ") (decimal (length r.races)) (races_text r.variables r.races ++ line_races_part r.looked r.line_races));
       };
+      last = (
+        ((λ i x at. (is.line_races i x at, (few.1 i x at).0, (few.1 i x at).1), is.line_races_order), few.0, is.no_lines),
+        sym (append-nil (line_races_part r.looked r.line_races)),
+      );
     }
 
 -- what was read is the report whose text it is
-pub same_report : (text : List ℕ) (r : Report) (dumps : List (List ℕ)) (f : IsReadFrom text r dumps) (h : Heading) (columns : List Column) (ends : List End) (told : List (List ℕ)) (races : List Race) →
-    h ≡ heading_of r → columns ≡ r.variables → ends ≡ map (λ e. e.0) f.all → told ≡ map (λ e. e.1) f.all → races ≡ r.races → (report_of h columns ends races ≡ r) × (told ≡ dumps)
-same_report text r dumps f h columns ends told races eh ec ee et er = ((λ i. report_of (eh i) (ec i) ((ee ∙ sym f.ends_are) i) (er i)), et ∙ sym f.dumps_are)
+pub same_report : (text : List ℕ) (r : Report) (dumps : List (List ℕ)) (f : IsReadFrom text r dumps) (h : Heading) (columns : List Column) (ends : List End) (told : List (List ℕ)) (races : List Race) (line_races : List LineRace) →
+    h ≡ heading_of r → columns ≡ r.variables → ends ≡ map (λ e. e.0) f.all → told ≡ map (λ e. e.1) f.all → races ≡ r.races → line_races ≡ r.line_races → (report_of h columns ends races line_races ≡ r) × (told ≡ dumps)
+same_report text r dumps f h columns ends told races line_races eh ec ee et er el = ((λ i. report_of (eh i) (ec i) ((ee ∙ sym f.ends_are) i) (er i) (el i)), et ∙ sym f.dumps_are)

@@ -8,4 +8,5 @@ pub mod Names
 pub mod Columns
 pub mod Ends
 pub mod Races
+pub mod LineRaces
 pub mod Wholes

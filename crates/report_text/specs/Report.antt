@@ -1,4 +1,4 @@
--- *product rule*: What a report of an exploration holds (docs/FORMATS.md, "Reports").
+-- *product rule*: What a report of an exploration holds (docs/FORMATS.md, "Reports"; docs/HOLDING.md, "Reports, version 3").
 use Rattle.std.specs.Prelude.{ℕ, List, Option}
 use Rattle.sched_core.specs.declared.end.Cause.{Cause}
 use Rattle.sched_core.specs.declared.setting.Grain.{Grain}
@@ -28,6 +28,11 @@ pub record Race : Type 0 where
   pub variable : ℕ
   pub values : List (List ℕ × List (ℕ × ℕ))
 
+-- a race of lines: the slot of this time printed these lines, each in the run under its log
+pub record LineRace : Type 0 where
+  pub time : ℕ
+  pub sides : List (List (List ℕ) × List (ℕ × ℕ))
+
 pub record Report : Type 0 where
   pub version : Version
   pub top : List ℕ
@@ -41,3 +46,4 @@ pub record Report : Type 0 where
   pub variables : List Column
   pub ends : List End
   pub races : List Race
+  pub line_races : List LineRace

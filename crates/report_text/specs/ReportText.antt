@@ -1,4 +1,5 @@
--- *product rule*: `ReportText` (docs/FORMATS.md, "Reports"): the text of a report and of the dumps of its ends.
+-- *product rule*: `ReportText` (docs/FORMATS.md, "Reports"; docs/HOLDING.md, "Reports, version 3"): the text of a report and of the
+-- dumps of its ends.
 use Rattle.std.specs.Prelude.{ℕ, List, [], ◌∷◌, ◌++◌, length, codes, decimal, slice_get, Option, Some, None}
 use Rattle.sched_core.specs.LogText.{log_text}
 use Rattle.sched_core.specs.declared.end.Cause.{Cause}
@@ -13,7 +14,7 @@ use Rattle.report_text.specs.declared.report.Version.{Version}
 use Rattle.report_text.specs.declared.report.Version.TheVariants.{One, Two, Three}
 use Rattle.report_text.specs.declared.report.Outcome.{Outcome}
 use Rattle.report_text.specs.declared.report.Outcome.TheVariants.{Exhausted, CutMemory, CutEntries, CutSteps}
-use Rattle.report_text.specs.Report.{Column, End, Race, Report}
+use Rattle.report_text.specs.Report.{Column, End, Race, LineRace, Report}
 
 abbrev pub line : List ℕ → List ℕ
 line text = text ++ 10 ∷ []
@@ -139,6 +140,34 @@ abbrev pub races_text : List Column → List Race → List ℕ
 races_text columns [] = []
 races_text columns (race ∷ races) = race_text columns race ++ races_text columns races
 
+-- ---- races of lines
+
+-- the count of the lines and the log; and the lines
+abbrev pub side_text : List (List ℕ) × List (ℕ × ℕ) → List ℕ
+side_text side = line (codes "lines " ++ joined_by_space (decimal (length side.0)) (log_text side.1)) ++ counted_texts side.0
+
+abbrev pub side_texts : List (List (List ℕ) × List (ℕ × ℕ)) → List ℕ
+side_texts [] = []
+side_texts (side ∷ sides) = side_text side ++ side_texts sides
+
+abbrev pub line_race_text : LineRace → List ℕ
+line_race_text race =
+    line (codes "line race " ++ joined_by_space (decimal race.time) (decimal (length race.sides))) ++ side_texts race.sides
+
+abbrev pub line_races_text : List LineRace → List ℕ
+line_races_text [] = []
+line_races_text (race ∷ races) = line_race_text race ++ line_races_text races
+
+-- the line that counts them, where lines are looked at
+abbrev pub line_races_line : Looked → List LineRace → List ℕ
+line_races_line Values races = []
+line_races_line Lines races = number_line (codes "line races") (length races)
+
+-- the last part of a report, where lines are looked at
+abbrev pub line_races_part : Looked → List LineRace → List ℕ
+line_races_part Values races = []
+line_races_part Lines races = number_line (codes "line races") (length races) ++ line_races_text races
+
 -- ---- the whole
 
 -- the lines that count the ends and the races
@@ -155,3 +184,4 @@ report_text r dumps =
     ++ ends_text r.ends dumps
     ++ races_line r
     ++ races_text r.variables r.races
+    ++ line_races_part r.looked r.line_races

@@ -1,5 +1,5 @@
--- *product rule*: Which reports there are: those whose text is read (docs/FORMATS.md, "Reports").
-use Rattle.std.specs.Prelude.{◌≡◌, ◌≢◌, ℕ, ◌<◌, ◌≤◌, ◌^◌, ◌&&◌, ◌||◌, ◌==◌, ◌⊎◌, Bool, true, false, List, [], ◌∷◌, length, slice_get, Option, Some, Result, MatchResult}
+-- *product rule*: Which reports there are: those whose text is read (docs/FORMATS.md, "Reports"; docs/HOLDING.md, "Reports, version 3").
+use Rattle.std.specs.Prelude.{◌≡◌, ◌≢◌, ℕ, ◌<◌, ◌≤◌, ◌^◌, ◌||◌, ◌==◌, ◌⊎◌, Bool, true, List, [], ◌∷◌, length, slice_get, Option, Some, Result, MatchResult}
 use Rattle.std.specs.List.{list_all}
 use Rattle.std.specs.Ordering.{nat_cmp}
 use Rattle.std.specs.Cmp.Lexicographic.{slice_cmp}
@@ -13,11 +13,11 @@ use Rattle.sched_core.specs.declared.setting.Departures.{Departures}
 use Rattle.sched_core.specs.declared.setting.Departures.TheVariants.{Taking, Holding}
 use Rattle.sched_core.specs.declared.setting.Looked.{Looked}
 use Rattle.sched_core.specs.declared.setting.Looked.TheVariants.{Values, Lines}
-use Rattle.sched_core.specs.Bags.{IsBagLess, HasLines}
+use Rattle.sched_core.specs.Bags.{IsBagLess, AreLinesInOrder, HasLines}
 use Rattle.report_text.specs.declared.report.Version.{Version}
 use Rattle.report_text.specs.declared.report.Version.TheVariants.{One, Two, Three}
 use Rattle.report_text.specs.declared.report.ReportFault.{ReportFault}
-use Rattle.report_text.specs.Report.{Column, End, Race, Report}
+use Rattle.report_text.specs.Report.{Column, End, Race, LineRace, Report}
 use Rattle.report_text.specs.ReportText.{joined_by_space, cause_word, report_text}
 
 -- the fact holds of each thing of the list
@@ -85,6 +85,18 @@ pub record IsRaceForm (columns : List Column) (race : Race) : Type 0 where
   pub logs : Each (λ v. IsLog v.1) race.values
   pub order : EachTwo (λ v w. IsTextLess v.0 w.0) race.values
 
+-- two sides or more, in the order of their lines, under logs
+pub record IsLineRaceForm (race : LineRace) : Type 0 where
+  pub time : race.time < 2 ^ 64
+  pub two : 2 ≤ length race.sides
+  pub lines : Each (λ s. AreLinesInOrder s.0) race.sides
+  pub logs : Each (λ s. IsLog s.1) race.sides
+  pub order : EachTwo (λ s t. IsBagLess s.0 t.0) race.sides
+
+-- by time
+abbrev pub IsLineRaceBefore : LineRace → LineRace → Type 0
+IsLineRaceBefore a b = a.time < b.time
+
 -- which departures there are, and what is looked at, as this version can tell
 abbrev pub HasViews : Version → Departures → Looked → Type 0
 HasViews One departures looked = (departures ≡ Taking) × (looked ≡ Values)
@@ -117,6 +129,9 @@ pub record IsReport (r : Report) (dumps : List (List ℕ)) : Type 0 where
   pub bytes : HaveBytes r.ends dumps
   pub races : Each (IsRaceForm r.variables) r.races
   pub races_order : EachTwo IsRaceBefore r.races
+  pub line_races : Each IsLineRaceForm r.line_races
+  pub line_races_order : EachTwo IsLineRaceBefore r.line_races
+  pub no_lines : r.looked ≡ Values → r.line_races ≡ []
 
 -- the text is that of no report
 abbrev pub IsNoReportText : List ℕ → Type 0

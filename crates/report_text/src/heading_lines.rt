@@ -19,8 +19,8 @@ use crate::letters::is_name;
 use crate::reader::Reader;
 use crate::report::{Outcome, Version};
 use crate::words::{departures_of, grain_of, looked_of, outcome_of};
-use std::marker::Model;
 use sched_core::setting::{Departures, Grain, Looked};
+use std::marker::Model;
 
 /// The last time limit.
 const LAST_UNTIL: u64 = 4_611_686_018_427_387_903;

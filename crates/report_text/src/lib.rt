@@ -9,6 +9,7 @@ mod front;
 mod heading_lines;
 mod law;
 mod letters;
+mod line_races;
 mod lines;
 mod names;
 mod pieces;
@@ -19,8 +20,11 @@ mod report;
 mod words;
 
 pub use law::report_text_law;
-pub use pieces::{end_lines, head_lines, race_count_line, race_lines};
+pub use pieces::{
+    end_lines, head_lines, line_race_count_line, line_race_lines, race_count_line, race_lines,
+};
 pub use read::read_report;
 pub use report::{
-    Column, End, Outcome, Race, RaceValue, Report, ReportFault, ReportWithDumps, Version,
+    Column, End, LineRace, Outcome, PrintedLines, Race, RaceValue, Report, ReportFault,
+    ReportWithDumps, Version,
 };

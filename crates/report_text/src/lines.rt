@@ -11,10 +11,10 @@ use crate::heading_lines::number_line;
 use crate::letters::is_less;
 use crate::reader::Reader;
 use basis::NoMemory;
-use std::alloc::Global;
-use std::cmp::Ordering;
 use sched_core::bag::{Bag, PrintedLine};
 use sched_core::setting::Looked;
+use std::alloc::Global;
+use std::cmp::Ordering;
 
 // Takes a line by the count of its bytes.
 fn take_text<'a>(reader: &mut Reader<'a>) -> &'a [u8]

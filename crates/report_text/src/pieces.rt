@@ -5,15 +5,16 @@ ghost use Rattle.report_text.specs.Inner.Lists.{PutsBytes};
 ghost use Rattle.report_text.specs.ReportText as spec;
 ghost use Rattle.report_text.specs.declared.report.Version.TheVariants.{Three};
 
-use crate::report::{Column, End, Race, RaceValue, Report, Version};
+use crate::report::{Column, End, LineRace, PrintedLines, Race, RaceValue, Report, Version};
 use crate::words::{
     cause_word, departures_word, grain_word, looked_word, outcome_words, version_number,
 };
 use basis::NoMemory;
 use itoa::Buffer;
 use sched_core::append_log;
-use std::alloc::Global;
 use sched_core::bag::{Bag, PrintedLine};
+use sched_core::setting::Looked;
+use std::alloc::Global;
 
 // Puts the word last, and a space.
 fn put_word(text: &mut Vec<u8>, word: &[u8]) -> Result<(), NoMemory>
@@ -203,5 +204,56 @@ pub fn race_lines(alloc: Global, columns: &[Column], race: &Race) -> Result<Vec<
     put_number(&mut text, race.values.len() as u64)?;
     text.push(b'\n')?;
     put_values(&mut text, &race.values)?;
+    Ok(text)
+}
+
+/// The line that counts the races of lines; nothing, where values are looked at. The error is want of memory, E901.
+pub fn line_race_count_line(alloc: Global, report: &Report) -> Result<Vec<u8>, NoMemory>
+    ensures { IfOk result (λ text.
+        text.items ≡ spec.line_races_line report.now.looked report.now.line_races) }
+{
+    let mut text = Vec::new(alloc);
+    match report.looked {
+        Looked::Values => {}
+        Looked::Lines => {
+            put_number_line(&mut text, b"line races", report.line_races.len() as u64)?;
+        }
+    }
+    Ok(text)
+}
+
+// Puts a side of a race of lines last.
+fn put_side(text: &mut Vec<u8>, side: &PrintedLines) -> Result<(), NoMemory>
+    ensures { PutsBytes text.old text.new result (spec.side_text side.now) }
+{
+    text.extend_from_slice(b"lines ")?;
+    put_number(text, side.lines.as_slice().len() as u64)?;
+    text.push(b' ')?;
+    append_log(text, &side.log)?;
+    text.push(b'\n')?;
+    put_texts(text, side.lines.as_slice())
+}
+
+// Puts these sides last.
+fn put_sides(text: &mut Vec<u8>, sides: &[PrintedLines]) -> Result<(), NoMemory>
+    ensures { PutsBytes text.old text.new result (spec.side_texts sides.now) }
+{
+    for side in sides {
+        put_side(text, side)?;
+    }
+    Ok(())
+}
+
+/// The lines of a race of lines. The error is want of memory, E901.
+pub fn line_race_lines(alloc: Global, race: &LineRace) -> Result<Vec<u8>, NoMemory>
+    ensures { IfOk result (λ text. text.items ≡ spec.line_race_text race.now) }
+{
+    let mut text = Vec::new(alloc);
+    text.extend_from_slice(b"line race ")?;
+    put_number(&mut text, race.time)?;
+    text.push(b' ')?;
+    put_number(&mut text, race.sides.len() as u64)?;
+    text.push(b'\n')?;
+    put_sides(&mut text, &race.sides)?;
     Ok(text)
 }

@@ -14,13 +14,14 @@ ghost use Rattle.report_text.specs.WellFormed.{IsColumn, IsNoReportText, IsRepor
 use crate::columns::{copy_of, read_columns};
 use crate::ends::read_ends;
 use crate::heading_lines::{Heading, number_line, read_heading};
+use crate::line_races::read_line_races;
 use crate::names::Names;
 use crate::races::read_races;
 use crate::reader::Reader;
 use crate::report::{Column, End, Race, Report, ReportFault, ReportWithDumps};
 use basis::{NoMemory, OrMemory};
-use std::alloc::Global;
 use sched_core::setting::Looked;
+use std::alloc::Global;
 
 // A text has no more bytes than a number of 64 bits counts.
 fn has_size(text: &[u8]) -> u64
@@ -70,7 +71,8 @@ fn read_body<'a>(
 
 /// Reads the text of a report with the dumps of its ends.
 ///
-/// It accepts exactly the texts of reports, of version 1, 2 and 3 (docs/FORMATS.md, "Reports"), in one pass. Any other is
+/// It accepts exactly the texts of reports, of version 1, 2 and 3 (docs/FORMATS.md, "Reports", and
+/// docs/HOLDING.md, "Reports, version 3"), in one pass. Any other is
 /// `ReportFault::IllFormed`, E501. The error may also be want of memory, E901.
 pub fn read_report<'a>(
     alloc: Global,
@@ -87,6 +89,7 @@ pub fn read_report<'a>(
         return Err(OrMemory::Fault(ReportFault::IllFormed));
     }
     let (ends, dumps, races) = read_body(alloc, &mut reader, &variables, &names, heading.looked)?;
+    let line_races = read_line_races(alloc, &mut reader, heading.looked)?;
     reader.require(reader.is_done());
     if !reader.is_ok() {
         return Err(OrMemory::Fault(ReportFault::IllFormed));
@@ -105,6 +108,7 @@ pub fn read_report<'a>(
         variables,
         ends,
         races,
+        line_races,
     };
     Ok(ReportWithDumps { report, dumps })
 }

@@ -98,6 +98,36 @@ impl Model for Race {
     ghost view = { λ r. record { time = r.time; variable = r.variable; values = r.values.items } };
 }
 
+/// The lines that a slot printed, and the log of a run that shows it.
+#[derive(Drop)]
+pub struct PrintedLines {
+    pub lines: Bag,
+    pub log: Log,
+}
+
+impl Model for PrintedLines {
+    ghost use Rattle.std.specs.Prelude.{ℕ, List};
+
+    ghost Value = { List (List ℕ) × List (ℕ × ℕ) };
+
+    ghost view = { λ s. (s.lines, s.log) };
+}
+
+/// A race of lines: the slot of one time printed two or more lists of lines.
+#[derive(Drop)]
+pub struct LineRace {
+    pub time: u64,
+    pub sides: Vec<PrintedLines>,
+}
+
+impl Model for LineRace {
+    ghost use Rattle.report_text.specs.Report as reports;
+
+    ghost Value = { reports.LineRace };
+
+    ghost view = { λ r. record { time = r.time; sides = r.sides.items } };
+}
+
 /// A report, without the dumps of its ends. A clause sees it as the record `Report` of specs/Report.antt.
 #[derive(Drop)]
 pub struct Report {
@@ -113,6 +143,7 @@ pub struct Report {
     pub variables: Vec<Column>,
     pub ends: Vec<End>,
     pub races: Vec<Race>,
+    pub line_races: Vec<LineRace>,
 }
 
 impl Model for Report {
@@ -133,6 +164,7 @@ impl Model for Report {
       variables = r.variables.items;
       ends = r.ends.items;
       races = r.races.items;
+      line_races = r.line_races.items;
     } };
 }
 

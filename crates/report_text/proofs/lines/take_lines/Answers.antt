@@ -1,6 +1,6 @@
 use Rattle.std.proofs.Common.{◌≡◌, ◌+◌, ◌++◌, ◌∷◌, [], ◌∙◌, ap, sym, subst, arith, length, length-append}
 use Rattle.report_text.specs.ReportText.{counted_text}
-use Rattle.report_text.specs.Inner.Lines.{IsCountable, IsNotAfter, FollowsLine}
+use Rattle.report_text.specs.Inner.Lines.{IsCountable, IsNotAfter}
 use Rattle.report_text.proofs.ListLemmas.{HasRead, has_all, has_lost, listed_front, listed_last}
 use Rattle.report_text.proofs.FollowLemmas.{follow_step}
 use Rattle.report_text.proofs.BagLemmas.{not_after_trans, put_last, texts_spelled}
