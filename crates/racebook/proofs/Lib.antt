@@ -5,4 +5,5 @@ pub mod RaceLemmas
 pub mod SlotLemmas
 pub mod FoundLemmas
 pub mod PrintingLemmas
+pub mod LookedLemmas
 mod MarkedLemmas

@@ -1,12 +1,13 @@
 -- *product rule*: Races of lines: where two orders that clause 11 of IEEE 1364-2005 allows (11.4.1, 11.4.2) let one time slot print different
 -- lines (17.1.1, 17.1.2), in whichever order, that is a race of lines. Where lines aren't looked at there is none.
-use Rattle.std.specs.Prelude.{◌≡◌, ◌≢◌, ℕ, ◌<◌, ◌≤◌, List, length, slice_get, Some}
+use Rattle.std.specs.Prelude.{◌≡◌, ◌≢◌, ℕ, ◌<◌, ◌≤◌, List, [], length, slice_get, Some}
 use Rattle.vbits.specs.Vectors.{Vector}
 use Rattle.sched_core.specs.Rules.{IsRun, NamesBelow}
 use Rattle.statebook.specs.declared.limits.Limits.{Limits}
 use Rattle.explore.specs.declared.findings.Findings.{Findings}
 use Rattle.explore.specs.Found.{ListsFound}
 use Rattle.vmodel.specs.State.{State}
+use Rattle.sched_core.specs.declared.setting.Looked.TheVariants.{Values}
 use Rattle.sched_core.specs.Bags.{IsBagLess}
 use Rattle.vmodel.specs.Run.{Setting, rules_of, state_after}
 use Rattle.vmodel.specs.Kept.{IsSlotEnd}
@@ -154,3 +155,8 @@ ListsAllLineRaces setting findings races = (limits : Limits) → IsWhole setting
 abbrev pub GivesFewestOfLines : Setting → Findings MachineState → List LineRace → Type 0
 GivesFewestOfLines setting findings races = (limits : Limits) →
     ListsFound (machine_rules setting) limits findings → IsWhole setting limits findings → EachLineRace (HasFewestOfLines setting) races
+
+-- where values alone are looked at there is none
+abbrev pub ListsNoLineRace : Setting → Findings MachineState → List LineRace → Type 0
+ListsNoLineRace setting findings races = (limits : Limits) →
+    ListsFound (machine_rules setting) limits findings → setting.looked ≡ Values → races ≡ []

@@ -1,7 +1,7 @@
 // The races of all slots, by time.
 
 ghost use Rattle.std.specs.Prelude.{◌≡◌, ◌<◌, IfOk, length};
-ghost use Rattle.racebook.specs.LineRaces.{AreAllSidesInOrder, AreLineRacesInOrder, GivesFewestOfLines, ListsAllLineRaces, ListsEveryMarkOfLines, ListsLineRaces, ListsShortestOfLines};
+ghost use Rattle.racebook.specs.LineRaces.{AreAllSidesInOrder, AreLineRacesInOrder, GivesFewestOfLines, ListsAllLineRaces, ListsEveryMarkOfLines, ListsLineRaces, ListsNoLineRace, ListsShortestOfLines};
 ghost use Rattle.racebook.specs.Races.{AreRacesInOrder, AreValuesInOrder, ListsAllRaces, ListsEveryMark, ListsShortest, GivesFewest, ListsRaces};
 ghost use Rattle.racebook.specs.Inner.{AreAllLineRaces, AreAllRaces, AreInTime, AreWide, HavePrinted, IsSlotEndAt};
 
@@ -96,11 +96,12 @@ fn line_races_among(alloc: Global, slot_states: &[SlotState]) -> Result<Vec<Line
 
 /// The races of lines that an explorer's findings show: the times at which two marks that are ends of slots have different
 /// printed lines, in whichever order they were printed, each side with the log of the fewest departures among them,
-/// whatever the status. A machine that doesn't look at lines has none.
+/// whatever the status.
 ///
-/// Where the findings are those of an exploration of this machine, each race listed is one. Where they are all, so are the
-/// races: the times at which two runs within the limit of departures print different lines are listed, with all lines that
-/// any such run prints there, and no run at all prints them there with fewer departures than their log.
+/// Where the findings are those of an exploration of this machine, each race listed is one; and where the machine looks at
+/// values alone there is none. Where they are all, so are the races: the times at which two runs within the limit of
+/// departures print different lines are listed, with all lines that any such run prints there, and no run at all prints
+/// them there with fewer departures than their log.
 ///
 /// The time it takes grows as a sort with the marks and their lines. A slot whose lines are the same in all marks takes no
 /// memory beyond its marks. E901 is the only refusal.
@@ -116,6 +117,7 @@ pub fn line_races(
     ensures shortest { IfOk result (λ races. ListsShortestOfLines machine.now findings.now races.items) }
     ensures order { IfOk result (λ races. AreLineRacesInOrder races.items) }
     ensures sides { IfOk result (λ races. AreAllSidesInOrder races.items) }
+    ensures none { IfOk result (λ races. ListsNoLineRace machine.now findings.now races.items) }
 {
     machine_law();
     run_law();

@@ -1,9 +1,10 @@
 use Rattle.std.proofs.Common.{List, sym, subst}
 use Rattle.std.proofs.lemmas.Result.{IfOk-weaker}
 use Rattle.racebook.specs.declared.slot_state.SlotState.{SlotState}
-use Rattle.racebook.specs.LineRaces.{AreAllSidesInOrder, AreLineRacesInOrder, GivesFewestOfLines, ListsAllLineRaces, ListsEveryMarkOfLines, ListsLineRaces, ListsShortestOfLines}
+use Rattle.racebook.specs.LineRaces.{AreAllSidesInOrder, AreLineRacesInOrder, GivesFewestOfLines, ListsAllLineRaces, ListsEveryMarkOfLines, ListsLineRaces, ListsNoLineRace, ListsShortestOfLines}
 use Rattle.racebook.specs.Inner.{AreAllLineRaces, ArePrintingStatesOf}
 use Rattle.racebook.proofs.FoundLemmas.{lines_found, lines_all, lines_fewest, lines_order, sides_order}
+use Rattle.racebook.proofs.LookedLemmas.{no_line_races}
 use Rattle.racebook.proofs.MarkedLemmas.{lines_marked, lines_shortest}
 use Rattle.racebook.proofs.PrintingLemmas.{lines_in_all}
 use Rattle.racebook.proofs.book.line_races.Goals as goal
@@ -67,3 +68,14 @@ pub returns-clause-sides : goal.returns-clause-sides
 returns-clause-sides c =
     IfOk-weaker c.line_races_among.result (λ races. AreAllLineRaces c.deref.result.now races.items) (λ races. AreAllSidesInOrder races.items)
     (λ races book. sides_order c.deref.result.now races.items book) c.line_races_among.ensures
+
+pub returns-clause-none : goal.returns-clause-none
+returns-clause-none c =
+    let setting = c.args.machine.now in
+    let findings = c.args.findings.now in
+    let law = c.machine_law.ensures in
+    let gs = c.deref.result.now in
+    let of : ArePrintingStatesOf setting findings gs = subst (λ (xs : List SlotState). ArePrintingStatesOf setting findings xs) (sym c.deref.ensures.value) c.in_ok-printing.ensures.of in
+    IfOk-weaker c.line_races_among.result (λ races. AreAllLineRaces gs races.items) (λ races. ListsNoLineRace setting findings races.items)
+    (λ races book. λ limits found looked. no_line_races setting limits races.items looked (c.run_law.ensures.printed setting)
+    (lines_found setting limits findings.marks.entries of.all races.items (law.same setting) (law.stands setting) (law.runs setting) found of.are (lines_in_all setting findings gs of races.items book))) c.line_races_among.ensures
