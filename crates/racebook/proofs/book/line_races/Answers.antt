@@ -77,5 +77,5 @@ returns-clause-none c =
     let gs = c.deref.result.now in
     let of : ArePrintingStatesOf setting findings gs = subst (λ (xs : List SlotState). ArePrintingStatesOf setting findings xs) (sym c.deref.ensures.value) c.in_ok-printing.ensures.of in
     IfOk-weaker c.line_races_among.result (λ races. AreAllLineRaces gs races.items) (λ races. ListsNoLineRace setting findings races.items)
-    (λ races book. λ limits found looked. no_line_races setting limits races.items looked c.run_law.ensures.printed
+    (λ races book. λ limits found looked. no_line_races setting limits races.items looked (c.run_law.ensures.printed setting)
     (lines_found setting limits findings.marks.entries of.all races.items (law.same setting) (law.stands setting) (law.runs setting) found of.are (lines_in_all setting findings gs of races.items book))) c.line_races_among.ensures
