@@ -3,6 +3,9 @@ use Rattle.std.proofs.Common.{◌≡◌, ℕ, ◌+◌, ◌-◌, ◌<◌, ◌==�
 use Rattle.std.proofs.lemmas.Bool.Decides.{nat_tests}
 use Rattle.std.proofs.lemmas.Option.{same_Some, slice_get-get_or}
 use Rattle.std.specs.Option.{option_eq}
+use Rattle.std.specs.Cmp.Lexicographic.{pointwise, bytes_decides}
+use Rattle.std.specs.Prelude.{not}
+use lib.Dec.{eqb}
 use Rattle.sched_core.specs.Bags.{lines_same, HasLines}
 use Rattle.sched_core.specs.Logs.{IsLog}
 use Rattle.sched_core.specs.BagLaws.{lines_tell}
@@ -136,6 +139,23 @@ module _ (setting : Setting) (alike : Alike setting) (all : AllStand setting) (t
             bytes_are = counts.1.1;
           };
         }
+
+-- lines that aren't told apart are the same
+pub same_lines : (a b : List ℕ) → false ≡ not (pointwise eqb a b) → a ≡ b
+same_lines a b alike = (bytes_decides a b).0 (no_longer (pointwise eqb a b) alike)
+  where
+    no_longer : (x : Bool) → false ≡ not x → x ≡ true
+    no_longer true e = refl
+    no_longer false e = absurd cc
+
+-- rows of other lines are of other ends
+pub other_lines : (r s : Row) → true ≡ not (pointwise eqb r.line.items s.line.items) → Decides false (key_cmp r s ≡ Equal)
+other_lines r s differ =
+    (λ h. absurd cc, λ alike. told_apart (pointwise eqb r.line.items s.line.items) ((bytes_decides r.line.items s.line.items).1 (same_key r s alike).line_same) differ)
+  where
+    told_apart : (x : Bool) → x ≡ true → true ≡ not x → false ≡ true
+    told_apart true same e = sym e
+    told_apart false same e = same
 
 -- the same times, causes and lines
 pub same_end_when : (r s : Row) (b : Bool) → r.time ≡ s.time → r.cause ≡ s.cause → r.line.items ≡ s.line.items → b ≡ option_eq lines_same r.printed s.printed → Decides b (key_cmp r s ≡ Equal)

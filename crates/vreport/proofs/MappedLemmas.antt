@@ -1,5 +1,6 @@
 -- Lists that are mapped, one thing after another.
-use Rattle.std.proofs.Common.{◌≡◌, ℕ, ◌+◌, ◌<◌, List, [], ◌∷◌, ◌++◌, length, map, drop, get_or, sym, ap, ◌∙◌, subst, inl, inr, append_assoc}
+use Rattle.std.proofs.Common.{◌≡◌, ℕ, ◌+◌, ◌<◌, ◌≤◌, List, [], ◌∷◌, ◌++◌, length, map, drop, get_or, refl, sym, ap, ◌∙◌, subst, inl, inr, append_assoc}
+use Rattle.std.proofs.lemmas.List.{append-nil, drop_all}
 use Rattle.basis.proofs.Lists.{last_or_before, left_from, of_mapped}
 use Rattle.report_text.specs.WellFormed.{Each, EachTwo}
 
@@ -23,3 +24,12 @@ two_mapped f P xs two = λ i j y z lt at at'.
     let (x, there, is) = of_mapped f xs i y at in
     let (w, there', is') = of_mapped f xs j z at' in
     subst (P y) is' (subst (λ v. P v (f w)) is (two i j x w lt there there'))
+
+-- what is mapped to itself stays
+pub mapped_same : {A : Type 0} (xs : List A) → map (λ x. x) xs ≡ xs
+mapped_same [] = refl
+mapped_same (x ∷ xs) = ap (λ ys. x ∷ ys) (mapped_same xs)
+
+-- all were mapped
+pub mapped_over : {A B : Type 0} (f : A → B) (now : List B) (xs : List A) (i : ℕ) → length xs ≤ i → now ++ map f (drop i xs) ≡ map f xs → now ≡ map f xs
+mapped_over f now xs i end so_far = sym (append-nil now) ∙ ap (λ ys. now ++ map f ys) (sym (drop_all i xs end)) ∙ so_far

@@ -9,14 +9,16 @@ use Rattle.vmodel.specs.Run.{Setting, rules_of, history_after}
 use Rattle.vcd_text.specs.DumpText.{vcd}
 use Rattle.vcd_text.specs.ByteSinks.{IsByteSink, Stopped}
 use Rattle.vcd_text.specs.ByteSinkLaws.{stopped_before, stopped_after}
-use Rattle.report_text.specs.Report.{End}
+use Rattle.report_text.specs.Report.{End, LineRace}
+use Rattle.sched_core.specs.declared.setting.Looked.{Looked}
+use Rattle.sched_core.specs.declared.setting.Looked.TheVariants.{Values, Lines}
 use Rattle.report_text.specs.ReportText.{end_text, ends_text, races_text}
 use Rattle.report_text.specs.WellFormed.{Each}
 use Rattle.vreport.specs.Dumps.{IsRunDump, StopsDump, TakesDump}
 use Rattle.vreport.specs.Ends.{HasBytes}
 use Rattle.vreport.specs.RunLaws.{same_end}
 use Rattle.report_text.specs.Report.{Report}
-use Rattle.report_text.specs.ReportText.{head_text, line_races_part, number_line}
+use Rattle.report_text.specs.ReportText.{head_text, line_races_line, line_races_part, line_races_text, number_line}
 use Rattle.vreport.specs.Written.{AreDumps, IsDumpOf, StopsEnd, StopsEnds, StopsReport, TakesEnd, TakesEnds, TakesReport}
 use Rattle.vreport.proofs.LeadLemmas.{Leads, leads_first, leads_on, leads_stop, leads_end}
 
@@ -145,6 +147,34 @@ module _ {O F : Type 0} (takes : O → List ℕ → O → Type 0) (fails : O →
     items_over empty items i old now none lead =
         leads_end takes fails laws old now (all items)
         (subst (λ (rest : List ℕ). Leads takes fails laws old (all items) now rest) (ap all none ∙ empty) lead)
+
+  -- ---- the part of the lines
+
+  module _ (looked : Looked) (races : List LineRace) (not_values : looked ≡ Values → ⊥) where
+    part_is : line_races_part looked races ≡ line_races_line looked races ++ line_races_text races
+    part_is = by looked not_values
+      where
+        by : (which : Looked) → (which ≡ Values → ⊥) → line_races_part which races ≡ line_races_line which races ++ line_races_text races
+        by Values other = absurd (other refl)
+        by Lines other = refl
+
+    pub lines_taken : (told : List LineRace) (old now new : O) → told ≡ races → takes old (line_races_line looked races) now → takes now (line_races_text told) new →
+        takes old (line_races_part looked races) new
+    lines_taken told old now new is first rest =
+        subst (λ (text : List ℕ). takes old text new) (sym part_is)
+        (laws.joins old now new (line_races_line looked races) (line_races_text races) first (subst (λ (rs : List LineRace). takes now (line_races_text rs) new) is rest))
+
+    pub lines_stop : (told : List LineRace) (old now new : O) (fault : OrMemory F) → told ≡ races → takes old (line_races_line looked races) now →
+        Stopped takes fails now (line_races_text told) fault new → Stopped takes fails old (line_races_part looked races) fault new
+    lines_stop told old now new fault is first rest =
+        subst (λ (text : List ℕ). Stopped takes fails old text fault new) (sym part_is)
+        (stopped_after takes fails laws old now new (line_races_line looked races) (line_races_text races) fault first
+        (subst (λ (rs : List LineRace). Stopped takes fails now (line_races_text rs) fault new) is rest))
+
+    pub lines_stop_first : (old now : O) (fault : OrMemory F) → Stopped takes fails old (line_races_line looked races) fault now → Stopped takes fails old (line_races_part looked races) fault now
+    lines_stop_first old now fault stopped =
+        subst (λ (text : List ℕ). Stopped takes fails old text fault now) (sym part_is)
+        (stopped_before takes fails laws old now (line_races_line looked races) (line_races_text races) fault stopped)
 
   -- ---- four texts, one after another
 

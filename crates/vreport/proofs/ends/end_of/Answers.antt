@@ -31,7 +31,7 @@ returns-clause-ok c =
     let mark : MachineState × List (ℕ × ℕ) = (c.in-Some.field-0-0.now, c.in-Some.log.now) in
     its_end setting (law.same setting) (law.stands setting) (law.runs setting) c.args.limits.now c.args.findings.now.marks.entries c.requires.found c.args.row.now c.requires.of
     mark (sym c.get_index.ensures.entry ∙ ap (option_map deref_pair) c.in-Some.is) (c.run_law.ensures.printed setting) _ c.time_of.ensures.same c.cause_of.ensures
-    (c.in_ok-from_slice.ensures.items ∙ c.deref.ensures.value) ? c.in_ok-copy.ensures.equal c.time_of.ensures.bits (subst IsLog (sym c.in_ok-copy.ensures.equal) c.copy.ensures.lawful) c.in-Ok.ensures.ok
+    (c.in_ok-from_slice.ensures.items ∙ c.deref.ensures.value) (c.in_ok-copy_printed.ensures ∙ c.as_ref.ensures.value) c.in_ok-copy.ensures.equal c.time_of.ensures.bits (subst IsLog (sym c.in_ok-copy.ensures.equal) c.copy.ensures.lawful) c.in-Ok.ensures.ok
 
 pub returns-clause-held : goal.returns-clause-held
 returns-clause-held c = its_held c.args.machine.now c.args.limits.now.steps _ c.in-Some.log.now c.in-Ok.dump.held c.in_ok-copy.ensures.equal c.in-Ok.ensures.held
