@@ -1,8 +1,6 @@
 -- Two explorations of the same files are of one setting.
 use Rattle.std.proofs.Common.{◌≡◌, ℕ, List, Option, sym, subst, ◌∙◌}
 use Rattle.vsrc.specs.Expansion.{expanded_text, expanded_timescale}
-use Rattle.sched_core.specs.declared.setting.Departures.TheVariants.{Taking}
-use Rattle.sched_core.specs.declared.setting.Looked.TheVariants.{Values}
 use Rattle.vmodel.specs.Run.{Setting}
 use Rattle.vreport.specs.Agreement.{ExhaustedAgree}
 use Rattle.vreport.specs.Reports.{IsExploration}
@@ -15,7 +13,7 @@ one_setting : Laws → (files : List (List ℕ)) (asked again : Request) → Ask
 one_setting laws files asked again alike s t =
     let design = one_design_of laws (expanded_text files) (expanded_timescale files) again.top s.design t.design
     (subst (λ (top : Option (List ℕ)). IsDesignOfFiles files top s.design) alike.top_is s.is_design) t.is_design in
-    (λ i. record { design = design i; until = alike.until_is i; grain = alike.grain_is i; departures = Taking; looked = Values })
+    (λ i. record { design = design i; until = alike.until_is i; grain = alike.grain_is i; departures = alike.departures_are i; looked = alike.looked_is i })
 
 pub agree : Laws → ExhaustedAgree → ExploredFilesAgree
 agree laws tell files asked again limits others one other alike departs a b one_whole other_whole =

@@ -2,8 +2,6 @@
 use Rattle.std.proofs.Common.{◌≡◌, ℕ, zero, suc, ◌<◌, ◌^◌, List, [], ◌∷◌, length, slice_get, Some, inl, inr, sym, subst, ◌∙◌}
 use Rattle.std.proofs.lemmas.Option.{same_Some}
 use Rattle.vsrc.specs.Expansion.{expanded_text, expanded_timescale}
-use Rattle.sched_core.specs.declared.setting.Departures.TheVariants.{Taking}
-use Rattle.sched_core.specs.declared.setting.Looked.TheVariants.{Values}
 use Rattle.vmodel.specs.Run.{Setting}
 use Rattle.report_text.specs.Report.{End, Report}
 use Rattle.report_text.specs.WellFormed.{IsReportText, OneReportForText}
@@ -51,7 +49,7 @@ module _ (laws : Laws) (one_report : OneReportForText) (files : List (List ℕ))
         (subst (λ (r : Report). IsDesignOfFiles files (Some r.top) p.searched.design) same.0 p.searched.is_design) q.searched.is_design
 
     settings : setting_by files text p ≡ setting_by files text q
-    settings = λ i. record { design = designs i; until = (same.0 i).until; grain = (same.0 i).grain; departures = Taking; looked = Values }
+    settings = λ i. record { design = designs i; until = (same.0 i).until; grain = (same.0 i).grain; departures = (same.0 i).departures; looked = (same.0 i).looked }
 
     moved : (item : FirstBad) → IsFirstBad (setting_by files text q) q.report q.dumps item → IsFirstBad (setting_by files text p) p.report p.dumps item
     moved item =

@@ -9,8 +9,6 @@ use Rattle.report_check.specs.declared.check.FirstBad.TheVariants.{Head, End as 
 use Rattle.vdesign.specs.Design.{Design}
 use Rattle.sched_core.specs.declared.setting.Grain.{Grain}
 use Rattle.vrace.specs.Replays.{AreRead, IsDesignOfFiles}
-use Rattle.sched_core.specs.declared.setting.Departures.TheVariants.{Taking}
-use Rattle.sched_core.specs.declared.setting.Looked.TheVariants.{Values}
 use Rattle.vmodel.specs.Run.{Setting}
 use Rattle.vrace.specs.Checks.{IsCheckReason, IsMachineOf, IsReportReason, IsTrueText, fault_by}
 use Rattle.vrace.specs.declared.fault.Fault.{Fault}
@@ -47,9 +45,14 @@ module _ (files : List (List ℕ)) (text : List ℕ) (report : Report) (dumps : 
   false_text bad fault is first = inl (subst (IsReportReason files text) (sym is) (false_item bad first))
 
 -- the machine of a design of the files
-pub machine_made : (files : List (List ℕ)) (report : Report) (top : List ℕ) (until : ℕ) (grain : Grain) (design : Design) (machine : Setting) → top ≡ report.top → until ≡ report.until →
-    grain ≡ report.grain → AreRead files → IsDesignOfFiles files (Some top) design → machine ≡ record { design = design; until = until; grain = grain; departures = Taking; looked = Values } → IsMachineOf files report machine
-machine_made files report top until grain design machine top_is until_is grain_is read of is = record {
-  searched = record { are_read = read; design = design; is_design = subst (λ (t : List ℕ). IsDesignOfFiles files (Some t) design) top_is of };
-  machine_is = is ∙ (λ i. record { design = design; until = until_is i; grain = grain_is i; departures = Taking; looked = Values });
+pub machine_made : (files : List (List ℕ)) (report told : Report) (top : List ℕ) (design : Design) (machine : Setting) → told ≡ report → top ≡ told.top → AreRead files →
+    IsDesignOfFiles files (Some top) design →
+    machine ≡ record { design = design; until = told.until; grain = told.grain; departures = told.departures; looked = told.looked } → IsMachineOf files report machine
+machine_made files report told top design machine told_is top_is read of is = record {
+  searched = record {
+    are_read = read;
+    design = design;
+    is_design = subst (λ (t : List ℕ). IsDesignOfFiles files (Some t) design) (top_is ∙ ap (λ (r : Report). r.top) told_is) of;
+  };
+  machine_is = is ∙ ap (λ (r : Report). record { design = design; until = r.until; grain = r.grain; departures = r.departures; looked = r.looked }) told_is;
 }

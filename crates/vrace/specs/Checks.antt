@@ -7,7 +7,6 @@ use Rattle.vreport.specs.Truth.{IsTrueReport}
 use Rattle.report_check.specs.FirstBad.{IsFirstBad}
 use Rattle.report_check.specs.declared.check.FirstBad.{FirstBad}
 use Rattle.report_check.specs.declared.check.FirstBad.TheVariants.{Head, End, Race}
-use Rattle.sched_core.specs.declared.setting.Departures.TheVariants.{Taking}
 use Rattle.vmodel.specs.Run.{Setting}
 use Rattle.vrace.specs.Request.{Request}
 use Rattle.vrace.specs.Explores.{Searched, setting_for}
@@ -17,7 +16,14 @@ use Rattle.vrace.specs.declared.fault.Fault.TheVariants.{BadReport, FalseEnd, Fa
 
 -- what the head of a report asks for
 abbrev pub asked_by : Report → Request
-asked_by report = record { top = Some report.top; until = report.until; steps = report.steps; grain = report.grain; departures = Taking }
+asked_by report = record {
+  top = Some report.top;
+  until = report.until;
+  steps = report.steps;
+  grain = report.grain;
+  departures = report.departures;
+  looked = report.looked;
+}
 
 -- the text is that of a report with its dumps, and the files have a design by its head
 pub record Checked (files : List (List ℕ)) (text : List ℕ) : Type 0 where

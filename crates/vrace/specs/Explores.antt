@@ -8,8 +8,6 @@ use Rattle.statebook.specs.declared.reason.Reason.TheVariants.{Entries}
 use Rattle.explore.specs.declared.findings.Status.TheVariants as explored
 use Rattle.explore.specs.Found.{HasEntries}
 use Rattle.vdesign.specs.Design.{Design}
-use Rattle.sched_core.specs.declared.setting.Departures.TheVariants.{Taking}
-use Rattle.sched_core.specs.declared.setting.Looked.TheVariants.{Values}
 use Rattle.vmodel.specs.Run.{Setting, rules_of}
 use Rattle.vcd_text.specs.Metered.{Grows, Stops}
 use Rattle.vcd_text.specs.declared.metered.Metered.{Metered}
@@ -33,12 +31,19 @@ use Rattle.vrace.specs.declared.fault.At.{At}
 use Rattle.vrace.specs.declared.fault.Fault.{Fault}
 use Rattle.vrace.specs.declared.fault.Fault.TheVariants.{TooLarge, Memory, OutOfLimit, Write}
 
+-- a race is listed, of a variable or of lines
+abbrev pub HasSomeRace : Report → Type 0
+HasSomeRace report = (0 < length report.races) ⊎ (0 < length report.line_races)
+
+abbrev pub HasNoRace : Report → Type 0
+HasNoRace report = (report.races ≡ []) × (report.line_races ≡ [])
+
 -- What a report says in one word: no race was found and nothing was missed; or a race was found, and so the exploration went;
 -- or none was found, and for this reason the exploration was cut.
 abbrev pub IsStatusOf : Report → Status → Type 0
-IsStatusOf report NoRace = (report.races ≡ []) × HasOutcome explored.Exhausted report
-IsStatusOf report (Raced how) = (0 < length report.races) × HasOutcome how report
-IsStatusOf report (Cut reason) = (report.races ≡ []) × HasOutcome (explored.Cut reason) report
+IsStatusOf report NoRace = HasNoRace report × HasOutcome explored.Exhausted report
+IsStatusOf report (Raced how) = HasSomeRace report × HasOutcome how report
+IsStatusOf report (Cut reason) = HasNoRace report × HasOutcome (explored.Cut reason) report
 
 -- the status says that the exploration was cut for entries
 abbrev pub IsCutForEntries : Status → Type 0
@@ -96,14 +101,14 @@ EndsSearch contents setting limits old new fault =
 
 -- ---- of files
 
--- what is explored: the design of the files, under the time limit and in the grain that are asked for
+-- what is explored: the design of the files, under the time limit, in the grain, with the departures and looked at as is asked for
 pub record Searched (files : List (List ℕ)) (asked : Request) : Type 0 where
   pub are_read : AreRead files
   pub design : Design
   pub is_design : IsDesignOfFiles files asked.top design
 
 abbrev pub setting_for : (files : List (List ℕ)) (asked : Request) → Searched files asked → Setting
-setting_for files asked searched = record { design = searched.design; until = asked.until; grain = asked.grain; departures = Taking; looked = Values }
+setting_for files asked searched = record { design = searched.design; until = asked.until; grain = asked.grain; departures = asked.departures; looked = asked.looked }
 
 -- The report of the files: the writer grew by just its text.
 pub record Explores {W : Type 0} (contents : W → Option (List ℕ)) (files : List (List ℕ)) (asked : Request) (limits : Limits) (status : Status) (old new : Metered W) : Type 0 where
@@ -157,11 +162,13 @@ LeavesReport contents files asked limits fault old new =
 
 -- ---- two explorations of the same files
 
--- they ask for the same top, time limit and grain
+-- they ask for the same top, time limit, grain and departures, and to look at the same
 pub record AskAlike (one other : Request) : Type 0 where
   pub top_is : one.top ≡ other.top
   pub until_is : one.until ≡ other.until
   pub grain_is : one.grain ≡ other.grain
+  pub departures_are : one.departures ≡ other.departures
+  pub looked_is : one.looked ≡ other.looked
 
 -- the report is of an exploration of the files, as `Explores` has it
 pub record IsReportOf (files : List (List ℕ)) (asked : Request) (limits : Limits) (report : Report) : Type 0 where

@@ -1,9 +1,10 @@
--- *product rule*: What is asked of a call: the top module's name, the time limit, the steps of one run, the grain, and which departures
--- there are.
+-- *product rule*: What is asked of a call: the top module's name, the time limit, the steps of one run, the grain, which departures there
+-- are, and what is looked at.
 use Rattle.std.specs.Prelude.{ℕ, ◌≤◌, List, Option}
 use Rattle.vmodules.specs.Inner.{named_text}
 use Rattle.sched_core.specs.declared.setting.Departures.{Departures}
 use Rattle.sched_core.specs.declared.setting.Grain.{Grain}
+use Rattle.sched_core.specs.declared.setting.Looked.{Looked}
 use Rattle.statebook.specs.Limits.{AreLimits}
 use Rattle.vrace.specs.declared.options.Options.{Options}
 
@@ -13,6 +14,7 @@ pub record Request : Type 0 where
   pub steps : ℕ
   pub grain : Grain
   pub departures : Departures
+  pub looked : Looked
 
 abbrev pub request_of : Options → Request
 request_of options = record {
@@ -21,6 +23,7 @@ request_of options = record {
   steps = options.limits.steps;
   grain = options.grain;
   departures = options.departures;
+  looked = options.looked;
 }
 
 -- each number is within its limit

@@ -2,13 +2,14 @@
 
 ghost use Rattle.std.specs.Prelude.{◌≡◌, IfOk, IfErr, IfSome, IfNone};
 ghost use Rattle.sched_core.specs.declared.setting.Departures.TheVariants.{Taking};
+ghost use Rattle.sched_core.specs.declared.setting.Looked.TheVariants.{Values};
 ghost use Rattle.statebook.specs.Limits.{AreLimits};
 ghost use Rattle.vrace.specs.Request.{IsWithin};
 ghost use Rattle.vrace.specs.declared.fault.Fault.TheVariants.{OutOfLimit};
 
 use crate::fault::Fault;
 use crate::options::Options;
-use sched_core::setting::{Departures, Grain};
+use sched_core::setting::{Departures, Grain, Looked};
 use statebook::Limits;
 
 /// The latest time to which a run may go, 2^62 - 1.
@@ -16,7 +17,7 @@ const UNTIL_MAX: u64 = 4_611_686_018_427_387_903;
 
 impl<'a> Options<'a> {
     /// The options, if each number is within its limit: `until` 0 to 2^62 - 1, `depart` 0 to 4, `steps` and `entries` 1 to
-    /// 1,000,000. Departures take. E404 for a number out of its limit, and else never.
+    /// 1,000,000. Departures take, and values are looked at. E404 for a number out of its limit, and else never.
     pub fn new(
         top: Option<&'a [u8]>,
         until: u64,
@@ -32,6 +33,7 @@ impl<'a> Options<'a> {
         ensures entries { IfOk result (λ options. options.limits.entries ≡ entries) }
         ensures grain { IfOk result (λ options. options.grain ≡ grain) }
         ensures departures { IfOk result (λ options. options.departures ≡ Taking) }
+        ensures looked { IfOk result (λ options. options.looked ≡ Values) }
         ensures number { IfErr result (λ fault. fault ≡ OutOfLimit) }
         ensures refused { IfErr result (λ fault. ¬ IsWithin until depart steps entries) }
     {
@@ -47,18 +49,21 @@ impl<'a> Options<'a> {
             limits,
             grain,
             departures: Departures::Taking,
+            looked: Looked::Values,
         })
     }
 
-    /// From here on they ask for such departures.
-    pub fn look(&mut self, departures: Departures)
+    /// From here on they ask for such departures, and to look at so much.
+    pub fn look(&mut self, departures: Departures, looked: Looked)
         ensures departures { self.new.departures ≡ departures }
+        ensures looked { self.new.looked ≡ looked }
         ensures top { self.new.top ≡ self.old.top }
         ensures until { self.new.until ≡ self.old.until }
         ensures limits { self.new.limits ≡ self.old.limits }
         ensures grain { self.new.grain ≡ self.old.grain }
     {
         self.departures = departures;
+        self.looked = looked;
     }
 }
 

@@ -8,6 +8,7 @@ ghost use Rattle.vrace.specs.Refusals.{IsDesignFault};
 
 use crate::design::design_of;
 use crate::fault::Fault;
+use crate::machine::machine_in;
 use basis::OrMemory;
 use report_check::{FirstBad, check_report};
 use report_text::{Report, ReportFault, read_report};
@@ -34,7 +35,14 @@ fn machine_of(alloc: Global, files: &[Vec<u8>], report: &Report) -> Result<Machi
         Ok(design) => design,
         Err(fault) => return Err(fault),
     };
-    match Machine::new(alloc, design, report.until, report.grain) {
+    match machine_in(
+        alloc,
+        design,
+        report.until,
+        report.grain,
+        report.departures,
+        report.looked,
+    ) {
         Ok(machine) => Ok(machine),
         Err(refused) => Err(Fault::Memory(refused)),
     }

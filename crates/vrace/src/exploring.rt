@@ -13,6 +13,7 @@ ghost use Rattle.vrace.specs.RunDumps.{IsUnwritten, failures_after};
 
 use crate::design::design_of;
 use crate::fault::{At, Fault};
+use crate::machine::machine_in;
 use crate::options::Options;
 use crate::replay::of_writing;
 use basis::OrMemory;
@@ -49,6 +50,9 @@ fn status_of(explored: &Explored) -> Status
     if !explored.report.races.is_empty() {
         return Status::Raced(explored.status);
     }
+    if !explored.report.line_races.is_empty() {
+        return Status::Raced(explored.status);
+    }
     match explored.status {
         explore::Status::Exhausted => Status::NoRace,
         explore::Status::Cut(reason) => Status::Cut(reason),
@@ -78,7 +82,14 @@ fn machine_of(alloc: Global, files: &[Vec<u8>], options: &Options<'_>) -> Result
         Ok(design) => design,
         Err(fault) => return Err(fault),
     };
-    match Machine::new(alloc, design, options.until, options.grain) {
+    match machine_in(
+        alloc,
+        design,
+        options.until,
+        options.grain,
+        options.departures,
+        options.looked,
+    ) {
         Ok(machine) => Ok(machine),
         Err(refused) => Err(Fault::Memory(refused)),
     }

@@ -11,6 +11,7 @@ mod exploring;
 mod fault;
 pub mod law;
 mod lines;
+mod machine;
 mod options;
 mod read;
 mod replay;

@@ -5,7 +5,6 @@ ghost use Rattle.sched_core.specs.LogText.{IsNamedLogText};
 ghost use Rattle.sched_core.specs.Replay.{IsReplayReason};
 ghost use Rattle.vsrc.specs.Source.{file_bytes};
 ghost use Rattle.sched_core.specs.declared.end.End.{End};
-ghost use Rattle.sched_core.specs.declared.setting.Looked.TheVariants.{Values};
 ghost use Rattle.vmodel.specs.RunProgress.{Finishes};
 ghost use Rattle.vmodel.specs.Run.{rules_of};
 ghost use Rattle.vcd_text.specs.Metered.{Grows};
@@ -19,15 +18,15 @@ ghost use Rattle.vrace.specs.RunDumps.{IsRunFault, IsRunShown, IsUnwritten, Stop
 use crate::design::placed_design_of;
 use crate::fault::Fault;
 use crate::lines::{HeldLines, LinesFront, hold_lines, write_lines, write_lines_from};
+use crate::machine::machine_in;
 use crate::options::Options;
-use basis::{NoMemory, OrMemory};
+use basis::OrMemory;
 use sched_core::setting::{Departures, Grain, Looked};
 use sched_core::{Log, LogFault, LogHead, ReplayFault, read_named_log, replay};
 use std::alloc::Global;
 use std::io::Write;
 use trace_text::Origins;
 use vcd_text::{HELD_BYTES, HeldText, Metered, WriteFault, put};
-use vdesign::design::Design;
 use vmachine::{Machine, machine_law};
 use vreport::{DumpFront, HeldDump, hold_dump, write_dump, write_from};
 
@@ -369,22 +368,6 @@ fn named_log_of(alloc: Global, log: &[u8]) -> Result<(LogHead, Log), Fault>
     }
 }
 
-// The machine of a run: what its slots print is not looked at.
-fn machine_of(
-    alloc: Global,
-    design: Design,
-    until: u64,
-    grain: Grain,
-    departures: Departures,
-) -> Result<Machine, NoMemory>
-    ensures { IfOk result (λ machine.
-        machine ≡ record { design = design; until = until; grain = grain; departures = departures; looked = Values }) }
-{
-    let mut machine = Machine::new(alloc, design, until, grain)?;
-    machine.look(departures, Looked::Values);
-    Ok(machine)
-}
-
 // What the files, the options and the log's text ask for.
 pub(crate) fn replay_input_of(
     alloc: Global,
@@ -408,7 +391,14 @@ pub(crate) fn replay_input_of(
     };
     let grain = grain_under(head, options.grain);
     let departures = departures_under(head, options.departures);
-    match machine_of(alloc, placed.design, options.until, grain, departures) {
+    match machine_in(
+        alloc,
+        placed.design,
+        options.until,
+        grain,
+        departures,
+        Looked::Values,
+    ) {
         Ok(machine) => Ok(ReplayInput {
             machine,
             origins: placed.origins,

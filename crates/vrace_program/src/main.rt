@@ -10,7 +10,7 @@ use basis::NoMemory;
 use clap::error::ErrorKind;
 use clap::{ArgMatches, Error};
 use explanations::{explanation_of, show, show_all};
-use sched_core::setting::Departures;
+use sched_core::setting::Looked;
 use std::alloc::Global;
 use std::fs::File;
 use std::io::{BufWriter, Write};
@@ -24,8 +24,8 @@ use vrace::{
     trace_text,
 };
 use words::{
-    Request, Wanted, commands, depart_of, departures_of, entries_of, files_of, has_dashed_log,
-    has_dashed_report, has_dashed_top, log_of, report_of, request_of, wanted_of, workers_of,
+    Request, Search, Wanted, commands, files_of, has_dashed_log, has_dashed_report, has_dashed_top,
+    log_of, report_of, request_of, search_of, wanted_of,
 };
 use workpool::OpenGate;
 
@@ -107,7 +107,6 @@ fn write_run<W: Write>(
 fn replay(
     rt: &HostRuntime,
     request: &Request<'_>,
-    departures: Departures,
     log: &str,
     wanted: Wanted,
 ) -> Result<ExitCode, Stop> {
@@ -119,7 +118,7 @@ fn replay(
         ENTRIES,
         request.grain,
     )?;
-    options.look(departures);
+    options.look(request.departures, Looked::Values);
     let texts = texts(rt, &request.files)?;
     let Ok(buffered) = BufWriter::new(rt.alloc(), io::writer(rt)) else {
         return Err(Stop::NoMemory);
@@ -167,24 +166,30 @@ fn explore<R: Threads + Wait + Sync>(
     rt: &HostRuntime,
     threads: &R,
     request: &Request<'_>,
-    depart: u64,
-    entries: u64,
-    workers: u64,
+    search: &Search,
 ) -> Result<ExitCode, Stop> {
-    let options = Options::new(
+    let mut options = Options::new(
         request.top.map(|name| name.as_bytes()),
         request.until,
-        depart,
+        search.depart,
         request.steps,
-        entries,
+        search.entries,
         request.grain,
     )?;
+    options.look(request.departures, search.looked);
     let texts = texts(rt, &request.files)?;
     let Ok(buffered) = BufWriter::new(rt.alloc(), io::writer(rt)) else {
         return Err(Stop::NoMemory);
     };
     let mut writer = Metered::new(buffered);
-    let status = write_report(threads, rt.alloc(), &texts, &options, workers, &mut writer)?;
+    let status = write_report(
+        threads,
+        rt.alloc(),
+        &texts,
+        &options,
+        search.workers,
+        &mut writer,
+    )?;
     finish(&mut writer)?;
     Ok(status_code(status))
 }
@@ -265,8 +270,7 @@ fn replay_by<'a>(rt: &HostRuntime, matches: &ArgMatches<'a>) -> Result<ExitCode,
     let Ok(request) = request_of(rt.alloc(), matches) else {
         return Err(Stop::NoMemory);
     };
-    let departures = departures_of(matches);
-    replay(rt, &request, departures, log_of(matches), wanted)
+    replay(rt, &request, log_of(matches), wanted)
 }
 
 // Explores what the words ask for.
@@ -281,14 +285,7 @@ fn explore_by<'a, R: Threads + Wait + Sync>(
     let Ok(request) = request_of(rt.alloc(), matches) else {
         return Err(Stop::NoMemory);
     };
-    explore(
-        rt,
-        threads,
-        &request,
-        depart_of(matches),
-        entries_of(matches),
-        workers_of(matches),
-    )
+    explore(rt, threads, &request, &search_of(matches))
 }
 
 // Checks what the words ask for.

@@ -2,7 +2,7 @@
 
 use basis::NoMemory;
 use clap::{Arg, ArgAction, ArgMatches, Command, value_parser};
-use sched_core::setting::{Departures, Grain};
+use sched_core::setting::{Departures, Grain, Looked};
 use std::alloc::Global;
 use vrace::Show;
 
@@ -18,6 +18,7 @@ pub struct Request<'a> {
     pub until: u64,
     pub steps: u64,
     pub grain: Grain,
+    pub departures: Departures,
     /// None: standard input.
     pub files: Vec<&'a str>,
 }
@@ -115,6 +116,10 @@ fn explore_command<'a>(alloc: Global) -> Result<Command<'a>, NoMemory> {
         "The most states that are visited before the search is cut",
         "100000",
     );
+    let lines = Arg::new(alloc, "lines")
+        .long("lines")
+        .action(ArgAction::SetTrue)
+        .help("Compares the lines that slots print, too, in whichever order");
     let command = Command::new(alloc, "explore")
         .about(
             "Runs every schedule of at most so many departures as --depart says; reports each end and each race",
@@ -126,6 +131,8 @@ fn explore_command<'a>(alloc: Global) -> Result<Command<'a>, NoMemory> {
         .arg(entries)?
         .arg(number(alloc, "workers", "How many threads explore, 1 to 64", "1"))?
         .arg(grain(alloc))?
+        .arg(hold(alloc))?
+        .arg(lines)?
         .arg(files(alloc))?;
     Ok(command)
 }
@@ -197,15 +204,6 @@ pub fn has_dashed_report(matches: &ArgMatches<'_>) -> bool {
     is_dashed(matches, "report")
 }
 
-/// Which departures there are.
-pub fn departures_of(matches: &ArgMatches<'_>) -> Departures {
-    if matches.get_flag("hold") {
-        Departures::Holding
-    } else {
-        Departures::Taking
-    }
-}
-
 /// What of a run is asked for.
 #[derive(Clone, Copy, Debug, PartialEq, Eq)]
 pub enum Wanted {
@@ -238,19 +236,41 @@ pub fn files_of<'a>(alloc: Global, matches: &ArgMatches<'a>) -> Result<Vec<&'a s
     }
 }
 
-/// How many departures are looked at.
-pub fn depart_of(matches: &ArgMatches<'_>) -> u64 {
-    matches.get_one::<u64>("depart").unwrap_or(0)
+/// How far an exploration goes: departures, entries that cut it, how many workers there are, and what is looked at.
+#[derive(Clone, Copy, Debug)]
+pub struct Search {
+    pub depart: u64,
+    pub entries: u64,
+    pub workers: u64,
+    pub looked: Looked,
 }
 
-/// How many entries cut a search.
-pub fn entries_of(matches: &ArgMatches<'_>) -> u64 {
-    matches.get_one::<u64>("entries").unwrap_or(0)
+// What is looked at.
+fn looked_of(matches: &ArgMatches<'_>) -> Looked {
+    if matches.get_flag("lines") {
+        Looked::Lines
+    } else {
+        Looked::Values
+    }
 }
 
-/// How many workers explore.
-pub fn workers_of(matches: &ArgMatches<'_>) -> u64 {
-    matches.get_one::<u64>("workers").unwrap_or(0)
+/// How far the words after `explore` ask to go.
+pub fn search_of(matches: &ArgMatches<'_>) -> Search {
+    Search {
+        depart: matches.get_one::<u64>("depart").unwrap_or(0),
+        entries: matches.get_one::<u64>("entries").unwrap_or(0),
+        workers: matches.get_one::<u64>("workers").unwrap_or(0),
+        looked: looked_of(matches),
+    }
+}
+
+// Which departures there are.
+fn departures_of(matches: &ArgMatches<'_>) -> Departures {
+    if matches.get_flag("hold") {
+        Departures::Holding
+    } else {
+        Departures::Taking
+    }
 }
 
 /// What the words after `replay` and `explore` ask for alike.
@@ -265,6 +285,7 @@ pub fn request_of<'a>(alloc: Global, matches: &ArgMatches<'a>) -> Result<Request
         until: matches.get_one::<u64>("until").unwrap_or(0),
         steps: matches.get_one::<u64>("steps").unwrap_or(0),
         grain,
+        departures: departures_of(matches),
         files,
     })
 }

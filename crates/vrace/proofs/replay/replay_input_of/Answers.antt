@@ -8,8 +8,8 @@ use Rattle.vrace.specs.Request.{request_of}
 use Rattle.vrace.specs.Replays.{Replayed}
 use Rattle.vrace.proofs.replay.replay_input_of.Goals as goal
 
-pub returns-in-Ok-machine_of-clause-ok : goal.returns-in-Ok-machine_of-clause-ok
-returns-in-Ok-machine_of-clause-ok c =
+pub returns-in-Ok-machine_in-clause-ok : goal.returns-in-Ok-machine_in-clause-ok
+returns-in-Ok-machine_in-clause-ok c =
     let replayed : Replayed (file_bytes c.args.files.now) (request_of c.args.options.now) c.args.log.now = record {
       are_read = c.in-Ok.ensures.read;
       design = c.in-Ok.placed.design;
@@ -26,4 +26,4 @@ returns-in-Ok-machine_of-clause-ok c =
       departures = departures;
       looked = Values;
     } in
-    (replayed, c.in-Ok-machine_of.ensures ∙ (λ i. named (c.grain_under-grain.ensures i) (c.departures_under-departures.ensures i)), refl)
+    (replayed, c.in-Ok-machine_in.ensures ∙ (λ i. named (c.grain_under-grain.ensures i) (c.departures_under-departures.ensures i)), refl)
