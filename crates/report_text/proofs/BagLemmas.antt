@@ -30,9 +30,6 @@ not_after_trans a b c h k less = by (slice_cmp nat_cmp c b) refl
     by Equal is = h (sym (total.congr c b a is) ∙ less)
     by Greater is = h (total.trans b c a (total.antisymm b c ∙ ap ordering_reverse is) less)
 
-same_line : (a b : List ℕ) → slice_cmp nat_cmp a b ≡ Equal → a ≡ b
-same_line a b e = (bytes_eq-Decides a b).0 (sym (is_eq-slice_cmp a b) ∙ ap is_eq e)
-
 first_placed : (o : Ordering) (line x : List ℕ) (later xs : List (List ℕ)) → slice_cmp nat_cmp line x ≡ o → IsNotAfter line x → placed o line x later xs ≡ line ∷ x ∷ xs
 first_placed Less line x later xs is low = refl
 first_placed Equal line x later xs is low = refl
@@ -48,7 +45,7 @@ last_placed : (o : Ordering) (line first : List ℕ) (rest : List (List ℕ)) �
 last_placed Greater line first rest is high order later = ap (λ (t : List (List ℕ)). first ∷ t) later
 last_placed Less line first rest is high order later = absurd (high is)
 last_placed Equal line first rest is high order later =
-    let same : line ≡ first = same_line line first is in
+    let same : line ≡ first = (bytes_eq-Decides line first).0 (sym (is_eq-slice_cmp line first) ∙ ap is_eq is) in
     let front : with_line line rest ≡ line ∷ rest = put_first line rest (λ j x at. subst (λ (t : List ℕ). IsNotAfter t x) (sym same) (order 0 (suc j) first x (omega arith) refl at)) in
     (λ i. same i ∷ sym same i ∷ rest) ∙ ap (λ (t : List (List ℕ)). first ∷ t) (sym front ∙ later)
 
