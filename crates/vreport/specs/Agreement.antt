@@ -1,9 +1,11 @@
--- *product rule*: When two reports tell the same ends and the same races; the logs and the bytes of the dumps beside them aren't
+-- *product rule*: When two reports tell the same ends and the same races, or the one all of the other; the logs and the bytes of the dumps beside them aren't
 -- compared.
 use Rattle.std.specs.Prelude.{◌≡◌, ℕ, List, slice_get, Option, Some}
 use Rattle.statebook.specs.declared.limits.Limits.{Limits}
 use Rattle.sched_core.specs.declared.end.Cause.{Cause}
+use Rattle.sched_core.specs.declared.setting.Departures.TheVariants.{Taking}
 use Rattle.vmodel.specs.Run.{Setting}
+use Rattle.vmodel.specs.RunLaws.{holding, of_values}
 use Rattle.report_text.specs.declared.report.Outcome.TheVariants.{Exhausted}
 use Rattle.report_text.specs.Report.{End, LineRace, Race, Report}
 use Rattle.vreport.specs.Reports.{IsExploration}
@@ -57,3 +59,27 @@ abbrev pub ExhaustedAgree : Type 0
 ExhaustedAgree = (setting : Setting) (limits others : Limits) (one other : Report) →
     IsExploration setting limits one → IsExploration setting others other →
     one.depart ≡ other.depart → one.outcome ≡ Exhausted → other.outcome ≡ Exhausted → Agree one other
+
+-- ---- two settings
+
+-- an exhausted report of a setting where departures may hold back lists each end, race and value of any report where they only take
+abbrev pub HoldingListsAll : Type 0
+HoldingListsAll = (setting : Setting) (limits others : Limits) (one other : Report) → setting.departures ≡ Taking →
+    IsExploration setting limits one → IsExploration (holding setting) others other →
+    one.depart ≡ other.depart → other.outcome ≡ Exhausted → IsPartOf one other
+
+-- an end of this time, for this cause, with these values is listed, whatever it printed
+abbrev pub HasEndOf : Report → ℕ → Cause → List ℕ → Type 0
+HasEndOf report time cause line = (printed : Option (List (List ℕ))) × HasEnd report time cause line printed
+
+-- but for the lines each end and each raced value of the one is listed in the other
+pub record IsPartButForLines (one other : Report) : Type 0 where
+  pub ends : (time : ℕ) (cause : Cause) (line : List ℕ) → HasEndOf one time cause line → HasEndOf other time cause line
+  pub races : (time variable : ℕ) (digits : List ℕ) → HasRaced one time variable digits → HasRaced other time variable digits
+
+-- but for the lines, two exhausted reports of which one looks at lines and one at values alone tell the same
+abbrev pub LinesRefine : Type 0
+LinesRefine = (setting : Setting) (limits others : Limits) (one other : Report) →
+    IsExploration setting limits one → IsExploration (of_values setting) others other →
+    one.depart ≡ other.depart → one.outcome ≡ Exhausted → other.outcome ≡ Exhausted →
+    IsPartButForLines one other × IsPartButForLines other one
