@@ -8,6 +8,8 @@ use Rattle.statebook.specs.declared.reason.Reason.TheVariants.{Entries}
 use Rattle.explore.specs.declared.findings.Status.TheVariants as explored
 use Rattle.explore.specs.Found.{HasEntries}
 use Rattle.vdesign.specs.Design.{Design}
+use Rattle.sched_core.specs.declared.setting.Departures.TheVariants.{Taking, Holding}
+use Rattle.sched_core.specs.declared.setting.Looked.TheVariants.{Values}
 use Rattle.vmodel.specs.Run.{Setting, rules_of}
 use Rattle.vcd_text.specs.Metered.{Grows, Stops}
 use Rattle.vcd_text.specs.declared.metered.Metered.{Metered}
@@ -17,7 +19,7 @@ use Rattle.report_text.specs.declared.report.Outcome.TheVariants.{Exhausted}
 use Rattle.report_text.specs.Report.{Report}
 use Rattle.report_text.specs.ReportText.{report_text}
 use Rattle.report_text.specs.WellFormed.{IsReport}
-use Rattle.vreport.specs.Agreement.{Agree}
+use Rattle.vreport.specs.Agreement.{Agree, IsPartButForLines, IsPartOf}
 use Rattle.vreport.specs.Ends.{HasSomeLongDump}
 use Rattle.vreport.specs.Reports.{HasOutcome, IsExploration}
 use Rattle.vreport.specs.Written.{AreDumps}
@@ -181,3 +183,33 @@ ExploredFilesAgree = (files : List (List ℕ)) (asked again : Request) (limits o
     AskAlike asked again → limits.depart ≡ others.depart →
     IsReportOf files asked limits one → IsReportOf files again others other →
     one.outcome ≡ Exhausted → other.outcome ≡ Exhausted → Agree one other
+
+-- they ask for the same, but that departures only take in the one and may hold back in the other
+pub record AskToHold (one other : Request) : Type 0 where
+  pub top_is : one.top ≡ other.top
+  pub until_is : one.until ≡ other.until
+  pub grain_is : one.grain ≡ other.grain
+  pub looked_is : one.looked ≡ other.looked
+  pub takes : one.departures ≡ Taking
+  pub holds : other.departures ≡ Holding
+
+-- an exhausted report of the other lists each end, race and value of the one
+abbrev pub HoldingFilesListAll : Type 0
+HoldingFilesListAll = (files : List (List ℕ)) (asked again : Request) (limits others : Limits) (one other : Report) →
+    AskToHold asked again → limits.depart ≡ others.depart →
+    IsReportOf files asked limits one → IsReportOf files again others other → other.outcome ≡ Exhausted → IsPartOf one other
+
+-- they ask for the same, but that the other looks at values alone
+pub record AskForLines (one other : Request) : Type 0 where
+  pub top_is : one.top ≡ other.top
+  pub until_is : one.until ≡ other.until
+  pub grain_is : one.grain ≡ other.grain
+  pub departures_are : one.departures ≡ other.departures
+  pub values : other.looked ≡ Values
+
+-- but for the lines, two such reports that both say exhausted list the same
+abbrev pub LinesOfFilesRefine : Type 0
+LinesOfFilesRefine = (files : List (List ℕ)) (asked again : Request) (limits others : Limits) (one other : Report) →
+    AskForLines asked again → limits.depart ≡ others.depart →
+    IsReportOf files asked limits one → IsReportOf files again others other →
+    one.outcome ≡ Exhausted → other.outcome ≡ Exhausted → IsPartButForLines one other × IsPartButForLines other one

@@ -4,7 +4,7 @@
 ghost use Rattle.std.specs.Prelude.{◌≡◌, ℕ, ◌<◌, ◌^◌, List, length};
 ghost use Rattle.vrace.specs.Request.{Request};
 ghost use Rattle.vrace.specs.Checks.{IsCheckReason, IsTrueText};
-ghost use Rattle.vrace.specs.Explores.{ExploredFilesAgree};
+ghost use Rattle.vrace.specs.Explores.{ExploredFilesAgree, HoldingFilesListAll, LinesOfFilesRefine};
 ghost use Rattle.vrace.specs.Replays.{IsShown};
 ghost use Rattle.vrace.specs.Refusals.{IsReason, IsOfMemory, IsOfWriting};
 ghost use Rattle.vrace.specs.declared.fault.Fault.{Fault};
@@ -46,11 +46,14 @@ pub fn check_law()
     report_text_law();
 }
 
-/// Two reports of the same files, under the same top, time limit, departures and grain, that both say exhausted list the same
-/// ends by time, cause and values, and the same races by time, variable and values: whatever the limits of steps and of
-/// entries, and whatever the number of workers.
+/// Two reports of the same files, asked for alike, that both say exhausted list the same ends by time, cause, values and lines,
+/// the same races by time, variable and values, and the same races of lines: whatever the limits of steps and of entries, and
+/// whatever the number of workers. One where departures may hold back lists all that one where they only take does; and one
+/// that looks at lines lists, but for these, what one lists that doesn't.
 pub fn explore_law()
     ensures agree { ExploredFilesAgree }
+    ensures holding { HoldingFilesListAll }
+    ensures lines { LinesOfFilesRefine }
 {
     lexing_law();
     source_law();

@@ -1,4 +1,4 @@
-use Rattle.vrace.proofs.AgreementLemmas.{agree}
+use Rattle.vrace.proofs.AgreementLemmas.{agree, list_all, refine}
 use Rattle.vrace.proofs.LawLemmas.{Laws}
 use Rattle.vrace.proofs.law.explore_law.Goals as goal
 
@@ -10,4 +10,8 @@ returns c =
       one_design = c.elaboration_law.ensures.one;
       one_log = c.log_text_law.ensures.one;
     } in
-    record { agree = agree laws c.agreement_law.ensures.exhausted_agree }
+    record {
+      agree = agree laws c.agreement_law.ensures.exhausted_agree;
+      holding = list_all laws c.agreement_law.ensures.holding_lists_all;
+      lines = refine laws c.agreement_law.ensures.lines_refine;
+    }
