@@ -13,6 +13,8 @@ mod gates;
 #[cfg(test)]
 mod long_reports;
 #[cfg(test)]
+mod report_texts;
+#[cfg(test)]
 mod searches;
 #[cfg(test)]
 mod shared_books;
