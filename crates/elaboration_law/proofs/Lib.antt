@@ -24,3 +24,4 @@ pub mod ConstantUses
 pub mod FixedLemmas
 pub mod MadeLemmas
 pub mod ConstantLemmas
+pub mod KnownUses
