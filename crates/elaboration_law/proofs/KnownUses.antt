@@ -1,8 +1,10 @@
 -- Names that nothing declares, or that aren't known yet where a constant uses them: what a scope says of them by its names.
-use Rattle.std.proofs.Common.{◌≡◌, ◌<◌, ◌≤◌, ℕ, ◌+◌, ◌-◌, nat_lt, zero, suc, Bool, true, false, cond, if◌then◌else◌, not, ◌||◌, List, [], ◌∷◌, ◌++◌, length, take, drop, slice_get, position, option_and_then, Option, Some, None, Result, refl, sym, ap, subst, ◌∙◌, arith}
-use Rattle.std.specs.List.{list_any, position_or_len}
+use Rattle.std.proofs.Common.{◌≡◌, ◌<◌, ◌≤◌, ℕ, ◌+◌, ◌-◌, nat_lt, zero, suc, Bool, true, false, cond, if◌then◌else◌, not, ◌||◌, List, [], ◌∷◌, length, take, drop, slice_get, option_and_then, Option, Some, None, refl, ap, subst, ◌∙◌, arith}
+use Rattle.std.specs.List.{position_or_len}
 use Rattle.std.specs.Str.{bytes_eq}
-use Rattle.std.proofs.lemmas.Bool.{lt-ltb, ltb-true}
+use Rattle.std.proofs.lemmas.Bool.{lt-ltb, ltb-true, ltb-false}
+use Rattle.std.proofs.lemmas.List.{length-take-le, take-append-drop}
+use Rattle.std.proofs.Math.Seq.{take-length}
 use Rattle.vast.specs.Words.{Text}
 use Rattle.vast.specs.NumberedWords.{Word}
 use Rattle.vdesign.specs.declared.action.Edge.{Edge}
@@ -169,3 +171,57 @@ module _ (scope : Scope) (h : IsOrdered scope) (name : Word) where
 
   nowhere : (constant : Bool) → length scope.names ≤ place → known_by constant scope.known (meaning_of scope name) ≡ false
   nowhere constant le = ap (λ (b : Bool). known_by constant scope.known (option_and_then (meaning_at scope) (cond b (Some place) None))) (not_below place (length scope.names) le)
+
+  -- ---- a name of this scope
+
+  module _ (count : ℕ) (fits : count ≤ length scope.names) where
+    -- it stands among so many names, or behind them
+    early : is_declared (take count scope.names) name.letters ≡ true → place < count
+    early e =
+        let long = length-take-le count scope.names fits in
+        let lt = within (bytes_eq name.letters) (take count scope.names) (drop count scope.names) e in
+        subst (λ (n : ℕ). place < n) long (subst (λ (l : List Text). position_or_len (bytes_eq name.letters) l < length (take count scope.names)) (take-append-drop count scope.names) lt)
+
+    late : is_declared (take count scope.names) name.letters ≡ false → count ≤ place
+    late e =
+        let long = length-take-le count scope.names fits in
+        let le = behind (bytes_eq name.letters) (take count scope.names) (drop count scope.names) e in
+        subst (λ (n : ℕ). n ≤ place) long (subst (λ (l : List Text). length (take count scope.names) ≤ position_or_len (bytes_eq name.letters) l) (take-append-drop count scope.names) le)
+
+  anywhere : (d : Bool) → is_declared (take (length scope.names) scope.names) name.letters ≡ d → known_by false scope.known (meaning_of scope name) ≡ d
+  anywhere false e = nowhere false (late (length scope.names) (omega arith) e)
+  anywhere true e = by (nat_lt place scope.variables) refl (early (length scope.names) (omega arith) e)
+    where
+      by : (c : Bool) → nat_lt place scope.variables ≡ c → place < length scope.names → known_by false scope.known (meaning_of scope name) ≡ true
+      by true c lt = a_variable false (ltb-true place scope.variables c)
+      by false c lt =
+          let it = another false (ltb-false place scope.variables c) lt in
+          it.2 ∙ stands_anyway scope.known (place - scope.variables) it.0 it.1
+
+  count_fits : scope.variables + scope.known ≤ length scope.names
+  count_fits = let w = h.whole in let k = h.known in omega (arith, w, k)
+
+  before : (d : Bool) → is_declared (take (scope.variables + scope.known) scope.names) name.letters ≡ d → known_by true scope.known (meaning_of scope name) ≡ d
+  before true e = by (nat_lt place scope.variables) refl (early (scope.variables + scope.known) count_fits e)
+    where
+      by : (c : Bool) → nat_lt place scope.variables ≡ c → place < scope.variables + scope.known → known_by true scope.known (meaning_of scope name) ≡ true
+      by true c lt = a_variable true (ltb-true place scope.variables c)
+      by false c lt =
+          let f = count_fits in
+          let le = ltb-false place scope.variables c in
+          let it = another true le (omega (arith, f, lt)) in
+          it.2 ∙ stands_known true scope.known (place - scope.variables) it.0 it.1 (omega (arith, le, lt))
+  before false e = by (nat_lt place (length scope.names)) refl (late (scope.variables + scope.known) count_fits e)
+    where
+      by : (c : Bool) → nat_lt place (length scope.names) ≡ c → scope.variables + scope.known ≤ place → known_by true scope.known (meaning_of scope name) ≡ false
+      by true c le =
+          let it = another true (omega (arith, le)) (ltb-true place (length scope.names) c) in
+          it.2 ∙ stands_later scope.known (place - scope.variables) it.0 it.1 (omega (arith, le))
+      by false c le = nowhere true (ltb-false place (length scope.names) c)
+
+  -- the scope knows it where it is one of the names that may be used there
+  pub known_alike : (constant : Bool) → known_in scope (use_of constant name) ≡ is_declared (names_for scope constant) name.letters
+  known_alike true = before (is_declared (take (scope.variables + scope.known) scope.names) name.letters) refl
+  known_alike false =
+      anywhere (is_declared (take (length scope.names) scope.names) name.letters) refl
+      ∙ ap (λ (l : List Text). is_declared l name.letters) (take-length scope.names)
