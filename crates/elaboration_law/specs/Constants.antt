@@ -78,6 +78,7 @@ module _ (inner outer : List Text) (values connections : List NamedConnection) w
   abbrev pub used_in_connection : Port → List UseAmong
   used_in_connection p = among outer (used_if_connected p.output (value_for connections p.name.letters))
 
+  -- its parameters (named events and instances use nothing), its ports, its declarations, what its ports are connected to, its processes
   abbrev pub used_in_instance : ModuleTree → List UseAmong
   used_in_instance m =
       (flat_map used_in_symbol (flat_map valueless_by m.items)
@@ -91,7 +92,8 @@ module _ (inner outer : List Text) (values connections : List NamedConnection) w
 abbrev pub variables_of : ModuleTree → List Text
 variables_of m = letters_of (declared_names m)
 
--- all constants of an instance are constant: of a module, by what is said of it outside, where these are the variables
+-- all constants of an instance of a module are constant: outside, where these are the variables, values are given to its parameters, and
+-- its ports are connected
 abbrev pub is_all_fixed : List Text → List NamedConnection → List NamedConnection → ModuleTree → Bool
 is_all_fixed outer values connections m = list_all is_fixed (used_in_instance (variables_of m) outer values connections m)
 
