@@ -25,3 +25,4 @@ pub mod FixedLemmas
 pub mod MadeLemmas
 pub mod ConstantLemmas
 pub mod KnownUses
+pub mod DumpUses
