@@ -128,8 +128,8 @@ last_adds {B = B} first_of table_of table ps (Ok x) next h more = by (next x) (m
 last_adds first_of table_of table ps (Err fault) next h more = tt
 
 -- an action
-acted : (table : Table) (word : Option Word) (action : Action) → dumped (lowered_action table word action).table ≡ dumped table ++ dumped_by action
-acted table word action = flat_map-append dumped_by table.actions (action ∷ []) ∙ ap (λ (l : List Text). dumped table ++ l) (append-nil (dumped_by action))
+acted : (table : Table) (action : Action) → flat_map dumped_by (table.actions ++ action ∷ []) ≡ dumped table ++ dumped_by action
+acted table action = flat_map-append dumped_by table.actions (action ∷ []) ∙ ap (λ (l : List Text). dumped table ++ l) (append-nil (dumped_by action))
 
 nothing_more : (table : Table) → dumped table ≡ dumped table ++ []
 nothing_more table = sym (append-nil (dumped table))
@@ -139,3 +139,112 @@ of_lowered l = l.table
 
 abbrev of_branches : LoweredBranches → Table
 of_branches l = l.table
+
+-- ---- statements
+
+placed_adds : (table : Table) (ps : List Text) (places : List ℕ) (a : Result Lowered ElabFault) → Adds of_lowered table ps a → Adds of_lowered table ps (with_places_before places a)
+placed_adds table ps places a h = last_adds of_lowered of_lowered table ps a _ h (λ lowered. nothing_more lowered.table)
+
+module _ (scope : Scope) where
+  selection_adds : (table : Table) (word : Option Word) (selection : Option SelectionTree) → Adds of_lowered table (paths_in scope.top selection) (lower_selection scope selection >>= λ chosen. Ok (lowered_action table word (DumpVars chosen)))
+  selection_adds table word None = acted table (DumpVars [])
+  selection_adds table word (Some selection) = by (levels_in selection.levels)
+    where
+      same : (levels : ℕ) (paths : List (List Word)) → map (λ (c : Chosen). c.path) (chosen_by scope.top levels paths) ≡ paths_of scope.top paths
+      same levels [] = refl
+      same levels (path ∷ more) = all levels (path ∷ more)
+        where
+          all : (levels : ℕ) (list : List (List Word)) → map (λ (c : Chosen). c.path) (map (λ names. chosen_of levels (dotted_path names)) list) ≡ map dotted_path list
+          all levels [] = refl
+          all levels (names ∷ others) = ap (λ (l : List Text). dotted_path names ∷ l) (all levels others)
+
+      by : (levels : Option ℕ) → Adds of_lowered table (paths_of scope.top selection.paths)
+          ((found levels Kind (Some selection.levels) >>= λ levels. Ok (chosen_by scope.top levels selection.paths)) >>= λ chosen. Ok (lowered_action table word (DumpVars chosen)))
+      by None = tt
+      by (Some levels) = acted table (DumpVars (chosen_by scope.top levels selection.paths)) ∙ ap (λ (l : List Text). dumped table ++ l) (same levels selection.paths)
+
+  assignment_adds : (blocking : Bool) (table : Table) (target : TargetTree) (amount : Option DelayTree) (value : text.ExpressionTree) → Adds of_lowered table [] (lower_assignment blocking scope table target amount value)
+  assignment_adds blocking table target amount value =
+      silent_adds of_lowered table [] (lower_target scope target) _ (λ targets.
+      silent_adds of_lowered table [] (lower_own_amount scope amount) _ (λ delay.
+      silent_adds of_lowered table [] (lower_expression scope value) _ (λ e.
+      acted table (assignment_action blocking delay targets e) ∙ ap (λ (l : List Text). dumped table ++ l) (by blocking delay targets e))))
+    where
+      by : (b : Bool) (delay : Option ExpressionTree) (targets : List Target) (e : ExpressionTree) → dumped_by (assignment_action b delay targets e) ≡ []
+      by true None targets e = refl
+      by true (Some amount) targets e = refl
+      by false None targets e = refl
+      by false (Some amount) targets e = refl
+
+  task_adds : (table : Table) (call : TaskTree) → Adds of_lowered table (paths_in_task scope.top call) (lower_task scope table call)
+  task_adds table (print kind arguments) = silent_adds of_lowered table [] (lower_line scope arguments) _ (λ pieces. acted table _)
+  task_adds table (dump_file letters) = acted table _
+  task_adds table (dump_vars selection) = selection_adds table _ selection
+  task_adds table (dump dumps.On) = acted table _
+  task_adds table (dump dumps.Off) = acted table _
+  task_adds table (dump dumps.All) = acted table _
+  task_adds table (dump dumps.Flush) = acted table _
+  task_adds table (end_run true digits) = acted table _
+  task_adds table (end_run false digits) = acted table _
+
+  mutual
+    statement_adds : (table : Table) (statement : StatementTree) → Adds of_lowered table (paths_by scope.top statement) (lower_statement scope table statement)
+    statement_adds table empty = nothing_more table
+    statement_adds table (block statements) = all_add table statements
+    statement_adds table (assign target amount value) = assignment_adds true table target amount value
+    statement_adds table (nonblocking target amount value) = assignment_adds false table target amount value
+    statement_adds table (trigger letters) = silent_adds of_lowered table [] (lower_event scope letters) _ (λ number. acted table _)
+    statement_adds table (if_true condition body) =
+        silent_adds of_lowered table (paths_by scope.top body) (lower_expression scope condition) _ (λ test.
+        last_adds of_lowered of_lowered table (paths_by scope.top body) (lower_statement scope table body) _ (statement_adds table body) (λ inner. acted inner.table _))
+    statement_adds table (if_else condition body other) =
+        silent_adds of_lowered table (paths_by scope.top body ++ paths_by scope.top other) (lower_expression scope condition) _ (λ test.
+        then_adds of_lowered of_lowered table (paths_by scope.top body) (paths_by scope.top other) (lower_statement scope table body) _ (statement_adds table body) (λ one.
+        last_adds of_lowered of_lowered one.table (paths_by scope.top other) (lower_statement scope one.table other) _ (statement_adds one.table other) (λ two. acted two.table _)))
+    statement_adds table (case_of kind value branches) =
+        silent_adds of_lowered table (paths_by_branches scope.top branches) (lower_expression scope value) _ (λ e.
+        last_adds of_branches of_lowered table (paths_by_branches scope.top branches) (lower_branches scope table branches) _ (branches_add table branches) (λ inner. acted inner.table _))
+    statement_adds table (while_true condition body) =
+        silent_adds of_lowered table (paths_by scope.top body) (lower_expression scope condition) _ (λ test.
+        last_adds of_lowered of_lowered table (paths_by scope.top body) (lower_statement scope table body) _ (statement_adds table body) (λ inner. acted inner.table _))
+    statement_adds table (repeat_times count body) =
+        silent_adds of_lowered table (paths_by scope.top body) (lower_expression scope count) _ (λ turns.
+        last_adds of_lowered of_lowered table (paths_by scope.top body) (lower_statement scope table body) _ (statement_adds table body) (λ inner. acted inner.table _))
+    statement_adds table (forever body) = last_adds of_lowered of_lowered table (paths_by scope.top body) (lower_statement scope table body) _ (statement_adds table body) (λ inner. acted inner.table _)
+    statement_adds table (for_loop target value condition next_target next_value body) =
+        then_adds of_lowered of_lowered table [] (paths_by scope.top body) (lower_assignment true scope table target None value) _ (assignment_adds true table target None value) (λ begun.
+        placed_adds begun.table (paths_by scope.top body) begun.places _
+        (silent_adds of_lowered begun.table (paths_by scope.top body) (lower_expression scope condition) _ (λ test.
+        last_adds of_lowered of_lowered begun.table (paths_by scope.top body) (lower_statement scope begun.table body) _ (statement_adds begun.table body) (λ inner.
+        last_adds of_lowered of_lowered inner.table [] (with_places_before inner.places (lower_assignment true scope inner.table next_target None next_value)) _
+        (placed_adds inner.table [] inner.places (lower_assignment true scope inner.table next_target None next_value) (assignment_adds true inner.table next_target None next_value))
+        (λ turn. acted turn.table _)))))
+    statement_adds table (wait_for condition body) =
+        silent_adds of_lowered table (paths_by scope.top body) (lower_expression scope condition) _ (λ test.
+        last_adds of_lowered of_lowered table (paths_by scope.top body) (lower_statement scope table body) _ (statement_adds table body) (λ inner. acted inner.table _))
+    statement_adds table (delay amount body) =
+        silent_adds of_lowered table (paths_by scope.top body) (lower_amount scope amount) _ (λ e.
+        last_adds of_lowered of_lowered table (paths_by scope.top body) (lower_statement scope table body) _ (statement_adds table body) (λ inner. acted inner.table _))
+    statement_adds table (event control body) =
+        silent_adds of_lowered table (paths_by scope.top body) (lower_control scope control body) _ (λ terms.
+        last_adds of_lowered of_lowered table (paths_by scope.top body) (lower_statement scope table body) _ (statement_adds table body) (λ inner. acted inner.table _))
+    statement_adds table (task call) = task_adds table call
+
+    all_add : (table : Table) (statements : StatementTrees) → Adds of_lowered table (paths_by_all scope.top statements) (lower_all scope table statements)
+    all_add table no_statement = nothing_more table
+    all_add table (first_statement statement rest) =
+        then_adds of_lowered of_lowered table (paths_by scope.top statement) (paths_by_all scope.top rest) (lower_statement scope table statement) _ (statement_adds table statement) (λ front.
+        placed_adds front.table (paths_by_all scope.top rest) front.places (lower_all scope front.table rest) (all_add front.table rest))
+
+    branch_adds : (table : Table) (branch : BranchTree) → Adds of_branches table (paths_by_branch scope.top branch) (lower_branch scope table branch)
+    branch_adds table (labelled items body) =
+        last_adds of_lowered of_branches table (paths_by scope.top body) (lower_statement scope table body) _ (statement_adds table body) (λ inner.
+        silent_adds of_branches inner.table [] (lower_labels scope inner.places items) _ (λ branches. nothing_more inner.table))
+    branch_adds table (default colon body) =
+        last_adds of_lowered of_branches table (paths_by scope.top body) (lower_statement scope table body) _ (statement_adds table body) (λ inner. nothing_more inner.table)
+
+    branches_add : (table : Table) (branches : BranchTrees) → Adds of_branches table (paths_by_branches scope.top branches) (lower_branches scope table branches)
+    branches_add table no_branch = nothing_more table
+    branches_add table (first_branch branch rest) =
+        then_adds of_branches of_branches table (paths_by_branch scope.top branch) (paths_by_branches scope.top rest) (lower_branch scope table branch) _ (branch_adds table branch) (λ front.
+        last_adds of_branches of_branches front.table (paths_by_branches scope.top rest) (lower_branches scope front.table rest) _ (branches_add front.table rest) (λ others. nothing_more others.table))
