@@ -16,13 +16,16 @@ use Rattle.vdesign.specs.declared.dump.Chosen.{Chosen}
 use Rattle.velab_expr.specs.declared.fault.Rule.TheVariants.{Kind}
 use Rattle.velab_expr.specs.declared.fault.ElabFault.{ElabFault}
 use Rattle.velab_expr.specs.Answers.{◌>>=◌, found}
-use Rattle.velab_expr.specs.Scopes.{Scope, lower_event}
+use Rattle.velab_expr.specs.Scopes.{Scope, lower_event, lower_variable}
+use Rattle.velab_expr.specs.Symbols.{behind_item}
+use Rattle.vast.specs.NumberedModules.{ItemTree}
+use Rattle.velab_process.specs.Processes.{ProcessTree, procedural, continuous, Processes, with_begins_before, lower_process, lower_processes, process_trees_by, lower_items}
 use Rattle.velab_expr.specs.Resolved.{lower_expression}
 use Rattle.velab_expr.specs.Written.{lower_target}
 use Rattle.velab_expr.specs.Selections.{levels_in, dotted_path, chosen_by, chosen_of, lower_selection}
 use Rattle.velab_process.specs.Waits.{lower_control}
 use Rattle.velab_process.specs.Prints.{lower_line}
-use Rattle.velab_process.specs.Statements.{Table, Lowered, LoweredBranches, lowered_action, with_places_before, with_branches_before, assignment_action, lower_amount, lower_own_amount, lower_assignment, lower_task, lower_labels, lower_statement, lower_all, lower_branch, lower_branches, dump_action, end_action}
+use Rattle.velab_process.specs.Statements.{Table, Lowered, LoweredBranches, lowered_action, with_places_before, assignment_action, lower_amount, lower_own_amount, lower_assignment, lower_task, lower_labels, lower_statement, lower_all, lower_branch, lower_branches}
 
 -- ---- in actions
 
@@ -248,3 +251,35 @@ module _ (scope : Scope) where
     branches_add table (first_branch branch rest) =
         then_adds of_branches of_branches table (paths_by_branch scope.top branch) (paths_by_branches scope.top rest) (lower_branch scope table branch) _ (branch_adds table branch) (λ front.
         last_adds of_branches of_branches front.table (paths_by_branches scope.top rest) (lower_branches scope front.table rest) _ (branches_add front.table rest) (λ others. nothing_more others.table))
+
+-- ---- processes
+
+abbrev pub paths_by_process : Text → ProcessTree → List Text
+paths_by_process top (procedural statement) = paths_by top statement
+paths_by_process top (continuous name value) = []
+
+abbrev pub paths_by_item : Text → ItemTree → List Text
+paths_by_item top item = flat_map (paths_by_process top) (process_trees_by item)
+
+abbrev of_processes : Processes → Table
+of_processes p = p.table
+
+begun_adds : (table : Table) (ps : List Text) (before : List (List ℕ)) (a : Result Processes ElabFault) → Adds of_processes table ps a → Adds of_processes table ps (with_begins_before before a)
+begun_adds table ps before a h = last_adds of_processes of_processes table ps a _ h (λ processes. nothing_more processes.table)
+
+process_adds : (scope : Scope) (table : Table) (process : ProcessTree) → Adds of_lowered table (paths_by_process scope.top process) (lower_process scope table process)
+process_adds scope table (procedural statement) = statement_adds scope table statement
+process_adds scope table (continuous name value) =
+    silent_adds of_lowered table [] (lower_variable scope name) _ (λ net. silent_adds of_lowered table [] (lower_expression scope value) _ (λ e. acted table _))
+
+processes_add : (scope : Scope) (table : Table) (list : List ProcessTree) → Adds of_processes table (flat_map (paths_by_process scope.top) list) (lower_processes scope table list)
+processes_add scope table [] = nothing_more table
+processes_add scope table (process ∷ rest) =
+    then_adds of_lowered of_processes table (paths_by_process scope.top process) (flat_map (paths_by_process scope.top) rest) (lower_process scope table process) _ (process_adds scope table process) (λ front.
+    begun_adds front.table (flat_map (paths_by_process scope.top) rest) (front.places ∷ []) (lower_processes scope front.table rest) (processes_add scope front.table rest))
+
+pub items_add : (scope : Scope) (table : Table) (items : List ItemTree) → Adds of_processes table (flat_map (paths_by_item scope.top) items) (lower_items scope table items)
+items_add scope table [] = nothing_more table
+items_add scope table (item ∷ more) =
+    then_adds of_processes of_processes table (paths_by_item scope.top item) (flat_map (paths_by_item scope.top) more) (lower_processes scope table (process_trees_by item)) _ (processes_add scope table (process_trees_by item)) (λ front.
+    begun_adds front.table (flat_map (paths_by_item scope.top) more) front.begins (lower_items (behind_item scope item) front.table more) (items_add (behind_item scope item) front.table more))

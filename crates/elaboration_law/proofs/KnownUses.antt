@@ -165,8 +165,8 @@ module _ (scope : Scope) (h : IsOrdered scope) (name : Word) where
         it.0,
         h.others (place - scope.variables) it.0 it.1,
         ap (λ (b : Bool). known_by constant scope.known (option_and_then (meaning_at scope) (cond b (Some place) None))) (lt-ltb place (length scope.names) lt)
-        ∙ ap (λ (b : Bool). known_by constant scope.known (if b then Some (Variable (scope.first + place)) else slice_get scope.others (place - scope.variables))) (not_below place scope.variables le)
-        ∙ ap (known_by constant scope.known) it.1,
+            ∙ ap (λ (b : Bool). known_by constant scope.known (if b then Some (Variable (scope.first + place)) else slice_get scope.others (place - scope.variables))) (not_below place scope.variables le)
+            ∙ ap (known_by constant scope.known) it.1,
       )
 
   nowhere : (constant : Bool) → length scope.names ≤ place → known_by constant scope.known (meaning_of scope name) ≡ false
