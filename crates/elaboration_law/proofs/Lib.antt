@@ -26,3 +26,4 @@ pub mod MadeLemmas
 pub mod ConstantLemmas
 pub mod KnownUses
 pub mod DumpUses
+pub mod PathUses
