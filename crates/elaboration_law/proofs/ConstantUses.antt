@@ -114,7 +114,7 @@ pub is_of_at : (declared : List Text) (scope : Scope) (known : ℕ) → IsOf dec
 is_of_at declared scope known h = record { rest = h.rest; names = h.names; variables = h.variables; others = h.others }
 
 module _ {X : Type 0} (p : X → Bool) where
-  within : (xs ys : List X) → list_any p xs ≡ true → position_or_len p (xs ++ ys) < length xs
+  pub within : (xs ys : List X) → list_any p xs ≡ true → position_or_len p (xs ++ ys) < length xs
   within [] ys e = absurd cc
   within (x ∷ xs) ys e = by (p x) (within xs ys) e
     where
@@ -122,7 +122,7 @@ module _ {X : Type 0} (p : X → Bool) where
       by true rest e = omega arith
       by false rest e = let h = rest e in omega (arith, h)
 
-  behind : (xs ys : List X) → list_any p xs ≡ false → length xs ≤ position_or_len p (xs ++ ys)
+  pub behind : (xs ys : List X) → list_any p xs ≡ false → length xs ≤ position_or_len p (xs ++ ys)
   behind [] ys e = omega arith
   behind (x ∷ xs) ys e = by (p x) (behind xs ys) e
     where

@@ -24,3 +24,6 @@ pub mod ConstantUses
 pub mod FixedLemmas
 pub mod MadeLemmas
 pub mod ConstantLemmas
+pub mod KnownUses
+pub mod DumpUses
+pub mod PathUses
