@@ -1,5 +1,5 @@
 -- The paths that `$dumpvars` names in statements: those that stand in the actions of what they are lowered to.
-use Rattle.std.proofs.Common.{◌≡◌, ℕ, Bool, true, false, List, [], ◌∷◌, ◌++◌, map, Option, None, Some, Result, Ok, Err, refl, sym, ap, ◌∙◌, append_assoc}
+use Rattle.std.proofs.Common.{◌≡◌, ℕ, Bool, true, false, List, [], ◌∷◌, ◌++◌, map, Option, None, Some, Result, Ok, Err, refl, sym, ap, subst, ◌∙◌, append_assoc, if◌then◌else◌}
 use Rattle.std.specs.List.{flat_map}
 use Rattle.std.proofs.lemmas.List.{append-nil}
 use Rattle.std.proofs.lemmas.List.Concat.{flat_map-append}
@@ -20,9 +20,14 @@ use Rattle.velab_expr.specs.Scopes.{Scope, lower_event, lower_variable}
 use Rattle.velab_expr.specs.Symbols.{behind_item}
 use Rattle.vast.specs.NumberedModules.{ItemTree}
 use Rattle.velab_process.specs.Processes.{ProcessTree, procedural, continuous, Processes, with_begins_before, lower_process, lower_processes, process_trees_by, lower_items}
+use Rattle.elaboration_law.specs.Selected.{paths_of, paths_in, paths_in_task, paths_by, paths_by_all, paths_by_branch, paths_by_branches, paths_by_process, paths_by_item}
 use Rattle.velab_expr.specs.Resolved.{lower_expression}
 use Rattle.velab_expr.specs.Written.{lower_target}
 use Rattle.velab_expr.specs.Selections.{levels_in, dotted_path, chosen_by, chosen_of, lower_selection}
+use Rattle.vmodules.specs.Ports.{Port}
+use Rattle.vmodules.specs.Connected.{NamedConnection, value_for}
+use Rattle.velab_process.specs.Connections.{only_name, lower_input, lower_output, lower_connection, one_process, lower_join, lower_joins}
+use Rattle.vhierarchy.specs.Instances.{lower_own_processes, Context}
 use Rattle.velab_process.specs.Waits.{lower_control}
 use Rattle.velab_process.specs.Prints.{lower_line}
 use Rattle.velab_process.specs.Statements.{Table, Lowered, LoweredBranches, lowered_action, with_places_before, assignment_action, lower_amount, lower_own_amount, lower_assignment, lower_task, lower_labels, lower_statement, lower_all, lower_branch, lower_branches}
@@ -53,54 +58,6 @@ dumped_by Stop = []
 
 abbrev pub dumped : Table → List Text
 dumped table = flat_map dumped_by table.actions
-
--- ---- in the text
-
-abbrev pub paths_of : Text → List (List Word) → List Text
-paths_of top [] = top ∷ []
-paths_of top (path ∷ more) = map dotted_path (path ∷ more)
-
-abbrev pub paths_in : Text → Option SelectionTree → List Text
-paths_in top None = []
-paths_in top (Some selection) = paths_of top selection.paths
-
-abbrev pub paths_in_task : Text → TaskTree → List Text
-paths_in_task top (print kind arguments) = []
-paths_in_task top (dump_file letters) = []
-paths_in_task top (dump_vars selection) = paths_in top selection
-paths_in_task top (dump kind) = []
-paths_in_task top (end_run stops digits) = []
-
-abbrev mutual
-  pub paths_by : Text → StatementTree → List Text
-  paths_by top empty = []
-  paths_by top (block statements) = paths_by_all top statements
-  paths_by top (assign target amount value) = []
-  paths_by top (nonblocking target amount value) = []
-  paths_by top (trigger letters) = []
-  paths_by top (if_true condition body) = paths_by top body
-  paths_by top (if_else condition body other) = paths_by top body ++ paths_by top other
-  paths_by top (case_of kind value branches) = paths_by_branches top branches
-  paths_by top (while_true condition body) = paths_by top body
-  paths_by top (repeat_times count body) = paths_by top body
-  paths_by top (forever body) = paths_by top body
-  paths_by top (for_loop target value condition next_target next_value body) = paths_by top body
-  paths_by top (wait_for condition body) = paths_by top body
-  paths_by top (delay amount body) = paths_by top body
-  paths_by top (event control body) = paths_by top body
-  paths_by top (task call) = paths_in_task top call
-
-  pub paths_by_all : Text → StatementTrees → List Text
-  paths_by_all top no_statement = []
-  paths_by_all top (first_statement statement rest) = paths_by top statement ++ paths_by_all top rest
-
-  pub paths_by_branch : Text → BranchTree → List Text
-  paths_by_branch top (labelled items body) = paths_by top body
-  paths_by_branch top (default colon body) = paths_by top body
-
-  pub paths_by_branches : Text → BranchTrees → List Text
-  paths_by_branches top no_branch = []
-  paths_by_branches top (first_branch branch rest) = paths_by_branch top branch ++ paths_by_branches top rest
 
 -- ---- what an answer adds
 
@@ -254,13 +211,6 @@ module _ (scope : Scope) where
 
 -- ---- processes
 
-abbrev pub paths_by_process : Text → ProcessTree → List Text
-paths_by_process top (procedural statement) = paths_by top statement
-paths_by_process top (continuous name value) = []
-
-abbrev pub paths_by_item : Text → ItemTree → List Text
-paths_by_item top item = flat_map (paths_by_process top) (process_trees_by item)
-
 abbrev of_processes : Processes → Table
 of_processes p = p.table
 
@@ -278,8 +228,61 @@ processes_add scope table (process ∷ rest) =
     then_adds of_lowered of_processes table (paths_by_process scope.top process) (flat_map (paths_by_process scope.top) rest) (lower_process scope table process) _ (process_adds scope table process) (λ front.
     begun_adds front.table (flat_map (paths_by_process scope.top) rest) (front.places ∷ []) (lower_processes scope front.table rest) (processes_add scope front.table rest))
 
-pub items_add : (scope : Scope) (table : Table) (items : List ItemTree) → Adds of_processes table (flat_map (paths_by_item scope.top) items) (lower_items scope table items)
+items_add : (scope : Scope) (table : Table) (items : List ItemTree) → Adds of_processes table (flat_map (paths_by_item scope.top) items) (lower_items scope table items)
 items_add scope table [] = nothing_more table
 items_add scope table (item ∷ more) =
     then_adds of_processes of_processes table (paths_by_item scope.top item) (flat_map (paths_by_item scope.top) more) (lower_processes scope table (process_trees_by item)) _ (processes_add scope table (process_trees_by item)) (λ front.
     begun_adds front.table (flat_map (paths_by_item scope.top) more) front.begins (lower_items (behind_item scope item) front.table more) (items_add (behind_item scope item) front.table more))
+
+-- ---- connections
+
+-- an action that dumps nothing
+abbrev Quiet : Result Action ElabFault → Type 0
+Quiet (Ok action) = dumped_by action ≡ []
+Quiet (Err fault) = Unit {0}
+
+quiet_then : {A : Type 0} (a : Result A ElabFault) (next : A → Result Action ElabFault) → ((x : A) → Quiet (next x)) → Quiet (a >>= next)
+quiet_then (Ok x) next more = more x
+quiet_then (Err fault) next more = tt
+
+quiet_adds : (table : Table) (word : Option Word) (a : Result Action ElabFault) → Quiet a → Adds of_processes table [] (a >>= λ action. Ok (one_process table word action))
+quiet_adds table word (Ok action) q = acted table action ∙ ap (λ (l : List Text). dumped table ++ l) q
+quiet_adds table word (Err fault) q = tt
+
+module _ (whose : Word) (outer inner : Scope) where
+  input_quiet : (port : Word) (value : text.ExpressionTree) → Quiet (lower_input outer inner port value)
+  input_quiet port value = quiet_then (lower_variable inner port) _ (λ net. quiet_then (lower_expression outer value) _ (λ e. refl))
+
+  output_quiet : (port : Word) (name : Option Word) → Quiet (lower_output whose outer inner port name)
+  output_quiet port None = tt
+  output_quiet port (Some name) = quiet_then (lower_variable outer name) _ (λ net. quiet_then (lower_expression inner (text.name port)) _ (λ e. refl))
+
+  connection_quiet : (p : Port) (value : text.ExpressionTree) → Quiet (lower_connection whose outer inner p value)
+  connection_quiet p value = by p.output
+    where
+      by : (out : Bool) → Quiet (if out then lower_output whose outer inner p.name (only_name value) else lower_input outer inner p.name value)
+      by true = output_quiet p.name (only_name value)
+      by false = input_quiet p.name value
+
+  join_adds : (table : Table) (p : Port) (value : Option text.ExpressionTree) → Adds of_processes table [] (lower_join whose outer inner table p value)
+  join_adds table p None = nothing_more table
+  join_adds table p (Some value) = quiet_adds table (Some whose) (lower_connection whose outer inner p value) (connection_quiet p value)
+
+  joins_add : (connections : List NamedConnection) (table : Table) (ports : List Port) → Adds of_processes table [] (lower_joins whose outer inner connections table ports)
+  joins_add connections table [] = nothing_more table
+  joins_add connections table (p ∷ more) =
+      then_adds of_processes of_processes table [] [] (lower_join whose outer inner table p (value_for connections p.name.letters)) _ (join_adds table p (value_for connections p.name.letters)) (λ front.
+      begun_adds front.table [] front.begins (lower_joins whose outer inner connections front.table more) (joins_add connections front.table more))
+
+-- ---- an instance
+
+own_adds : (context : Context) (ports : List Port) (scope : Scope) (table : Table) → Adds of_processes table (flat_map (paths_by_item scope.top) context.unit.items) (lower_own_processes context ports scope table)
+own_adds context ports scope table =
+    let paths = flat_map (paths_by_item scope.top) context.unit.items in
+    then_adds of_processes of_processes table [] paths (lower_joins context.name context.overrides.scope scope context.connections table ports) _
+    (joins_add context.name context.overrides.scope scope context.connections table ports) (λ joins.
+    begun_adds joins.table paths joins.begins (lower_items scope joins.table context.unit.items) (items_add scope joins.table context.unit.items))
+
+pub own_dumps : (context : Context) (ports : List Port) (scope : Scope) (table : Table) (processes : Processes) → lower_own_processes context ports scope table ≡ Ok processes →
+    dumped processes.table ≡ dumped table ++ flat_map (paths_by_item scope.top) context.unit.items
+own_dumps context ports scope table processes is = subst (Adds of_processes table (flat_map (paths_by_item scope.top) context.unit.items)) is (own_adds context ports scope table)

@@ -1,26 +1,36 @@
 -- Names that nothing declares, or that aren't known yet where a constant uses them: what a scope says of them by its names.
-use Rattle.std.proofs.Common.{◌≡◌, ◌<◌, ◌≤◌, ℕ, ◌+◌, ◌-◌, nat_lt, zero, suc, Bool, true, false, cond, if◌then◌else◌, not, ◌||◌, List, [], ◌∷◌, length, take, drop, slice_get, option_and_then, Option, Some, None, refl, ap, subst, ◌∙◌, arith}
+use Rattle.std.proofs.Common.{◌≡◌, ◌<◌, ◌≤◌, ℕ, ◌+◌, ◌-◌, nat_lt, zero, suc, Bool, true, false, cond, if◌then◌else◌, not, ◌||◌, List, [], ◌∷◌, ◌++◌, length, slice_get, option_and_then, Option, Some, None, Ok, Err, refl, sym, ap, subst, ◌∙◌, arith, length-append}
 use Rattle.std.specs.List.{position_or_len}
 use Rattle.std.specs.Str.{bytes_eq}
-use Rattle.std.proofs.lemmas.Bool.{lt-ltb, ltb-true, ltb-false}
-use Rattle.std.proofs.lemmas.List.{length-take-le, take-append-drop}
-use Rattle.std.proofs.Math.Seq.{take-length}
+use Rattle.std.proofs.lemmas.Bool.{lt-ltb, le-ltb, ltb-true, ltb-false}
+use Rattle.std.proofs.lemmas.List.{append-nil}
+use Rattle.basis.specs.declared.timescale.Timescale.{Timescale}
 use Rattle.vast.specs.Words.{Text}
 use Rattle.vast.specs.NumberedWords.{Word}
+use Rattle.vast.specs.NumberedModules.{ModuleTree, SourceTree}
+use Rattle.vdesign.specs.Design.{Design}
 use Rattle.vdesign.specs.declared.action.Edge.{Edge}
 use Rattle.vdesign.specs.declared.action.Edge.TheVariants.{Any, Rise, Fall}
 use Rattle.vmodules.specs.Names.{is_declared}
+use Rattle.vmodules.specs.Hierarchy.{top_of}
 use Rattle.velab_expr.specs.declared.fault.Rule.{Rule}
 use Rattle.velab_expr.specs.declared.fault.Rule.TheVariants.{Top, Doubled, Unknown, Drivers, Ports, Width, Constant, Depth, TooMany, Kind}
 use Rattle.velab_expr.specs.declared.scope.Meaning.{Meaning}
 use Rattle.velab_expr.specs.declared.scope.Meaning.TheVariants.{Variable, Parameter, Event, Instance}
 use Rattle.velab_expr.specs.declared.scope.Operand.TheVariants as operand
+use Rattle.velab_expr.specs.declared.fault.ElabFault.{ElabFault}
 use Rattle.velab_expr.specs.Answers.{required}
 use Rattle.velab_expr.specs.Scopes.{Scope, meaning_at, meaning_of, bounds_for, operand_by, variable_by, event_by}
 use Rattle.velab_process.specs.Waits.{term_by}
+use Rattle.vhierarchy.specs.Instances.{elaborate_top, elaborated}
 use Rattle.elaboration_law.specs.Uses.{Use, use_of, use_of_time}
 use Rattle.elaboration_law.proofs.UseLemmas.{Judges, required_judges, Question}
+use Rattle.elaboration_law.specs.Places.{Place, HasMisuse}
+use Rattle.elaboration_law.specs.Unknowns.{is_known}
 use Rattle.elaboration_law.proofs.ConstantUses.{within, behind}
+use Rattle.elaboration_law.proofs.PlaceLemmas.{StandsIn, IsAt}
+use Rattle.elaboration_law.proofs.InstanceUses.{UseRule}
+use Rattle.elaboration_law.proofs.MisuseLemmas.{misuse_told, misuse_never}
 
 abbrev pub is_unknown : Rule → Bool
 is_unknown Top = false
@@ -97,57 +107,33 @@ names = record {
 
 -- ---- the names of a scope
 
--- a parameter is the one at its place, and what has no value is known everywhere
-abbrev pub StandsIn : ℕ → ℕ → Meaning → Type 0
-StandsIn known place (Variable number) = ⊥
-StandsIn known place (Parameter value bounds before) = before ≡ place
-StandsIn known place (Event number) = place < known
-StandsIn known place Instance = place < known
-
--- each name of the scope stands for something, and each of the others at its place
-pub record IsOrdered (scope : Scope) : Type 0 where
-  pub whole : length scope.names ≡ scope.variables + length scope.others
-  pub known : scope.known ≤ length scope.others
-  pub others : (place : ℕ) (meaning : Meaning) → slice_get scope.others place ≡ Some meaning → StandsIn scope.known place meaning
-
--- the names that may be used there: in a constant those that stand before
-abbrev pub names_for : Scope → Bool → List Text
-names_for scope constant = if constant then take (scope.variables + scope.known) scope.names else scope.names
-
 there_is : (others : List Meaning) (k : ℕ) → k < length others → (meaning : Meaning) × (slice_get others k ≡ Some meaning)
 there_is [] k lt = absurd (omega (arith, lt))
 there_is (one ∷ more) zero lt = (one, refl)
 there_is (one ∷ more) (suc k) lt = there_is more k (omega (arith, lt))
 
-not_below : (a b : ℕ) → b ≤ a → nat_lt a b ≡ false
-not_below a b le = by (nat_lt a b) refl
-  where
-    by : (c : Bool) → nat_lt a b ≡ c → c ≡ false
-    by true e = let lt = ltb-true a b e in absurd (omega (arith, lt, le))
-    by false e = refl
-
 -- a name at a place that is known
-stands_known : (constant : Bool) (known place : ℕ) (meaning : Meaning) → StandsIn known place meaning → place < known → known_by constant known (Some meaning) ≡ true
-stands_known constant known place (Variable number) s lt = absurd s
-stands_known true known place (Parameter value bounds before) s lt = lt-ltb before known (omega (arith, s, lt))
-stands_known false known place (Parameter value bounds before) s lt = refl
-stands_known constant known place (Event number) s lt = refl
-stands_known constant known place Instance s lt = refl
+stands_known : (constant : Bool) (firm known place : ℕ) (meaning : Meaning) → StandsIn firm place meaning → place < known → known_by constant known (Some meaning) ≡ true
+stands_known constant firm known place (Variable number) s lt = absurd s
+stands_known true firm known place (Parameter value bounds before) s lt = lt-ltb before known (omega (arith, s, lt))
+stands_known false firm known place (Parameter value bounds before) s lt = refl
+stands_known constant firm known place (Event number) s lt = refl
+stands_known constant firm known place Instance s lt = refl
 
 -- and at one that isn't
-stands_later : (known place : ℕ) (meaning : Meaning) → StandsIn known place meaning → known ≤ place → known_by true known (Some meaning) ≡ false
-stands_later known place (Variable number) s le = absurd s
-stands_later known place (Parameter value bounds before) s le = not_below before known (omega (arith, s, le))
-stands_later known place (Event number) s le = absurd (omega (arith, s, le))
-stands_later known place Instance s le = absurd (omega (arith, s, le))
+stands_later : (firm known place : ℕ) (meaning : Meaning) → firm ≤ known → StandsIn firm place meaning → known ≤ place → known_by true known (Some meaning) ≡ false
+stands_later firm known place (Variable number) few s le = absurd s
+stands_later firm known place (Parameter value bounds before) few s le = le-ltb before known (omega (arith, s, le))
+stands_later firm known place (Event number) few s le = absurd (omega (arith, few, s, le))
+stands_later firm known place Instance few s le = absurd (omega (arith, few, s, le))
 
-stands_anyway : (known place : ℕ) (meaning : Meaning) → StandsIn known place meaning → known_by false known (Some meaning) ≡ true
-stands_anyway known place (Variable number) s = absurd s
-stands_anyway known place (Parameter value bounds before) s = refl
-stands_anyway known place (Event number) s = refl
-stands_anyway known place Instance s = refl
+stands_anyway : (firm known place : ℕ) (meaning : Meaning) → StandsIn firm place meaning → known_by false known (Some meaning) ≡ true
+stands_anyway firm known place (Variable number) s = absurd s
+stands_anyway firm known place (Parameter value bounds before) s = refl
+stands_anyway firm known place (Event number) s = refl
+stands_anyway firm known place Instance s = refl
 
-module _ (scope : Scope) (h : IsOrdered scope) (name : Word) where
+module _ (here : Place) (scope : Scope) (h : IsAt here scope) (name : Word) where
   abbrev place : ℕ
   place = position_or_len (bytes_eq name.letters) scope.names
 
@@ -158,70 +144,85 @@ module _ (scope : Scope) (h : IsOrdered scope) (name : Word) where
       ap (λ (b : Bool). known_by constant scope.known (option_and_then (meaning_at scope) (cond b (Some place) None))) (lt-ltb place (length scope.names) (omega (arith, lt, w)))
       ∙ ap (λ (b : Bool). known_by constant scope.known (if b then Some (Variable (scope.first + place)) else slice_get scope.others (place - scope.variables))) (lt-ltb place scope.variables lt)
 
-  another : (constant : Bool) → scope.variables ≤ place → place < length scope.names → (meaning : Meaning) × StandsIn scope.known (place - scope.variables) meaning × (known_by constant scope.known (meaning_of scope name) ≡ known_by constant scope.known (Some meaning))
+  another : (constant : Bool) → scope.variables ≤ place → place < length scope.names → (meaning : Meaning) × StandsIn h.firm (place - scope.variables) meaning × (known_by constant scope.known (meaning_of scope name) ≡ known_by constant scope.known (Some meaning))
   another constant le lt =
       let w = h.whole in
       let it = there_is scope.others (place - scope.variables) (omega (arith, le, lt, w)) in (
         it.0,
         h.others (place - scope.variables) it.0 it.1,
         ap (λ (b : Bool). known_by constant scope.known (option_and_then (meaning_at scope) (cond b (Some place) None))) (lt-ltb place (length scope.names) lt)
-            ∙ ap (λ (b : Bool). known_by constant scope.known (if b then Some (Variable (scope.first + place)) else slice_get scope.others (place - scope.variables))) (not_below place scope.variables le)
+            ∙ ap (λ (b : Bool). known_by constant scope.known (if b then Some (Variable (scope.first + place)) else slice_get scope.others (place - scope.variables))) (le-ltb place scope.variables le)
             ∙ ap (known_by constant scope.known) it.1,
       )
 
   nowhere : (constant : Bool) → length scope.names ≤ place → known_by constant scope.known (meaning_of scope name) ≡ false
-  nowhere constant le = ap (λ (b : Bool). known_by constant scope.known (option_and_then (meaning_at scope) (cond b (Some place) None))) (not_below place (length scope.names) le)
+  nowhere constant le = ap (λ (b : Bool). known_by constant scope.known (option_and_then (meaning_at scope) (cond b (Some place) None))) (le-ltb place (length scope.names) le)
 
-  -- ---- a name of this scope
+  -- it stands among the first of the names, or behind them
+  module _ (front back : List Text) (is : scope.names ≡ front ++ back) where
+    early : is_declared front name.letters ≡ true → place < length front
+    early e = subst (λ (l : List Text). position_or_len (bytes_eq name.letters) l < length front) (sym is) (within (bytes_eq name.letters) front back e)
 
-  module _ (count : ℕ) (fits : count ≤ length scope.names) where
-    -- it stands among so many names, or behind them
-    early : is_declared (take count scope.names) name.letters ≡ true → place < count
-    early e =
-        let long = length-take-le count scope.names fits in
-        let lt = within (bytes_eq name.letters) (take count scope.names) (drop count scope.names) e in
-        subst (λ (n : ℕ). place < n) long (subst (λ (l : List Text). position_or_len (bytes_eq name.letters) l < length (take count scope.names)) (take-append-drop count scope.names) lt)
+    late : is_declared front name.letters ≡ false → length front ≤ place
+    late e = subst (λ (l : List Text). length front ≤ position_or_len (bytes_eq name.letters) l) (sym is) (behind (bytes_eq name.letters) front back e)
 
-    late : is_declared (take count scope.names) name.letters ≡ false → count ≤ place
-    late e =
-        let long = length-take-le count scope.names fits in
-        let le = behind (bytes_eq name.letters) (take count scope.names) (drop count scope.names) e in
-        subst (λ (n : ℕ). n ≤ place) long (subst (λ (l : List Text). length (take count scope.names) ≤ position_or_len (bytes_eq name.letters) l) (take-append-drop count scope.names) le)
-
-  anywhere : (d : Bool) → is_declared (take (length scope.names) scope.names) name.letters ≡ d → known_by false scope.known (meaning_of scope name) ≡ d
-  anywhere false e = nowhere false (late (length scope.names) (omega arith) e)
-  anywhere true e = by (nat_lt place scope.variables) refl (early (length scope.names) (omega arith) e)
+  anywhere : (d : Bool) → is_declared scope.names name.letters ≡ d → known_by false scope.known (meaning_of scope name) ≡ d
+  anywhere false e = nowhere false (late scope.names [] (sym (append-nil scope.names)) e)
+  anywhere true e = by (nat_lt place scope.variables) refl (early scope.names [] (sym (append-nil scope.names)) e)
     where
       by : (c : Bool) → nat_lt place scope.variables ≡ c → place < length scope.names → known_by false scope.known (meaning_of scope name) ≡ true
       by true c lt = a_variable false (ltb-true place scope.variables c)
       by false c lt =
           let it = another false (ltb-false place scope.variables c) lt in
-          it.2 ∙ stands_anyway scope.known (place - scope.variables) it.0 it.1
+          it.2 ∙ stands_anyway h.firm scope.known (place - scope.variables) it.0 it.1
 
-  count_fits : scope.variables + scope.known ≤ length scope.names
-  count_fits = let w = h.whole in let k = h.known in omega (arith, w, k)
-
-  before : (d : Bool) → is_declared (take (scope.variables + scope.known) scope.names) name.letters ≡ d → known_by true scope.known (meaning_of scope name) ≡ d
-  before true e = by (nat_lt place scope.variables) refl (early (scope.variables + scope.known) count_fits e)
+  before : (d : Bool) → is_declared here.known name.letters ≡ d → known_by true scope.known (meaning_of scope name) ≡ d
+  before true e = by (nat_lt place scope.variables) refl (early here.known h.later (h.names ∙ h.all) e)
     where
-      by : (c : Bool) → nat_lt place scope.variables ≡ c → place < scope.variables + scope.known → known_by true scope.known (meaning_of scope name) ≡ true
+      by : (c : Bool) → nat_lt place scope.variables ≡ c → place < length here.known → known_by true scope.known (meaning_of scope name) ≡ true
       by true c lt = a_variable true (ltb-true place scope.variables c)
       by false c lt =
-          let f = count_fits in
+          let long = ap length (h.names ∙ h.all) ∙ length-append here.known h.later in
+          let count = h.known in
           let le = ltb-false place scope.variables c in
-          let it = another true le (omega (arith, f, lt)) in
-          it.2 ∙ stands_known true scope.known (place - scope.variables) it.0 it.1 (omega (arith, le, lt))
-  before false e = by (nat_lt place (length scope.names)) refl (late (scope.variables + scope.known) count_fits e)
+          let it = another true le (omega (arith, long, lt)) in
+          it.2 ∙ stands_known true h.firm scope.known (place - scope.variables) it.0 it.1 (omega (arith, le, lt, count))
+  before false e = by (nat_lt place (length scope.names)) refl (late here.known h.later (h.names ∙ h.all) e)
     where
-      by : (c : Bool) → nat_lt place (length scope.names) ≡ c → scope.variables + scope.known ≤ place → known_by true scope.known (meaning_of scope name) ≡ false
+      by : (c : Bool) → nat_lt place (length scope.names) ≡ c → length here.known ≤ place → known_by true scope.known (meaning_of scope name) ≡ false
       by true c le =
-          let it = another true (omega (arith, le)) (ltb-true place (length scope.names) c) in
-          it.2 ∙ stands_later scope.known (place - scope.variables) it.0 it.1 (omega (arith, le))
+          let count = h.known in
+          let it = another true (omega (arith, le, count)) (ltb-true place (length scope.names) c) in
+          it.2 ∙ stands_later h.firm scope.known (place - scope.variables) it.0 h.early it.1 (omega (arith, le, count))
       by false c le = nowhere true (ltb-false place (length scope.names) c)
 
-  -- the scope knows it where it is one of the names that may be used there
-  pub known_alike : (constant : Bool) → known_in scope (use_of constant name) ≡ is_declared (names_for scope constant) name.letters
-  known_alike true = before (is_declared (take (scope.variables + scope.known) scope.names) name.letters) refl
-  known_alike false =
-      anywhere (is_declared (take (length scope.names) scope.names) name.letters) refl
-      ∙ ap (λ (l : List Text). is_declared l name.letters) (take-length scope.names)
+known_alike : (here : Place) (scope : Scope) → IsAt here scope → (one : Use) → known_in scope one ≡ is_known here one
+known_alike here scope h (use_of true name) = before here scope h name (is_declared here.known name.letters) refl
+known_alike here scope h (use_of false name) = anywhere here scope h name (is_declared scope.names name.letters) refl ∙ ap (λ (l : List Text). is_declared l name.letters) h.names
+known_alike here scope h (use_of_time constant) = refl
+
+names_rule : UseRule
+unfolding names
+names_rule = record {
+  question = names;
+  rule = Unknown;
+  fits = is_known;
+  alike = known_alike;
+  is_asked = refl;
+  no_top = refl;
+  no_doubled = refl;
+  no_drivers = refl;
+  no_ports = refl;
+  no_depth = refl;
+  no_many = refl;
+}
+
+-- ---- in a text
+
+pub unknown_told : (modules : SourceTree) (top : Option Text) (fault : ElabFault) (unit : ModuleTree) → fault.rule ≡ Unknown → top_of modules top ≡ Some unit → elaborate_top modules unit ≡ Err fault → HasMisuse is_known modules top
+unfolding names_rule
+unknown_told modules top fault unit rule is_top err = misuse_told names_rule modules top fault unit rule is_top err
+
+pub unknown_never : (modules : SourceTree) (top : Option Text) (scale : Timescale) (design : Design) → elaborated modules top scale ≡ Ok design → ¬ HasMisuse is_known modules top
+unfolding names_rule
+unknown_never modules top scale design is = misuse_never names_rule modules top scale design is
