@@ -1,14 +1,17 @@
 -- Constants that use a variable or the time: what the scope of an instance says of names is what its module does.
-use Rattle.std.proofs.Common.{◌≡◌, ◌<◌, ◌≤◌, ℕ, ◌+◌, ◌-◌, nat_lt, zero, suc, Bool, true, false, cond, if◌then◌else◌, not, ◌||◌, ◌&&◌, List, [], ◌∷◌, ◌++◌, length, slice_get, option_and_then, Option, Some, None, Result, refl, sym, ap, subst, ◌∙◌, arith, length-append}
-use Rattle.std.specs.List.{list_all, list_any, position_or_len}
+use Rattle.std.proofs.Common.{◌≡◌, ◌<◌, ◌≤◌, ℕ, ◌+◌, ◌-◌, nat_lt, Bool, true, false, cond, if◌then◌else◌, not, ◌||◌, ◌&&◌, List, [], ◌∷◌, ◌++◌, length, slice_get, option_and_then, Option, Some, None, Ok, Err, refl, sym, ap, subst, ◌∙◌, arith, append_assoc, length-append}
+use Rattle.std.specs.List.{list_any, position_or_len}
 use Rattle.std.specs.Str.{bytes_eq}
 use Rattle.std.proofs.lemmas.Bool.{lt-ltb, ltb-true}
-use Rattle.basis.proofs.Bools.{and_left, and_right}
+use Rattle.basis.specs.declared.timescale.Timescale.{Timescale}
 use Rattle.vast.specs.Words.{Text}
 use Rattle.vast.specs.NumberedWords.{Word}
+use Rattle.vast.specs.NumberedModules.{ModuleTree, SourceTree}
+use Rattle.vdesign.specs.Design.{Design}
 use Rattle.vdesign.specs.declared.action.Edge.{Edge}
 use Rattle.vdesign.specs.declared.action.Edge.TheVariants.{Any, Rise, Fall}
 use Rattle.vmodules.specs.Names.{is_declared}
+use Rattle.vmodules.specs.Hierarchy.{top_of}
 use Rattle.velab_expr.specs.declared.fault.Rule.{Rule}
 use Rattle.velab_expr.specs.declared.fault.Rule.TheVariants.{Top, Doubled, Unknown, Drivers, Ports, Width, Constant, Depth, TooMany, Kind}
 use Rattle.velab_expr.specs.declared.scope.Meaning.{Meaning}
@@ -16,11 +19,16 @@ use Rattle.velab_expr.specs.declared.scope.Meaning.TheVariants.{Variable, Parame
 use Rattle.velab_expr.specs.declared.scope.Operand.TheVariants as operand
 use Rattle.velab_expr.specs.declared.fault.ElabFault.{ElabFault}
 use Rattle.velab_expr.specs.Answers.{required}
-use Rattle.velab_expr.specs.Scopes.{Scope, at, meaning_at, meaning_of, bounds_for, operand_by, variable_by, event_by}
+use Rattle.velab_expr.specs.Scopes.{Scope, meaning_at, meaning_of, bounds_for, operand_by, variable_by, event_by}
 use Rattle.velab_process.specs.Waits.{term_by}
+use Rattle.vhierarchy.specs.Instances.{elaborate_top, elaborated}
 use Rattle.elaboration_law.specs.Uses.{Use, use_of, use_of_time}
-use Rattle.elaboration_law.specs.Constants.{among, UseAmong, is_fixed_among, is_fixed}
-use Rattle.elaboration_law.proofs.UseLemmas.{Judges, required_judges, Question, Fits}
+use Rattle.elaboration_law.specs.Places.{Place, HasMisuse}
+use Rattle.elaboration_law.specs.Constants.{is_fixed}
+use Rattle.elaboration_law.proofs.UseLemmas.{Judges, required_judges, Question}
+use Rattle.elaboration_law.proofs.PlaceLemmas.{IsAt}
+use Rattle.elaboration_law.proofs.InstanceUses.{UseRule}
+use Rattle.elaboration_law.proofs.MisuseLemmas.{misuse_told, misuse_never}
 
 abbrev pub is_constant : Rule → Bool
 is_constant Top = false
@@ -97,24 +105,8 @@ constants = record {
 
 -- ---- the scope of a module
 
-abbrev pub is_plain : Meaning → Bool
-is_plain (Variable number) = false
-is_plain (Parameter value bounds before) = true
-is_plain (Event number) = true
-is_plain Instance = true
-
--- its names begin with those of the variables, and no others stand for variables
-pub record IsOf (declared : List Text) (scope : Scope) : Type 0 where
-  pub rest : List Text
-  pub names : scope.names ≡ declared ++ rest
-  pub variables : scope.variables ≡ length declared
-  pub others : list_all is_plain scope.others ≡ true
-
-pub is_of_at : (declared : List Text) (scope : Scope) (known : ℕ) → IsOf declared scope → IsOf declared (at scope known)
-is_of_at declared scope known h = record { rest = h.rest; names = h.names; variables = h.variables; others = h.others }
-
 module _ {X : Type 0} (p : X → Bool) where
-  within : (xs ys : List X) → list_any p xs ≡ true → position_or_len p (xs ++ ys) < length xs
+  pub within : (xs ys : List X) → list_any p xs ≡ true → position_or_len p (xs ++ ys) < length xs
   within [] ys e = absurd cc
   within (x ∷ xs) ys e = by (p x) (within xs ys) e
     where
@@ -122,24 +114,13 @@ module _ {X : Type 0} (p : X → Bool) where
       by true rest e = omega arith
       by false rest e = let h = rest e in omega (arith, h)
 
-  behind : (xs ys : List X) → list_any p xs ≡ false → length xs ≤ position_or_len p (xs ++ ys)
+  pub behind : (xs ys : List X) → list_any p xs ≡ false → length xs ≤ position_or_len p (xs ++ ys)
   behind [] ys e = omega arith
   behind (x ∷ xs) ys e = by (p x) (behind xs ys) e
     where
       by : (b : Bool) → (list_any p xs ≡ false → length xs ≤ position_or_len p (xs ++ ys)) → (b || list_any p xs) ≡ false → length (x ∷ xs) ≤ cond (not b) (1 + position_or_len p (xs ++ ys)) 0
       by true rest e = absurd cc
       by false rest e = let h = rest e in omega (arith, h)
-
-one_plain : (constant : Bool) (one : Meaning) → is_plain one ≡ true → fixed_by constant (Some one) ≡ true
-one_plain constant (Variable number) e = absurd cc
-one_plain constant (Parameter value bounds before) e = refl
-one_plain constant (Event number) e = refl
-one_plain constant Instance e = refl
-
-plain_at : (constant : Bool) (others : List Meaning) (k : ℕ) → list_all is_plain others ≡ true → fixed_by constant (slice_get others k) ≡ true
-plain_at constant [] k e = refl
-plain_at constant (one ∷ more) zero e = one_plain constant one (and_left (is_plain one) (list_all is_plain more) e)
-plain_at constant (one ∷ more) (suc k) e = plain_at constant more k (and_right (is_plain one) (list_all is_plain more) e)
 
 of_variable_name : (constant : Bool) → not constant ≡ not (constant && true)
 of_variable_name true = refl
@@ -149,49 +130,79 @@ of_other_name : (constant : Bool) → true ≡ not (constant && false)
 of_other_name true = refl
 of_other_name false = refl
 
-module _ (declared : List Text) (scope : Scope) (h : IsOf declared scope) where
+module _ (here : Place) (scope : Scope) (h : IsAt here scope) where
+  -- its names begin with those of the variables
+  names_are : scope.names ≡ here.variables ++ (h.rest ++ h.later)
+  names_are = h.names ∙ h.all ∙ ap (λ (l : List Text). l ++ h.later) h.first ∙ append_assoc here.variables h.rest h.later
+
+  -- and no others stand for variables
+  others_fixed : (constant : Bool) (k : ℕ) → fixed_by constant (slice_get scope.others k) ≡ true
+  others_fixed constant k = by (slice_get scope.others k) refl
+    where
+      by : (x : Option Meaning) → slice_get scope.others k ≡ x → fixed_by constant x ≡ true
+      by None e = refl
+      by (Some (Variable number)) e = absurd (h.others k (Variable number) e)
+      by (Some (Parameter value bounds before)) e = refl
+      by (Some (Event number)) e = refl
+      by (Some Instance) e = refl
+
   module _ (constant : Bool) (name : Word) where
     abbrev place : ℕ
     place = position_or_len (bytes_eq name.letters) scope.names
 
-    a_variable : list_any (bytes_eq name.letters) declared ≡ true → fixed_by constant (meaning_of scope name) ≡ not constant
+    a_variable : list_any (bytes_eq name.letters) here.variables ≡ true → fixed_by constant (meaning_of scope name) ≡ not constant
     a_variable e =
-        let early : place < length declared = subst (λ (l : List Text). position_or_len (bytes_eq name.letters) l < length declared) (sym h.names) (within (bytes_eq name.letters) declared h.rest e) in
-        let long : length scope.names ≡ length declared + length h.rest = ap length h.names ∙ length-append declared h.rest in
+        let more = h.rest ++ h.later in
+        let early : place < length here.variables = subst (λ (l : List Text). position_or_len (bytes_eq name.letters) l < length here.variables) (sym names_are) (within (bytes_eq name.letters) here.variables more e) in
+        let long : length scope.names ≡ length here.variables + length more = ap length names_are ∙ length-append here.variables more in
         let count = h.variables in
         ap (λ (b : Bool). fixed_by constant (option_and_then (meaning_at scope) (cond b (Some place) None))) (lt-ltb place (length scope.names) (omega (arith, early, long)))
         ∙ ap (λ (b : Bool). fixed_by constant (if b then Some (Variable (scope.first + place)) else slice_get scope.others (place - scope.variables))) (lt-ltb place scope.variables (omega (arith, early, count)))
 
-    another : list_any (bytes_eq name.letters) declared ≡ false → fixed_by constant (meaning_of scope name) ≡ true
+    another : list_any (bytes_eq name.letters) here.variables ≡ false → fixed_by constant (meaning_of scope name) ≡ true
     another e = by (nat_lt place (length scope.names))
       where
-        late : length declared ≤ place
-        late = subst (λ (l : List Text). length declared ≤ position_or_len (bytes_eq name.letters) l) (sym h.names) (behind (bytes_eq name.letters) declared h.rest e)
+        late : length here.variables ≤ place
+        late = subst (λ (l : List Text). length here.variables ≤ position_or_len (bytes_eq name.letters) l) (sym names_are) (behind (bytes_eq name.letters) here.variables (h.rest ++ h.later) e)
 
         at_place : (b : Bool) → nat_lt place scope.variables ≡ b → fixed_by constant (if b then Some (Variable (scope.first + place)) else slice_get scope.others (place - scope.variables)) ≡ true
         at_place true lt = let early = ltb-true place scope.variables lt in let count = h.variables in let l = late in absurd (omega (arith, early, count, l))
-        at_place false lt = plain_at constant scope.others (place - scope.variables) h.others
+        at_place false lt = others_fixed constant (place - scope.variables)
 
         by : (b : Bool) → fixed_by constant (option_and_then (meaning_at scope) (cond b (Some place) None)) ≡ true
         by true = at_place (nat_lt place scope.variables) refl
         by false = refl
 
-    fixed_name : (d : Bool) → is_declared declared name.letters ≡ d → fixed_by constant (meaning_of scope name) ≡ not (constant && d)
+    fixed_name : (d : Bool) → is_declared here.variables name.letters ≡ d → fixed_by constant (meaning_of scope name) ≡ not (constant && d)
     fixed_name true e = a_variable e ∙ of_variable_name constant
     fixed_name false e = another e ∙ of_other_name constant
 
-  pub fixed_alike : (one : Use) → fixed_in scope one ≡ is_fixed_among declared one
-  fixed_alike (use_of constant name) = fixed_name constant name (is_declared declared name.letters) refl
+  fixed_alike : (one : Use) → fixed_in scope one ≡ is_fixed here one
+  fixed_alike (use_of constant name) = fixed_name constant name (is_declared here.variables name.letters) refl
   fixed_alike (use_of_time constant) = refl
 
-  pub all_fixed : (list : List Use) → list_all (fixed_in scope) list ≡ list_all is_fixed (among declared list)
-  all_fixed [] = refl
-  all_fixed (one ∷ more) = λ i. fixed_alike one i && all_fixed more i
-
--- the answer is one only where these are constant, and a fault of the rule only where one isn't
-abbrev pub Stays : {A : Type 0} → List UseAmong → Result A ElabFault → Type 0
-Stays uses answer = Judges is_constant (list_all is_fixed uses) answer
-
-pub stays_by : {A : Type 0} (declared : List Text) (scope : Scope) (uses : List Use) (answer : Result A ElabFault) → IsOf declared scope → Fits constants scope uses answer → Stays (among declared uses) answer
+constants_rule : UseRule
 unfolding constants
-stays_by declared scope uses answer h j = subst (λ (b : Bool). Judges is_constant b answer) (all_fixed declared scope h uses) j
+constants_rule = record {
+  question = constants;
+  rule = Constant;
+  fits = is_fixed;
+  alike = fixed_alike;
+  is_asked = refl;
+  no_top = refl;
+  no_doubled = refl;
+  no_drivers = refl;
+  no_ports = refl;
+  no_depth = refl;
+  no_many = refl;
+}
+
+-- ---- in a text
+
+pub unfixed_told : (modules : SourceTree) (top : Option Text) (fault : ElabFault) (unit : ModuleTree) → fault.rule ≡ Constant → top_of modules top ≡ Some unit → elaborate_top modules unit ≡ Err fault → HasMisuse is_fixed modules top
+unfolding constants_rule
+unfixed_told modules top fault unit rule is_top err = misuse_told constants_rule modules top fault unit rule is_top err
+
+pub unfixed_never : (modules : SourceTree) (top : Option Text) (scale : Timescale) (design : Design) → elaborated modules top scale ≡ Ok design → ¬ HasMisuse is_fixed modules top
+unfolding constants_rule
+unfixed_never modules top scale design is = misuse_never constants_rule modules top scale design is

@@ -94,11 +94,11 @@ module _ (modules : SourceTree) (part : Part) (context : Context) (own : Own mod
       let few = (names_counted part context own.scope own.names_are).few_events in
       omega (arith, whole, few)
 
-counts_gather : (modules : SourceTree) (what : Counted) → Gathers modules (λ (a b : ℕ). a + b) (held what) (total what)
-counts_gather modules what = record {
+counts_gather : (top : Text) (modules : SourceTree) (what : Counted) → Gathers top modules (λ (a b : ℕ). a + b) (held what) (total what)
+counts_gather top modules what = record {
   none = λ x. omega arith;
   both = λ x xs ys. let sum = sum_by-append (count_in what) xs ys in omega (arith, sum);
-  own = λ part context own.
+  own = λ part context named own.
       let more = added modules part context own what in
       let sum = sum_by-cons (count_in what) (instance_at context) [] in
       omega (arith, more, sum);
@@ -192,7 +192,7 @@ module _ (modules : SourceTree) (fault : ElabFault) (rule : fault.rule ≡ TooMa
   before_is levels scope context part next one more ok e =
       let what = e.what in
       let many = e.many in
-      let same = gathered modules (λ (a b : ℕ). a + b) (held what) (total what) (counts_gather modules what) levels part (child_context scope context one) next ok in
+      let same = gathered context.top modules (λ (a b : ℕ). a + b) (held what) (total what) (counts_gather context.top modules what) levels part (child_context scope context one) next refl ok in
       let sum = sum_by-append (count_in what) (listed levels modules (instance_of context.path one)) more in
       record { what = what; many = omega (arith, many, same, sum) }
 
@@ -259,7 +259,7 @@ unless_some false rule word fault is = refl
 module _ (modules : SourceTree) (top : Option Text) where
   total_is : (what : Counted) (unit : ModuleTree) (part : Part) → elaborate_top modules unit ≡ Ok part → held what part ≡ total what (listed 16 modules (top_instance unit))
   total_is what unit part ok =
-      let same = top_gathered modules (λ (a b : ℕ). a + b) (held what) (total what) (counts_gather modules what) unit part ok in
+      let same = top_gathered unit.name.letters modules (λ (a b : ℕ). a + b) (held what) (total what) (counts_gather unit.name.letters modules what) unit part refl ok in
       let none = nothing_held what in
       omega (arith, same, none)
 
@@ -277,13 +277,13 @@ module _ (modules : SourceTree) (top : Option Text) where
       where
         by : (table_fault (kind_rule part.variables) part.table.actions part.table.words ≡ Some fault) ⊎ (table_fault (flaw_rule (blank_environment part.variables)) part.table.actions part.table.words ≡ Some fault) → ⊥
         by (inl is) = untold_fault is_local (table_fault (kind_rule part.variables) part.table.actions part.table.words) fault TooMany
-            (table_tells is_local (kind_rule part.variables) (kind_broken is_local refl refl refl part.variables) part.table.actions part.table.words) refl is rule
+            (table_tells is_local (kind_rule part.variables) (kind_broken is_local refl refl part.variables) part.table.actions part.table.words) refl is rule
         by (inr is) = untold_fault is_local (table_fault (flaw_rule (blank_environment part.variables)) part.table.actions part.table.words) fault TooMany
-            (table_tells is_local (flaw_rule (blank_environment part.variables)) (flaw_broken is_local refl refl refl (blank_environment part.variables)) part.table.actions part.table.words) refl is rule
+            (table_tells is_local (flaw_rule (blank_environment part.variables)) (flaw_broken is_local refl refl (blank_environment part.variables)) part.table.actions part.table.words) refl is rule
 
     in_whole : (unit : ModuleTree) (part : Part) → top_of modules top ≡ Some unit → elaborate_top modules unit ≡ Ok part →
         (broken_paths unit.name part ≡ Some fault) ⊎ (broken_table unit.name part ≡ Some fault) → HasTooMany modules top
-    in_whole unit part is_top ok (inl is) = absurd (untold_fault is_of_paths (broken_paths unit.name part) fault TooMany (broken_paths_tell is_of_paths refl refl refl unit.name part refl) refl is rule)
+    in_whole unit part is_top ok (inl is) = absurd (untold_fault is_of_paths (broken_paths unit.name part) fault TooMany (broken_paths_tell is_of_paths refl refl unit.name part refl) refl is rule)
     in_whole unit part is_top ok (inr is) =
         in_table unit part is_top ok (or_some (unless (nat_le (length part.begins) 256) TooMany (Some unit.name))
         (option_or (table_fault (kind_rule part.variables) part.table.actions part.table.words) (table_fault (flaw_rule (blank_environment part.variables)) part.table.actions part.table.words)) fault is)

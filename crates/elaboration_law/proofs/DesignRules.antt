@@ -37,7 +37,7 @@ module _ (rules : Rule → Bool) where
       by None h = tt
       by (Some r) h = h
 
-  broken_tells : (holds : Bool) (rule : Rule) (word : Option Word) → rules rule ≡ true → TellsFault rules (broken_if holds rule word)
+  pub broken_tells : (holds : Bool) (rule : Rule) (word : Option Word) → rules rule ≡ true → TellsFault rules (broken_if holds rule word)
   broken_tells true rule word e = e
   broken_tells false rule word e = tt
 
@@ -47,7 +47,7 @@ module _ (rules : Rule → Bool) where
 
 -- ---- what an action breaks
 
-module _ (rules : Rule → Bool) (unknown : rules Unknown ≡ true) (width : rules Width ≡ true) (kind : rules Kind ≡ true) where
+module _ (rules : Rule → Bool) (unknown : rules Unknown ≡ true) (kind : rules Kind ≡ true) where
   chosen_tells : (scopes variables : List Text) (list : List Chosen) → TellsRule rules (broken_chosen scopes variables list)
   chosen_tells scopes variables [] = tt
   chosen_tells scopes variables (one ∷ more) = by (is_declared scopes one.path) (is_declared variables one.path) (chosen_tells scopes variables more)
@@ -80,6 +80,18 @@ module _ (rules : Rule → Bool) (unknown : rules Unknown ≡ true) (width : rul
   selection_broken scopes variables Finish = tt
   selection_broken scopes variables Stop = tt
 
+  pub broken_paths_tell : (top : Word) (part : Part) → rules Doubled ≡ true → TellsFault rules (broken_paths top part)
+  broken_paths_tell top part doubled =
+      let scopes = scope_paths part in
+      let paths = variable_paths part in
+      let selections = table_fault (broken_selection scopes paths) part.table.actions part.table.words in
+      let scoped = broken_if (has_double scopes) Doubled (Some top) in
+      let named = broken_if (has_double paths) Doubled (Some top) in
+      or_tells rules named (option_or scoped selections) (broken_tells rules (has_double paths) Doubled (Some top) doubled)
+      (or_tells rules scoped selections (broken_tells rules (has_double scopes) Doubled (Some top) doubled)
+      (table_tells rules (broken_selection scopes paths) (selection_broken scopes paths) part.table.actions part.table.words))
+
+module _ (rules : Rule → Bool) (width : rules Width ≡ true) (kind : rules Kind ≡ true) where
   pub kind_broken : (variables : List Variable) (action : Action) → TellsRule rules (kind_rule variables action)
   kind_broken variables action = by (writes_rightly variables action)
     where
@@ -107,17 +119,7 @@ module _ (rules : Rule → Bool) (unknown : rules Unknown ≡ true) (width : rul
       (table_tells rules (kind_rule part.variables) (kind_broken part.variables) part.table.actions part.table.words)
       (table_tells rules (flaw_rule (blank_environment part.variables)) (flaw_broken (blank_environment part.variables)) part.table.actions part.table.words))
 
-  pub broken_paths_tell : (top : Word) (part : Part) → rules Doubled ≡ true → TellsFault rules (broken_paths top part)
-  broken_paths_tell top part doubled =
-      let scopes = scope_paths part in
-      let paths = variable_paths part in
-      let selections = table_fault (broken_selection scopes paths) part.table.actions part.table.words in
-      let scoped = broken_if (has_double scopes) Doubled (Some top) in
-      let named = broken_if (has_double paths) Doubled (Some top) in
-      or_tells rules named (option_or scoped selections) (broken_tells rules (has_double paths) Doubled (Some top) doubled)
-      (or_tells rules scoped selections (broken_tells rules (has_double scopes) Doubled (Some top) doubled)
-      (table_tells rules (broken_selection scopes paths) (selection_broken scopes paths) part.table.actions part.table.words))
-
+module _ (rules : Rule → Bool) (unknown : rules Unknown ≡ true) (width : rules Width ≡ true) (kind : rules Kind ≡ true) where
   pub design_tells : (top : Word) (part : Part) → rules Doubled ≡ true → rules TooMany ≡ true → TellsFault rules (broken_design top part)
   design_tells top part doubled many =
-      or_tells rules (broken_paths top part) (broken_table top part) (broken_paths_tell top part doubled) (broken_table_tells top part many)
+      or_tells rules (broken_paths top part) (broken_table top part) (broken_paths_tell rules unknown kind top part doubled) (broken_table_tells rules width kind top part many)

@@ -17,10 +17,16 @@ pub mod CountRules
 pub mod CountLemmas
 pub mod TopLemmas
 pub mod MisfitLemmas
+pub mod PlaceLemmas
 pub mod UseLemmas
 pub mod ExpressionUses
 pub mod StatementUses
+pub mod InstanceUses
 pub mod ConstantUses
-pub mod FixedLemmas
 pub mod MadeLemmas
+pub mod MisuseLemmas
 pub mod ConstantLemmas
+pub mod KnownUses
+pub mod DumpUses
+pub mod PathUses
+pub mod UnknownLemmas

@@ -1,6 +1,6 @@
 -- The instances that items list, and what is made of each.
-use Rattle.std.proofs.Common.{◌≡◌, ℕ, ◌+◌, nat_le, List, [], ◌∷◌, ◌++◌, length, Option, Some, None, Result, Ok, refl, sym, ap, subst, ◌∙◌, ◌⊎◌, inl, inr}
-use Rattle.std.specs.List.{Contains}
+use Rattle.std.proofs.Common.{◌≡◌, ℕ, ◌+◌, nat_le, List, [], ◌∷◌, ◌++◌, length, Option, Some, None, Result, Ok, refl, sym, ap, subst, ◌∙◌, ◌⊎◌, inl, inr, arith, length-append}
+use Rattle.std.specs.List.{Contains, flat_map}
 use Rattle.std.proofs.lemmas.List.Elements.{Contains-append_left, Contains-append_right, Contains-append_cases}
 use Rattle.vast.specs.NumberedWords.{Word}
 use Rattle.vast.specs.NumberedModules.{ConnectionsTree, InstanceTree, ItemTree, parameters, declaration, events, assignments, initial, always, instances, ModuleTree, SourceTree}
@@ -14,18 +14,19 @@ use Rattle.velab_declaration.specs.Variables.{port_names}
 use Rattle.vhierarchy.specs.Instances.{barring, Instantiation, instantiation_by, lower_instance, lower_list, named_again, lower_instances_of, lower_instances_by, lower_instances}
 use Rattle.elaboration_law.proofs.StepLemmas.{same_value, then_ok, provided_ok, barring_ok, contains_first, contains_more, contains_cases, contains_none}
 
--- what is made of an instance that an item lists
-pub record MadeBy (modules : SourceTree) (items : List ItemTree) (one : Instantiation) : Type 0 where
-  pub known : ℕ
+-- what is made of an instance that an item lists, where so many names stand before all items
+pub record MadeBy (modules : SourceTree) (known : ℕ) (items : List ItemTree) (one : Instantiation) : Type 0 where
+  pub before : List ItemTree
   pub name : Word
   pub overrides : Option ConnectionsTree
   pub list : List InstanceTree
+  pub after : List ItemTree
   pub child : ModuleTree
   pub made : InstanceTree
-  pub inside : Contains items (instances name overrides list)
+  pub inside : before ++ instances name overrides list ∷ after ≡ items
   pub there : module_of modules name.letters ≡ Some child
   pub listed : Contains list made
-  pub is : instantiation_by child known overrides made ≡ one
+  pub is : instantiation_by child (known + length (flat_map symbols_by before)) overrides made ≡ one
 
 module _ (child : ModuleTree) (known : ℕ) (overrides : Option ConnectionsTree) where
   one_made : (one : InstanceTree) (x : Instantiation) → lower_instance child known overrides one ≡ Ok x → instantiation_by child known overrides one ≡ x
@@ -77,82 +78,92 @@ module _ (modules : SourceTree) where
       let same : m ≡ child = cc in
       subst (λ (u : ModuleTree). Contains children (instantiation_by u known overrides made)) same (list_made m known overrides list children made (of_list name before known m overrides list children is) listed)
 
-  pub all_made : (before known : ℕ) (items : List ItemTree) (children : List Instantiation) (name : Word) (overrides : Option ConnectionsTree) (list : List InstanceTree) (child : ModuleTree) (made : InstanceTree) →
-      lower_instances modules before known items ≡ Ok children → Contains items (instances name overrides list) → module_of modules name.letters ≡ Some child → Contains list made →
-      (k : ℕ) × Contains children (instantiation_by child k overrides made)
-  all_made before known [] children name overrides list child made is inside there listed = absurd (contains_none (instances name overrides list) inside)
-  all_made before known (item ∷ more) children name overrides list child made is inside there listed =
-      let front = then_ok (lower_instances_by modules before known item)
-      (λ front. lower_instances modules (before + length front) (known + length (symbols_by item)) more >>= λ others. Ok (front ++ others)) children is in
-      let others = then_ok (lower_instances modules (before + length front.0) (known + length (symbols_by item)) more) (λ others. Ok (front.0 ++ others)) children front.2 in
-      let here = by front.0 others.0 front.1 (λ h. all_made (before + length front.0) (known + length (symbols_by item)) more others.0 name overrides list child made others.1 h there listed)
-      (contains_cases item (instances name overrides list) more inside) in
-      (here.0, subst (λ (l : List Instantiation). Contains l (instantiation_by child here.0 overrides made)) (same_value (front.0 ++ others.0) children others.2) here.1)
-    where
-      by : (front others : List Instantiation) → lower_instances_by modules before known item ≡ Ok front →
-          (Contains more (instances name overrides list) → (k : ℕ) × Contains others (instantiation_by child k overrides made)) →
-          (item ≡ instances name overrides list) ⊎ Contains more (instances name overrides list) → (k : ℕ) × Contains (front ++ others) (instantiation_by child k overrides made)
-      by front others ok rest (inl e) = (
-        known,
-        Contains-append_left front others (instantiation_by child known overrides made)
-            (of_made name before known (module_of modules name.letters) overrides list front child made (sym (ap (λ (t : ItemTree). lower_instances_by modules before known t) e) ∙ ok) there listed),
-      )
-      by front others ok rest (inr h) = let r = rest h in (r.0, Contains-append_right front others (instantiation_by child r.0 overrides made) r.1)
+  -- of each instance that an item lists something is made
+  pub all_made : (count known : ℕ) (before : List ItemTree) (name : Word) (overrides : Option ConnectionsTree) (list : List InstanceTree) (after : List ItemTree) (children : List Instantiation) (child : ModuleTree) (made : InstanceTree) →
+      lower_instances modules count known (before ++ instances name overrides list ∷ after) ≡ Ok children → module_of modules name.letters ≡ Some child → Contains list made →
+      Contains children (instantiation_by child (known + length (flat_map symbols_by before)) overrides made)
+  all_made count known [] name overrides list after children child made is there listed =
+      let front = then_ok (lower_instances_of name count known (module_of modules name.letters) overrides list)
+      (λ front. lower_instances modules (count + length front) (known + 0) after >>= λ others. Ok (front ++ others)) children is in
+      let others = then_ok (lower_instances modules (count + length front.0) (known + 0) after) (λ others. Ok (front.0 ++ others)) children front.2 in
+      let zero_more : known ≡ known + 0 = omega arith in
+      subst (λ (k : ℕ). Contains children (instantiation_by child k overrides made)) zero_more
+      (subst (λ (l : List Instantiation). Contains l (instantiation_by child known overrides made)) (same_value (front.0 ++ others.0) children others.2)
+      (Contains-append_left front.0 others.0 (instantiation_by child known overrides made)
+      (of_made name count known (module_of modules name.letters) overrides list front.0 child made front.1 there listed)))
+  all_made count known (item ∷ more) name overrides list after children child made is there listed =
+      let rest = more ++ instances name overrides list ∷ after in
+      let behind = known + length (symbols_by item) in
+      let front = then_ok (lower_instances_by modules count known item) (λ front. lower_instances modules (count + length front) behind rest >>= λ others. Ok (front ++ others)) children is in
+      let others = then_ok (lower_instances modules (count + length front.0) behind rest) (λ others. Ok (front.0 ++ others)) children front.2 in
+      let long = length-append (symbols_by item) (flat_map symbols_by more) in
+      let same : behind + length (flat_map symbols_by more) ≡ known + length (flat_map symbols_by (item ∷ more)) = omega (arith, long) in
+      subst (λ (k : ℕ). Contains children (instantiation_by child k overrides made)) same
+      (subst (λ (l : List Instantiation). Contains l (instantiation_by child (behind + length (flat_map symbols_by more)) overrides made)) (same_value (front.0 ++ others.0) children others.2)
+      (Contains-append_right front.0 others.0 (instantiation_by child (behind + length (flat_map symbols_by more)) overrides made)
+      (all_made (count + length front.0) behind more name overrides list after others.0 child made others.1 there listed)))
 
-  of_made_by : (name : Word) (before known : ℕ) (found : Option ModuleTree) (overrides : Option ConnectionsTree) (list : List InstanceTree) (more : List ItemTree) (children : List Instantiation) (one : Instantiation) →
-      lower_instances_of name before known found overrides list ≡ Ok children → module_of modules name.letters ≡ found → Contains children one → MadeBy modules (instances name overrides list ∷ more) one
-  of_made_by name before known None overrides list more children one is there inside = absurd cc
-  of_made_by name before known (Some m) overrides list more children one is there inside =
-      let it = made_list m known overrides list children one (of_list name before known m overrides list children is) inside in
+  of_made_by : (name : Word) (count known : ℕ) (found : Option ModuleTree) (overrides : Option ConnectionsTree) (list : List InstanceTree) (more : List ItemTree) (children : List Instantiation) (one : Instantiation) →
+      lower_instances_of name count known found overrides list ≡ Ok children → module_of modules name.letters ≡ found → Contains children one → MadeBy modules known (instances name overrides list ∷ more) one
+  of_made_by name count known None overrides list more children one is there inside = absurd cc
+  of_made_by name count known (Some m) overrides list more children one is there inside =
+      let it = made_list m known overrides list children one (of_list name count known m overrides list children is) inside in
+      let zero_more : known + 0 ≡ known = omega arith in
       record {
-        known = known;
+        before = [];
         name = name;
         overrides = overrides;
         list = list;
+        after = more;
         child = m;
         made = it.0;
-        inside = contains_first (instances name overrides list) more;
+        inside = refl;
         there = there;
         listed = it.1;
-        is = it.2;
+        is = ap (λ (k : ℕ). instantiation_by m k overrides it.0) zero_more ∙ it.2;
       }
 
-  none_made : (items : List ItemTree) (children : List Instantiation) (one : Instantiation) → [] ≡ children → Contains children one → MadeBy modules items one
-  none_made items children one same inside = absurd (contains_none one (subst (λ (l : List Instantiation). Contains l one) (sym same) inside))
+  none_made : (known : ℕ) (items : List ItemTree) (children : List Instantiation) (one : Instantiation) → [] ≡ children → Contains children one → MadeBy modules known items one
+  none_made known items children one same inside = absurd (contains_none one (subst (λ (l : List Instantiation). Contains l one) (sym same) inside))
 
-  by_made_by : (before known : ℕ) (item : ItemTree) (more : List ItemTree) (children : List Instantiation) (one : Instantiation) → lower_instances_by modules before known item ≡ Ok children → Contains children one → MadeBy modules (item ∷ more) one
-  by_made_by before known (parameters local type settings) more children one is inside = none_made (parameters local type settings ∷ more) children one (same_value [] children is) inside
-  by_made_by before known (declaration kind list) more children one is inside = none_made (declaration kind list ∷ more) children one (same_value [] children is) inside
-  by_made_by before known (events names) more children one is inside = none_made (events names ∷ more) children one (same_value [] children is) inside
-  by_made_by before known (assignments settings) more children one is inside = none_made (assignments settings ∷ more) children one (same_value [] children is) inside
-  by_made_by before known (initial statement) more children one is inside = none_made (initial statement ∷ more) children one (same_value [] children is) inside
-  by_made_by before known (always statement) more children one is inside = none_made (always statement ∷ more) children one (same_value [] children is) inside
-  by_made_by before known (instances name overrides list) more children one is inside =
-      of_made_by name before known (module_of modules name.letters) overrides list more children one is refl inside
+  by_made_by : (count known : ℕ) (item : ItemTree) (more : List ItemTree) (children : List Instantiation) (one : Instantiation) → lower_instances_by modules count known item ≡ Ok children → Contains children one → MadeBy modules known (item ∷ more) one
+  by_made_by count known (parameters local type settings) more children one is inside = none_made known (parameters local type settings ∷ more) children one (same_value [] children is) inside
+  by_made_by count known (declaration kind list) more children one is inside = none_made known (declaration kind list ∷ more) children one (same_value [] children is) inside
+  by_made_by count known (events names) more children one is inside = none_made known (events names ∷ more) children one (same_value [] children is) inside
+  by_made_by count known (assignments settings) more children one is inside = none_made known (assignments settings ∷ more) children one (same_value [] children is) inside
+  by_made_by count known (initial statement) more children one is inside = none_made known (initial statement ∷ more) children one (same_value [] children is) inside
+  by_made_by count known (always statement) more children one is inside = none_made known (always statement ∷ more) children one (same_value [] children is) inside
+  by_made_by count known (instances name overrides list) more children one is inside =
+      of_made_by name count known (module_of modules name.letters) overrides list more children one is refl inside
 
-  further_made_by : (item : ItemTree) (more : List ItemTree) (one : Instantiation) → MadeBy modules more one → MadeBy modules (item ∷ more) one
-  further_made_by item more one m = record {
-    known = m.known;
-    name = m.name;
-    overrides = m.overrides;
-    list = m.list;
-    child = m.child;
-    made = m.made;
-    inside = contains_more item (instances m.name m.overrides m.list) more m.inside;
-    there = m.there;
-    listed = m.listed;
-    is = m.is;
-  }
+  further_made_by : (known : ℕ) (item : ItemTree) (more : List ItemTree) (one : Instantiation) → MadeBy modules (known + length (symbols_by item)) more one → MadeBy modules known (item ∷ more) one
+  further_made_by known item more one m =
+      let long = length-append (symbols_by item) (flat_map symbols_by m.before) in
+      let same : known + length (flat_map symbols_by (item ∷ m.before)) ≡ (known + length (symbols_by item)) + length (flat_map symbols_by m.before) = omega (arith, long) in
+      record {
+        before = item ∷ m.before;
+        name = m.name;
+        overrides = m.overrides;
+        list = m.list;
+        after = m.after;
+        child = m.child;
+        made = m.made;
+        inside = ap (λ (l : List ItemTree). item ∷ l) m.inside;
+        there = m.there;
+        listed = m.listed;
+        is = ap (λ (k : ℕ). instantiation_by m.child k m.overrides m.made) same ∙ m.is;
+      }
 
-  pub all_made_by : (before known : ℕ) (items : List ItemTree) (children : List Instantiation) (one : Instantiation) → lower_instances modules before known items ≡ Ok children → Contains children one → MadeBy modules items one
-  all_made_by before known [] children one is inside = none_made [] children one (same_value [] children is) inside
-  all_made_by before known (item ∷ more) children one is inside =
-      let front = then_ok (lower_instances_by modules before known item)
-      (λ front. lower_instances modules (before + length front) (known + length (symbols_by item)) more >>= λ others. Ok (front ++ others)) children is in
-      let others = then_ok (lower_instances modules (before + length front.0) (known + length (symbols_by item)) more) (λ others. Ok (front.0 ++ others)) children front.2 in
-      by (λ h. by_made_by before known item more front.0 one front.1 h) (λ h. all_made_by (before + length front.0) (known + length (symbols_by item)) more others.0 one others.1 h)
+  -- and whatever is made is of one of them
+  pub all_made_by : (count known : ℕ) (items : List ItemTree) (children : List Instantiation) (one : Instantiation) → lower_instances modules count known items ≡ Ok children → Contains children one → MadeBy modules known items one
+  all_made_by count known [] children one is inside = none_made known [] children one (same_value [] children is) inside
+  all_made_by count known (item ∷ more) children one is inside =
+      let front = then_ok (lower_instances_by modules count known item)
+      (λ front. lower_instances modules (count + length front) (known + length (symbols_by item)) more >>= λ others. Ok (front ++ others)) children is in
+      let others = then_ok (lower_instances modules (count + length front.0) (known + length (symbols_by item)) more) (λ others. Ok (front.0 ++ others)) children front.2 in
+      by (λ h. by_made_by count known item more front.0 one front.1 h) (λ h. all_made_by (count + length front.0) (known + length (symbols_by item)) more others.0 one others.1 h)
       (Contains-append_cases front.0 others.0 one (subst (λ (l : List Instantiation). Contains l one) (sym (same_value (front.0 ++ others.0) children others.2)) inside))
     where
-      by : {P Q : Type 0} → (P → MadeBy modules (item ∷ more) one) → (Q → MadeBy modules more one) → P ⊎ Q → MadeBy modules (item ∷ more) one
+      by : {P Q : Type 0} → (P → MadeBy modules known (item ∷ more) one) → (Q → MadeBy modules (known + length (symbols_by item)) more one) → P ⊎ Q → MadeBy modules known (item ∷ more) one
       by f g (inl p) = f p
-      by f g (inr q) = further_made_by item more one (g q)
+      by f g (inr q) = further_made_by known item more one (g q)

@@ -37,30 +37,30 @@ module _ (f : Instance → List Text) where
   pub listed_both : (x : List Text) (xs ys : List Instance) → (x ++ flat_map f xs) ++ flat_map f ys ≡ x ++ flat_map f (xs ++ ys)
   listed_both x xs ys = append_assoc x (flat_map f xs) (flat_map f ys) ∙ sym (ap (λ (l : List Text). x ++ l) (flat_map-append f xs ys))
 
-module _ (modules : SourceTree) where
-  variables_gather : Gathers modules (λ (a b : List Text). a ++ b) variable_paths (flat_map variable_paths_in)
+module _ (top : Text) (modules : SourceTree) where
+  variables_gather : Gathers top modules (λ (a b : List Text). a ++ b) variable_paths (flat_map variable_paths_in)
   variables_gather = record {
     none = λ x. append-nil x;
     both = listed_both variable_paths_in;
-    own = λ part context own.
+    own = λ part context named own.
         let s = own_steps modules part context own in
         sym (ap variable_paths s.whole_is)
         ∙ map-append (λ (v : Variable). v.name) part.variables s.variables_made
         ∙ ap (λ (l : List Text). variable_paths part ++ l) (own_named modules part context own ∙ sym (append-nil (variable_paths_in (instance_at context))));
   }
 
-  paths_gather : Gathers modules (λ (a b : List Text). a ++ b) scope_paths (flat_map path_in)
+  paths_gather : Gathers top modules (λ (a b : List Text). a ++ b) scope_paths (flat_map path_in)
   paths_gather = record {
     none = λ x. append-nil x;
     both = listed_both path_in;
-    own = λ part context own.
+    own = λ part context named own.
         let s = own_steps modules part context own in
         sym (ap scope_paths s.whole_is) ∙ map-append (λ (r : Room). r.path) part.scopes (scope_of context own.scope.variables ∷ []);
   }
 
 -- ---- a finished design
 
-or_none : {A : Type 0} (a b : Option A) → option_or a b ≡ None → (a ≡ None) × (b ≡ None)
+pub or_none : {A : Type 0} (a b : Option A) → option_or a b ≡ None → (a ≡ None) × (b ≡ None)
 or_none None b is = (refl, is)
 or_none (Some x) b is = absurd cc
 
@@ -79,11 +79,11 @@ if_some false rule word fault is = absurd cc
 module _ (modules : SourceTree) (top : Option Text) where
   -- its paths are those of the text
   module _ (unit : ModuleTree) (part : Part) (ok : elaborate_top modules unit ≡ Ok part) where
-    variables_are : variable_paths part ≡ flat_map variable_paths_in (listed 16 modules (top_instance unit))
-    variables_are = top_gathered modules (λ (a b : List Text). a ++ b) variable_paths (flat_map variable_paths_in) (variables_gather modules) unit part ok
+    pub variables_are : variable_paths part ≡ flat_map variable_paths_in (listed 16 modules (top_instance unit))
+    variables_are = top_gathered unit.name.letters modules (λ (a b : List Text). a ++ b) variable_paths (flat_map variable_paths_in) (variables_gather unit.name.letters modules) unit part refl ok
 
-    paths_are : scope_paths part ≡ flat_map path_in (listed 16 modules (top_instance unit))
-    paths_are = top_gathered modules (λ (a b : List Text). a ++ b) scope_paths (flat_map path_in) (paths_gather modules) unit part ok
+    pub paths_are : scope_paths part ≡ flat_map path_in (listed 16 modules (top_instance unit))
+    paths_are = top_gathered unit.name.letters modules (λ (a b : List Text). a ++ b) scope_paths (flat_map path_in) (paths_gather unit.name.letters modules) unit part refl ok
 
     design_twice : (fault : ElabFault) → top_of modules top ≡ Some unit → fault.rule ≡ Doubled → broken_design unit.name part ≡ Some fault → IsDeclaredTwice modules top
     design_twice fault is_top rule broken = whole (or_some (broken_paths unit.name part) (broken_table unit.name part) fault broken)
@@ -92,7 +92,7 @@ module _ (modules : SourceTree) (top : Option Text) where
             IsDeclaredTwice modules top
         scopes (inl is) = path_twice unit is_top (sym (ap has_double paths_are) ∙ if_some (has_double (scope_paths part)) Doubled (Some unit.name) fault is)
         scopes (inr is) = absurd (untold_fault is_local (table_fault (broken_selection (scope_paths part) (variable_paths part)) part.table.actions part.table.words) fault Doubled
-            (table_tells is_local (broken_selection (scope_paths part) (variable_paths part)) (selection_broken is_local refl refl refl (scope_paths part) (variable_paths part)) part.table.actions part.table.words) refl is rule)
+            (table_tells is_local (broken_selection (scope_paths part) (variable_paths part)) (selection_broken is_local refl refl (scope_paths part) (variable_paths part)) part.table.actions part.table.words) refl is rule)
 
         paths : (broken_if (has_double (variable_paths part)) Doubled (Some unit.name) ≡ Some fault)
             ⊎ (option_or (broken_if (has_double (scope_paths part)) Doubled (Some unit.name)) (table_fault (broken_selection (scope_paths part) (variable_paths part)) part.table.actions part.table.words) ≡ Some fault) →
@@ -103,7 +103,7 @@ module _ (modules : SourceTree) (top : Option Text) where
         whole : (broken_paths unit.name part ≡ Some fault) ⊎ (broken_table unit.name part ≡ Some fault) → IsDeclaredTwice modules top
         whole (inl is) = paths (or_some (broken_if (has_double (variable_paths part)) Doubled (Some unit.name))
             (option_or (broken_if (has_double (scope_paths part)) Doubled (Some unit.name)) (table_fault (broken_selection (scope_paths part) (variable_paths part)) part.table.actions part.table.words)) fault is)
-        whole (inr is) = absurd (untold_fault is_of_meaning (broken_table unit.name part) fault Doubled (broken_table_tells is_of_meaning refl refl refl unit.name part refl) refl is rule)
+        whole (inr is) = absurd (untold_fault is_of_meaning (broken_table unit.name part) fault Doubled (broken_table_tells is_of_meaning refl refl unit.name part refl) refl is rule)
 
     design_once : broken_design unit.name part ≡ None →
         (has_double (flat_map variable_paths_in (listed 16 modules (top_instance unit))) ≡ false) × (has_double (flat_map path_in (listed 16 modules (top_instance unit))) ≡ false)

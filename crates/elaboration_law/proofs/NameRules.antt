@@ -29,7 +29,7 @@ use Rattle.elaboration_law.proofs.DoubleLemmas.{none_twice, one_twice, twice_amo
 
 -- ---- names that are added
 
-abbrev letters_in : List Symbol → List Text
+abbrev pub letters_in : List Symbol → List Text
 letters_in list = letters_of (map name_in list)
 
 not_true : (b : Bool) → not b ≡ true → b ≡ false
@@ -112,17 +112,26 @@ module _ (base : Base) (m : ModuleTree) where
       (sym (ap letters_of (map-append name_in valueless (head ++ whole)) ∙ map-append (λ (w : Word). w.letters) (map name_in valueless) (map name_in (head ++ whole))
       ∙ ap (λ (l : List Text). letters_in valueless ++ l) (ap letters_of (map-append name_in head whole) ∙ map-append (λ (w : Word). w.letters) (map name_in head) (map name_in whole))))
 
+  pub names_of_scope : (scope : Scope) → item_scope base m ≡ Ok scope → scope.names ≡ names_in_module m
+  names_of_scope scope is =
+      let one = then_ok (add_symbols base.overrides (first_scope base m) valueless)
+      (λ s. add_symbols base.overrides s head >>= λ h. add_symbols base.overrides h whole >>= λ w. Ok (at w h.known)) scope is in
+      let two = then_ok (add_symbols base.overrides one.0 head) (λ h. add_symbols base.overrides h whole >>= λ w. Ok (at w h.known)) scope one.2 in
+      let three = then_ok (add_symbols base.overrides two.0 whole) (λ w. Ok (at w two.0.known)) scope two.2 in
+      sym (ap (λ (s : Scope). s.names) (same_value (at three.0 two.0.known) scope three.2))
+      ∙ names_added base.overrides two.0 three.0 whole three.1
+      ∙ ap (λ (l : List Text). l ++ letters_in whole) (names_added base.overrides one.0 two.0 head two.1
+      ∙ ap (λ (l : List Text). l ++ letters_in head) (names_added base.overrides (first_scope base m) one.0 valueless one.1))
+      ∙ in_groups
+
   scope_once : (scope : Scope) → item_scope base m ≡ Ok scope → has_double (letters_of (declared_names m)) ≡ false → has_double (names_in_module m) ≡ false
   scope_once scope is once =
       let one = then_ok (add_symbols base.overrides (first_scope base m) valueless)
       (λ s. add_symbols base.overrides s head >>= λ h. add_symbols base.overrides h whole >>= λ w. Ok (at w h.known)) scope is in
       let two = then_ok (add_symbols base.overrides one.0 head) (λ h. add_symbols base.overrides h whole >>= λ w. Ok (at w h.known)) scope one.2 in
       let three = then_ok (add_symbols base.overrides two.0 whole) (λ w. Ok (at w two.0.known)) scope two.2 in
-      let same : three.0.names ≡ grouped =
-      names_added base.overrides two.0 three.0 whole three.1
-      ∙ ap (λ (l : List Text). l ++ letters_in whole) (names_added base.overrides one.0 two.0 head two.1
-      ∙ ap (λ (l : List Text). l ++ letters_in head) (names_added base.overrides (first_scope base m) one.0 valueless one.1)) in
-      sym (ap has_double (same ∙ in_groups))
+      sym (ap has_double (names_of_scope scope is))
+      ∙ sym (ap (λ (s : Scope). has_double s.names) (same_value (at three.0 two.0.known) scope three.2))
       ∙ added_once base.overrides two.0 three.0 whole three.1 (added_once base.overrides one.0 two.0 head two.1 (added_once base.overrides (first_scope base m) one.0 valueless one.1 once))
 
   module _ (fault : ElabFault) (rule : fault.rule ≡ Doubled) where

@@ -19,11 +19,11 @@ abbrev pub Judges : {A : Type 0} → (Rule → Bool) → Bool → Result A ElabF
 Judges asked holds (Ok x) = holds ≡ true
 Judges asked holds (Err fault) = asked fault.rule ≡ true → holds ≡ false
 
-first_false : (a b : Bool) → a ≡ false → (a && b) ≡ false
+pub first_false : (a b : Bool) → a ≡ false → (a && b) ≡ false
 first_false true b e = absurd cc
 first_false false b e = refl
 
-second_false : (a b : Bool) → b ≡ false → (a && b) ≡ false
+pub second_false : (a b : Bool) → b ≡ false → (a && b) ≡ false
 second_false true b e = e
 second_false false b e = refl
 

@@ -8,4 +8,7 @@ pub mod Counts
 pub mod Tops
 pub mod Misfits
 pub mod Uses
+pub mod Places
 pub mod Constants
+pub mod Selected
+pub mod Unknowns

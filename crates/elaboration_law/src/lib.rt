@@ -9,6 +9,7 @@ ghost use Rattle.elaboration_law.specs.Counts.{HasTooMany};
 ghost use Rattle.elaboration_law.specs.Doubles.{IsDeclaredTwice};
 ghost use Rattle.elaboration_law.specs.Drivers.{HasTwoDrivers};
 ghost use Rattle.elaboration_law.specs.Misfits.{HasMisfit};
+ghost use Rattle.elaboration_law.specs.Unknowns.{HasUnknown};
 ghost use Rattle.elaboration_law.specs.Constants.{HasUnfixed};
 ghost use Rattle.elaboration_law.specs.Tops.{LacksModule};
 ghost use Rattle.velab_expr.specs.declared.fault.Rule.TheVariants as rule;
@@ -18,6 +19,7 @@ ghost use Rattle.velab_expr.specs.declared.fault.Rule.TheVariants as rule;
 pub fn elaboration_rules()
     ensures tops { IsMeant rule.Top LacksModule }
     ensures names { IsMeant rule.Doubled IsDeclaredTwice }
+    ensures known { IsMeant rule.Unknown HasUnknown }
     ensures drivers { IsMeant rule.Drivers HasTwoDrivers }
     ensures connections { IsMeant rule.Ports HasMisfit }
     ensures constants { IsMeant rule.Constant HasUnfixed }
