@@ -53,17 +53,18 @@ module _ (setting : Setting) (alike : Alike setting) (all : AllStand setting) (t
     told_so : IsToldAt end t → EndsSo setting limit end
     told_so told = record {
       steps = n;
-      after = record { ends = ends_there n ends; end_is = (ended t (record { time = end.time; cause = end.cause }) told.end_is).is; line_is = told.line_is };
+      after = record { ends = ends_there n ends; end_is = (ended t (record { time = end.time; cause = end.cause }) told.end_is).is; line_is = told.line_is; printed_is = told.printed_is };
       within = within;
     }
 
     so_told : EndsSo setting limit end → IsToldAt end t
     so_told so =
         let e : n ≡ so.steps = same_end (rules_of setting) end.log n so.steps (ends_there n ends).run (ends_there n ends).end so.after.ends in
-        let now : IsEndAfter setting end.log n end.time end.cause end.line = subst (λ (m : ℕ). IsEndAfter setting end.log m end.time end.cause end.line) (sym e) so.after in
+        let now : IsEndAfter setting end.log n end.time end.cause end.line end.printed = subst (λ (m : ℕ). IsEndAfter setting end.log m end.time end.cause end.line end.printed) (sym e) so.after in
         record {
           end_is = told_where_ended t (sym (width_is setting t) ∙ now.ends.end) ∙ ap Some now.end_is;
           line_is = now.line_is;
+          printed_is = now.printed_is;
         }
 
     told_decides : (answer : Bool) → TellsStanding setting s end answer → Decides answer (EndsSo setting limit end)

@@ -1,11 +1,15 @@
 -- Ends and races gone through place by place, each end with its dump.
-use Rattle.std.proofs.Common.{◌≡◌, ℕ, zero, suc, ◌+◌, ◌<◌, Bool, true, false, List, [], ◌∷◌, length, take, get_or, slice_get, Some, option_map, Decides, Bor, refl, sym, ap, ◌∙◌, subst, add-one, arith}
+use Rattle.std.proofs.Common.{◌≡◌, ℕ, zero, suc, ◌+◌, ◌-◌, ◌<◌, ◌≤◌, ◌⊎◌, inl, inr, Bool, true, false, List, [], ◌∷◌, length, take, get_or, slice_get, Some, option_map, Decides, Bor, refl, sym, ap, ◌∙◌, subst, add-one, arith}
+use Rattle.std.proofs.lemmas.Bool.{cases_lt}
 use Rattle.std.proofs.lemmas.Option.{same_Some, slice_get-map, slice_get-get_or}
+use Rattle.basis.proofs.Lists.{listed_place, place_within, taken_at}
 use Rattle.vmodel.specs.Run.{Setting}
-use Rattle.report_text.specs.Report.{End, Race, Report}
-use Rattle.vreport.specs.Truth.{AreTrueEnds, IsTrueEndOf, IsTrueRace}
-use Rattle.report_check.specs.FirstBad.{AreFirstEndsTrue, AreFirstRacesTrue, IsFalseEnd, IsFalseRace, texts_of}
-use Rattle.report_check.proofs.EachLemmas.{EachBelow, each_more, each_taken}
+use Rattle.report_text.specs.Report.{End, LineRace, Report}
+use Rattle.vreport.specs.Truth.{AreTrueEnds, IsTrueEndOf, IsTrueLineRace}
+use Rattle.report_check.specs.Claims.{AreTrueAt}
+use Rattle.report_check.specs.FirstBad.{AreFirstEndsTrue, AreFirstRacesTrue, IsFalseEnd, IsFalseLineRace, IsFalseRace, texts_of}
+use Rattle.report_check.specs.Inner.{AreTrueRaces}
+use Rattle.report_check.proofs.ClaimLemmas.{line_race_so, race_so, so_line_race, so_race}
 
 -- one end more is true
 ends_next : (setting : Setting) (report : Report) (ends : List End) (dumps : List (List ℕ)) (n : ℕ) (end : End) (dump : List ℕ) →
@@ -47,23 +51,49 @@ module _ (setting : Setting) (report : Report) (dumps : List (Bor (List ℕ))) (
 
 -- ---- races, gone through place by place
 
-module _ (setting : Setting) (report : Report) (place : ℕ) (race : Race) (answer : Bool) (within : place < length report.races)
-    (here : race ≡ get_or report.races place race) (decides : Decides answer (IsTrueRace setting report race))
-    (below : EachBelow (IsTrueRace setting report) report.races place) where
-  race_at : slice_get report.races place ≡ Some race
-  race_at = slice_get-get_or report.races place race within ∙ ap Some (sym here)
+-- all claims of the races before the place are true
+abbrev pub AreTrueBelow : Setting → Report → ℕ → Type 0
+AreTrueBelow setting report n = (race : ℕ) → race < n → AreTrueAt setting report race
 
-  -- it is the first that isn't true
-  pub false_race : answer ≡ false → AreFirstRacesTrue setting report place × IsFalseRace setting report place
-  false_race no_more = (
-    each_taken (IsTrueRace setting report) report.races place below,
-    record {
-      race = race;
-      at = race_at;
-      not_true = λ is. absurd (let bad : true ≡ false = sym (decides.1 is) ∙ no_more in cc);
-    },
+module _ (setting : Setting) (report : Report) (n : ℕ) (below : AreTrueBelow setting report n) where
+  -- a race of lines that stands behind so many
+  line_race_below : (i : ℕ) (race : LineRace) → slice_get report.line_races i ≡ Some race → length report.races + i < n → IsTrueLineRace setting report race
+  line_race_below i race at lt =
+      let e : length report.races + i - length report.races ≡ i = omega arith in
+      line_race_so setting report (length report.races + i) race (omega arith) (ap (slice_get report.line_races) e ∙ at) (below (length report.races + i) lt)
+
+  first_races : AreFirstRacesTrue setting report n
+  first_races = (
+    λ i race at. (let h = taken_at n report.races i race at in race_so setting report i race h.1 (below i h.0)),
+    λ i race at. (let h = taken_at (n - length report.races) report.line_races i race at in
+        line_race_below i race h.1 (let lt = h.0 in omega (arith, lt))),
   )
 
-  -- it is true as well
-  pub race_more : answer ≡ true → EachBelow (IsTrueRace setting report) report.races (place + 1)
-  race_more is = each_more (IsTrueRace setting report) report.races place below race race_at (decides.0 is)
+  -- all are true
+  pub all_races : length report.races + length report.line_races ≤ n → AreTrueRaces setting report
+  all_races end = record {
+    of_variables = λ i race at. race_so setting report i race at (below i (let lt = place_within report.races i race at in omega (arith, lt, end)));
+    of_lines = λ i race at. line_race_below i race at (let lt = place_within report.line_races i race at in omega (arith, lt, end));
+  }
+
+  module _ (answer : Bool) (decides : Decides answer (AreTrueAt setting report n)) where
+    -- the race at this place is true as well
+    pub race_more : answer ≡ true → AreTrueBelow setting report (n + 1)
+    race_more is race lt = elim (cases_lt race n) [
+      | inl before ↦ below race before
+      | inr late ↦ (let e : race ≡ n = omega (arith, lt, late) in subst (AreTrueAt setting report) (sym e) (decides.0 is))
+    ]
+
+    -- it is the first that isn't true
+    pub false_race : n < length report.races + length report.line_races → answer ≡ false →
+        AreFirstRacesTrue setting report n × (IsFalseRace setting report n ⊎ IsFalseLineRace setting report n)
+    false_race within no_more = (
+      first_races,
+      (let never : AreTrueAt setting report n → ⊥ = λ are. (let bad : true ≡ false = sym (decides.1 are) ∙ no_more in absurd cc) in
+          elim (cases_lt n (length report.races)) [
+            | inl first ↦ (let there = listed_place report.races n first in
+                inl (record { race = there.0; at = there.1; not_true = λ is. never (so_race setting report n there.0 there.1 is) }))
+            | inr behind ↦ (let there = listed_place report.line_races (n - length report.races) (omega (arith, within, behind)) in
+                inr (record { race = there.0; behind = behind; at = there.1; not_true = λ is. never (so_line_race setting report n there.0 behind there.1 is) }))
+          ]),
+    )

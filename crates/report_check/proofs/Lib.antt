@@ -1,6 +1,6 @@
 pub mod HeadLemmas
 pub mod EndLemmas
 pub mod WalkLemmas
-pub mod EachLemmas
+pub mod ClaimLemmas
 pub mod FirstLemmas
 pub mod ShownLemmas

@@ -1,6 +1,6 @@
--- Values that stand at places of a report, and are shown in the runs under their logs.
-use Rattle.std.proofs.Common.{◌≡◌, ℕ, ◌<◌, ◌&&◌, ◌==◌, Bool, true, false, List, length, slice_get, Result, Ok, Err, IfOk, is_ok, IsTrue, Decides, refl, sym, ap, ◌∙◌, subst, arith}
-use Rattle.std.specs.List.{All, Contains, HoldsAt}
+-- Claims that stand at places of a report, and are shown in the runs under their logs.
+use Rattle.std.proofs.Common.{◌≡◌, ℕ, ◌<◌, ◌≤◌, ◌&&◌, ◌==◌, Bool, true, false, List, length, Some, None, Result, Ok, Err, IfOk, is_ok, IsTrue, Decides, refl, sym, ap, ◌∙◌, subst, arith}
+use Rattle.std.specs.List.{Contains, HoldsAt}
 use Rattle.std.specs.List.Sorted.{IsSearchInRange}
 use Rattle.std.specs.Cmp.Lexicographic.{pointwise}
 use Rattle.std.specs.Ordering.{nat_cmp, ordering_then}
@@ -8,17 +8,15 @@ use Rattle.std.specs.declared.cmp.Ordering.{Ordering}
 use Rattle.std.specs.declared.cmp.Ordering.TheVariants.{Less, Equal, Greater}
 use Rattle.std.proofs.lemmas.Bool.Decides.{Decides-and, Decides-eqb}
 use Rattle.std.proofs.lemmas.Cmp.{ranked}
-use Rattle.std.proofs.lemmas.List.Elements.{All-contains, Contains-from_at}
+use Rattle.std.proofs.lemmas.List.Elements.{Contains-from_at}
 use Rattle.std.proofs.lemmas.Option.{same_Some}
 use Rattle.std.proofs.lemmas.Slice.Eq.{slice_eq-Decides}
 use Rattle.vmodel.specs.State.{State}
 use Rattle.vmodel.specs.Run.{Setting, state_after}
 use Rattle.vmachine.specs.declared.machine_state.MachineState.{MachineState}
 use Rattle.vmachine.specs.Machines.{Stands}
-use Rattle.report_text.specs.Report.{Race, Report}
-use Rattle.vreport.specs.Truth.{IsTrueWitness}
-use Rattle.report_check.specs.Inner.{ComesTo, IsSeenAt, IsTrueAt, IsValueAt, TellsSeen}
-use Rattle.report_check.proofs.WalkLemmas.{so_seen}
+use Rattle.report_text.specs.Report.{Report}
+use Rattle.report_check.specs.Claims.{Claim, ComesTo, IsClaimAt, IsSeenWithin, IsTrueAt, IsTrueClaim, TellsState, claim_in}
 
 -- ---- places
 
@@ -58,32 +56,42 @@ member_decides m n =
 pub same_members : (ms ns : List Place) → pointwise (λ (m n : Place). (m.0 == n.0) && (m.1 == n.1)) ms ns ≡ true → ms ≡ ns
 same_members ms ns said = (slice_eq-Decides member_decides ms ns true (sym said)).0 refl
 
--- ---- values at places
+-- ---- claims at places
 
-module _ (setting : Setting) (report : Report) (place : Place) (race : Race) (seen : List ℕ × List (ℕ × ℕ)) (at : IsValueAt report place race seen) where
-  -- one value stands at a place
-  pub true_at : IsTrueWitness setting report race.time race.variable seen → IsTrueAt setting report place
-  true_at is other another there =
-      let race_is : race ≡ other = same_Some race other (sym at.race_at ∙ there.race_at) in
-      let value_is : seen ≡ another = same_Some seen another (sym at.value_at ∙ ap (λ (r : Race). slice_get r.values place.1) race_is ∙ there.value_at) in
-      subst (λ (v : List ℕ × List (ℕ × ℕ)). IsTrueWitness setting report other.time other.variable v) value_is
-      (subst (λ (r : Race). IsTrueWitness setting report r.time r.variable seen) race_is is)
+-- a claim is true where it is seen under a log that is short enough
+pub claim_when : {E : Type 0} (setting : Setting) (report : Report) (claim : Claim) (r : Result Bool E) → length claim.log ≤ report.depart →
+    IfOk r (λ is. Decides is (IsSeenWithin setting report.steps (IsClaimAt claim) claim.log)) → IfOk r (λ is. Decides is (IsTrueClaim setting report claim))
+claim_when setting report claim (Ok b) short d = (λ h. record { seen = d.0 h; short = short }, λ is. d.1 is.seen)
+claim_when setting report claim (Err e) short d = tt
 
-  module _ (s : MachineState) (comes : ComesTo setting report seen.1 s) where
-    shown_true : ((t : State) → Stands setting s t → IsSeenAt race.time race.variable seen.0 t) → IsTrueWitness setting report race.time race.variable seen
-    shown_true shows = so_seen setting report race.time race.variable seen comes.short (record {
-      steps = comes.steps;
-      run = comes.run;
-      names = comes.names;
-      within = comes.within;
-      before = record { at = comes.steps; earlier = omega arith; seen = shows (state_after setting seen.1 comes.steps) comes.at };
-    })
+module _ (setting : Setting) (report : Report) (place : Place) (claim : Claim) (at : claim_in report place ≡ Some claim) where
+  -- one claim stands at a place
+  true_at : IsTrueClaim setting report claim → IsTrueAt setting report place
+  true_at is other there = subst (IsTrueClaim setting report) (same_Some claim other (sym at ∙ there)) is
 
-    -- a value that is shown where the run under its log comes is true
-    pub shown_when : {E : Type 0} (r : Result Bool E) → IfOk r (TellsSeen setting s race.time race.variable seen.0) → IfOk r (λ is. IsTrue is → IsTrueAt setting report place)
+  -- so what is said of it is said of the place
+  pub at_when : {E : Type 0} (r : Result Bool E) → IfOk r (λ is. Decides is (IsTrueClaim setting report claim)) → IfOk r (λ is. Decides is (IsTrueAt setting report place))
+  at_when (Ok b) d = (λ h. true_at (d.0 h), λ are. d.1 (are claim at))
+  at_when (Err e) d = tt
+
+  module _ (s : MachineState) (comes : ComesTo setting report claim.log s) where
+    shown_true : ((t : State) → Stands setting s t → IsClaimAt claim t) → IsTrueClaim setting report claim
+    shown_true shows = record {
+      seen = record {
+        steps = comes.steps;
+        run = comes.run;
+        names = comes.names;
+        within = comes.within;
+        before = record { at = comes.steps; earlier = omega arith; seen = shows (state_after setting claim.log comes.steps) comes.at };
+      };
+      short = comes.short;
+    }
+
+    -- a claim that is shown where the run under its log comes is true
+    pub shown_when : {E : Type 0} (r : Result Bool E) → IfOk r (TellsState setting s (IsClaimAt claim)) → IfOk r (λ is. IsTrue is → IsTrueAt setting report place)
     shown_when (Ok b) tells = λ said. true_at (shown_true (λ t stands. (tells t stands).0 said))
     shown_when (Err e) tells = tt
 
-  -- it is among those that are true
-  pub true_among : (shown : List Place) → All (IsTrueAt setting report) shown → Contains shown place → IsTrueWitness setting report race.time race.variable seen
-  true_among shown are has = All-contains (IsTrueAt setting report) shown place are has race seen at
+-- no claim stands at this place
+pub at_none : (setting : Setting) (report : Report) (place : Place) → claim_in report place ≡ None → IsTrueAt setting report place
+at_none setting report place none claim there = absurd (let bad : Some claim ≡ None = sym there ∙ none in cc)

@@ -1,10 +1,6 @@
--- A walk of the run under a log until a value was seen and nothing is left of the log.
-use Rattle.std.proofs.Common.{◌≡◌, ℕ, ◌+◌, ◌<◌, ◌≤◌, Bool, true, List, [], ◌∷◌, length, slice_get, Some, Result, Ok, Err, IfOk, Decides, refl, sym, ap, ◌∙◌, subst, inl, inr, le_refl, add-one, arith}
+-- A walk of the run under a log until it came to such a state and nothing is left of the log.
+use Rattle.std.proofs.Common.{◌≡◌, ℕ, ◌+◌, ◌<◌, ◌≤◌, Bool, true, List, [], ◌∷◌, Decides, refl, sym, ◌∙◌, subst, inl, inr, le_refl, add-one, arith}
 use Rattle.std.proofs.lemmas.Bool.{cases_lt}
-use Rattle.std.proofs.lemmas.Option.{same_Some}
-use Rattle.vbits.specs.Vectors.{Vector}
-use Rattle.vmachine.specs.Reads.{slot_in}
-use Rattle.vreport.specs.Values.{report_digits}
 use Rattle.sched_core.specs.Rules.{IsRun, NamesBelow, choice_at}
 use Rattle.sched_core.specs.Logs.{IsLogFrom}
 use Rattle.sched_core.specs.Replay.{IsNextChoice}
@@ -13,23 +9,12 @@ use Rattle.vmodel.specs.State.{State}
 use Rattle.vmodel.specs.Run.{Setting, rules_of, state_after}
 use Rattle.vmachine.specs.declared.machine_state.MachineState.{MachineState}
 use Rattle.vmachine.specs.Machines.{Stands, machine_rules}
-use Rattle.racebook.proofs.FoundLemmas.{slot_ends, ends_slot}
-use Rattle.report_text.specs.Report.{Report}
-use Rattle.vreport.specs.Truth.{IsTrueWitness}
 use Rattle.vreport.proofs.EndLemmas.{Alike}
-use Rattle.report_check.specs.Inner.{IsSeenAt, IsSeenBefore, IsSeenWithin, TellsSeenByNow}
+use Rattle.report_check.specs.Claims.{IsSeenBefore, IsSeenWithin, TellsByNow}
 use Rattle.report_check.proofs.EndLemmas.{WidthAlike}
 
 abbrev pub AfterAlike : Setting → Type 0
 AfterAlike setting = (s : MachineState) (t : State) (i : ℕ) → Stands setting s t → Stands setting ((machine_rules setting).after s i) ((rules_of setting).after t i)
-
--- a value that stands there is seen where its text is the one that is told
-pub seen_when : (t : State) (time variable : ℕ) (text : List ℕ) (value : Vector) (answer : Bool) → slot_in t ≡ Some time → slice_get t.values variable ≡ Some value →
-    Decides answer (report_digits value ≡ text) → Decides answer (IsSeenAt time variable text t)
-seen_when t time variable text value answer slot at same = (
-  λ h. record { slot_is = slot; value = value; value_is = at; text_is = sym (same.0 h) },
-  λ s. same.1 (ap report_digits (same_Some value s.value (sym at ∙ s.value_is)) ∙ sym s.text_is),
-)
 
 module _ (setting : Setting) (log rest later : List (ℕ × ℕ)) (n choice : ℕ) (left : IsLeft log rest n) (taken : IsNextChoice rest n choice later) where
   pub choice_is : choice ≡ choice_at log n
@@ -65,15 +50,15 @@ none_left : (n : ℕ) (rest : List (ℕ × ℕ)) → IsLogFrom n rest → NamesB
 none_left n [] lawful names = refl
 none_left n (m ∷ rest) lawful names = absurd (omega (arith, lawful.0, names.0))
 
-module _ (setting : Setting) (limit time variable : ℕ) (seen : List ℕ × List (ℕ × ℕ)) (rest : List (ℕ × ℕ)) (n : ℕ) where
+module _ (setting : Setting) (limit : ℕ) (P : State → Type 0) (log rest : List (ℕ × ℕ)) (n : ℕ) where
   abbrev Before : ℕ → Type 0
-  Before k = IsSeenBefore setting time variable seen.0 seen.1 k
+  Before k = IsSeenBefore setting P log k
 
   -- one more state was looked at
-  pub seen_by_now : (found now : Bool) (s : MachineState) → Stands setting s (state_after setting seen.1 n) → Decides found (Before n) →
-      TellsSeenByNow found setting s time variable seen.0 now → Decides now (Before (n + 1))
+  pub seen_by_now : (found now : Bool) (s : MachineState) → Stands setting s (state_after setting log n) → Decides found (Before n) →
+      TellsByNow found setting s P now → Decides now (Before (n + 1))
   seen_by_now found now s at before tells =
-      let d = tells (state_after setting seen.1 n) at in (
+      let d = tells (state_after setting log n) at in (
         λ h. elim (d.0 h) [
           | inl earlier ↦ (let b = before.0 earlier in record { at = b.at; earlier = (let e = b.earlier in omega (arith, e)); seen = b.seen })
           | inr here ↦ record { at = n; earlier = omega arith; seen = here }
@@ -81,13 +66,13 @@ module _ (setting : Setting) (limit time variable : ℕ) (seen : List ℕ × Lis
         λ b. d.1 (elim (cases_lt b.at n) [
           | inl earlier ↦ inl (before.1 (record { at = b.at; earlier = earlier; seen = b.seen }))
           | inr late ↦ (let e : b.at ≡ n = (let h = b.earlier in omega (arith, h, late)) in
-              inr (subst (λ (k : ℕ). IsSeenAt time variable seen.0 (state_after setting seen.1 k)) e b.seen))
+              inr (subst (λ (k : ℕ). P (state_after setting log k)) e b.seen))
         ]),
       )
 
-  module _ (left : IsLeft seen.1 rest n) (now : Bool) (before : Decides now (Before (n + 1))) where
+  module _ (left : IsLeft log rest n) (now : Bool) (before : Decides now (Before (n + 1))) where
     -- all has come
-    pub has_come : IsRun (rules_of setting) seen.1 n → n ≤ limit → now ≡ true → rest ≡ [] → IsSeenWithin setting limit time variable seen
+    pub has_come : IsRun (rules_of setting) log n → n ≤ limit → now ≡ true → rest ≡ [] → IsSeenWithin setting limit P log
     has_come run within found none = record {
       steps = n;
       run = run;
@@ -98,68 +83,19 @@ module _ (setting : Setting) (limit time variable : ℕ) (seen : List ℕ × Lis
 
     module _ (not_all : ((now ≡ true) × (rest ≡ []) → ⊥)) where
       -- so many steps don't do
-      not_yet : (w : IsSeenWithin setting limit time variable seen) → w.steps ≤ n → ⊥
+      not_yet : (w : IsSeenWithin setting limit P log) → w.steps ≤ n → ⊥
       not_yet w le = not_all (
         before.1 (let b = w.before in record { at = b.at; earlier = (let e = b.earlier in omega (arith, e, le)); seen = b.seen }),
-        none_left n rest left.lawful (left.names_back n (names_up seen.1 w.steps n le w.names)),
+        none_left n rest left.lawful (left.names_back n (names_up log w.steps n le w.names)),
       )
 
       -- no more steps are allowed
-      pub never_within : n ≡ limit → IsSeenWithin setting limit time variable seen → ⊥
+      pub never_within : n ≡ limit → IsSeenWithin setting limit P log → ⊥
       never_within last w = not_yet w (let h = w.within in omega (arith, h, last))
 
       -- the run doesn't go on
-      pub never_on : (rules_of setting).width (state_after setting seen.1 n) ≤ choice_at seen.1 n → IsSeenWithin setting limit time variable seen → ⊥
+      pub never_on : (rules_of setting).width (state_after setting log n) ≤ choice_at log n → IsSeenWithin setting limit P log → ⊥
       never_on stuck w = elim (cases_lt n w.steps) [
         | inl on ↦ (let has = w.run n on in omega (arith, has, stuck))
         | inr here ↦ not_yet w here
       ]
-
--- ---- a true value of a race is one that is so seen, under a log that is short enough
-
-module _ (setting : Setting) (report : Report) (time variable : ℕ) (seen : List ℕ × List (ℕ × ℕ)) where
-  seen_so : IsTrueWitness setting report time variable seen → IsSeenWithin setting report.steps time variable seen
-  seen_so is = record {
-    steps = is.steps;
-    run = is.run;
-    names = is.names;
-    within = is.within;
-    before = record {
-      at = is.at;
-      earlier = (let le = is.reached in omega (arith, le));
-      seen = record {
-        slot_is = ends_slot (state_after setting seen.1 is.at) time is.shown.values is.shown.slot;
-        value = is.value;
-        value_is = ap (λ (xs : List Vector). slice_get xs variable) is.shown.slot.values_are ∙ is.shown.value_is;
-        text_is = is.text_is;
-      };
-    };
-  }
-
-  pub so_seen : length seen.1 ≤ report.depart → IsSeenWithin setting report.steps time variable seen → IsTrueWitness setting report time variable seen
-  so_seen short is =
-      let at = is.before.at in
-      let earlier = is.before.earlier in
-      let t = state_after setting seen.1 at in
-      record {
-        value = is.before.seen.value;
-        text_is = is.before.seen.text_is;
-        steps = is.steps;
-        run = is.run;
-        names = is.names;
-        within = is.within;
-        at = at;
-        reached = omega (arith, earlier);
-        shown = record {
-          run = λ k lt. is.run k (omega (arith, lt, earlier));
-          values = t.values;
-          slot = slot_ends t time is.before.seen.slot_is;
-          value_is = is.before.seen.value_is;
-        };
-        short = short;
-      }
-
-  pub witness_when : {E : Type 0} (r : Result Bool E) → length seen.1 ≤ report.depart →
-      IfOk r (λ is. Decides is (IsSeenWithin setting report.steps time variable seen)) → IfOk r (λ is. Decides is (IsTrueWitness setting report time variable seen))
-  witness_when (Ok b) short d = (λ h. so_seen short (d.0 h), λ is. d.1 (seen_so is))
-  witness_when (Err e) short d = tt

@@ -6,6 +6,7 @@ ghost use Rattle.vreport.specs.Truth.{IsTrueReport};
 ghost use Rattle.report_check.specs.FirstBad.{IsFirstBad, texts_of};
 ghost use Rattle.report_check.specs.Inner.{TellsEnds, TellsRaces};
 
+use crate::claim::race_count;
 use crate::end::is_true_end;
 use crate::head::is_true_head;
 use crate::race::is_true_race;
@@ -18,11 +19,12 @@ use vmachine::Machine;
 /// The first item of a report that isn't true, in the order of the report's own items, counted from 0.
 #[derive(Clone, Copy, Debug, PartialEq, Eq)]
 pub enum FirstBad {
-    /// The top, the time limit, the grain or the variables aren't those of the machine (E504).
+    /// The top, the time limit, the grain, the departures, what is looked at or the variables aren't those of the machine (E504).
     Head,
     /// The end at this place isn't that of the run under its log, or its dump isn't (E502).
     End(usize),
-    /// A value of the race at this place isn't shown by the run under its log (E503).
+    /// A value or a side of the race at this place isn't shown by the run under its log (E503). Races of lines are counted on behind
+    /// those of variables.
     Race(usize),
 }
 
@@ -53,8 +55,8 @@ fn first_false_race(
     ensures { IfOk result (TellsRaces machine.now report.now) }
 {
     let shown = shown_places(alloc, machine, report)?;
-    for place in 0..report.races.len() {
-        if !is_true_race(alloc, machine, report, &report.races[place], place, &shown)? {
+    for place in 0..race_count(report) {
+        if !is_true_race(alloc, machine, report, place, &shown)? {
             return Ok(Some(place));
         }
     }
@@ -62,11 +64,12 @@ fn first_false_race(
 }
 
 /// Whether all that the report lists is true of the machine, the dumps being those of its ends, in their order: its head,
-/// each end with its dump, and each value of each race. Whether the report lists all that there is, is not tested.
+/// each end with its dump and its lines, each value of each race, and each side of each race of lines. Whether the report lists all
+/// that there is, is not tested.
 ///
 /// The fault is the first item that isn't true (E504, E502, E503); else it is want of memory, E901. An end's log is
-/// run twice, a log of races once for all the values that name it, within the steps that the report's head allows; a
-/// value that its log doesn't show once all that it names is taken has one more run. No dump is made in memory.
+/// run twice, a log of races once for all the values and sides that name it, within the steps that the report's head allows; one
+/// that its log doesn't show once all that it names is taken has one more run. No dump is made in memory.
 pub fn check_report(
     alloc: Global,
     machine: &Machine,

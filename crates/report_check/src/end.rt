@@ -5,6 +5,7 @@ ghost use Rattle.vreport.specs.Dumps.{HasDump, IsRunDump};
 ghost use Rattle.vreport.specs.Truth.{IsTrueEndOf};
 ghost use Rattle.report_check.specs.Inner.{EndsSo, TellsStanding};
 
+use crate::printed::is_printed;
 use basis::{NoMemory, OrMemory};
 use report_text::{End, Report};
 use sched_core::{Log, replay};
@@ -34,7 +35,7 @@ fn is_dump(
     }
 }
 
-// Whether the time, the cause and the line of the end are those of a run that has ended here.
+// Whether the time, the cause, the line of values and the printed lines of the end are those of a run that has ended here.
 fn is_told(
     alloc: Global,
     machine: &Machine,
@@ -53,7 +54,10 @@ fn is_told(
         return Ok(false);
     }
     let line = line_of_values(alloc, machine.values(machine_state))?;
-    Ok(line == end.line)
+    if line != end.line {
+        return Ok(false);
+    }
+    Ok(is_printed(machine, machine_state, end.printed.as_ref()))
 }
 
 // Whether the run under the log of the end ends within so many steps, as is told.

@@ -32,7 +32,8 @@ fn are_columns_of(columns: &[Column], variables: &[Variable]) -> bool
     true
 }
 
-/// Whether the head of the report is that of the machine: its top, its time limit, its grain and its variables.
+/// Whether the head of the report is that of the machine: its top, its time limit, its grain, which departures there are, what is
+/// looked at, and its variables.
 pub fn is_true_head(machine: &Machine, report: &Report) -> bool
     ensures { Decides result (IsTrueHead machine.now report.now) }
 {
@@ -44,6 +45,12 @@ pub fn is_true_head(machine: &Machine, report: &Report) -> bool
         return false;
     }
     if report.grain != machine.grain() {
+        return false;
+    }
+    if report.departures != machine.departures() {
+        return false;
+    }
+    if report.looked != machine.looked() {
         return false;
     }
     are_columns_of(&report.variables, &design.variables)

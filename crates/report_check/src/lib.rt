@@ -4,8 +4,10 @@
 #![tactic(auto)]
 
 mod check;
+mod claim;
 mod end;
 mod head;
+mod printed;
 mod race;
 mod shown;
 

@@ -1,61 +1,34 @@
-// Whether a race of a report is true.
+// Whether a race of a report is true: each of its claims is.
 
-ghost use Rattle.std.specs.Prelude.{◌≡◌, [], true, All, IfOk, Decides, Some, slice_get};
-ghost use Rattle.vreport.specs.Truth.{IsTrueRace, IsTrueWitness};
-ghost use Rattle.report_check.specs.Inner.{IsSeenWithin, IsTrueAt, IsValueAt, TellsSeen, TellsSeenByNow};
+ghost use Rattle.std.specs.Prelude.{◌≡◌, [], true, All, IfOk, Decides};
+ghost use Rattle.report_check.specs.Claims.{AreTrueAt, IsClaimAt, IsSeenWithin, IsTrueAt, IsTrueClaim, TellsByNow};
 
-use crate::shown::{Place, is_among};
+use crate::claim::{Claim, Place, claim_at, claim_count, shows};
+use crate::shown::is_among;
 use basis::NoMemory;
-use report_text::{Race, RaceValue, Report};
+use report_text::Report;
 use sched_core::{Member, Space, next_choice};
 use std::alloc::Global;
 use vmachine::{Machine, MachineState, machine_law};
-use vreport::text_of_value;
 
-/// Whether the slot of the race's time ends here, and its variable has this value.
-pub fn shows(
-    alloc: Global,
-    machine: &Machine,
-    machine_state: &MachineState,
-    race: &Race,
-    race_value: &RaceValue,
-) -> Result<bool, NoMemory>
-    ensures { IfOk result
-        (TellsSeen machine.now machine_state.now race.now.time race.now.variable race_value.now.0) }
-{
-    let Some(time) = machine.slot_of(machine_state) else {
-        return Ok(false);
-    };
-    if time != race.time {
-        return Ok(false);
-    }
-    let Some(value) = machine.values(machine_state).get(race.variable) else {
-        return Ok(false);
-    };
-    let text = text_of_value(alloc, *value)?;
-    Ok(text == race_value.value)
-}
-
-// Whether it was so before, or is so here.
+// Whether the claim was shown before, or is shown here.
 fn shows_by_now(
     alloc: Global,
     machine: &Machine,
     machine_state: &MachineState,
-    race: &Race,
-    race_value: &RaceValue,
+    claim: &Claim<'_>,
     before: bool,
 ) -> Result<bool, NoMemory>
     ensures { IfOk result
-        (TellsSeenByNow before machine.now machine_state.now race.now.time race.now.variable
-        race_value.now.0) }
+        (TellsByNow before machine.now machine_state.now (IsClaimAt claim.now)) }
 {
     if before {
         return Ok(true);
     }
-    shows(alloc, machine, machine_state, race, race_value)
+    shows(alloc, machine, machine_state, claim)
 }
 
-// Whether the value was seen and nothing is left of the log.
+// Whether the claim was shown and nothing is left of the log.
 fn has_all(found: bool, rest: &[Member]) -> bool
     ensures { Decides result ((found ≡ true) × (rest.now ≡ [])) }
 {
@@ -65,24 +38,23 @@ fn has_all(found: bool, rest: &[Member]) -> bool
     rest.is_empty()
 }
 
-// Walks the run under the log, by at most `steps` steps, until the value was seen and nothing is left of the log.
+// Walks the run under the claim's log, by at most `steps` steps, until the claim was shown and nothing is left of the log.
 fn is_seen(
     alloc: Global,
     machine: &Machine,
     steps: u32,
-    race: &Race,
-    race_value: &RaceValue,
+    claim: &Claim<'_>,
 ) -> Result<bool, NoMemory>
     ensures { IfOk result (λ is.
-        Decides is (IsSeenWithin machine.now steps race.now.time race.now.variable race_value.now)) }
+        Decides is (IsSeenWithin machine.now steps (IsClaimAt claim.now) claim.now.log)) }
 {
     machine_law();
     let mut state = machine.root()?;
-    let mut rest = race_value.log.members();
+    let mut rest = claim.log.members();
     let mut n = 0;
     let mut found = false;
     'walk: loop {
-        found = shows_by_now(alloc, machine, &state, race, race_value, found)?;
+        found = shows_by_now(alloc, machine, &state, claim, found)?;
         if has_all(found, rest) {
             return Ok(true);
         }
@@ -99,65 +71,56 @@ fn is_seen(
     }
 }
 
-// Whether a value of the race is true: the run under its log has no more departures than the head of the report allows,
-// and within the steps that the head allows it comes to the end of that slot with that value and takes all that the log
-// names.
-fn is_true_witness(
+// Whether the claim is true: the run under its log has no more departures than the head of the report allows, and within the
+// steps that the head allows it comes to the end of that slot, shows there what is claimed, and takes all that the log names.
+fn is_true_claim(
     alloc: Global,
     machine: &Machine,
     report: &Report,
-    race: &Race,
-    race_value: &RaceValue,
+    claim: &Claim<'_>,
 ) -> Result<bool, NoMemory>
-    ensures { IfOk result (λ is.
-        Decides is (IsTrueWitness machine.now report.now race.now.time race.now.variable
-        race_value.now)) }
+    ensures { IfOk result (λ is. Decides is (IsTrueClaim machine.now report.now claim.now)) }
 {
-    if race_value.log.members().len() > report.depart as usize {
+    if claim.log.members().len() > report.depart as usize {
         return Ok(false);
     }
-    is_seen(alloc, machine, report.steps, race, race_value)
+    is_seen(alloc, machine, report.steps, claim)
 }
 
-// Whether the value at this place is true: it was shown in the run of its log, or else a run of its own shows it.
-fn is_true_value(
+// Whether the claim at this place is true: it was shown in the run of its log, or else a run of its own shows it.
+fn is_true_at(
     alloc: Global,
     machine: &Machine,
     report: &Report,
-    race: &Race,
-    race_value: &RaceValue,
     place: Place,
     shown: &[Place],
 ) -> Result<bool, NoMemory>
-    requires at { IsValueAt report.now place race.now race_value.now }
-    requires shown { All (IsTrueAt machine.now report.now) shown.now }
-    ensures { IfOk result (λ is.
-        Decides is (IsTrueWitness machine.now report.now race.now.time race.now.variable
-        race_value.now)) }
+    requires { All (IsTrueAt machine.now report.now) shown.now }
+    ensures { IfOk result (λ is. Decides is (IsTrueAt machine.now report.now place)) }
 {
     if is_among(shown, place) {
         return Ok(true);
     }
-    is_true_witness(alloc, machine, report, race, race_value)
+    match claim_at(report, place) {
+        Some(claim) => is_true_claim(alloc, machine, report, &claim),
+        None => Ok(true),
+    }
 }
 
-/// Whether the race at this place of the report is true: each of its values is seen in the run under its log, at the end of
-/// that slot. No run is made for the values that were shown. E901 is the only refusal.
+/// Whether the race at this place of the report is true, races of lines counted on behind those of variables: each of its claims is
+/// shown in the run under its log, at the end of that slot. No run is made for the claims that were shown. E901 is the only refusal.
 pub fn is_true_race(
     alloc: Global,
     machine: &Machine,
     report: &Report,
-    race: &Race,
-    place: usize,
+    race: usize,
     shown: &[Place],
 ) -> Result<bool, NoMemory>
-    requires at { slice_get report.now.races place ≡ Some race.now }
-    requires shown { All (IsTrueAt machine.now report.now) shown.now }
-    ensures { IfOk result (λ is. Decides is (IsTrueRace machine.now report.now race.now)) }
+    requires { All (IsTrueAt machine.now report.now) shown.now }
+    ensures { IfOk result (λ is. Decides is (AreTrueAt machine.now report.now race)) }
 {
-    for (value, race_value) in race.values.iter().enumerate() {
-        let at = (place, value);
-        if !is_true_value(alloc, machine, report, race, race_value, at, shown)? {
+    for place in 0..claim_count(report, race) {
+        if !is_true_at(alloc, machine, report, (race, place), shown)? {
             return Ok(false);
         }
     }

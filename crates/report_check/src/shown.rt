@@ -1,61 +1,45 @@
-// The values of races that the runs under their logs show, each log run once.
+// The claims that the runs under their logs show, each log run once.
 //
-// The order of the places and how they are grouped only save time: a value that isn't found here has a run of its own.
+// The order of the places and how they are grouped only save time: a claim that isn't found here has a run of its own.
 
-ghost use Rattle.std.specs.Prelude.{◌≡◌, [], ◌<◌, ◌≤◌, length, All, IsTrue, IfOk, IfSome, OnOk};
+ghost use Rattle.std.specs.Prelude.{◌≡◌, [], ◌<◌, ◌≤◌, length, All, IsTrue, IfOk, OnOk};
 ghost use Rattle.std.specs.List.{Contains};
-ghost use Rattle.report_check.specs.Inner.{ComesTo, IsTrueAt, IsValueAt};
+ghost use Rattle.report_check.specs.Claims.{ComesTo, IsTrueAt};
 
-use crate::race::shows;
+use crate::claim::{Place, claim_at, claim_count, race_count, shows};
 use basis::NoMemory;
-use report_text::{Race, RaceValue, Report};
+use report_text::Report;
 use sched_core::{Log, Member, Space, next_choice};
 use std::alloc::Global;
 use vmachine::{Machine, MachineState, machine_law};
 
-/// Where a value of a race stands: the place of its race in the report, and its own in the race, from 0.
-pub type Place = (usize, usize);
-
-// The value at this place, and its race.
-fn value_at(report: &Report, place: Place) -> Option<(&Race, &RaceValue)>
-    ensures { IfSome result (λ told. IsValueAt report.now place told.0.now told.1.now) }
-{
-    let Some(race) = report.races.get(place.0) else {
-        return None;
-    };
-    let Some(race_value) = race.values.get(place.1) else {
-        return None;
-    };
-    Some((race, race_value))
-}
-
-// The members of the log of the value at this place.
+// The members of the log of the claim at this place.
 fn members_at(report: &Report, place: Place) -> &[Member] {
-    match value_at(report, place) {
-        Some((_, race_value)) => race_value.log.members(),
+    match claim_at(report, place) {
+        Some(claim) => claim.log.members(),
         None => &[],
     }
 }
 
-// Puts the places of so many values of a race last.
-fn push_places(places: &mut Vec<Place>, race: usize, values: usize) -> Result<(), NoMemory> {
-    for value in 0..values {
-        places.push((race, value))?;
+// Puts the places of so many claims of a race last.
+fn push_places(places: &mut Vec<Place>, race: usize, count: usize) -> Result<(), NoMemory> {
+    for place in 0..count {
+        places.push((race, place))?;
     }
     Ok(())
 }
 
-// The places of all values, those of one log together, in the order of the report.
+// The places of all claims, those of one log together, in the order of the report.
 fn places_by_log(alloc: Global, report: &Report) -> Result<Vec<Place>, NoMemory> {
     let mut places = Vec::new(alloc);
-    for race in 0..report.races.len() {
-        push_places(&mut places, race, report.races[race].values.len())?;
+    for race in 0..race_count(report) {
+        push_places(&mut places, race, claim_count(report, race))?;
     }
     places.sort_by(|a, b| members_at(report, *a).cmp(&members_at(report, *b)))?;
     Ok(places)
 }
 
-// How many places at the front have values of one log.
+// How many places at the front have claims of one log.
 fn group_len(report: &Report, places: &[Place]) -> usize
     requires { 0 < length places.now }
     ensures some { 0 < result }
@@ -70,10 +54,10 @@ fn group_len(report: &Report, places: &[Place]) -> usize
     places.len()
 }
 
-// Whether the time of the race at this place is later.
+// Whether the time of the claim at this place is later.
 fn is_later(report: &Report, place: Place, time: u64) -> bool {
-    match value_at(report, place) {
-        Some((race, _)) => race.time > time,
+    match claim_at(report, place) {
+        Some(claim) => claim.time > time,
         None => false,
     }
 }
@@ -85,7 +69,7 @@ fn are_equal(log: &Log, other: &Log) -> bool
     log.members() == other.members()
 }
 
-// Whether the value at this place is shown here, in the run under its log, which is this one.
+// Whether the claim at this place is shown here, in the run under its log, which is this one.
 fn is_shown(
     alloc: Global,
     machine: &Machine,
@@ -97,16 +81,16 @@ fn is_shown(
     requires here { ComesTo machine.now report.now log.now machine_state.now }
     ensures { IfOk result (λ is. IsTrue is → IsTrueAt machine.now report.now place) }
 {
-    let Some((race, race_value)) = value_at(report, place) else {
+    let Some(claim) = claim_at(report, place) else {
         return Ok(false);
     };
-    if !are_equal(&race_value.log, log) {
+    if !are_equal(claim.log, log) {
         return Ok(false);
     }
-    shows(alloc, machine, machine_state, race, race_value)
+    shows(alloc, machine, machine_state, &claim)
 }
 
-// Puts the place last, where the value there is shown here.
+// Puts the place last, where the claim there is shown here.
 fn note_shown(
     alloc: Global,
     machine: &Machine,
@@ -211,14 +195,14 @@ fn run_group(
     requires shown { All (IsTrueAt machine.now report.now) shown.old.items }
     ensures { OnOk result (All (IsTrueAt machine.now report.now) shown.new.items) }
 {
-    match value_at(report, group[0]) {
-        Some((_, race_value)) => run_log(alloc, machine, report, &race_value.log, group, shown),
+    match claim_at(report, group[0]) {
+        Some(claim) => run_log(alloc, machine, report, claim.log, group, shown),
         None => Ok(()),
     }
 }
 
-/// Places whose values are true, in their order: those that the run under their log shows once all that the log names is
-/// taken. Each log is run once. It takes time linear in the steps of the runs, and n log n in the number of values.
+/// Places whose claims are true, in their order: those that the run under their log shows once all that the log names is
+/// taken. Each log is run once. It takes time linear in the steps of the runs, and n log n in the number of claims.
 pub fn shown_places(
     alloc: Global,
     machine: &Machine,

@@ -1,6 +1,7 @@
 use Rattle.std.proofs.Common.{◌≡◌, ◌≤◌, ◌<◌, refl, ap, sym, ◌∙◌, arith, subst, List, ℕ, false, true}
 use Rattle.sched_core.specs.Logs.{IsLogFrom}
 use Rattle.sched_core.proofs.RunLemmas.{IsLeft, left_whole, left_next}
+use Rattle.report_check.specs.Claims.{Claim, IsClaimAt}
 use Rattle.report_check.proofs.WalkLemmas.{seen_by_now, has_come, never_within, never_on, stuck, runs_on, stands_on}
 use Rattle.report_check.proofs.race.is_seen.Goals as goal
 
@@ -8,13 +9,14 @@ pub walk-init : goal.walk-init
 walk-init c =
     let law = c.machine_law.ensures in
     let setting = c.args.machine.now in
-    let log_is = ap (λ (s : List ℕ × List (ℕ × ℕ)). s.1) c.race_value.view_is in
-    let lawful : IsLogFrom 0 c.args.race_value.now.1 = subst (IsLogFrom 0) log_is c.members-rest.ensures.lawful in
+    let claim = c.args.claim.now in
+    let log_is = ap (λ (k : Claim). k.log) c.claim.view_is in
+    let lawful : IsLogFrom 0 claim.log = subst (IsLogFrom 0) log_is c.members-rest.ensures.lawful in
     record {
       within = omega arith;
-      left = subst (λ (rest : List (ℕ × ℕ)). IsLeft c.args.race_value.now.1 rest 0) (sym (c.members-rest.ensures.list ∙ log_is)) (left_whole c.args.race_value.now.1 lawful);
+      left = subst (λ (rest : List (ℕ × ℕ)). IsLeft claim.log rest 0) (sym (c.members-rest.ensures.list ∙ log_is)) (left_whole claim.log lawful);
       run = λ k lt. absurd (omega (arith, lt));
-      at = law.same setting _ _ _ (law.stands setting c.args.race_value.now.1 0) c.in_ok-state.ensures;
+      at = law.same setting _ _ _ (law.stands setting claim.log 0) c.in_ok-state.ensures;
       before = (λ h. absurd (let bad : false ≡ true = h in cc), λ b. absurd (let lt = b.earlier in omega (arith, lt)));
     }
 
@@ -22,12 +24,11 @@ pub returns-then-has_all : goal.returns-then-has_all
 returns-then-has_all c =
     let setting = c.args.machine.now in
     let steps = c.args.steps in
-    let race = c.args.race.now in
-    let race_value = c.args.race_value.now in
+    let claim = c.args.claim.now in
     let here = c.walk.invariant in
-    let by_now = seen_by_now setting steps race.time race.variable race_value c.walk.rest.now c.walk.n c.walk.found c.in_ok-found.found c.walk.state here.at here.before c.in_ok-found.ensures in
+    let by_now = seen_by_now setting steps (IsClaimAt claim) claim.log c.walk.rest.now c.walk.n c.walk.found c.in_ok-found.found c.walk.state here.at here.before c.in_ok-found.ensures in
     let all = c.has_all.ensures.0 c.if-has_all.true in (
-      λ h. has_come setting steps race.time race.variable race_value c.walk.rest.now c.walk.n here.left c.in_ok-found.found by_now here.run here.within all.0 all.1,
+      λ h. has_come setting steps (IsClaimAt claim) claim.log c.walk.rest.now c.walk.n here.left c.in_ok-found.found by_now here.run here.within all.0 all.1,
       λ w. refl,
     )
 
@@ -35,12 +36,11 @@ pub returns-then-n-steps : goal.returns-then-n-steps
 returns-then-n-steps c =
     let setting = c.args.machine.now in
     let steps = c.args.steps in
-    let race = c.args.race.now in
-    let race_value = c.args.race_value.now in
+    let claim = c.args.claim.now in
     let here = c.walk.invariant in
-    let by_now = seen_by_now setting steps race.time race.variable race_value c.walk.rest.now c.walk.n c.walk.found c.in_ok-found.found c.walk.state here.at here.before c.in_ok-found.ensures in (
+    let by_now = seen_by_now setting steps (IsClaimAt claim) claim.log c.walk.rest.now c.walk.n c.walk.found c.in_ok-found.found c.walk.state here.at here.before c.in_ok-found.ensures in (
       λ h. absurd cc,
-      λ w. absurd (never_within setting steps race.time race.variable race_value c.walk.rest.now c.walk.n here.left c.in_ok-found.found by_now
+      λ w. absurd (never_within setting steps (IsClaimAt claim) claim.log c.walk.rest.now c.walk.n here.left c.in_ok-found.found by_now
           (λ all. (let e = c.has_all.ensures.1 all in let f = c.if-has_all.false in cc)) c.if-n-steps.true w),
     )
 
@@ -49,15 +49,14 @@ returns-then-choice-width c =
     let law = c.machine_law.ensures in
     let setting = c.args.machine.now in
     let steps = c.args.steps in
-    let race = c.args.race.now in
-    let race_value = c.args.race_value.now in
+    let claim = c.args.claim.now in
     let here = c.walk.invariant in
     let choice = c.next_choice-choice.result.0 in
-    let by_now = seen_by_now setting steps race.time race.variable race_value c.walk.rest.now c.walk.n c.walk.found c.in_ok-found.found c.walk.state here.at here.before c.in_ok-found.ensures in (
+    let by_now = seen_by_now setting steps (IsClaimAt claim) claim.log c.walk.rest.now c.walk.n c.walk.found c.in_ok-found.found c.walk.state here.at here.before c.in_ok-found.ensures in (
       λ h. absurd cc,
-      λ w. absurd (never_on setting steps race.time race.variable race_value c.walk.rest.now c.walk.n here.left c.in_ok-found.found by_now
+      λ w. absurd (never_on setting steps (IsClaimAt claim) claim.log c.walk.rest.now c.walk.n here.left c.in_ok-found.found by_now
           (λ all. (let e = c.has_all.ensures.1 all in let f = c.if-has_all.false in cc))
-          (stuck setting race_value.1 c.walk.rest.now c.next_choice-choice.result.1.now c.walk.n choice here.left c.next_choice-choice.ensures.next (law.width setting) c.walk.state here.at
+          (stuck setting claim.log c.walk.rest.now c.next_choice-choice.result.1.now c.walk.n choice here.left c.next_choice-choice.ensures.next (law.width setting) c.walk.state here.at
           (subst (λ (width : ℕ). width ≤ choice) c.width.ensures c.if-choice-width.true)) w),
     )
 
@@ -65,18 +64,17 @@ pub walk-preserved : goal.walk-preserved
 walk-preserved c =
     let law = c.machine_law.ensures in
     let setting = c.args.machine.now in
-    let race = c.args.race.now in
-    let race_value = c.args.race_value.now in
+    let claim = c.args.claim.now in
     let here = c.walk.invariant in
     let choice = c.next_choice-choice.result.0 in
     let later = c.next_choice-choice.result.1.now in
     let next = c.next_choice-choice.ensures.next in
     record {
       within = (let within = here.within in let more = c.if-n-steps.false in omega (arith, within, more));
-      left = left_next race_value.1 c.walk.rest.now later c.walk.n choice here.left next c.next_choice-choice.ensures.lawful;
-      run = runs_on setting race_value.1 c.walk.rest.now later c.walk.n choice here.left next (law.width setting) c.walk.state here.at here.run
+      left = left_next claim.log c.walk.rest.now later c.walk.n choice here.left next c.next_choice-choice.ensures.lawful;
+      run = runs_on setting claim.log c.walk.rest.now later c.walk.n choice here.left next (law.width setting) c.walk.state here.at here.run
           (subst (λ (width : ℕ). choice < width) c.width.ensures c.if-choice-width.false);
-      at = stands_on setting race_value.1 c.walk.rest.now later c.walk.n choice here.left next (law.width setting) c.walk.state here.at (law.same setting) (law.after setting)
+      at = stands_on setting claim.log c.walk.rest.now later c.walk.n choice here.left next (law.width setting) c.walk.state here.at (law.same setting) (law.after setting)
           c.step.new.s c.in_ok-step.ensures.ok;
-      before = seen_by_now setting c.args.steps race.time race.variable race_value c.walk.rest.now c.walk.n c.walk.found c.in_ok-found.found c.walk.state here.at here.before c.in_ok-found.ensures;
+      before = seen_by_now setting c.args.steps (IsClaimAt claim) claim.log c.walk.rest.now c.walk.n c.walk.found c.in_ok-found.found c.walk.state here.at here.before c.in_ok-found.ensures;
     }

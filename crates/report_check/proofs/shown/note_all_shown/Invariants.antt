@@ -1,5 +1,5 @@
 use Rattle.std.specs.List.{All}
-use Rattle.report_check.specs.Inner.{IsTrueAt}
+use Rattle.report_check.specs.Claims.{IsTrueAt}
 use Rattle.report_check.proofs.shown.note_all_shown.Given as goal
 
 abbrev pub invariant-loop-at : goal.invariant-loop-at

@@ -1,6 +1,6 @@
 use Rattle.std.proofs.Common.{ℕ, List, All, sym, subst}
 use Rattle.std.proofs.lemmas.List.Elements.{All-push}
-use Rattle.report_check.specs.Inner.{IsTrueAt}
+use Rattle.report_check.specs.Claims.{IsTrueAt}
 use Rattle.report_check.proofs.shown.note_shown.Goals as goal
 
 pub returns : goal.returns

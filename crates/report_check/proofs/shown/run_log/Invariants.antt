@@ -4,7 +4,7 @@ use Rattle.sched_core.specs.Rules.{IsRun}
 use Rattle.sched_core.proofs.RunLemmas.{IsLeft}
 use Rattle.vmodel.specs.Run.{rules_of, state_after}
 use Rattle.vmachine.specs.Machines.{Stands}
-use Rattle.report_check.specs.Inner.{IsTrueAt}
+use Rattle.report_check.specs.Claims.{IsTrueAt}
 use Rattle.report_check.proofs.shown.run_log.Given as goal
 
 abbrev pub invariant-walk : goal.invariant-walk

@@ -1,5 +1,5 @@
 use Rattle.std.proofs.lemmas.List.Sorted.{All-permutation}
-use Rattle.report_check.specs.Inner.{IsTrueAt}
+use Rattle.report_check.specs.Claims.{IsTrueAt}
 use Rattle.report_check.proofs.shown.shown_places.Goals as goal
 
 pub returns : goal.returns

@@ -1,6 +1,6 @@
 use Rattle.std.proofs.Common.{length}
 use Rattle.std.specs.List.{All}
-use Rattle.report_check.specs.Inner.{IsTrueAt}
+use Rattle.report_check.specs.Claims.{IsTrueAt}
 use Rattle.report_check.proofs.shown.shown_places.Given as goal
 
 abbrev pub invariant-groups : goal.invariant-groups
