@@ -16,6 +16,7 @@ use Rattle.vmodel.specs.Run.{Setting, state_after}
 use Rattle.vmachine.specs.declared.machine_state.MachineState.{MachineState}
 use Rattle.vmachine.specs.Machines.{Stands}
 use Rattle.report_text.specs.Report.{Report}
+use Rattle.vreport.proofs.OrderLemmas.{then_alike}
 use Rattle.report_check.specs.Claims.{Claim, ComesTo, IsClaimAt, IsSeenWithin, IsTrueAt, IsTrueClaim, TellsState, claim_in}
 
 -- ---- places
@@ -23,15 +24,10 @@ use Rattle.report_check.specs.Claims.{Claim, ComesTo, IsClaimAt, IsSeenWithin, I
 abbrev Place : Type 0
 Place = ℕ × ℕ
 
-both_equal : (o p : Ordering) → ordering_then o p ≡ Equal → (o ≡ Equal) × (p ≡ Equal)
-both_equal Less p e = absurd (cc)
-both_equal Equal p e = (refl, e)
-both_equal Greater p e = absurd (cc)
-
 -- places that compare as equal are one
 place_same : (p q : Place) → ordering_then (nat_cmp p.0 q.0) (nat_cmp p.1 q.1) ≡ Equal → p ≡ q
 place_same p q e =
-    let both = both_equal (nat_cmp p.0 q.0) (nat_cmp p.1 q.1) e in
+    let both = then_alike (nat_cmp p.0 q.0) (nat_cmp p.1 q.1) e in
     let first : p.0 ≡ q.0 = ranked p.0 q.0 Equal (sym both.0) in
     let second : p.1 ≡ q.1 = ranked p.1 q.1 Equal (sym both.1) in
     λ i. (first i, second i)

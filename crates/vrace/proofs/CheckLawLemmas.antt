@@ -1,5 +1,5 @@
 -- One text, one report, one answer to whether it is true.
-use Rattle.std.proofs.Common.{◌≡◌, ℕ, zero, suc, ◌<◌, ◌^◌, List, [], ◌∷◌, length, slice_get, Some, inl, inr, sym, subst, ◌∙◌}
+use Rattle.std.proofs.Common.{◌≡◌, ℕ, zero, suc, ◌-◌, ◌<◌, ◌^◌, List, [], ◌∷◌, length, slice_get, Some, inl, inr, sym, subst, ◌∙◌}
 use Rattle.std.proofs.lemmas.Option.{same_Some}
 use Rattle.vsrc.specs.Expansion.{expanded_text, expanded_timescale}
 use Rattle.vmodel.specs.Run.{Setting}
@@ -31,8 +31,10 @@ none_bad : (setting : Setting) (report : Report) (dumps : List (List ℕ)) (item
 none_bad setting report dumps bad.Head truth first = first truth.head
 none_bad setting report dumps (bad.End place) truth (head, before, false_end) =
     false_end.not_true (end_at setting report report.ends dumps place false_end.end false_end.dump truth.ends false_end.at false_end.dump_at)
-none_bad setting report dumps (bad.Race place) truth (head, ends, before, false_race) =
-    false_race.not_true (truth.races place false_race.race false_race.at)
+none_bad setting report dumps (bad.Race place) truth (head, ends, before, false_race) = elim false_race [
+  | inl of_variable ↦ of_variable.not_true (truth.races place of_variable.race of_variable.at)
+  | inr of_lines ↦ of_lines.not_true (truth.line_races (place - length report.races) of_lines.race of_lines.at)
+]
 
 module _ (laws : Laws) (one_report : OneReportForText) (files : List (List ℕ)) (text : List ℕ) (short : length text < 2 ^ 64) where
   same_report : (r s : Report) (dumps others : List (List ℕ)) → IsReportText text (r, dumps) → IsReportText text (s, others) → (r ≡ s) × (dumps ≡ others)

@@ -98,7 +98,7 @@ equal_printed (Some a) None e = absurd (cc)
 equal_printed (Some a) (Some b) e = ap Some ((lines_tell a b).0 (bags_tie a b ∙ ap is_eq e))
 
 -- what is alike by two orders, one after the other, is by each; what stands before by them does by the first that tells
-then_alike : (o p : Ordering) → ordering_then o p ≡ Equal → (o ≡ Equal) × (p ≡ Equal)
+pub then_alike : (o p : Ordering) → ordering_then o p ≡ Equal → (o ≡ Equal) × (p ≡ Equal)
 then_alike Less p e = absurd (cc)
 then_alike Equal p e = (refl, e)
 then_alike Greater p e = absurd (cc)
