@@ -32,19 +32,19 @@ module _ (laws : Laws) (files : List (List ℕ)) (asked again : Request) (top_is
 
   to_hold : AskToHold asked again → setting_for files again t ≡ holding (setting_for files asked s)
   to_hold ask = λ i. record {
-    design = one_design (~ i);
-    until = ask.until_is (~ i);
-    grain = ask.grain_is (~ i);
+    design = (sym one_design) i;
+    until = (sym ask.until_is) i;
+    grain = (sym ask.grain_is) i;
     departures = ask.holds i;
-    looked = ask.looked_is (~ i);
+    looked = (sym ask.looked_is) i;
   }
 
   of_lines : AskForLines asked again → setting_for files again t ≡ of_values (setting_for files asked s)
   of_lines ask = λ i. record {
-    design = one_design (~ i);
-    until = ask.until_is (~ i);
-    grain = ask.grain_is (~ i);
-    departures = ask.departures_are (~ i);
+    design = (sym one_design) i;
+    until = (sym ask.until_is) i;
+    grain = (sym ask.grain_is) i;
+    departures = (sym ask.departures_are) i;
     looked = ask.values i;
   }
 
