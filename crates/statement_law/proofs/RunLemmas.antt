@@ -26,7 +26,7 @@ use Rattle.vmodel.specs.Parts.{value_in}
 use Rattle.vmodel.specs.Kept.{waits_of}
 use Rattle.vmodel.specs.declared.effect.Disposition.{Disposition}
 use Rattle.vmodel.specs.declared.effect.Disposition.TheVariants.{Runnable, Delayed, Waiting}
-use Rattle.vmodel.specs.Step.{Transition, waits_by, StepResult, frames, execute_at, place_of, process_by, continuation_of, held_of, environment_of, with_moves_by, with_step, with_woken, with_update, with_advance, transition_with, action_transition, continuation_transition, process_transition, transition_by, next}
+use Rattle.vmodel.specs.Step.{Transition, waits_by, StepResult, frames, execute_at, place_of, process_by, continuation_of, held_of, environment_of, with_moves_by, with_step, with_woken, with_update, with_advance, transition_with, action_transition, continuation_transition, process_transition, with_views, transition_by, next}
 use Rattle.vmodel.specs.Run.{Setting, opening_process, opening_of, state_after}
 use Rattle.vmodel.specs.RunProgress.{opening_is, after_is}
 use Rattle.statement_law.specs.TreeSteps.{Pending, TreeStep}
@@ -172,6 +172,10 @@ module _ (design : Design) (s : State) where
             ∙ ap (λ d. still_waiting s.values new d.triggered (waits_behind d.suspension step.next)) tells.effect;
       }
 
+  -- what is held back, and what is printed, is no part of where a process stands
+  viewed : (i p : ℕ) (scope : Scope) (c : Choice) (t : Transition) (at : Standpoint) → IsAt design t.state p scope at → IsAt design (with_views design s i c t).state p scope at
+  viewed i p scope c t at here = record { stands = here.stands; holds = here.holds; waits = here.waits }
+
   pub steps_by_trees : (i p : ℕ) (scope : Scope) (at : Standpoint) → slice_get (choices s) i ≡ Some (Run p) → at.pending ≢ [] → IsAt design s p scope at → IsTreeStep design s i p scope at
   steps_by_trees i p scope at chosen some here = by at.pending (continuation_of (slice_get s.processes p)) refl refl
     where
@@ -184,16 +188,19 @@ module _ (design : Design) (s : State) where
           let made : HasTreeStep scope now at.held design.actions at.pending frame after =
           follows_trees scope now at.held design.actions at.pending frame after (subst (StandAt scope design.actions at.pending) e here.stands) in
           let result : StepResult = execute_at frame made.action after at.held now in
-          let is : next design s i ≡ transition_with design p result s =
-          ap (λ c. transition_by design c s) chosen ∙ ap (λ left. continuation_transition design p left s) e ∙ ap (λ a. action_transition design p frame a after s) made.there
-          ∙ ap (λ value. transition_with design p (execute_at frame made.action after value now) s) here.holds in
+          let views : Transition → Transition = with_views design s i (Run p) in
+          let is : next design s i ≡ views (transition_with design p result s) =
+          ap (λ c. transition_by design s i c) chosen ∙ ap (λ left. views (continuation_transition design p left s)) e
+          ∙ ap (λ a. views (action_transition design p frame a after s)) made.there
+          ∙ ap (λ value. views (transition_with design p (execute_at frame made.action after value now) s)) here.holds in
           record {
             step = made.step;
             goes_on = made.goes_on;
             effect = ap (λ t. tree_effect_of design.actions t.effect) is ∙ made.tells.effect;
             there =
                 subst (λ t. IsAt design t.state p scope (behind s.values t.state.values made.step)) (sym is)
-                (placed p scope made.step result made.tells (there s.processes p frame after e));
+                (viewed i p scope (Run p) (transition_with design p result s) (behind s.values (transition_with design p result s).state.values made.step)
+                (placed p scope made.step result made.tells (there s.processes p frame after e)));
           }
 
   -- ---- a step of anything else
@@ -212,14 +219,14 @@ module _ (design : Design) (s : State) where
             let result : StepResult = execute_at frame action after (held_of (slice_get s.processes p)) (environment_of design s) in
             woken_by s.values (transition_with design p result s).state.values result.effect.triggered design.actions _ _ _ (stepped p r result) (get_other s.processes p r (process_by result) ne)
 
-    others : (c : Option Choice) → c ≢ Some (Run r) → Woken (transition_by design c s)
-    others None ne = unchanged s.values design.actions (slice_get s.processes r)
-    others (Some (Run p)) ne = continued p (continuation_of (slice_get s.processes p)) (λ e. ne (ap (λ q. Some (Run q)) (sym e)))
-    others (Some Update) ne =
+    others : (i : ℕ) (c : Option Choice) → c ≢ Some (Run r) → Woken (transition_by design s i c)
+    others i None ne = unchanged s.values design.actions (slice_get s.processes r)
+    others i (Some (Run p)) ne = continued p (continuation_of (slice_get s.processes p)) (λ e. ne (ap (λ q. Some (Run q)) (sym e)))
+    others i (Some Update) ne =
         let t : State = with_update s in
         let woken : State = with_woken design s.values None t in
         moved s.values None woken t r refl (woken_there s.values t.values None design.actions t.processes r) woken.cause
-    others (Some Advance) ne =
+    others i (Some Advance) ne =
         let t : State = record s { queue = with_advance s.queue.future s.queue } in
         moved s.values None t t r refl (unchanged s.values design.actions (slice_get s.processes r)) t.cause
 
@@ -227,7 +234,7 @@ module _ (design : Design) (s : State) where
       IsAt design (next design s i).state p scope (unmoved s.values (next design s i).state.values (next design s i).effect.triggered at)
   stays_else i p scope at other here =
       let t : Transition = next design s i in
-      let like : IsWoken s.values t.state.values t.effect.triggered design.actions (slice_get t.state.processes p) (slice_get s.processes p) = others p (slice_get (choices s) i) other in
+      let like : IsWoken s.values t.state.values t.effect.triggered design.actions (slice_get t.state.processes p) (slice_get s.processes p) = others p i (slice_get (choices s) i) other in
       record {
         stands = subst (StandAt scope design.actions at.pending) (sym like.continuation) here.stands;
         holds = like.held ∙ here.holds;
@@ -254,7 +261,8 @@ module _ (design : Design) (s : State) where
               absurd (subst (StandAt scope design.actions []) e (subst (λ list. StandAt scope design.actions list (continuation_of (slice_get s.processes p))) none here.there.stands))
           left [] e = record {
             at = here.at;
-            there = subst (λ t. IsAt design t.state p scope here.at) (sym (ap (λ c. transition_by design c s) chosen ∙ nothing_left p e)) here.there;
+            there = subst (λ t. IsAt design t.state p scope here.at) (sym (ap (λ c. transition_by design s i c) chosen ∙ ap (with_views design s i (Run p)) (nothing_left p e)))
+                (viewed i p scope (Run p) (continuation_transition design p [] s) here.at here.there);
           }
 
       stays : slice_get (choices s) i ≢ Some (Run p) → IsSomewhere design (next design s i).state p scope

@@ -52,7 +52,11 @@ impl<'a> Options<'a> {
 
     /// From here on they ask for such departures.
     pub fn look(&mut self, departures: Departures)
-        ensures { self.new ≡ record self.old { departures = departures } }
+        ensures departures { self.new.departures ≡ departures }
+        ensures top { self.new.top ≡ self.old.top }
+        ensures until { self.new.until ≡ self.old.until }
+        ensures limits { self.new.limits ≡ self.old.limits }
+        ensures grain { self.new.grain ≡ self.old.grain }
     {
         self.departures = departures;
     }
