@@ -20,12 +20,15 @@ use Rattle.velab_expr.specs.declared.scope.Operand.TheVariants as operand
 use Rattle.velab_expr.specs.declared.fault.ElabFault.{ElabFault}
 use Rattle.velab_expr.specs.Answers.{required}
 use Rattle.velab_expr.specs.Scopes.{Scope, meaning_at, meaning_of, bounds_for, operand_by, variable_by, event_by}
+use Rattle.format_text.specs.Pieces.{pieces_of}
+use Rattle.velab_expr.specs.FirstWords.{first_argument}
+use Rattle.velab_expr.specs.Selections.{levels_in}
 use Rattle.velab_process.specs.Waits.{term_by}
 use Rattle.vhierarchy.specs.Instances.{elaborate_top, elaborated}
-use Rattle.elaboration_law.specs.Uses.{Use, use_of, use_of_time}
+use Rattle.elaboration_law.specs.Uses.{Use, use_of, use_of_time, use_of_formats, use_of_levels}
 use Rattle.elaboration_law.specs.Places.{Place, HasMisuse}
 use Rattle.elaboration_law.specs.Constants.{is_fixed}
-use Rattle.elaboration_law.proofs.UseLemmas.{Judges, required_judges, Question}
+use Rattle.elaboration_law.proofs.UseLemmas.{Judges, required_judges, found_judges, Question}
 use Rattle.elaboration_law.proofs.PlaceLemmas.{IsAt}
 use Rattle.elaboration_law.proofs.InstanceUses.{UseRule}
 use Rattle.elaboration_law.proofs.MisuseLemmas.{misuse_told, misuse_never}
@@ -52,8 +55,10 @@ fixed_by constant (Some (Event number)) = true
 fixed_by constant (Some Instance) = true
 
 abbrev pub fixed_in : Scope → Use → Bool
-fixed_in scope (use_of constant name) = fixed_by constant (meaning_of scope name)
+fixed_in scope (use_of way constant name) = fixed_by constant (meaning_of scope name)
 fixed_in scope (use_of_time constant) = not constant
+fixed_in scope (use_of_formats arguments) = true
+fixed_in scope (use_of_levels levels) = true
 
 required_fits : {A : Type 0} (holds : Bool) (word : Option Word) (x : A) → Judges is_constant holds (required holds Constant word x)
 required_fits true word x = refl
@@ -95,11 +100,15 @@ constants = record {
   asked = is_constant;
   fits = fixed_in;
   no_width = refl;
-  no_kind = refl;
-  of_name = λ constant scope name. name_fits constant scope.known name (meaning_of scope name);
-  of_variable = λ scope name. variable_fits name (meaning_of scope name);
+  of_value = λ constant scope name. name_fits constant scope.known name (meaning_of scope name);
+  of_bits = λ constant scope name. name_fits constant scope.known name (meaning_of scope name);
+  of_written = λ scope name. variable_fits name (meaning_of scope name);
+  of_written_in = λ scope name. variable_fits name (meaning_of scope name);
+  of_driven = λ scope name. variable_fits name (meaning_of scope name);
   of_event = λ scope name. event_fits name (meaning_of scope name);
   of_term = λ scope edge name. term_fits edge name (meaning_of scope name);
+  of_formats = λ scope arguments all is. found_judges is_constant (pieces_of all) Kind (first_argument arguments) refl;
+  of_levels = λ scope levels. found_judges is_constant (levels_in levels) Kind (Some levels) refl;
   of_time = λ constant scope word x. required_fits (not constant) word x;
 }
 
@@ -178,8 +187,10 @@ module _ (here : Place) (scope : Scope) (h : IsAt here scope) where
     fixed_name false e = another e ∙ of_other_name constant
 
   fixed_alike : (one : Use) → fixed_in scope one ≡ is_fixed here one
-  fixed_alike (use_of constant name) = fixed_name constant name (is_declared here.variables name.letters) refl
+  fixed_alike (use_of way constant name) = fixed_name constant name (is_declared here.variables name.letters) refl
   fixed_alike (use_of_time constant) = refl
+  fixed_alike (use_of_formats arguments) = refl
+  fixed_alike (use_of_levels levels) = refl
 
 constants_rule : UseRule
 unfolding constants

@@ -41,7 +41,7 @@ module _ (rules : Rule → Bool) where
   broken_tells true rule word e = e
   broken_tells false rule word e = tt
 
-  unless_tells : (holds : Bool) (rule : Rule) (word : Option Word) → rules rule ≡ true → TellsFault rules (unless holds rule word)
+  pub unless_tells : (holds : Bool) (rule : Rule) (word : Option Word) → rules rule ≡ true → TellsFault rules (unless holds rule word)
   unless_tells true rule word e = tt
   unless_tells false rule word e = e
 

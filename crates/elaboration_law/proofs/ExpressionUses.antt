@@ -1,21 +1,24 @@
 -- Names that expressions, ranges and targets use: lowered, a question holds of each; and where its rule is told, it doesn't of one.
-use Rattle.std.proofs.Common.{nat_le, Bool, true, false, not, List, [], ◌∷◌, ◌++◌, Option, Some, None, Result, refl}
+use Rattle.std.proofs.Common.{◌+◌, ◌*◌, ◌&&◌, nat_le, Bool, true, false, not, List, [], ◌∷◌, ◌++◌, Option, Some, None, Result, refl}
 use Rattle.std.specs.List.{list_all}
+use Rattle.std.specs.Option.{option_or}
 use Rattle.vast.specs.NumberedWords.{Word}
 use Rattle.vast.specs.NumberedExpressions as text
 use Rattle.vast.specs.NumberedModules.{RangeTree}
 use Rattle.vast.specs.NumberedStatements.{TargetTree, TargetTrees, whole, bit, part, joined, none, first, SelectionTree}
 use Rattle.vdesign.specs.Expressions.{ExpressionTree, time}
+use Rattle.vdesign.specs.Expressions as design
 use Rattle.vdesign.specs.declared.expression.Bounds.{Bounds}
 use Rattle.vvalue.specs.Flaws.{flaw_of, is_part}
-use Rattle.vvalue.specs.Value.{part_of, part_size}
+use Rattle.vvalue.specs.Flaws as flaws
+use Rattle.vvalue.specs.Value.{part_of, part_size, bounds_of, size_of}
 use Rattle.vvalue.specs.declared.flaw.Flaw.{Flaw}
 use Rattle.vvalue.specs.declared.flaw.Flaw.TheVariants.{NoBits, Size}
 use Rattle.velab_expr.specs.declared.fault.Rule.TheVariants.{Width, Constant, Kind}
 use Rattle.velab_expr.specs.declared.fault.ElabFault.{ElabFault}
 use Rattle.velab_expr.specs.declared.scope.Operand.{Operand}
 use Rattle.velab_expr.specs.declared.scope.Operand.TheVariants as operand
-use Rattle.velab_expr.specs.Answers.{◌>>=◌, required, unflawed}
+use Rattle.velab_expr.specs.Answers.{◌>>=◌, required, found, unflawed}
 use Rattle.velab_expr.specs.FirstWords.{first_in, first_among}
 use Rattle.velab_expr.specs.Scopes.{Scope, lower_name, lower_variable, lower_event}
 use Rattle.velab_expr.specs.Constants.{nothing, worth, measured, bound_in, part_bounds}
@@ -24,27 +27,74 @@ use Rattle.velab_expr.specs.Ranges.{span, lower_bound, lower_range, lower_bounds
 use Rattle.velab_expr.specs.Written as written
 use Rattle.velab_expr.specs.Written.{lower_target, lower_targets}
 use Rattle.velab_expr.specs.Selections.{levels_in, lower_selection}
-use Rattle.elaboration_law.specs.Uses.{Use, use_of, use_of_time, used_in, used_in_parts, used_in_range, used_in_target, used_in_targets}
-use Rattle.elaboration_law.proofs.UseLemmas.{Judges, last_judges, required_judges, provided_judges, found_judges, Question, Fits, both, last, single}
+use Rattle.elaboration_law.specs.Uses.{Use, Read, ReadIn, Written, WrittenIn, Driven, Triggered, use_of, use_of_time, use_of_levels, used_in_selection, used_in, used_in_parts, used_in_range, used_in_target, used_in_targets}
+use Rattle.elaboration_law.proofs.UseLemmas.{Judges, required_judges, provided_judges, found_judges, Question, Fits, both, last, single}
+
+-- a constant reads no variable, so that no bits are asked for that there aren't
+abbrev IsOfSize : Option Flaw → Type 0
+IsOfSize None = Unit {0}
+IsOfSize (Some NoBits) = ⊥
+IsOfSize (Some Size) = Unit {0}
+
+or_of_size : (a b : Option Flaw) → IsOfSize a → IsOfSize b → IsOfSize (option_or a b)
+or_of_size None b h k = k
+or_of_size (Some NoBits) b h k = h
+or_of_size (Some Size) b h k = h
+
+unless_of_size : (holds : Bool) → IsOfSize (flaws.unless holds Size)
+unless_of_size true = tt
+unless_of_size false = tt
+
+sizes_only : (e : ExpressionTree) → IsOfSize (flaw_of nothing e)
+sizes_only (design.constant c) = tt
+sizes_only (design.variable n) = tt
+sizes_only (design.bit n index) = or_of_size None (flaw_of nothing index) tt (sizes_only index)
+sizes_only (design.bit_of v bounds index) = sizes_only index
+sizes_only (design.part n bounds) = or_of_size None _ tt (unless_of_size (is_part (bounds_of nothing n) bounds))
+sizes_only design.time = tt
+sizes_only (design.conversion signed o) = sizes_only o
+sizes_only (design.apply operator o) = sizes_only o
+sizes_only (design.combine operator left right) = or_of_size (flaw_of nothing left) (flaw_of nothing right) (sizes_only left) (sizes_only right)
+sizes_only (design.conditional test one other) =
+    or_of_size (flaw_of nothing test) (option_or (flaw_of nothing one) (flaw_of nothing other)) (sizes_only test) (or_of_size (flaw_of nothing one) (flaw_of nothing other) (sizes_only one) (sizes_only other))
+sizes_only (design.joined left right) =
+    let size = flaws.unless (nat_le (size_of nothing left + size_of nothing right) 64) Size in
+    or_of_size (flaw_of nothing left) (option_or (flaw_of nothing right) size) (sizes_only left)
+    (or_of_size (flaw_of nothing right) size (sizes_only right) (unless_of_size (nat_le (size_of nothing left + size_of nothing right) 64)))
+sizes_only (design.repeated count o) =
+    let few = nat_le 1 count && nat_le (count * size_of nothing o) 64 in
+    or_of_size (flaw_of nothing o) (flaws.unless few Size) (sizes_only o) (unless_of_size few)
 
 module _ (q : Question) (scope : Scope) where
   -- ---- names
 
-  name_knows : (constant : Bool) (name : Word) → Fits q scope (use_of constant name ∷ []) (lower_name constant scope name)
-  name_knows constant name = single q scope (use_of constant name) (lower_name constant scope name) (q.of_name constant scope name)
+  value_is_known : (constant : Bool) (name : Word) → Fits q scope (use_of Read constant name ∷ []) (lower_name constant scope name)
+  value_is_known constant name = single q scope (use_of Read constant name) (lower_name constant scope name) (q.of_value constant scope name)
 
-  pub variable_knows : (name : Word) → Fits q scope (use_of false name ∷ []) (lower_variable scope name)
-  variable_knows name = single q scope (use_of false name) (lower_variable scope name) (q.of_variable scope name)
+  bits_know : (constant : Bool) (name : Word) → Fits q scope (use_of ReadIn constant name ∷ []) (lower_name constant scope name)
+  bits_know constant name = single q scope (use_of ReadIn constant name) (lower_name constant scope name) (q.of_bits constant scope name)
 
-  pub event_knows : (name : Word) → Fits q scope (use_of false name ∷ []) (lower_event scope name)
-  event_knows name = single q scope (use_of false name) (lower_event scope name) (q.of_event scope name)
+  written_knows : (name : Word) → Fits q scope (use_of Written false name ∷ []) (lower_variable scope name)
+  written_knows name = single q scope (use_of Written false name) (lower_variable scope name) (q.of_written scope name)
+
+  written_in_knows : (name : Word) → Fits q scope (use_of WrittenIn false name ∷ []) (lower_variable scope name)
+  written_in_knows name = single q scope (use_of WrittenIn false name) (lower_variable scope name) (q.of_written_in scope name)
+
+  pub driven_knows : (name : Word) → Fits q scope (use_of Driven false name ∷ []) (lower_variable scope name)
+  driven_knows name = single q scope (use_of Driven false name) (lower_variable scope name) (q.of_driven scope name)
+
+  pub event_knows : (name : Word) → Fits q scope (use_of Triggered false name ∷ []) (lower_event scope name)
+  event_knows name = single q scope (use_of Triggered false name) (lower_event scope name) (q.of_event scope name)
 
   -- ---- expressions
 
-  unflawed_knows : {A : Type 0} (flaw : Option Flaw) (word : Option Word) (x : A) → Judges q.asked true (unflawed flaw word x)
-  unflawed_knows None word x = refl
-  unflawed_knows (Some NoBits) word x = λ e. absurd (let no = q.no_kind in cc)
-  unflawed_knows (Some Size) word x = λ e. absurd (let no = q.no_width in cc)
+  unflawed_knows : {A : Type 0} (e : ExpressionTree) (word : Option Word) (x : A) → Judges q.asked true (unflawed (flaw_of nothing e) word x)
+  unflawed_knows {A = A} e word x = by (flaw_of nothing e) (sizes_only e)
+    where
+      by : (flaw : Option Flaw) → IsOfSize flaw → Judges q.asked true (unflawed flaw word x)
+      by None h = refl
+      by (Some NoBits) h = absurd h
+      by (Some Size) h = λ e. absurd (let no = q.no_width in cc)
 
   part_knows : (operand : Operand) (bounds : Bounds) (name : Word) → Judges q.asked true (part_in operand bounds name)
   part_knows (operand.Variable number) bounds name = refl
@@ -55,18 +105,18 @@ module _ (q : Question) (scope : Scope) where
   few_knows uses parts a h = provided_judges q.asked (list_all (q.fits scope) uses) (nat_le (count_of parts) 64) Width (first_among parts) a q.no_width h
 
   measured_knows : (tree : text.ExpressionTree) → Fits q scope (used_in true tree) (lower true scope tree) → Fits q scope (used_in true tree) (lower true scope tree >>= measured (first_in tree))
-  measured_knows tree h = last q scope (used_in true tree) (lower true scope tree) (measured (first_in tree)) h (λ e. unflawed_knows (flaw_of nothing e) (first_in tree) (worth e))
+  measured_knows tree h = last q scope (used_in true tree) (lower true scope tree) (measured (first_in tree)) h (λ e. unflawed_knows e (first_in tree) (worth e))
 
   mutual
     pub lower_knows : (fixed : Bool) (tree : text.ExpressionTree) → Fits q scope (used_in fixed tree) (lower fixed scope tree)
     lower_knows fixed (text.number digits) = refl
-    lower_knows fixed (text.name letters) = last q scope (use_of fixed letters ∷ []) (lower_name fixed scope letters) _ (name_knows fixed letters) (λ operand. refl)
+    lower_knows fixed (text.name letters) = last q scope (use_of Read fixed letters ∷ []) (lower_name fixed scope letters) _ (value_is_known fixed letters) (λ operand. refl)
     lower_knows fixed (text.time word) = single q scope (use_of_time fixed) (required (not fixed) Constant (Some word) time) (q.of_time fixed scope (Some word) time)
     lower_knows fixed (text.bit letters index) =
-        both q scope (use_of fixed letters ∷ []) (used_in fixed index) (lower_name fixed scope letters) _ (name_knows fixed letters) (λ operand.
+        both q scope (use_of ReadIn fixed letters ∷ []) (used_in fixed index) (lower_name fixed scope letters) _ (bits_know fixed letters) (λ operand.
         last q scope (used_in fixed index) (lower fixed scope index) _ (lower_knows fixed index) (λ place. refl))
     lower_knows fixed (text.part letters left right) =
-        both q scope (use_of fixed letters ∷ []) (used_in true left ++ used_in true right) (lower_name fixed scope letters) _ (name_knows fixed letters) (λ operand.
+        both q scope (use_of ReadIn fixed letters ∷ []) (used_in true left ++ used_in true right) (lower_name fixed scope letters) _ (bits_know fixed letters) (λ operand.
         both q scope (used_in true left) (used_in true right) (lower true scope left >>= measured (first_in left)) _ (measured_knows left (lower_knows true left)) (λ high.
         last q scope (used_in true right) (lower true scope right >>= measured (first_in right)) _ (measured_knows right (lower_knows true right)) (λ low.
         part_knows operand (part_bounds high low) letters)))
@@ -95,7 +145,7 @@ module _ (q : Question) (scope : Scope) where
   expression_knows tree = lower_knows false tree
 
   pub constant_knows : (tree : text.ExpressionTree) → Fits q scope (used_in true tree) (lower_constant scope tree)
-  constant_knows tree = last q scope (used_in true tree) (lower true scope tree) _ (lower_knows true tree) (λ e. unflawed_knows (flaw_of nothing e) (first_in tree) e)
+  constant_knows tree = last q scope (used_in true tree) (lower true scope tree) _ (lower_knows true tree) (λ e. unflawed_knows e (first_in tree) e)
 
   value_knows : (tree : text.ExpressionTree) → Fits q scope (used_in true tree) (lower_value scope tree)
   value_knows tree = measured_knows tree (lower_knows true tree)
@@ -118,12 +168,12 @@ module _ (q : Question) (scope : Scope) where
 
   mutual
     pub target_knows : (target : TargetTree) → Fits q scope (used_in_target target) (lower_target scope target)
-    target_knows (whole letters) = last q scope (use_of false letters ∷ []) (lower_variable scope letters) _ (variable_knows letters) (λ number. refl)
+    target_knows (whole letters) = last q scope (use_of Written false letters ∷ []) (lower_variable scope letters) _ (written_knows letters) (λ number. refl)
     target_knows (bit letters index) =
-        both q scope (use_of false letters ∷ []) (used_in false index) (lower_variable scope letters) _ (variable_knows letters) (λ number.
+        both q scope (use_of WrittenIn false letters ∷ []) (used_in false index) (lower_variable scope letters) _ (written_in_knows letters) (λ number.
         last q scope (used_in false index) (lower_expression scope index) _ (expression_knows index) (λ place. refl))
     target_knows (part letters left right) =
-        both q scope (use_of false letters ∷ []) (used_in true left ++ used_in true right) (lower_variable scope letters) _ (variable_knows letters) (λ number.
+        both q scope (use_of WrittenIn false letters ∷ []) (used_in true left ++ used_in true right) (lower_variable scope letters) _ (written_in_knows letters) (λ number.
         last q scope (used_in true left ++ used_in true right) (written.lower_bounds scope left right) _
         (both q scope (used_in true left) (used_in true right) (lower_value scope left) _ (value_knows left) (λ high.
         last q scope (used_in true right) (lower_value scope right) _ (value_knows right) (λ low. refl))) (λ bounds. refl))
@@ -135,6 +185,8 @@ module _ (q : Question) (scope : Scope) where
         both q scope (used_in_target one) (used_in_targets more) (lower_target scope one) _ (target_knows one) (λ front.
         last q scope (used_in_targets more) (lower_targets scope more) _ (targets_know more) (λ others. refl))
 
-  pub selection_knows : (selection : Option SelectionTree) → Judges q.asked true (lower_selection scope selection)
+  pub selection_knows : (selection : Option SelectionTree) → Fits q scope (used_in_selection selection) (lower_selection scope selection)
   selection_knows None = refl
-  selection_knows (Some selection) = last_judges q.asked true _ _ (found_judges q.asked (levels_in selection.levels) Kind (Some selection.levels) q.no_kind) (λ levels. refl)
+  selection_knows (Some selection) =
+      last q scope (use_of_levels selection.levels ∷ []) (found (levels_in selection.levels) Kind (Some selection.levels)) _
+      (single q scope (use_of_levels selection.levels) (found (levels_in selection.levels) Kind (Some selection.levels)) (q.of_levels scope selection.levels)) (λ levels. refl)

@@ -25,14 +25,14 @@ use Rattle.velab_process.specs.Statements.{Table}
 use Rattle.velab_process.specs.Processes.{Processes, process_trees_by, lower_processes, lower_items, with_begins_before}
 use Rattle.velab_process.specs.Connections.{only_name, lower_input, lower_output, lower_connection, lower_join, lower_joins}
 use Rattle.vhierarchy.specs.Instances.{barring, Instantiation, instantiation_by, lower_instance, lower_list, named_again, lower_instances_of, lower_instances_by, lower_instances, driven_by, scope_drivers_by, lower_own_variables, lower_own_processes, with_own, few_enough, lower_own, base_of, lower_names, Part, Context}
-use Rattle.elaboration_law.specs.Uses.{Use, use_of, used_in, used_in_range}
+use Rattle.elaboration_law.specs.Uses.{Use, Read, Driven, use_of, used_in, used_in_range}
 use Rattle.elaboration_law.specs.Places.{Place, UseAt, at_place, all_fit, variables_of, place_behind, place_after, used_in_type, used_outside, used_by_output, used_at_port, used_if_connected, used_in_kind, used_in_declaration, used_in_processes, used_in_symbol, used_in_symbols, used_in_port, used_in_connection, used_by_items, used_in_instance}
 use Rattle.elaboration_law.proofs.HierarchyLemmas.{Own, OwnFault, in_names, in_instances, in_own}
 use Rattle.elaboration_law.proofs.UseLemmas.{Judges, Question, Fits, then_judges, known_judges, nothing_more, last_judges, required_judges, provided_judges, barring_judges}
-use Rattle.elaboration_law.proofs.ExpressionUses.{constant_knows, bounds_know, variable_knows, expression_knows}
+use Rattle.elaboration_law.proofs.ExpressionUses.{constant_knows, bounds_know, driven_knows, expression_knows}
 use Rattle.elaboration_law.proofs.StatementUses.{processes_know}
 use Rattle.elaboration_law.proofs.NameRules.{names_added}
-use Rattle.elaboration_law.proofs.PlaceLemmas.{IsAt, Grown, grown_at, firm_by, first_grown, symbol_makes, symbol_grown, symbols_grown, Stands, stands_at, stands_on, names_stand}
+use Rattle.elaboration_law.proofs.PlaceLemmas.{IsAt, Grown, grown_at, firm_by, firm_behind, first_grown, symbol_makes, symbol_grown, symbols_grown, Stands, stands_at, stands_on, names_stand}
 
 -- a rule about what is used, that no other step tells
 pub record UseRule : Type 1 where
@@ -107,15 +107,15 @@ module _ (r : UseRule) where
     meaning_judged scope (event_symbol name) h = required_judges asked (nat_lt scope.events 4294967295) TooMany (Some name) (Event scope.events) r.no_many
     meaning_judged scope (instance_symbol name) h = refl
 
-    symbols_judged : (firm : ℕ) (scope : Scope) (list : List Symbol) → Grown (variables_of m) firm scope → Judged r (by_symbols scope.names list) (add_symbols overrides scope list)
-    symbols_judged firm scope [] g = refl
-    symbols_judged firm scope (one ∷ more) g =
+    symbols_judged : (firm : ℕ) (left : List Symbol) (scope : Scope) (list : List Symbol) → Grown m firm (list ++ left) scope → Judged r (by_symbols scope.names list) (add_symbols overrides scope list)
+    symbols_judged firm left scope [] g = refl
+    symbols_judged firm left scope (one ∷ more) g =
         known (by_symbol scope.names one) (by_symbols (scope.names ++ (name_in one).letters ∷ []) more) (add_symbol overrides scope one) _
-        (last (by_symbol scope.names one) (lower_meaning overrides scope one) _ (meaning_judged scope one (grown_at (variables_of m) firm scope g)) (λ meaning.
+        (last (by_symbol scope.names one) (lower_meaning overrides scope one) _ (meaning_judged scope one (grown_at m firm ((one ∷ more) ++ left) scope g)) (λ meaning.
         required_judges asked (not (is_declared scope.names (name_in one).letters)) Doubled (Some (name_in one)) (with_meaning scope one meaning) r.no_doubled))
         (λ next is. let made = symbol_makes overrides scope next one is in
         subst (λ (s : Scope). Judged r (by_symbols (scope.names ++ (name_in one).letters ∷ []) more) (add_symbols overrides s more)) made.2
-        (symbols_judged (firm_by firm scope.known one) (with_meaning scope one made.0) more (symbol_grown overrides (variables_of m) firm scope one made.0 made.1 g)))
+        (symbols_judged (firm_by firm scope.known one) left (with_meaning scope one made.0) more (symbol_grown overrides m firm (more ++ left) scope one made.0 made.1 g)))
 
     -- behind some symbols the others
     both_symbols : (names : List Text) (xs ys : List Symbol) (after : List Text) → after ≡ names ++ letters_of (map name_in xs) → by_symbols names (xs ++ ys) ≡ by_symbols names xs ++ by_symbols after ys
@@ -172,23 +172,20 @@ module _ (r : UseRule) where
   -- ---- connections
 
   module _ (m : ModuleTree) (outside : Place) (values connections : List NamedConnection) (here there : Scope) (at_here : IsAt (place_behind m []) here) (at_there : IsAt outside there) where
-    abbrev of_port : Word → List UseAt
-    of_port port = at_place (place_behind m []) (use_of false port ∷ [])
-
-    input_judged : (port : Word) (value : text.ExpressionTree) → Judged r (of_port port ++ at_place outside (used_in false value)) (lower_input there here port value)
+    input_judged : (port : Word) (value : text.ExpressionTree) → Judged r (at_place (place_behind m []) (use_of Driven false port ∷ []) ++ at_place outside (used_in false value)) (lower_input there here port value)
     input_judged port value =
-        both (of_port port) (at_place outside (used_in false value)) (lower_variable here port) _
-        (judged_by (place_behind m []) here (use_of false port ∷ []) (lower_variable here port) at_here (variable_knows r.question here port)) (λ net.
+        both (at_place (place_behind m []) (use_of Driven false port ∷ [])) (at_place outside (used_in false value)) (lower_variable here port) _
+        (judged_by (place_behind m []) here (use_of Driven false port ∷ []) (lower_variable here port) at_here (driven_knows r.question here port)) (λ net.
         last (at_place outside (used_in false value)) (lower_expression there value) _
         (judged_by outside there (used_in false value) (lower_expression there value) at_there (expression_knows r.question there value)) (λ e. refl))
 
     output_judged : (whose port : Word) (name : Option Word) → Judged r (used_by_output m outside values connections port name) (lower_output whose there here port name)
     output_judged whose port None = λ e. absurd (let no = r.no_ports in cc)
     output_judged whose port (Some name) =
-        both (at_place outside (use_of false name ∷ [])) (of_port port) (lower_variable there name) _
-        (judged_by outside there (use_of false name ∷ []) (lower_variable there name) at_there (variable_knows r.question there name)) (λ net.
-        last (of_port port) (lower_expression here (text.name port)) _
-        (judged_by (place_behind m []) here (use_of false port ∷ []) (lower_expression here (text.name port)) at_here (expression_knows r.question here (text.name port))) (λ e. refl))
+        both (at_place outside (use_of Driven false name ∷ [])) (at_place (place_behind m []) (use_of Read false port ∷ [])) (lower_variable there name) _
+        (judged_by outside there (use_of Driven false name ∷ []) (lower_variable there name) at_there (driven_knows r.question there name)) (λ net.
+        last (at_place (place_behind m []) (use_of Read false port ∷ [])) (lower_expression here (text.name port)) _
+        (judged_by (place_behind m []) here (use_of Read false port ∷ []) (lower_expression here (text.name port)) at_here (expression_knows r.question here (text.name port))) (λ e. refl))
 
     connection_judged : (whose : Word) (p : Port) (value : text.ExpressionTree) → Judged r (used_at_port m outside values connections p.output p.name value) (lower_connection whose there here p value)
     connection_judged whose p value = by p.output
@@ -283,17 +280,19 @@ module _ (r : UseRule) where
     scope_judged =
         let judged = symbols_judged context.unit outside context.overrides context.connections around in
         let first = first_scope base context.unit in
-        let declared = variables_of context.unit in
-        subst (λ (l : List UseAt). Judged r l (item_scope base context.unit)) (sym in_steps)
-        (known (of_symbols declared valueless) (of_symbols second head ++ of_symbols third whole) (add_symbols context.overrides first valueless) _ (judged 0 first valueless (first_grown base context.unit)) (λ one is_one.
-        let one_grown = symbols_grown context.overrides declared 0 first one valueless is_one (first_grown base context.unit) in
+        let m = context.unit in
+        subst (λ (l : List UseAt). Judged r l (item_scope base m)) (sym in_steps)
+        (known (of_symbols (variables_of m) valueless) (of_symbols second head ++ of_symbols third whole) (add_symbols context.overrides first valueless) _ (judged 0 (head ++ whole) first valueless (first_grown base m)) (λ one is_one.
+        let one_grown = symbols_grown context.overrides m 0 (head ++ whole) first one valueless is_one (first_grown base m) in
         let one_names = names_added context.overrides first one valueless is_one in
         known (of_symbols second head) (of_symbols third whole) (add_symbols context.overrides one head) _
-        (subst (λ (l : List Text). Judged r (of_symbols l head) (add_symbols context.overrides one head)) one_names (judged _ one head one_grown)) (λ two is_two.
+        (subst (λ (l : List Text). Judged r (of_symbols l head) (add_symbols context.overrides one head)) one_names (judged (firm_behind 0 0 valueless) whole one head one_grown)) (λ two is_two.
         let two_names = names_added context.overrides one two head is_two ∙ ap (λ (l : List Text). l ++ letters_of (map name_in head)) one_names in
+        let two_grown = symbols_grown context.overrides m (firm_behind 0 0 valueless) whole one two head is_two one_grown in
         last (of_symbols third whole) (add_symbols context.overrides two whole) _
         (subst (λ (l : List Text). Judged r (of_symbols l whole) (add_symbols context.overrides two whole)) two_names
-        (judged _ two whole (symbols_grown context.overrides declared _ one two head is_two one_grown))) (λ w. refl))))
+        (judged (firm_behind (firm_behind 0 0 valueless) one.known head) [] two whole
+        (subst (λ (l : List Symbol). Grown m (firm_behind (firm_behind 0 0 valueless) one.known head) l two) (sym (append-nil whole)) two_grown))) (λ w. refl))))
 
     names_judged : Judged r by_all (lower_names part context)
     names_judged =

@@ -1,5 +1,5 @@
 -- Names that nothing declares, or that aren't known yet where a constant uses them: what a scope says of them by its names.
-use Rattle.std.proofs.Common.{◌≡◌, ◌<◌, ◌≤◌, ℕ, ◌+◌, ◌-◌, nat_lt, zero, suc, Bool, true, false, cond, if◌then◌else◌, not, ◌||◌, List, [], ◌∷◌, ◌++◌, length, slice_get, option_and_then, Option, Some, None, Ok, Err, refl, sym, ap, subst, ◌∙◌, arith, length-append}
+use Rattle.std.proofs.Common.{◌≡◌, ◌<◌, ◌≤◌, ℕ, ◌+◌, ◌-◌, nat_lt, Bool, true, false, cond, if◌then◌else◌, not, ◌||◌, List, [], ◌++◌, length, slice_get, option_and_then, Option, Some, None, Ok, Err, refl, sym, ap, subst, ◌∙◌, arith, length-append}
 use Rattle.std.specs.List.{position_or_len}
 use Rattle.std.specs.Str.{bytes_eq}
 use Rattle.std.proofs.lemmas.Bool.{lt-ltb, le-ltb, ltb-true, ltb-false}
@@ -21,14 +21,17 @@ use Rattle.velab_expr.specs.declared.scope.Operand.TheVariants as operand
 use Rattle.velab_expr.specs.declared.fault.ElabFault.{ElabFault}
 use Rattle.velab_expr.specs.Answers.{required}
 use Rattle.velab_expr.specs.Scopes.{Scope, meaning_at, meaning_of, bounds_for, operand_by, variable_by, event_by}
+use Rattle.format_text.specs.Pieces.{pieces_of}
+use Rattle.velab_expr.specs.FirstWords.{first_argument}
+use Rattle.velab_expr.specs.Selections.{levels_in}
 use Rattle.velab_process.specs.Waits.{term_by}
 use Rattle.vhierarchy.specs.Instances.{elaborate_top, elaborated}
-use Rattle.elaboration_law.specs.Uses.{Use, use_of, use_of_time}
-use Rattle.elaboration_law.proofs.UseLemmas.{Judges, required_judges, Question}
+use Rattle.elaboration_law.specs.Uses.{Use, use_of, use_of_time, use_of_formats, use_of_levels}
+use Rattle.elaboration_law.proofs.UseLemmas.{Judges, required_judges, found_judges, Question}
 use Rattle.elaboration_law.specs.Places.{Place, HasMisuse}
 use Rattle.elaboration_law.specs.Unknowns.{is_known}
 use Rattle.elaboration_law.proofs.ConstantUses.{within, behind}
-use Rattle.elaboration_law.proofs.PlaceLemmas.{StandsIn, IsAt}
+use Rattle.elaboration_law.proofs.PlaceLemmas.{StandsIn, there_is, IsAt}
 use Rattle.elaboration_law.proofs.InstanceUses.{UseRule}
 use Rattle.elaboration_law.proofs.MisuseLemmas.{misuse_told, misuse_never}
 
@@ -55,8 +58,10 @@ known_by constant known (Some (Event number)) = true
 known_by constant known (Some Instance) = true
 
 abbrev pub known_in : Scope → Use → Bool
-known_in scope (use_of constant name) = known_by constant scope.known (meaning_of scope name)
+known_in scope (use_of way constant name) = known_by constant scope.known (meaning_of scope name)
 known_in scope (use_of_time constant) = true
+known_in scope (use_of_formats arguments) = true
+known_in scope (use_of_levels levels) = true
 
 name_known : (constant : Bool) (known : ℕ) (name : Word) (meaning : Option Meaning) → Judges is_unknown (known_by constant known meaning) (operand_by constant known name meaning)
 name_known constant known name None = λ e. refl
@@ -97,20 +102,19 @@ names = record {
   asked = is_unknown;
   fits = known_in;
   no_width = refl;
-  no_kind = refl;
-  of_name = λ constant scope name. name_known constant scope.known name (meaning_of scope name);
-  of_variable = λ scope name. variable_known scope.known name (meaning_of scope name);
+  of_value = λ constant scope name. name_known constant scope.known name (meaning_of scope name);
+  of_bits = λ constant scope name. name_known constant scope.known name (meaning_of scope name);
+  of_written = λ scope name. variable_known scope.known name (meaning_of scope name);
+  of_written_in = λ scope name. variable_known scope.known name (meaning_of scope name);
+  of_driven = λ scope name. variable_known scope.known name (meaning_of scope name);
   of_event = λ scope name. event_known scope.known name (meaning_of scope name);
   of_term = λ scope edge name. term_known scope.known edge name (meaning_of scope name);
+  of_formats = λ scope arguments all is. found_judges is_unknown (pieces_of all) Kind (first_argument arguments) refl;
+  of_levels = λ scope levels. found_judges is_unknown (levels_in levels) Kind (Some levels) refl;
   of_time = λ constant scope word x. required_judges is_unknown (not constant) Constant word x refl;
 }
 
 -- ---- the names of a scope
-
-there_is : (others : List Meaning) (k : ℕ) → k < length others → (meaning : Meaning) × (slice_get others k ≡ Some meaning)
-there_is [] k lt = absurd (omega (arith, lt))
-there_is (one ∷ more) zero lt = (one, refl)
-there_is (one ∷ more) (suc k) lt = there_is more k (omega (arith, lt))
 
 -- a name at a place that is known
 stands_known : (constant : Bool) (firm known place : ℕ) (meaning : Meaning) → StandsIn firm place meaning → place < known → known_by constant known (Some meaning) ≡ true
@@ -197,9 +201,11 @@ module _ (here : Place) (scope : Scope) (h : IsAt here scope) (name : Word) wher
       by false c le = nowhere true (ltb-false place (length scope.names) c)
 
 known_alike : (here : Place) (scope : Scope) → IsAt here scope → (one : Use) → known_in scope one ≡ is_known here one
-known_alike here scope h (use_of true name) = before here scope h name (is_declared here.known name.letters) refl
-known_alike here scope h (use_of false name) = anywhere here scope h name (is_declared scope.names name.letters) refl ∙ ap (λ (l : List Text). is_declared l name.letters) h.names
+known_alike here scope h (use_of way true name) = before here scope h name (is_declared here.known name.letters) refl
+known_alike here scope h (use_of way false name) = anywhere here scope h name (is_declared scope.names name.letters) refl ∙ ap (λ (l : List Text). is_declared l name.letters) h.names
 known_alike here scope h (use_of_time constant) = refl
+known_alike here scope h (use_of_formats arguments) = refl
+known_alike here scope h (use_of_levels levels) = refl
 
 names_rule : UseRule
 unfolding names

@@ -30,3 +30,10 @@ pub mod KnownUses
 pub mod DumpUses
 pub mod PathUses
 pub mod UnknownLemmas
+pub mod KindUses
+pub mod RightLemmas
+pub mod RightUses
+pub mod RightStatements
+pub mod RightInstances
+pub mod RightHierarchy
+pub mod KindLemmas

@@ -1,5 +1,5 @@
 -- Rules about what is used: in a text that has a design all of it fits its place, and where such a rule is told by an instance something doesn't.
-use Rattle.std.proofs.Common.{◌≡◌, ℕ, ◌+◌, zero, suc, true, false, true≢false, List, [], ◌∷◌, ◌++◌, length, Option, Some, Ok, Err, refl, sym, ap, subst, ◌∙◌, ◌⊎◌, inl, inr}
+use Rattle.std.proofs.Common.{◌≡◌, ℕ, ◌+◌, zero, suc, Bool, true, false, true≢false, List, [], ◌∷◌, ◌++◌, length, Option, Some, Ok, Err, refl, sym, ap, subst, ◌∙◌, ◌⊎◌, inl, inr}
 use Rattle.std.specs.List.{Contains, flat_map}
 use Rattle.basis.specs.declared.timescale.Timescale.{Timescale}
 use Rattle.vast.specs.Words.{Text}
@@ -17,6 +17,7 @@ use Rattle.velab_expr.specs.Symbols.{symbols_by}
 use Rattle.velab_declaration.specs.Variables.{port_names}
 use Rattle.vhierarchy.specs.Instances.{Instantiation, instantiation_by, lower_instances, elaborate_instance, Part, Context, lower_names, child_context, nothing, top_context, elaborate_top, elaborated}
 use Rattle.elaboration_law.specs.Hierarchy.{Instance, instances_in, StandsBelow, top_instance}
+use Rattle.elaboration_law.specs.Uses.{Use}
 use Rattle.elaboration_law.specs.Places.{Place, no_place, place_behind, UseAt, all_fit, used_in_instance, HasMisuse, of_top, of_instance}
 use Rattle.elaboration_law.proofs.StepLemmas.{contains_mapped, mapped_contains}
 use Rattle.elaboration_law.proofs.HierarchyLemmas.{instance_of, instance_at, children_are, each_ok, each_err, Own, OwnFault, below, opened_ok, opened_err, all_elaborated}
@@ -26,11 +27,11 @@ use Rattle.elaboration_law.proofs.PlaceLemmas.{IsAt, nowhere_is, stands_at, stan
 use Rattle.elaboration_law.proofs.InstanceUses.{UseRule, own_fits, own_misuses}
 
 -- what an instance in this context uses, where it stands at this place
-abbrev used_at : Place → Context → List UseAt
+abbrev pub used_at : Place → Context → List UseAt
 used_at outside context = used_in_instance context.unit outside context.overrides.values context.connections
 
 -- what one that an item lists uses
-abbrev used_by_listed : ModuleTree → List ItemTree → Option ConnectionsTree → ModuleTree → InstanceTree → List UseAt
+abbrev pub used_by_listed : ModuleTree → List ItemTree → Option ConnectionsTree → ModuleTree → InstanceTree → List UseAt
 used_by_listed unit before overrides child made =
     used_in_instance child (place_behind unit before) (named_connections_if (letters_of (open_names child)) overrides) (named_connections (letters_of (port_names child)) made.connections)
 
@@ -44,7 +45,7 @@ record AnsweredAt (modules : SourceTree) (one : Instance) : Type 0 where
   pub is : elaborate_instance levels modules part context ≡ Ok all
 
 -- the scope of an instance behind these items, at their place
-behind_items : (part : Part) (context : Context) (scope : Scope) (before after : List ItemTree) → lower_names part context ≡ Ok scope → before ++ after ≡ context.unit.items →
+pub behind_items : (part : Part) (context : Context) (scope : Scope) (before after : List ItemTree) → lower_names part context ≡ Ok scope → before ++ after ≡ context.unit.items →
     IsAt (place_behind context.unit before) (at scope (scope.known + length (flat_map symbols_by before)))
 behind_items part context scope before after is items =
     stands_at context.unit before after (at scope (scope.known + length (flat_map symbols_by before))) (stands_behind context.unit [] before after scope items refl (names_stand part context scope is))
@@ -84,7 +85,7 @@ module _ (modules : SourceTree) where
         (behind_items part context own.scope before (instances name overrides list ∷ after) own.names_are inside) step.2
 
 -- an instance that an item lists, somewhere below this one, uses what doesn't fit
-record MisusesBelow (r : UseRule) (modules : SourceTree) (root : Instance) : Type 0 where
+pub record MisusesBelow (fits : Place → Use → Bool) (modules : SourceTree) (root : Instance) : Type 0 where
   pub depth : ℕ
   pub one : Instance
   pub before : List ItemTree
@@ -98,10 +99,10 @@ record MisusesBelow (r : UseRule) (modules : SourceTree) (root : Instance) : Typ
   pub inside : before ++ instances name overrides list ∷ after ≡ one.unit.items
   pub there : module_of modules name.letters ≡ Some child
   pub listed : Contains list made
-  pub misuses : all_fit r.fits (used_by_listed one.unit before overrides child made) ≡ false
+  pub misuses : all_fit fits (used_by_listed one.unit before overrides child made) ≡ false
 
-module _ (r : UseRule) (modules : SourceTree) (fault : ElabFault) (rule : fault.rule ≡ r.rule) where
-  one_deeper : (root child : Instance) → Contains (instances_in modules root) child → MisusesBelow r modules child → MisusesBelow r modules root
+module _ (fits : Place → Use → Bool) (modules : SourceTree) where
+  one_deeper : (root child : Instance) → Contains (instances_in modules root) child → MisusesBelow fits modules child → MisusesBelow fits modules root
   one_deeper root child inside u = record {
     depth = suc u.depth;
     one = u.one;
@@ -121,7 +122,7 @@ module _ (r : UseRule) (modules : SourceTree) (fault : ElabFault) (rule : fault.
 
   -- an instance in this one
   here : (context : Context) (known : ℕ) (c : Instantiation) (m : MadeBy modules known context.unit.items c) →
-      all_fit r.fits (used_in_instance c.child (place_behind context.unit m.before) c.values c.connections) ≡ false → MisusesBelow r modules (instance_at context)
+      all_fit fits (used_in_instance c.child (place_behind context.unit m.before) c.values c.connections) ≡ false → MisusesBelow fits modules (instance_at context)
   here context known c m misuses = record {
     depth = 0;
     one = instance_at context;
@@ -136,42 +137,44 @@ module _ (r : UseRule) (modules : SourceTree) (fault : ElabFault) (rule : fault.
     inside = m.inside;
     there = m.there;
     listed = m.listed;
-    misuses = ap (λ (x : Instantiation). all_fit r.fits (used_in_instance x.child (place_behind context.unit m.before) x.values x.connections)) m.is ∙ misuses;
+    misuses = ap (λ (x : Instantiation). all_fit fits (used_in_instance x.child (place_behind context.unit m.before) x.values x.connections)) m.is ∙ misuses;
   }
 
+  -- or one below it
+  pub deeper : (part : Part) (context : Context) (own : Own modules part context) (c : Instantiation) (m : MadeBy modules own.scope.known context.unit.items c) → Contains own.children c →
+      (all_fit fits (used_at (place_behind context.unit m.before) (child_context own.scope context c)) ≡ false) ⊎ MisusesBelow fits modules (instance_at (child_context own.scope context c)) →
+      MisusesBelow fits modules (instance_at context)
+  deeper part context own c m inside (inl misuses) = here context own.scope.known c m misuses
+  deeper part context own c m inside (inr u) =
+      one_deeper (instance_at context) (instance_of context.path c)
+      (subst (λ (l : List Instance). Contains l (instance_of context.path c)) (children_are modules context.path 0 own.scope.known context.unit.items own.children own.instances_are)
+      (contains_mapped (instance_of context.path) c own.children inside)) u
+
+-- where it was made its names are those of its place
+pub around_made : (modules : SourceTree) (part : Part) (context : Context) (own : Own modules part context) (c : Instantiation) (m : MadeBy modules own.scope.known context.unit.items c) → IsAt (place_behind context.unit m.before) (at own.scope c.known)
+around_made modules part context own c m =
+    subst (λ (x : Instantiation). IsAt (place_behind context.unit m.before) (at own.scope x.known)) m.is
+    (behind_items part context own.scope m.before (instances m.name m.overrides m.list ∷ m.after) own.names_are m.inside)
+
+module _ (r : UseRule) (modules : SourceTree) (fault : ElabFault) (rule : fault.rule ≡ r.rule) where
   not_too_deep : r.rule ≡ Depth → ⊥
   not_too_deep same = true≢false (sym r.is_asked ∙ ap r.question.asked same ∙ r.no_depth)
 
   told_in : (levels : ℕ) (part : Part) (context : Context) (outside : Place) → IsAt outside context.overrides.scope → elaborate_instance levels modules part context ≡ Err fault →
-      (all_fit r.fits (used_at outside context) ≡ false) ⊎ MisusesBelow r modules (instance_at context)
+      (all_fit r.fits (used_at outside context) ≡ false) ⊎ MisusesBelow r.fits modules (instance_at context)
   told_in zero part context outside h is =
       let same : told Depth (Some context.name) ≡ fault = cc in absurd (not_too_deep (sym rule ∙ sym (ap (λ (f : ElabFault). f.rule) same)))
   told_in (suc levels) part context outside h is = by (opened_err modules levels part context fault is) (λ before next inner of_inner. told_in levels before next inner of_inner)
     where
-      deeper : (own : Own modules part context) (c : Instantiation) (m : MadeBy modules own.scope.known context.unit.items c) → Contains own.children c →
-          (all_fit r.fits (used_at (place_behind context.unit m.before) (child_context own.scope context c)) ≡ false) ⊎ MisusesBelow r modules (instance_at (child_context own.scope context c)) →
-          MisusesBelow r modules (instance_at context)
-      deeper own c m inside (inl misuses) = here context own.scope.known c m misuses
-      deeper own c m inside (inr u) =
-          one_deeper (instance_at context) (instance_of context.path c)
-          (subst (λ (l : List Instance). Contains l (instance_of context.path c)) (children_are modules context.path 0 own.scope.known context.unit.items own.children own.instances_are)
-          (contains_mapped (instance_of context.path) c own.children inside)) u
-
-      -- where it was made its names are those of its place
-      around : (own : Own modules part context) (c : Instantiation) (m : MadeBy modules own.scope.known context.unit.items c) → IsAt (place_behind context.unit m.before) (at own.scope c.known)
-      around own c m =
-          subst (λ (x : Instantiation). IsAt (place_behind context.unit m.before) (at own.scope x.known)) m.is
-          (behind_items part context own.scope m.before (instances m.name m.overrides m.list ∷ m.after) own.names_are m.inside)
-
       by : OwnFault modules part context fault ⊎ ((own : Own modules part context) × (below modules levels part context own.scope own.children own.whole ≡ Err fault)) →
           ((before : Part) (next : Context) (inner : Place) → IsAt inner next.overrides.scope → elaborate_instance levels modules before next ≡ Err fault →
-          (all_fit r.fits (used_at inner next) ≡ false) ⊎ MisusesBelow r modules (instance_at next)) →
-          (all_fit r.fits (used_at outside context) ≡ false) ⊎ MisusesBelow r modules (instance_at context)
+          (all_fit r.fits (used_at inner next) ≡ false) ⊎ MisusesBelow r.fits modules (instance_at next)) →
+          (all_fit r.fits (used_at outside context) ≡ false) ⊎ MisusesBelow r.fits modules (instance_at context)
       by (inl own) rest = inl (own_misuses r part context outside h modules fault rule own)
       by (inr (own, err)) rest =
           let it = each_err (λ so_far c. elaborate_instance levels modules so_far (child_context own.scope context c)) own.whole own.children fault err in
           let m = all_made_by modules 0 own.scope.known context.unit.items own.children it.1 own.instances_are it.2 in
-          inr (deeper own it.1 m it.2 (rest it.0 (child_context own.scope context it.1) (place_behind context.unit m.before) (around own it.1 m) it.3))
+          inr (deeper r.fits modules part context own it.1 m it.2 (rest it.0 (child_context own.scope context it.1) (place_behind context.unit m.before) (around_made modules part context own it.1 m) it.3))
 
 -- ---- a text
 
@@ -184,7 +187,7 @@ module _ (r : UseRule) (modules : SourceTree) (m : ModuleTree) where
   unfolding elaborate_top
   top_answered all depth one is stands = answered_at modules depth 16 nothing (top_context m) all one is stands
 
-  top_misuses : (fault : ElabFault) → fault.rule ≡ r.rule → elaborate_top modules m ≡ Err fault → (all_fit r.fits (used_in_instance m no_place [] []) ≡ false) ⊎ MisusesBelow r modules (top_instance m)
+  top_misuses : (fault : ElabFault) → fault.rule ≡ r.rule → elaborate_top modules m ≡ Err fault → (all_fit r.fits (used_in_instance m no_place [] []) ≡ false) ⊎ MisusesBelow r.fits modules (top_instance m)
   unfolding elaborate_top
   top_misuses fault rule is = told_in r modules fault rule 16 nothing (top_context m) no_place nowhere_is is
 
@@ -192,7 +195,7 @@ module _ (r : UseRule) (modules : SourceTree) (top : Option Text) where
   pub misuse_told : (fault : ElabFault) (unit : ModuleTree) → fault.rule ≡ r.rule → top_of modules top ≡ Some unit → elaborate_top modules unit ≡ Err fault → HasMisuse r.fits modules top
   misuse_told fault unit rule is_top err = by (top_misuses r modules unit fault rule err)
     where
-      by : (all_fit r.fits (used_in_instance unit no_place [] []) ≡ false) ⊎ MisusesBelow r modules (top_instance unit) → HasMisuse r.fits modules top
+      by : (all_fit r.fits (used_in_instance unit no_place [] []) ≡ false) ⊎ MisusesBelow r.fits modules (top_instance unit) → HasMisuse r.fits modules top
       by (inl misuses) = of_top unit is_top misuses
       by (inr u) = of_instance u.depth u.one u.before u.name u.overrides u.list u.after u.child u.made (unit, is_top, u.stands) u.inside u.there u.listed u.misuses
 

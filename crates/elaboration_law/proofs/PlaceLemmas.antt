@@ -1,5 +1,6 @@
 -- The scope of an instance: which names of its module stand where, at each of its places.
 use Rattle.std.proofs.Common.{◌≡◌, ◌<◌, ◌≤◌, ℕ, ◌+◌, zero, suc, nat_lt, nat_le, not, List, [], ◌∷◌, ◌++◌, map, length, slice_get, Option, Some, None, Ok, refl, sym, ap, subst, ◌∙◌, ◌⊎◌, inl, inr, arith, append_assoc, length-append}
+use Rattle.std.specs.Prelude.{option_map}
 use Rattle.std.specs.List.{flat_map}
 use Rattle.std.proofs.lemmas.List.{append-nil, length-map, map-append}
 use Rattle.std.proofs.lemmas.List.Concat.{flat_map-append}
@@ -14,10 +15,11 @@ use Rattle.velab_expr.specs.Answers.{◌>>=◌, required, provided}
 use Rattle.velab_expr.specs.Scopes.{Scope, at}
 use Rattle.velab_expr.specs.Symbols.{Symbol, parameter_symbol, event_symbol, instance_symbol, name_in, valueless_by, symbols_behind, symbols_in_head, symbols_by, behind_item}
 use Rattle.velab_declaration.specs.Parameters.{Overrides, Base, lower_type, parameter_by, lower_setting, lower_meaning, with_meaning, add_symbol, add_symbols, first_scope, item_scope}
-use Rattle.velab_declaration.specs.Variables.{declared_names}
+use Rattle.velab_declaration.specs.Variables.{Declaration, port_declaration, declarations, port_names, declared_names}
+use Rattle.vmodules.specs.Ports.{Port, ports_of}
 use Rattle.vhierarchy.specs.Instances.{Part, Context, base_of, lower_names, no_scope}
 use Rattle.elaboration_law.specs.Doubles.{names_in_module}
-use Rattle.elaboration_law.specs.Places.{Place, no_place, variables_of, names_behind, place_behind}
+use Rattle.elaboration_law.specs.Places.{Place, Thing, a_variable, a_parameter, an_event, an_instance, no_place, variables_of, symbols_of, thing_by, things_in, names_behind, place_behind, place_after}
 use Rattle.elaboration_law.proofs.StepLemmas.{same_value, then_ok, required_ok, provided_ok, barring_ok}
 use Rattle.elaboration_law.proofs.NameRules.{letters_in, names_added, names_of_scope}
 
@@ -56,6 +58,50 @@ all_stand_behind firm more others last le s all = λ place meaning is. by place 
     by place meaning (inl h) = still_stands firm more place meaning le (all place meaning h)
     by place meaning (inr (e, same)) = subst (λ (n : ℕ). StandsIn more n meaning) (sym e) (subst (StandsIn more (length others)) same s)
 
+-- ---- elements by their numbers
+
+module _ {A : Type 0} where
+  pub there_is : (xs : List A) (k : ℕ) → k < length xs → (x : A) × (slice_get xs k ≡ Some x)
+  there_is [] k lt = absurd (omega (arith, lt))
+  there_is (one ∷ more) zero lt = (one, refl)
+  there_is (one ∷ more) (suc k) lt = there_is more k (omega (arith, lt))
+
+  pub got_in_front : (xs ys : List A) (k : ℕ) (x : A) → slice_get xs k ≡ Some x → slice_get (xs ++ ys) k ≡ Some x
+  got_in_front [] ys k x is = absurd cc
+  got_in_front (one ∷ more) ys zero x is = is
+  got_in_front (one ∷ more) ys (suc k) x is = got_in_front more ys k x is
+
+  pub got_behind : (xs ys : List A) (k n : ℕ) → n ≡ length xs + k → slice_get (xs ++ ys) n ≡ slice_get ys k
+  got_behind [] ys k n is = ap (slice_get ys) (omega (arith, is))
+  got_behind (one ∷ more) ys k zero is = absurd (omega (arith, is))
+  got_behind (one ∷ more) ys k (suc n) is = got_behind more ys k n (omega (arith, is))
+
+  pub got_mapped : {B : Type 0} (f : A → B) (xs : List A) (k : ℕ) (x : A) → slice_get xs k ≡ Some x → slice_get (map f xs) k ≡ Some (f x)
+  got_mapped f [] k x is = absurd cc
+  got_mapped f (one ∷ more) zero x is = ap (option_map f) is
+  got_mapped f (one ∷ more) (suc k) x is = got_mapped f more k x is
+
+-- ---- what names stand for
+
+abbrev pub MeaningIs : Meaning → Thing → Type 0
+MeaningIs (Variable number) thing = ⊥
+MeaningIs (Parameter value bounds before) (a_variable d) = ⊥
+MeaningIs (Parameter value bounds before) a_parameter = Unit {0}
+MeaningIs (Parameter value bounds before) an_event = ⊥
+MeaningIs (Parameter value bounds before) an_instance = ⊥
+MeaningIs (Event number) (a_variable d) = ⊥
+MeaningIs (Event number) a_parameter = ⊥
+MeaningIs (Event number) an_event = Unit {0}
+MeaningIs (Event number) an_instance = ⊥
+MeaningIs Instance (a_variable d) = ⊥
+MeaningIs Instance a_parameter = ⊥
+MeaningIs Instance an_event = ⊥
+MeaningIs Instance an_instance = Unit {0}
+
+-- others stand for what these symbols declare
+abbrev pub AllMean : List Meaning → List Symbol → Type 0
+AllMean others done = (k : ℕ) (meaning : Meaning) → slice_get others k ≡ Some meaning → (one : Symbol) × (slice_get done k ≡ Some one) × MeaningIs meaning (thing_by one)
+
 -- ---- a scope at a place
 
 -- what the place says of the scope's names
@@ -71,6 +117,54 @@ pub record IsAt (place : Place) (scope : Scope) : Type 0 where
   pub whole : length scope.names ≡ scope.variables + length scope.others
   pub early : firm ≤ scope.known
   pub others : AllStand firm scope.others
+  pub declared : (k : ℕ) → k < scope.variables → (d : Declaration) × (slice_get place.things k ≡ Some (a_variable d))
+  pub kinds : (k : ℕ) (meaning : Meaning) → slice_get scope.others k ≡ Some meaning → (thing : Thing) × (slice_get place.things (scope.variables + k) ≡ Some thing) × MeaningIs meaning thing
+
+-- the things of a module
+module _ (m : ModuleTree) where
+  abbrev pub all_declared : List Declaration
+  all_declared = map port_declaration (ports_of m) ++ declarations m
+
+  pub count_declared : length (variables_of m) ≡ length all_declared
+  count_declared =
+      let ports = ports_of m in
+      let named = length-map (declared_names m) (λ (w : Word). w.letters) in
+      let both = length-append (port_names m) (map (λ (d : Declaration). d.name) (declarations m)) in
+      let one = length-map ports (λ (p : Port). p.name) in
+      let two = length-map (declarations m) (λ (d : Declaration). d.name) in
+      let other = length-append (map port_declaration ports) (declarations m) in
+      let three = length-map ports port_declaration in
+      omega (arith, named, both, one, two, other, three)
+
+  module _ (scope : Scope) (count : scope.variables ≡ length (variables_of m)) where
+    abbrev counted : ℕ
+    counted = length (map a_variable all_declared)
+
+    count_is : scope.variables ≡ counted
+    count_is = let long = length-map all_declared a_variable in let same = count_declared in omega (arith, count, long, same)
+
+    pub variables_declared : (k : ℕ) → k < scope.variables → (d : Declaration) × (slice_get (things_in m) k ≡ Some (a_variable d))
+    variables_declared k lt =
+        let same = count_declared in
+        let it = there_is all_declared k (omega (arith, lt, count, same)) in
+        (it.0, got_in_front (map a_variable all_declared) (map thing_by (symbols_of m)) k (a_variable it.0) (got_mapped a_variable all_declared k it.0 it.1))
+
+    pub symbols_mean : AllMean scope.others (symbols_of m) → (k : ℕ) (meaning : Meaning) → slice_get scope.others k ≡ Some meaning →
+        (thing : Thing) × (slice_get (things_in m) (scope.variables + k) ≡ Some thing) × MeaningIs meaning thing
+    symbols_mean all k meaning is =
+        let it = all k meaning is in
+        let long = count_is in
+        (thing_by it.0, got_behind (map a_variable all_declared) (map thing_by (symbols_of m)) k (scope.variables + k) (omega (arith, long)) ∙ got_mapped thing_by (symbols_of m) k it.0 it.1, it.2)
+
+all_mean_behind : (others : List Meaning) (done : List Symbol) (last : Meaning) (one : Symbol) → length others ≡ length done → MeaningIs last (thing_by one) → AllMean others done → AllMean (others ++ last ∷ []) (done ++ one ∷ [])
+all_mean_behind others done last one long s all = λ k meaning is. by k meaning (before_or_last others last meaning k is)
+  where
+    by : (k : ℕ) (meaning : Meaning) → (slice_get others k ≡ Some meaning) ⊎ ((k ≡ length others) × (last ≡ meaning)) → (x : Symbol) × (slice_get (done ++ one ∷ []) k ≡ Some x) × MeaningIs meaning (thing_by x)
+    by k meaning (inl h) = let it = all k meaning h in (it.0, got_in_front done (one ∷ []) k it.0 it.1, it.2)
+    by k meaning (inr (e, same)) = (one, got_behind done (one ∷ []) 0 k (omega (arith, e, long)), subst (λ (x : Meaning). MeaningIs x (thing_by one)) same s)
+
+more_mean : (others : List Meaning) (done left all : List Symbol) → done ++ left ≡ all → AllMean others done → AllMean others all
+more_mean others done left all is h = λ k meaning e. let it = h k meaning e in (it.0, sym (ap (λ (l : List Symbol). slice_get l k) is) ∙ got_in_front done left k it.0 it.1, it.2)
 
 none_stand : (firm : ℕ) → AllStand firm []
 none_stand firm = λ place meaning is. absurd cc
@@ -88,24 +182,28 @@ nowhere_is = record {
   whole = refl;
   early = omega arith;
   others = none_stand 0;
+  declared = λ k lt. absurd (omega (arith, lt));
+  kinds = λ k meaning is. absurd cc;
 }
 
 -- ---- while names are added
 
-pub record Grown (declared : List Text) (firm : ℕ) (scope : Scope) : Type 0 where
+-- where the names of these symbols are left
+pub record Grown (m : ModuleTree) (firm : ℕ) (left : List Symbol) (scope : Scope) : Type 0 where
   pub rest : List Text
-  pub first : scope.names ≡ declared ++ rest
-  pub variables : scope.variables ≡ length declared
+  pub done : List Symbol
+  pub first : scope.names ≡ variables_of m ++ rest
+  pub variables : scope.variables ≡ length (variables_of m)
   pub whole : length scope.names ≡ scope.variables + length scope.others
   pub known : scope.known ≡ length scope.others
   pub early : firm ≤ scope.known
   pub others : AllStand firm scope.others
+  pub all : done ++ left ≡ symbols_of m
+  pub count : length scope.others ≡ length done
+  pub kinds : AllMean scope.others done
 
-abbrev pub place_of : List Text → List Text → Place
-place_of declared names = record { variables = declared; known = names; names = names }
-
-pub grown_at : (declared : List Text) (firm : ℕ) (scope : Scope) → Grown declared firm scope → IsAt (place_of declared scope.names) scope
-grown_at declared firm scope g = record {
+pub grown_at : (m : ModuleTree) (firm : ℕ) (left : List Symbol) (scope : Scope) → Grown m firm left scope → IsAt (place_after m scope.names) scope
+grown_at m firm left scope g = record {
   firm = firm;
   rest = g.rest;
   later = [];
@@ -117,6 +215,8 @@ grown_at declared firm scope g = record {
   whole = g.whole;
   early = g.early;
   others = g.others;
+  declared = variables_declared m scope g.variables;
+  kinds = symbols_mean m scope g.variables (more_mean scope.others g.done left (symbols_of m) g.all g.kinds);
 }
 
 -- how many of the first ones may have no value, behind a symbol and behind several
@@ -165,6 +265,19 @@ module _ (overrides : Overrides) where
       subst (StandsIn (scope.known + 1) scope.known) (required_ok (nat_lt scope.events 4294967295) TooMany (Some name) (Event scope.events) meaning is).1 (omega arith)
   meaning_stands firm scope (instance_symbol name) meaning is = subst (StandsIn (scope.known + 1) scope.known) (same_value Instance meaning is) (omega arith)
 
+  -- of the symbol's kind
+  parameter_means : (scope : Scope) (type : Option ParameterType) (setting : SettingTree) (meaning : Meaning) → lower_meaning overrides scope (parameter_symbol type setting) ≡ Ok meaning → MeaningIs meaning a_parameter
+  parameter_means scope type setting meaning is =
+      let bounds = then_ok (lower_type scope type) (λ bounds. lower_setting overrides scope setting >>= λ value. Ok (Parameter (parameter_by type bounds value) bounds scope.known)) meaning is in
+      let value = then_ok (lower_setting overrides scope setting) (λ value. Ok (Parameter (parameter_by type bounds.0 value) bounds.0 scope.known)) meaning bounds.2 in
+      subst (λ (x : Meaning). MeaningIs x a_parameter) (same_value (Parameter (parameter_by type bounds.0 value.0) bounds.0 scope.known) meaning value.2) tt
+
+  meaning_means : (scope : Scope) (one : Symbol) (meaning : Meaning) → lower_meaning overrides scope one ≡ Ok meaning → MeaningIs meaning (thing_by one)
+  meaning_means scope (parameter_symbol type setting) meaning is = parameter_means scope type setting meaning is
+  meaning_means scope (event_symbol name) meaning is =
+      subst (λ (x : Meaning). MeaningIs x an_event) (required_ok (nat_lt scope.events 4294967295) TooMany (Some name) (Event scope.events) meaning is).1 tt
+  meaning_means scope (instance_symbol name) meaning is = subst (λ (x : Meaning). MeaningIs x an_instance) (same_value Instance meaning is) tt
+
   firm_grows : (firm : ℕ) (scope : Scope) (one : Symbol) → firm ≤ scope.known → (firm ≤ firm_by firm scope.known one) × (firm_by firm scope.known one ≤ scope.known + 1)
   firm_grows firm scope (parameter_symbol type setting) le = (omega arith, omega (arith, le))
   firm_grows firm scope (event_symbol name) le = (omega (arith, le), omega arith)
@@ -176,31 +289,38 @@ module _ (overrides : Overrides) where
       let meaning = then_ok (lower_meaning overrides scope one) (λ meaning. required (not (is_declared scope.names (name_in one).letters)) Doubled (Some (name_in one)) (with_meaning scope one meaning)) next is in
       (meaning.0, meaning.1, (required_ok (not (is_declared scope.names (name_in one).letters)) Doubled (Some (name_in one)) (with_meaning scope one meaning.0) next meaning.2).1)
 
-  pub symbol_grown : (declared : List Text) (firm : ℕ) (scope : Scope) (one : Symbol) (meaning : Meaning) → lower_meaning overrides scope one ≡ Ok meaning → Grown declared firm scope → Grown declared (firm_by firm scope.known one) (with_meaning scope one meaning)
-  symbol_grown declared firm scope one meaning is g =
+  pub symbol_grown : (m : ModuleTree) (firm : ℕ) (left : List Symbol) (scope : Scope) (one : Symbol) (meaning : Meaning) → lower_meaning overrides scope one ≡ Ok meaning → Grown m firm (one ∷ left) scope →
+      Grown m (firm_by firm scope.known one) left (with_meaning scope one meaning)
+  symbol_grown m firm left scope one meaning is g =
       let le = firm_grows firm scope one g.early in
       let whole = g.whole in
       let known = g.known in
+      let count = g.count in
       let names = length-append scope.names ((name_in one).letters ∷ []) in
       let others = length-append scope.others (meaning ∷ []) in
+      let done = length-append g.done (one ∷ []) in
       record {
         rest = g.rest ++ (name_in one).letters ∷ [];
-        first = ap (λ (l : List Text). l ++ (name_in one).letters ∷ []) g.first ∙ append_assoc declared g.rest ((name_in one).letters ∷ []);
+        done = g.done ++ one ∷ [];
+        first = ap (λ (l : List Text). l ++ (name_in one).letters ∷ []) g.first ∙ append_assoc (variables_of m) g.rest ((name_in one).letters ∷ []);
         variables = g.variables;
         whole = omega (arith, whole, names, others);
         known = omega (arith, known, others);
         early = le.1;
         others = all_stand_behind firm (firm_by firm scope.known one) scope.others meaning le.0
             (subst (λ (n : ℕ). StandsIn (firm_by firm scope.known one) n meaning) known (meaning_stands firm scope one meaning is)) g.others;
+        all = append_assoc g.done (one ∷ []) left ∙ g.all;
+        count = omega (arith, count, others, done);
+        kinds = all_mean_behind scope.others g.done meaning one g.count (meaning_means scope one meaning is) g.kinds;
       }
 
-  pub symbols_grown : (declared : List Text) (firm : ℕ) (scope next : Scope) (list : List Symbol) → add_symbols overrides scope list ≡ Ok next → Grown declared firm scope → Grown declared (firm_behind firm scope.known list) next
-  symbols_grown declared firm scope next [] is g = subst (Grown declared firm) (same_value scope next is) g
-  symbols_grown declared firm scope next (one ∷ more) is g =
+  pub symbols_grown : (m : ModuleTree) (firm : ℕ) (left : List Symbol) (scope next : Scope) (list : List Symbol) → add_symbols overrides scope list ≡ Ok next → Grown m firm (list ++ left) scope → Grown m (firm_behind firm scope.known list) left next
+  symbols_grown m firm left scope next [] is g = subst (Grown m firm left) (same_value scope next is) g
+  symbols_grown m firm left scope next (one ∷ more) is g =
       let front = then_ok (add_symbol overrides scope one) (λ s. add_symbols overrides s more) next is in
       let made = symbol_makes scope front.0 one front.1 in
-      symbols_grown declared (firm_by firm scope.known one) (with_meaning scope one made.0) next more
-      (ap (λ (s : Scope). add_symbols overrides s more) made.2 ∙ front.2) (symbol_grown declared firm scope one made.0 made.1 g)
+      symbols_grown m (firm_by firm scope.known one) left (with_meaning scope one made.0) next more
+      (ap (λ (s : Scope). add_symbols overrides s more) made.2 ∙ front.2) (symbol_grown m firm (more ++ left) scope one made.0 made.1 g)
 
 -- ---- the scope of a module
 
@@ -212,9 +332,10 @@ pub record IsOf (m : ModuleTree) (scope : Scope) : Type 0 where
   pub whole : length scope.names ≡ scope.variables + length scope.others
   pub early : scope.variables + firm ≤ length (names_behind m [])
   pub others : AllStand firm scope.others
+  pub kinds : AllMean scope.others (symbols_of m)
 
 pub is_of_at : (m : ModuleTree) (scope : Scope) (known : ℕ) → IsOf m scope → IsOf m (at scope known)
-is_of_at m scope known h = record { firm = h.firm; names = h.names; variables = h.variables; whole = h.whole; early = h.early; others = h.others }
+is_of_at m scope known h = record { firm = h.firm; names = h.names; variables = h.variables; whole = h.whole; early = h.early; others = h.others; kinds = h.kinds }
 
 -- behind these items of the module, before those
 pub record Stands (m : ModuleTree) (before after : List ItemTree) (scope : Scope) : Type 0 where
@@ -264,6 +385,8 @@ module _ (m : ModuleTree) where
         whole = s.of.whole;
         early = omega (arith, whole, known, early);
         others = s.of.others;
+        declared = variables_declared m scope s.of.variables;
+        kinds = symbols_mean m scope s.of.variables s.of.kinds;
       }
 
   -- and behind more of them
@@ -292,15 +415,19 @@ module _ (m : ModuleTree) where
 
 -- ---- the scope of an instance
 
-pub first_grown : (base : Base) (m : ModuleTree) → Grown (variables_of m) 0 (first_scope base m)
+pub first_grown : (base : Base) (m : ModuleTree) → Grown m 0 (symbols_of m) (first_scope base m)
 first_grown base m = record {
   rest = [];
+  done = [];
   first = sym (append-nil (variables_of m));
   variables = sym (length-map (declared_names m) (λ (w : Word). w.letters));
   whole = let long = length-map (declared_names m) (λ (w : Word). w.letters) in omega (arith, long);
   known = refl;
   early = omega arith;
   others = none_stand 0;
+  all = refl;
+  count = refl;
+  kinds = λ k meaning is. absurd cc;
 }
 
 module _ (base : Base) (m : ModuleTree) where
@@ -326,10 +453,11 @@ module _ (base : Base) (m : ModuleTree) where
       (λ s. add_symbols base.overrides s head >>= λ h. add_symbols base.overrides h whole >>= λ w. Ok (at w h.known)) scope is in
       let two = then_ok (add_symbols base.overrides one.0 head) (λ h. add_symbols base.overrides h whole >>= λ w. Ok (at w h.known)) scope one.2 in
       let three = then_ok (add_symbols base.overrides two.0 whole) (λ w. Ok (at w two.0.known)) scope two.2 in
-      let by_one = symbols_grown base.overrides (variables_of m) 0 (first_scope base m) one.0 valueless one.1 (first_grown base m) in
+      let by_one = symbols_grown base.overrides m 0 (head ++ whole) (first_scope base m) one.0 valueless one.1 (first_grown base m) in
       let firm = firm_behind 0 0 valueless in
-      let by_two = subst (λ (n : ℕ). Grown (variables_of m) n two.0) (head_keeps firm one.0.known m.parameters) (symbols_grown base.overrides (variables_of m) firm one.0 two.0 head two.1 by_one) in
-      let by_three = subst (λ (n : ℕ). Grown (variables_of m) n three.0) (items_keep firm two.0.known m.items) (symbols_grown base.overrides (variables_of m) firm two.0 three.0 whole three.1 by_two) in
+      let by_two = subst (λ (n : ℕ). Grown m n whole two.0) (head_keeps firm one.0.known m.parameters) (symbols_grown base.overrides m firm whole one.0 two.0 head two.1 by_one) in
+      let left = subst (λ (l : List Symbol). Grown m firm l two.0) (sym (append-nil whole)) by_two in
+      let by_three = subst (λ (n : ℕ). Grown m n [] three.0) (items_keep firm two.0.known m.items) (symbols_grown base.overrides m firm [] two.0 three.0 whole three.1 left) in
       let names = names_added base.overrides one.0 two.0 head two.1 ∙ ap (λ (l : List Text). l ++ letters_in head) (names_added base.overrides (first_scope base m) one.0 valueless one.1) in
       let long = ap length (names ∙ sym first_names) in
       let two_whole = by_two.whole in
@@ -346,6 +474,7 @@ module _ (base : Base) (m : ModuleTree) where
           whole = by_three.whole;
           early = omega (arith, long, two_whole, two_known, two_early, two_count, three_count);
           others = by_three.others;
+          kinds = more_mean three.0.others by_three.done [] (symbols_of m) by_three.all by_three.kinds;
         };
         items = refl;
         known = omega (arith, long, two_whole, two_known, two_count, three_count);
@@ -361,3 +490,28 @@ module _ (part : Part) (context : Context) where
 
   pub names_stand : (scope : Scope) → lower_names part context ≡ Ok scope → Stands context.unit [] context.unit.items scope
   names_stand scope is = scope_stands (base_of part context) context.unit scope (item_scope_of scope is)
+
+-- ---- what no symbol changes in a scope
+
+module _ {A : Type 0} (view : Scope → A) (keeps : (scope : Scope) (one : Symbol) (meaning : Meaning) → view (with_meaning scope one meaning) ≡ view scope) (keeps_at : (scope : Scope) (known : ℕ) → view (at scope known) ≡ view scope) where
+  symbols_keep : (overrides : Overrides) (scope next : Scope) (list : List Symbol) → add_symbols overrides scope list ≡ Ok next → view next ≡ view scope
+  symbols_keep overrides scope next [] is = sym (ap view (same_value scope next is))
+  symbols_keep overrides scope next (one ∷ more) is =
+      let front = then_ok (add_symbol overrides scope one) (λ s. add_symbols overrides s more) next is in
+      let made = symbol_makes overrides scope front.0 one front.1 in
+      symbols_keep overrides front.0 next more front.2 ∙ sym (ap view made.2) ∙ keeps scope one made.0
+
+  pub scope_keeps : (base : Base) (m : ModuleTree) (scope : Scope) → item_scope base m ≡ Ok scope → view scope ≡ view (first_scope base m)
+  scope_keeps base m scope is =
+      let valueless = flat_map valueless_by m.items in
+      let head = symbols_in_head m.parameters in
+      let whole = flat_map symbols_by m.items in
+      let one = then_ok (add_symbols base.overrides (first_scope base m) valueless)
+      (λ s. add_symbols base.overrides s head >>= λ h. add_symbols base.overrides h whole >>= λ w. Ok (at w h.known)) scope is in
+      let two = then_ok (add_symbols base.overrides one.0 head) (λ h. add_symbols base.overrides h whole >>= λ w. Ok (at w h.known)) scope one.2 in
+      let three = then_ok (add_symbols base.overrides two.0 whole) (λ w. Ok (at w two.0.known)) scope two.2 in
+      sym (ap view (same_value (at three.0 two.0.known) scope three.2))
+      ∙ keeps_at three.0 two.0.known
+      ∙ symbols_keep base.overrides two.0 three.0 whole three.1
+      ∙ symbols_keep base.overrides one.0 two.0 head two.1
+      ∙ symbols_keep base.overrides (first_scope base m) one.0 valueless one.1

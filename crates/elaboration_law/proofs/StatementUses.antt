@@ -8,6 +8,7 @@ use Rattle.vdesign.specs.declared.action.Edge.TheVariants.{Any}
 use Rattle.format_text.specs.Pieces.{pieces_of}
 use Rattle.velab_expr.specs.declared.fault.Rule.TheVariants.{Kind}
 use Rattle.velab_expr.specs.declared.fault.ElabFault.{ElabFault}
+use Rattle.velab_expr.specs.Answers.{found}
 use Rattle.velab_expr.specs.FirstWords.{first_argument}
 use Rattle.velab_expr.specs.Scopes.{Scope, lower_variable, lower_event}
 use Rattle.velab_expr.specs.Resolved.{lower_expression}
@@ -17,20 +18,20 @@ use Rattle.velab_process.specs.Waits.{edge_of, lower_term, lower_further, lower_
 use Rattle.velab_process.specs.Prints.{lower_argument, lower_arguments, lower_line}
 use Rattle.velab_process.specs.Statements.{Table, Lowered, with_places_before, lower_amount, lower_own_amount, lower_assignment, lower_task, lower_label, lower_labels, lower_statement, lower_all, lower_branch, lower_branches}
 use Rattle.velab_process.specs.Processes.{ProcessTree, procedural, continuous, Processes, with_begins_before, lower_process, lower_processes}
-use Rattle.elaboration_law.specs.Uses.{Use, use_of, used_in, used_in_parts, used_in_target, used_in_delay, used_in_own, used_in_assignment, used_in_further, used_in_control, used_in_argument, used_in_arguments, used_in_task, used_by, used_by_all, used_by_branch, used_by_branches, used_by_process, used_by_processes}
-use Rattle.elaboration_law.proofs.UseLemmas.{found_judges, Question, Fits, both, last, single}
-use Rattle.elaboration_law.proofs.ExpressionUses.{variable_knows, event_knows, expression_knows, target_knows, selection_knows}
+use Rattle.elaboration_law.specs.Uses.{Use, Driven, Triggered, Awaited, use_of, use_of_formats, used_in_selection, used_in, used_in_parts, used_in_target, used_in_delay, used_in_own, used_in_assignment, used_in_further, used_in_control, used_in_argument, used_in_arguments, used_in_task, used_by, used_by_all, used_by_branch, used_by_branches, used_by_process, used_by_processes}
+use Rattle.elaboration_law.proofs.UseLemmas.{known_judges, Question, Fits, both, last, single}
+use Rattle.elaboration_law.proofs.ExpressionUses.{driven_knows, event_knows, expression_knows, target_knows, selection_knows}
 
 module _ (q : Question) (scope : Scope) where
   -- ---- waits
 
-  term_knows : (edge : Edge) (name : Word) → Fits q scope (use_of false name ∷ []) (lower_term scope edge name)
-  term_knows edge name = single q scope (use_of false name) (lower_term scope edge name) (q.of_term scope edge name)
+  term_knows : (edge : Edge) (name : Word) → Fits q scope (use_of (Awaited edge) false name ∷ []) (lower_term scope edge name)
+  term_knows edge name = single q scope (use_of (Awaited edge) false name) (lower_term scope edge name) (q.of_term scope edge name)
 
   further_knows : (list : List FurtherTerm) → Fits q scope (used_in_further list) (lower_further scope list)
   further_knows [] = refl
   further_knows (one ∷ more) =
-      both q scope (use_of false one.term.name ∷ []) (used_in_further more) (lower_term scope (edge_of one.term.edge) one.term.name) _ (term_knows (edge_of one.term.edge) one.term.name) (λ front.
+      both q scope (use_of (Awaited (edge_of one.term.edge)) false one.term.name ∷ []) (used_in_further more) (lower_term scope (edge_of one.term.edge) one.term.name) _ (term_knows (edge_of one.term.edge) one.term.name) (λ front.
       last q scope (used_in_further more) (lower_further scope more) _ (further_knows more) (λ others. refl))
 
   control_knows : (control : EventTree) (body : StatementTree) → Fits q scope (used_in_control control) (lower_control scope control body)
@@ -38,7 +39,7 @@ module _ (q : Question) (scope : Scope) where
   control_knows by_any body = refl
   control_knows by_any_enclosed body = refl
   control_knows (by_terms term further) body =
-      both q scope (use_of false term.name ∷ []) (used_in_further further) (lower_term scope (edge_of term.edge) term.name) _ (term_knows (edge_of term.edge) term.name) (λ front.
+      both q scope (use_of (Awaited (edge_of term.edge)) false term.name ∷ []) (used_in_further further) (lower_term scope (edge_of term.edge) term.name) _ (term_knows (edge_of term.edge) term.name) (λ front.
       last q scope (used_in_further further) (lower_further scope further) _ (further_knows further) (λ others. refl))
 
   -- ---- tasks
@@ -53,14 +54,15 @@ module _ (q : Question) (scope : Scope) where
       both q scope (used_in_argument one) (used_in_arguments more) (lower_argument scope one) _ (argument_knows one) (λ argument.
       last q scope (used_in_arguments more) (lower_arguments scope more) _ (arguments_know more) (λ others. refl))
 
-  line_knows : (arguments : List ArgumentTree) → Fits q scope (used_in_arguments arguments) (lower_line scope arguments)
+  line_knows : (arguments : List ArgumentTree) → Fits q scope (used_in_arguments arguments ++ use_of_formats arguments ∷ []) (lower_line scope arguments)
   line_knows arguments =
-      last q scope (used_in_arguments arguments) (lower_arguments scope arguments) _ (arguments_know arguments) (λ all. found_judges q.asked (pieces_of all) Kind (first_argument arguments) q.no_kind)
+      known_judges q.asked (q.fits scope) (used_in_arguments arguments) (use_of_formats arguments ∷ []) (lower_arguments scope arguments) _ (arguments_know arguments) (λ all is.
+      single q scope (use_of_formats arguments) (found (pieces_of all) Kind (first_argument arguments)) (q.of_formats scope arguments all is))
 
   task_knows : (table : Table) (call : TaskTree) → Fits q scope (used_in_task call) (lower_task scope table call)
-  task_knows table (print kind arguments) = last q scope (used_in_arguments arguments) (lower_line scope arguments) _ (line_knows arguments) (λ pieces. refl)
+  task_knows table (print kind arguments) = last q scope (used_in_arguments arguments ++ use_of_formats arguments ∷ []) (lower_line scope arguments) _ (line_knows arguments) (λ pieces. refl)
   task_knows table (dump_file letters) = refl
-  task_knows table (dump_vars selection) = last q scope [] (lower_selection scope selection) _ (selection_knows q scope selection) (λ chosen. refl)
+  task_knows table (dump_vars selection) = last q scope (used_in_selection selection) (lower_selection scope selection) _ (selection_knows q scope selection) (λ chosen. refl)
   task_knows table (dump kind) = refl
   task_knows table (end_run stops digits) = refl
 
@@ -97,7 +99,7 @@ module _ (q : Question) (scope : Scope) where
     statement_knows table (block statements) = all_know table statements
     statement_knows table (assign target amount value) = assignment_knows true table target amount value
     statement_knows table (nonblocking target amount value) = assignment_knows false table target amount value
-    statement_knows table (trigger letters) = last q scope (use_of false letters ∷ []) (lower_event scope letters) _ (event_knows q scope letters) (λ number. refl)
+    statement_knows table (trigger letters) = last q scope (use_of Triggered false letters ∷ []) (lower_event scope letters) _ (event_knows q scope letters) (λ number. refl)
     statement_knows table (if_true condition body) =
         both q scope (used_in false condition) (used_by body) (lower_expression scope condition) _ (expression_knows q scope condition) (λ test.
         last q scope (used_by body) (lower_statement scope table body) _ (statement_knows table body) (λ inner. refl))
@@ -158,7 +160,7 @@ module _ (q : Question) (scope : Scope) where
   process_knows : (table : Table) (process : ProcessTree) → Fits q scope (used_by_process process) (lower_process scope table process)
   process_knows table (procedural statement) = statement_knows table statement
   process_knows table (continuous name value) =
-      both q scope (use_of false name ∷ []) (used_in false value) (lower_variable scope name) _ (variable_knows q scope name) (λ net.
+      both q scope (use_of Driven false name ∷ []) (used_in false value) (lower_variable scope name) _ (driven_knows q scope name) (λ net.
       last q scope (used_in false value) (lower_expression scope value) _ (expression_knows q scope value) (λ e. refl))
 
   begun_knows : (uses : List Use) (before : List (List ℕ)) (a : Result Processes ElabFault) → Fits q scope uses a → Fits q scope uses (with_begins_before before a)

@@ -1,6 +1,6 @@
 -- E303: in a text that has a design each name is known where it is used and each path leads to something; and in one that is refused under
 -- the rule one isn't, or doesn't.
-use Rattle.std.proofs.Common.{◌≡◌, true, false, Bool, not, true≢false, List, [], ◌∷◌, ◌++◌, Option, Some, None, Ok, refl, sym, ap, subst, ◌∙◌, ◌⊎◌, inl, inr}
+use Rattle.std.proofs.Common.{◌≡◌, true, false, Bool, not, true≢false, List, ◌++◌, Option, Some, None, Ok, refl, sym, ap, subst, ◌∙◌, ◌⊎◌, inl, inr}
 use Rattle.std.specs.List.{flat_map, list_all}
 use Rattle.std.specs.Option.{option_or}
 use Rattle.std.proofs.lemmas.List.{append-nil}
@@ -13,16 +13,12 @@ use Rattle.vmodules.specs.Ports.{ports_of}
 use Rattle.velab_expr.specs.declared.fault.Rule.TheVariants.{Doubled, Unknown}
 use Rattle.velab_expr.specs.declared.fault.ElabFault.{ElabFault}
 use Rattle.velab_expr.specs.Rules.{broken_if}
-use Rattle.velab_expr.specs.Answers.{◌>>=◌}
-use Rattle.velab_expr.specs.Scopes.{Scope, at}
-use Rattle.velab_expr.specs.Symbols.{Symbol, valueless_by, symbols_in_head, symbols_by}
-use Rattle.velab_declaration.specs.Parameters.{Overrides, Base, add_symbol, add_symbols, first_scope, item_scope}
+use Rattle.velab_expr.specs.Scopes.{Scope}
 use Rattle.velab_declaration.specs.ActionFlaws.{table_fault}
-use Rattle.vhierarchy.specs.Instances.{Part, variable_paths, scope_paths, broken_selection, broken_paths, broken_table, broken_design, elaborate_top, elaborated}
+use Rattle.vhierarchy.specs.Instances.{base_of, Part, variable_paths, scope_paths, broken_selection, broken_paths, broken_table, broken_design, elaborate_top, elaborated}
 use Rattle.elaboration_law.specs.Laws.{IsMeant}
 use Rattle.elaboration_law.specs.Selected.{paths_by_item, paths_in_instance}
 use Rattle.elaboration_law.specs.Unknowns.{all_below, is_all_there, HasUnknown, of_name, of_path}
-use Rattle.elaboration_law.proofs.StepLemmas.{same_value, then_ok}
 use Rattle.elaboration_law.proofs.ToldLemmas.{untold_fault}
 use Rattle.elaboration_law.proofs.DesignRules.{broken_tells, broken_table_tells}
 use Rattle.elaboration_law.proofs.HierarchyLemmas.{instance_at, Told, in_modules, in_top, in_hierarchy, in_design, all_elaborated, fault_told}
@@ -30,34 +26,10 @@ use Rattle.elaboration_law.proofs.OwnLemmas.{own_steps}
 use Rattle.elaboration_law.proofs.GatherLemmas.{Gathers, top_gathered}
 use Rattle.elaboration_law.proofs.NameLemmas.{listed_both, variables_are, paths_are, or_none, or_some}
 use Rattle.elaboration_law.proofs.DepthLemmas.{one_top}
-use Rattle.elaboration_law.proofs.PlaceLemmas.{symbol_makes, item_scope_of}
+use Rattle.elaboration_law.proofs.PlaceLemmas.{item_scope_of, scope_keeps}
 use Rattle.elaboration_law.proofs.KnownUses.{is_unknown, unknown_told, unknown_never}
 use Rattle.elaboration_law.proofs.DumpUses.{dumped, own_dumps}
-use Rattle.elaboration_law.proofs.PathUses.{JudgesIf, is_something, table_judged}
-
--- ---- the top's name in a scope
-
-symbols_keep_top : (overrides : Overrides) (scope next : Scope) (list : List Symbol) → add_symbols overrides scope list ≡ Ok next → next.top ≡ scope.top
-symbols_keep_top overrides scope next [] is = sym (ap (λ (s : Scope). s.top) (same_value scope next is))
-symbols_keep_top overrides scope next (one ∷ more) is =
-    let front = then_ok (add_symbol overrides scope one) (λ s. add_symbols overrides s more) next is in
-    let made = symbol_makes overrides scope front.0 one front.1 in
-    symbols_keep_top overrides front.0 next more front.2 ∙ sym (ap (λ (s : Scope). s.top) made.2)
-
-module _ (base : Base) (m : ModuleTree) where
-  scope_keeps_top : (scope : Scope) → item_scope base m ≡ Ok scope → scope.top ≡ base.top
-  scope_keeps_top scope is =
-      let valueless = flat_map valueless_by m.items in
-      let head = symbols_in_head m.parameters in
-      let whole = flat_map symbols_by m.items in
-      let one = then_ok (add_symbols base.overrides (first_scope base m) valueless)
-      (λ s. add_symbols base.overrides s head >>= λ h. add_symbols base.overrides h whole >>= λ w. Ok (at w h.known)) scope is in
-      let two = then_ok (add_symbols base.overrides one.0 head) (λ h. add_symbols base.overrides h whole >>= λ w. Ok (at w h.known)) scope one.2 in
-      let three = then_ok (add_symbols base.overrides two.0 whole) (λ w. Ok (at w two.0.known)) scope two.2 in
-      sym (ap (λ (s : Scope). s.top) (same_value (at three.0 two.0.known) scope three.2))
-      ∙ symbols_keep_top base.overrides two.0 three.0 whole three.1
-      ∙ symbols_keep_top base.overrides one.0 two.0 head two.1
-      ∙ symbols_keep_top base.overrides (first_scope base m) one.0 valueless one.1
+use Rattle.elaboration_law.proofs.PathUses.{JudgesIf, is_something, path_judged, table_judged}
 
 -- ---- the paths of a design
 
@@ -71,7 +43,7 @@ dumps_gather top modules = record {
   both = listed_both (paths_in_instance top);
   own = λ part context named own.
       let s = own_steps modules part context own in
-      let same = scope_keeps_top _ context.unit own.scope (item_scope_of part context own.scope own.names_are) ∙ named in
+      let same = scope_keeps (λ (x : Scope). x.top) (λ x one meaning. refl) (λ x known. refl) (base_of part context) context.unit own.scope (item_scope_of part context own.scope own.names_are) ∙ named in
       sym (ap dumped_of s.whole_is)
       ∙ own_dumps context (ports_of context.unit) own.scope part.table s.processes s.processes_made
       ∙ ap (λ (t : Text). dumped part.table ++ flat_map (paths_by_item t) context.unit.items) same
@@ -80,7 +52,7 @@ dumps_gather top modules = record {
 
 module _ (modules : SourceTree) (top : Option Text) where
   module _ (unit : ModuleTree) (part : Part) (ok : elaborate_top modules unit ≡ Ok part) where
-    dumped_are : dumped part.table ≡ flat_map (paths_in_instance unit.name.letters) (all_below modules unit)
+    pub dumped_are : dumped part.table ≡ flat_map (paths_in_instance unit.name.letters) (all_below modules unit)
     unfolding dumped_of
     dumped_are = top_gathered unit.name.letters modules (λ (a b : List Text). a ++ b) dumped_of (flat_map (paths_in_instance unit.name.letters)) (dumps_gather unit.name.letters modules) unit part refl ok
 
@@ -92,7 +64,7 @@ module _ (modules : SourceTree) (top : Option Text) where
     selections = table_fault (broken_selection (scope_paths part) (variable_paths part)) part.table.actions part.table.words
 
     selections_judged : JudgesIf (λ (f : ElabFault). is_unknown f.rule) (is_all_there unit.name.letters (all_below modules unit)) selections
-    selections_judged = subst (λ (b : Bool). JudgesIf (λ (f : ElabFault). is_unknown f.rule) b selections) there_alike (table_judged (scope_paths part) (variable_paths part) part.table.actions part.table.words)
+    selections_judged = subst (λ (b : Bool). JudgesIf (λ (f : ElabFault). is_unknown f.rule) b selections) there_alike (table_judged is_unknown (scope_paths part) (variable_paths part) (is_something (scope_paths part) (variable_paths part)) (path_judged (scope_paths part) (variable_paths part)) part.table.actions part.table.words)
 
     abbrev named : Option ElabFault
     named = broken_if (has_double (variable_paths part)) Doubled (Some unit.name)

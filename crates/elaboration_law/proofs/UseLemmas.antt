@@ -10,10 +10,15 @@ use Rattle.velab_expr.specs.declared.fault.ElabFault.{ElabFault}
 use Rattle.velab_expr.specs.declared.fault.Rule.TheVariants.{Width, Constant, Kind}
 use Rattle.velab_expr.specs.Answers.{◌>>=◌, required, provided, found}
 use Rattle.velab_expr.specs.Scopes.{Scope, lower_name, lower_variable, lower_event}
+use Rattle.vast.specs.NumberedStatements.{ArgumentTree}
+use Rattle.format_text.specs.Pieces.{Argument, pieces_of}
+use Rattle.velab_expr.specs.FirstWords.{first_argument}
+use Rattle.velab_expr.specs.Selections.{levels_in}
+use Rattle.velab_process.specs.Prints.{lower_arguments}
 use Rattle.velab_process.specs.Waits.{lower_term}
 use Rattle.vdesign.specs.declared.action.Edge.{Edge}
 use Rattle.vhierarchy.specs.Instances.{barring}
-use Rattle.elaboration_law.specs.Uses.{Use, use_of, use_of_time}
+use Rattle.elaboration_law.specs.Uses.{Use, Read, ReadIn, Written, WrittenIn, Driven, Triggered, Awaited, use_of, use_of_time, use_of_formats, use_of_levels}
 
 abbrev pub Judges : {A : Type 0} → (Rule → Bool) → Bool → Result A ElabFault → Type 0
 Judges asked holds (Ok x) = holds ≡ true
@@ -85,17 +90,22 @@ module _ (asked : Rule → Bool) where
     one_judges x (Ok y) h = and_both (test x) true h refl
     one_judges x (Err fault) h = λ e. first_false (test x) true (h e)
 
--- a question of each name that is used, which one rule or several are told for alone
+-- a question of all that is used, which one rule or several are told for alone
 pub record Question : Type 1 where
   pub asked : Rule → Bool
   pub fits : Scope → Use → Bool
   pub no_width : asked Width ≡ false
-  pub no_kind : asked Kind ≡ false
-  pub of_name : (constant : Bool) (scope : Scope) (name : Word) → Judges asked (fits scope (use_of constant name)) (lower_name constant scope name)
-  pub of_variable : (scope : Scope) (name : Word) → Judges asked (fits scope (use_of false name)) (lower_variable scope name)
-  pub of_event : (scope : Scope) (name : Word) → Judges asked (fits scope (use_of false name)) (lower_event scope name)
-  pub of_term : (scope : Scope) (edge : Edge) (name : Word) → Judges asked (fits scope (use_of false name)) (lower_term scope edge name)
+  pub of_value : (constant : Bool) (scope : Scope) (name : Word) → Judges asked (fits scope (use_of Read constant name)) (lower_name constant scope name)
+  pub of_bits : (constant : Bool) (scope : Scope) (name : Word) → Judges asked (fits scope (use_of ReadIn constant name)) (lower_name constant scope name)
+  pub of_written : (scope : Scope) (name : Word) → Judges asked (fits scope (use_of Written false name)) (lower_variable scope name)
+  pub of_written_in : (scope : Scope) (name : Word) → Judges asked (fits scope (use_of WrittenIn false name)) (lower_variable scope name)
+  pub of_driven : (scope : Scope) (name : Word) → Judges asked (fits scope (use_of Driven false name)) (lower_variable scope name)
+  pub of_event : (scope : Scope) (name : Word) → Judges asked (fits scope (use_of Triggered false name)) (lower_event scope name)
+  pub of_term : (scope : Scope) (edge : Edge) (name : Word) → Judges asked (fits scope (use_of (Awaited edge) false name)) (lower_term scope edge name)
   pub of_time : {A : Type 0} (constant : Bool) (scope : Scope) (word : Option Word) (x : A) → Judges asked (fits scope (use_of_time constant)) (required (not constant) Constant word x)
+  pub of_formats : (scope : Scope) (arguments : List ArgumentTree) (all : List Argument) → lower_arguments scope arguments ≡ Ok all →
+      Judges asked (fits scope (use_of_formats arguments)) (found (pieces_of all) Kind (first_argument arguments))
+  pub of_levels : (scope : Scope) (levels : Word) → Judges asked (fits scope (use_of_levels levels)) (found (levels_in levels) Kind (Some levels))
 
 -- the answer is one only where the question holds of all of these, and a fault of its rules only where it doesn't of one
 abbrev pub Fits : {A : Type 0} → Question → Scope → List Use → Result A ElabFault → Type 0

@@ -12,3 +12,4 @@ pub mod Places
 pub mod Constants
 pub mod Selected
 pub mod Unknowns
+pub mod Kinds

@@ -1,6 +1,7 @@
 -- *trusted*: What instances use, and which names stand where they use it (IEEE 1364-2005, 4.10.1, 12.2, 12.3.9.2, 12.7).
-use Rattle.std.specs.Prelude.{◌≡◌, ℕ, Bool, true, false, List, [], ◌∷◌, ◌++◌, map, Option, None, Some}
+use Rattle.std.specs.Prelude.{◌≡◌, ℕ, Bool, true, false, List, [], ◌∷◌, ◌++◌, map, slice_get, position, Option, None, Some, option_and_then}
 use Rattle.std.specs.List.{Contains, flat_map, list_all}
+use Rattle.std.specs.Str.{bytes_eq}
 use Rattle.vast.specs.Words.{Text}
 use Rattle.vast.specs.NumberedWords.{Word}
 use Rattle.vast.specs.NumberedExpressions.{ExpressionTree}
@@ -10,28 +11,54 @@ use Rattle.vmodules.specs.Hierarchy.{module_of, top_of}
 use Rattle.vmodules.specs.Ports.{Port, ports_of}
 use Rattle.vmodules.specs.Connected.{NamedConnection, open_names, named_connections, named_connections_if, value_for}
 use Rattle.velab_expr.specs.Symbols.{Symbol, parameter_symbol, event_symbol, instance_symbol, name_in, valueless_by, symbols_in_head, symbols_by}
-use Rattle.velab_declaration.specs.Variables.{port_names, declared_names}
+use Rattle.velab_declaration.specs.Variables.{Declaration, port_declaration, declarations, port_names, declared_names}
 use Rattle.velab_process.specs.Connections.{only_name}
 use Rattle.velab_process.specs.Processes.{process_trees_by}
 use Rattle.elaboration_law.specs.Doubles.{names_in_module}
 use Rattle.elaboration_law.specs.Hierarchy.{Instance, StandsAt}
-use Rattle.elaboration_law.specs.Uses.{Use, use_of, used_in, used_in_range, used_by_processes}
+use Rattle.elaboration_law.specs.Uses.{Use, Read, Driven, use_of, used_in, used_in_range, used_by_processes}
 
 -- ---- places
 
--- the names at a place of a module: those of its variables, those that a constant there may use, and those that all else may
+-- what a name stands for (12.7)
+pub data Thing : Type 0 where
+  a_variable : Declaration → Thing
+  a_parameter : Thing
+  an_event : Thing
+  an_instance : Thing
+
+-- the names at a place of a module: those of its variables, those that a constant there may use, and those that all else may. And what
+-- names stand for, one after another.
 pub record Place : Type 0 where
   pub variables : List Text
   pub known : List Text
   pub names : List Text
+  pub things : List Thing
+
+-- what a name stands for there, where it is known
+abbrev pub thing_of : Place → Word → Option Thing
+thing_of place name = option_and_then (slice_get place.things) (position (bytes_eq name.letters) place.names)
 
 -- round the top there are no names
 abbrev pub no_place : Place
-no_place = record { variables = []; known = []; names = [] }
+no_place = record { variables = []; known = []; names = []; things = [] }
 
 -- the names of a module's variables
 abbrev pub variables_of : ModuleTree → List Text
 variables_of m = letters_of (declared_names m)
+
+-- its named events and instances, the parameters of its head, and those of its items
+abbrev pub symbols_of : ModuleTree → List Symbol
+symbols_of m = flat_map valueless_by m.items ++ (symbols_in_head m.parameters ++ flat_map symbols_by m.items)
+
+abbrev pub thing_by : Symbol → Thing
+thing_by (parameter_symbol type setting) = a_parameter
+thing_by (event_symbol name) = an_event
+thing_by (instance_symbol name) = an_instance
+
+-- what the names of a module stand for, in the order of these
+abbrev pub things_in : ModuleTree → List Thing
+things_in m = map a_variable (map port_declaration (ports_of m) ++ declarations m) ++ map thing_by (symbols_of m)
 
 -- 4.10.1, 12.2: a constant behind these items may use a parameter that stands before it, in the head or among them. Variables, named events
 -- and instances are known wherever they are declared, though they are no constants.
@@ -39,11 +66,11 @@ abbrev pub names_behind : ModuleTree → List ItemTree → List Text
 names_behind m items = variables_of m ++ letters_of (map name_in (flat_map valueless_by m.items ++ (symbols_in_head m.parameters ++ flat_map symbols_by items)))
 
 abbrev pub place_behind : ModuleTree → List ItemTree → Place
-place_behind m items = record { variables = variables_of m; known = names_behind m items; names = names_in_module m }
+place_behind m items = record { variables = variables_of m; known = names_behind m items; names = names_in_module m; things = things_in m }
 
 -- in the declaration of a parameter, which is a constant, behind these names
 abbrev pub place_after : ModuleTree → List Text → Place
-place_after m names = record { variables = variables_of m; known = names; names = names }
+place_after m names = record { variables = variables_of m; known = names; names = names; things = things_in m }
 
 -- what is used, and where
 pub record UseAt : Type 0 where
@@ -107,11 +134,11 @@ module _ (m : ModuleTree) (outside : Place) (values connections : List NamedConn
   -- 12.3.9.2: an output drives what it is connected to, which is a name alone, or E305; an input is driven
   abbrev pub used_by_output : Word → Option Word → List UseAt
   used_by_output port None = []
-  used_by_output port (Some name) = at_place outside (use_of false name ∷ []) ++ at_place (place_behind m []) (use_of false port ∷ [])
+  used_by_output port (Some name) = at_place outside (use_of Driven false name ∷ []) ++ at_place (place_behind m []) (use_of Read false port ∷ [])
 
   abbrev pub used_at_port : Bool → Word → ExpressionTree → List UseAt
   used_at_port true port value = used_by_output port (only_name value)
-  used_at_port false port value = at_place (place_behind m []) (use_of false port ∷ []) ++ at_place outside (used_in false value)
+  used_at_port false port value = at_place (place_behind m []) (use_of Driven false port ∷ []) ++ at_place outside (used_in false value)
 
   abbrev pub used_if_connected : Port → Option ExpressionTree → List UseAt
   used_if_connected p None = []
@@ -123,7 +150,7 @@ module _ (m : ModuleTree) (outside : Place) (values connections : List NamedConn
   -- its parameters (named events and instances use nothing), its ports, its declarations, what its ports are connected to, its processes
   abbrev pub used_in_instance : List UseAt
   used_in_instance =
-      used_in_symbols (variables_of m) (flat_map valueless_by m.items ++ (symbols_in_head m.parameters ++ flat_map symbols_by m.items))
+      used_in_symbols (variables_of m) (symbols_of m)
       ++ ((flat_map (used_in_port m) (ports_of m) ++ used_by_items m used_in_declaration [] m.items)
       ++ (flat_map used_in_connection (ports_of m) ++ used_by_items m used_in_processes [] m.items))
 

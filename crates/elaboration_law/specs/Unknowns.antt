@@ -8,15 +8,17 @@ use Rattle.vmodules.specs.Names.{is_declared}
 use Rattle.vmodules.specs.Hierarchy.{top_of}
 use Rattle.elaboration_law.specs.Doubles.{variable_paths_in, path_in}
 use Rattle.elaboration_law.specs.Hierarchy.{Instance, listed, top_instance}
-use Rattle.elaboration_law.specs.Uses.{Use, use_of, use_of_time}
+use Rattle.elaboration_law.specs.Uses.{Use, use_of, use_of_time, use_of_formats, use_of_levels}
 use Rattle.elaboration_law.specs.Places.{Place, HasMisuse}
 use Rattle.elaboration_law.specs.Selected.{paths_in_instance}
 
 -- a constant uses what stands before it, and all else what its module declares anywhere
 abbrev pub is_known : Place → Use → Bool
-is_known place (use_of true name) = is_declared place.known name.letters
-is_known place (use_of false name) = is_declared place.names name.letters
+is_known place (use_of way true name) = is_declared place.known name.letters
+is_known place (use_of way false name) = is_declared place.names name.letters
 is_known place (use_of_time constant) = true
+is_known place (use_of_formats arguments) = true
+is_known place (use_of_levels levels) = true
 
 -- all instances of the hierarchy, those of a text that has a design
 abbrev pub all_below : SourceTree → ModuleTree → List Instance

@@ -3,24 +3,41 @@ use Rattle.std.specs.Prelude.{Bool, true, false, List, [], ◌∷◌, ◌++◌, 
 use Rattle.std.specs.List.{flat_map}
 use Rattle.vast.specs.NumberedWords.{Word}
 use Rattle.vast.specs.NumberedExpressions as text
-use Rattle.vast.specs.NumberedStatements.{TargetTree, TargetTrees, whole, bit, part, joined, none, first, ArgumentTree, quoted, printed, TaskTree, print, dump_file, dump_vars, dump, end_run, DelayTree, by_number, by_name, by_value, FurtherTerm, EventTree, by_event, by_any, by_any_enclosed, by_terms, StatementTree, StatementTrees, empty, block, assign, nonblocking, trigger, if_true, if_else, case_of, while_true, repeat_times, forever, for_loop, wait_for, delay, event, task, no_statement, first_statement, BranchTree, BranchTrees, labelled, default, no_branch, first_branch}
+use Rattle.vast.specs.NumberedStatements.{TargetTree, TargetTrees, whole, bit, part, joined, none, first, ArgumentTree, quoted, printed, SelectionTree, TaskTree, print, dump_file, dump_vars, dump, end_run, DelayTree, by_number, by_name, by_value, FurtherTerm, EventTree, by_event, by_any, by_any_enclosed, by_terms, StatementTree, StatementTrees, empty, block, assign, nonblocking, trigger, if_true, if_else, case_of, while_true, repeat_times, forever, for_loop, wait_for, delay, event, task, no_statement, first_statement, BranchTree, BranchTrees, labelled, default, no_branch, first_branch}
 use Rattle.vast.specs.NumberedModules.{RangeTree}
+use Rattle.vdesign.specs.declared.action.Edge.{Edge}
+use Rattle.vdesign.specs.declared.action.Edge.TheVariants.{Any}
+use Rattle.velab_process.specs.Waits.{edge_of}
 use Rattle.velab_process.specs.Processes.{ProcessTree, procedural, continuous}
 
--- what is looked up, in a constant or not: a name, or the time (17.7.1)
+-- how a name is used: its value is read, or a bit or a part of it; a process writes it, or a bit or a part of it; a continuous assignment
+-- drives it (6.1); it is triggered (9.7.3); it is waited for, any change or one edge (9.7.2)
+pub data Way : Type 0 where
+  Read : Way
+  ReadIn : Way
+  Written : Way
+  WrittenIn : Way
+  Driven : Way
+  Triggered : Way
+  Awaited : Edge → Way
+
+-- what is looked up: a name, used so, in a constant or not; the time (17.7.1); the formats of what is printed (17.1.1); the number of levels
+-- of a `$dumpvars` (18.1.2)
 pub data Use : Type 0 where
-  use_of : Bool → Word → Use
+  use_of : Way → Bool → Word → Use
   use_of_time : Bool → Use
+  use_of_formats : List ArgumentTree → Use
+  use_of_levels : Word → Use
 
 -- ---- expressions: bounds of a part and counts are constants (5.1.14, 5.2.1)
 
 abbrev mutual
   pub used_in : Bool → text.ExpressionTree → List Use
   used_in constant (text.number digits) = []
-  used_in constant (text.name letters) = use_of constant letters ∷ []
+  used_in constant (text.name letters) = use_of Read constant letters ∷ []
   used_in constant (text.time word) = use_of_time constant ∷ []
-  used_in constant (text.bit letters index) = use_of constant letters ∷ used_in constant index
-  used_in constant (text.part letters left right) = use_of constant letters ∷ (used_in true left ++ used_in true right)
+  used_in constant (text.bit letters index) = use_of ReadIn constant letters ∷ used_in constant index
+  used_in constant (text.part letters left right) = use_of ReadIn constant letters ∷ (used_in true left ++ used_in true right)
   used_in constant (text.parentheses inner) = used_in constant inner
   used_in constant (text.concatenation parts) = used_in_parts constant parts
   used_in constant (text.replication count parts) = used_in true count ++ used_in_parts constant parts
@@ -43,9 +60,9 @@ used_in_range (Some range) = used_in true range.left ++ used_in true range.right
 
 abbrev mutual
   pub used_in_target : TargetTree → List Use
-  used_in_target (whole letters) = use_of false letters ∷ []
-  used_in_target (bit letters index) = use_of false letters ∷ used_in false index
-  used_in_target (part letters left right) = use_of false letters ∷ (used_in true left ++ used_in true right)
+  used_in_target (whole letters) = use_of Written false letters ∷ []
+  used_in_target (bit letters index) = use_of WrittenIn false letters ∷ used_in false index
+  used_in_target (part letters left right) = use_of WrittenIn false letters ∷ (used_in true left ++ used_in true right)
   used_in_target (joined targets) = used_in_targets targets
 
   pub used_in_targets : TargetTrees → List Use
@@ -56,7 +73,7 @@ abbrev mutual
 
 abbrev pub used_in_delay : DelayTree → List Use
 used_in_delay (by_number digits) = []
-used_in_delay (by_name letters) = use_of false letters ∷ []
+used_in_delay (by_name letters) = use_of Read false letters ∷ []
 used_in_delay (by_value amount) = used_in false amount
 
 abbrev pub used_in_own : Option DelayTree → List Use
@@ -68,13 +85,13 @@ used_in_assignment target amount value = used_in_target target ++ (used_in_own a
 
 abbrev pub used_in_further : List FurtherTerm → List Use
 used_in_further [] = []
-used_in_further (one ∷ more) = use_of false one.term.name ∷ used_in_further more
+used_in_further (one ∷ more) = use_of (Awaited (edge_of one.term.edge)) false one.term.name ∷ used_in_further more
 
 abbrev pub used_in_control : EventTree → List Use
-used_in_control (by_event letters) = use_of false letters ∷ []
+used_in_control (by_event letters) = use_of (Awaited Any) false letters ∷ []
 used_in_control by_any = []
 used_in_control by_any_enclosed = []
-used_in_control (by_terms term further) = use_of false term.name ∷ used_in_further further
+used_in_control (by_terms term further) = use_of (Awaited (edge_of term.edge)) false term.name ∷ used_in_further further
 
 abbrev pub used_in_argument : ArgumentTree → List Use
 used_in_argument (quoted letters) = []
@@ -84,10 +101,14 @@ abbrev pub used_in_arguments : List ArgumentTree → List Use
 used_in_arguments [] = []
 used_in_arguments (one ∷ more) = used_in_argument one ++ used_in_arguments more
 
+abbrev pub used_in_selection : Option SelectionTree → List Use
+used_in_selection None = []
+used_in_selection (Some selection) = use_of_levels selection.levels ∷ []
+
 abbrev pub used_in_task : TaskTree → List Use
-used_in_task (print kind arguments) = used_in_arguments arguments
+used_in_task (print kind arguments) = used_in_arguments arguments ++ use_of_formats arguments ∷ []
 used_in_task (dump_file letters) = []
-used_in_task (dump_vars selection) = []
+used_in_task (dump_vars selection) = used_in_selection selection
 used_in_task (dump kind) = []
 used_in_task (end_run stops digits) = []
 
@@ -100,7 +121,7 @@ abbrev mutual
   used_by (block statements) = used_by_all statements
   used_by (assign target amount value) = used_in_assignment target amount value
   used_by (nonblocking target amount value) = used_in_assignment target amount value
-  used_by (trigger letters) = use_of false letters ∷ []
+  used_by (trigger letters) = use_of Triggered false letters ∷ []
   used_by (if_true condition body) = used_in false condition ++ used_by body
   used_by (if_else condition body other) = used_in false condition ++ (used_by body ++ used_by other)
   used_by (case_of kind value branches) = used_in false value ++ used_by_branches branches
@@ -130,7 +151,7 @@ abbrev mutual
 
 abbrev pub used_by_process : ProcessTree → List Use
 used_by_process (procedural statement) = used_by statement
-used_by_process (continuous name value) = use_of false name ∷ used_in false value
+used_by_process (continuous name value) = use_of Driven false name ∷ used_in false value
 
 abbrev pub used_by_processes : List ProcessTree → List Use
 used_by_processes list = flat_map used_by_process list

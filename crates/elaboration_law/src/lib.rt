@@ -11,6 +11,7 @@ ghost use Rattle.elaboration_law.specs.Drivers.{HasTwoDrivers};
 ghost use Rattle.elaboration_law.specs.Misfits.{HasMisfit};
 ghost use Rattle.elaboration_law.specs.Unknowns.{HasUnknown};
 ghost use Rattle.elaboration_law.specs.Constants.{HasUnfixed};
+ghost use Rattle.elaboration_law.specs.Kinds.{HasMiskind};
 ghost use Rattle.elaboration_law.specs.Tops.{LacksModule};
 ghost use Rattle.velab_expr.specs.declared.fault.Rule.TheVariants as rule;
 
@@ -25,4 +26,5 @@ pub fn elaboration_rules()
     ensures constants { IsMeant rule.Constant HasUnfixed }
     ensures depth { IsMeant rule.Depth IsTooDeep }
     ensures counts { IsMeant rule.TooMany HasTooMany }
+    ensures kinds { IsMeant rule.Kind HasMiskind }
 {}

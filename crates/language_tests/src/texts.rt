@@ -2,7 +2,7 @@
 
 use basis::{OrMemory, Timescale};
 use sched_core::end::Cause;
-use sched_core::setting::{Departures, Grain, Looked};
+use sched_core::setting::Grain;
 use sched_core::{Log, ReplayFault};
 use std::alloc::Global;
 use std::test::Fail;
@@ -213,43 +213,6 @@ fn plain_steps_leave_their_state(rt: HostRuntime) -> Result<(), Fail> {
         let (_third, items) = slow_step(alloc, &design, &second, 0)?;
         assert!(rt; slot_end(&items) == Some([Vec4::from_u64(1, 1)].as_slice()));
     }
-    Ok(())
-}
-
-// Choice 3 of 5 takes `a = 1` and holds back `c = b`, until nothing else is active: then both lines are printed.
-#[test]
-fn held_back_until_nothing_else_is_active(rt: HostRuntime) -> Result<(), Fail> {
-    let alloc = rt.alloc();
-    let design = design(
-        alloc,
-        b"module tb; reg a, b, c; initial c = b; initial a = 1; initial begin b = a; $display(\"%b\", c); $display(\"a\"); end endmodule",
-    )?;
-    let mut first = opening(alloc, &design, 100, Grain::Process)?;
-    assert_eq!(rt; slow_width(&first), 3);
-    first.look(Departures::Holding, Looked::Lines);
-    assert_eq!(rt; slow_width(&first), 5);
-    assert!(rt; first.holding(2).is_empty());
-    assert_eq!(rt; first.holding(3).first(), Some(0));
-    assert_eq!(rt; first.holding(4).len(), 2);
-    let (second, _items) = slow_step(alloc, &design, &first, 3)?;
-    assert_eq!(rt; slow_width(&second), 3);
-    let (third, _items) = slow_step(alloc, &design, &second, 0)?;
-    assert_eq!(rt; slow_width(&third), 1);
-    let (fourth, _items) = slow_step(alloc, &design, &third, 0)?;
-    let (fifth, _items) = slow_step(alloc, &design, &fourth, 0)?;
-    let Some([one, other]) = fifth.printed().map(|bag| bag.as_slice()) else {
-        return Err(Fail::from("two lines"));
-    };
-    assert_eq!(rt; one.as_bytes(), b"a\n".as_slice());
-    assert_eq!(rt; other.as_bytes(), b"x\n".as_slice());
-    let (last, items) = slow_step(alloc, &design, &fifth, 0)?;
-    let values = [
-        Vec4::from_u64(1, 1),
-        Vec4::from_u64(1, 1),
-        Vec4::from_u64(1, 1),
-    ];
-    assert!(rt; slot_end(&items) == Some(values.as_slice()));
-    assert_eq!(rt; slow_width(&last), 0);
     Ok(())
 }
 
