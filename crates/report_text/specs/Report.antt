@@ -1,4 +1,4 @@
--- *product rule*: What a report of an exploration holds (docs/FORMATS.md, "Reports"; docs/HOLDING.md, "Reports, version 3").
+-- *product rule*: What a report of an exploration holds (docs/FORMATS.md, "Reports").
 use Rattle.std.specs.Prelude.{ℕ, List, Option}
 use Rattle.sched_core.specs.declared.end.Cause.{Cause}
 use Rattle.sched_core.specs.declared.setting.Grain.{Grain}

@@ -1,4 +1,4 @@
--- *product rule*: `ReportText` (docs/FORMATS.md, "Reports"; docs/HOLDING.md, "Reports, version 3"): the text of a report and of the
+-- *product rule*: `ReportText` (docs/FORMATS.md, "Reports"): the text of a report and of the
 -- dumps of its ends.
 use Rattle.std.specs.Prelude.{ℕ, List, [], ◌∷◌, ◌++◌, length, codes, decimal, slice_get, Option, Some, None}
 use Rattle.sched_core.specs.LogText.{log_text}

@@ -1,4 +1,4 @@
--- *product rule*: Which reports there are: those whose text is read (docs/FORMATS.md, "Reports"; docs/HOLDING.md, "Reports, version 3").
+-- *product rule*: Which reports there are: those whose text is read (docs/FORMATS.md, "Reports").
 use Rattle.std.specs.Prelude.{◌≡◌, ◌≢◌, ℕ, ◌<◌, ◌≤◌, ◌^◌, ◌||◌, ◌==◌, ◌⊎◌, Bool, true, List, [], ◌∷◌, length, slice_get, Option, Some, Result, MatchResult}
 use Rattle.std.specs.List.{list_all}
 use Rattle.std.specs.Ordering.{nat_cmp}

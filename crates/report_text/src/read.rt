@@ -71,9 +71,8 @@ fn read_body<'a>(
 
 /// Reads the text of a report with the dumps of its ends.
 ///
-/// It accepts exactly the texts of reports, of version 1, 2 and 3 (docs/FORMATS.md, "Reports", and
-/// docs/HOLDING.md, "Reports, version 3"), in one pass. Any other is
-/// `ReportFault::IllFormed`, E501. The error may also be want of memory, E901.
+/// It accepts exactly the texts of reports, of version 1, 2 and 3 (docs/FORMATS.md, "Reports"), in
+/// one pass. Any other is `ReportFault::IllFormed`, E501. The error may also be want of memory, E901.
 pub fn read_report<'a>(
     alloc: Global,
     text: &'a [u8],

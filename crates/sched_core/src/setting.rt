@@ -35,7 +35,7 @@ impl Eq for Grain {
     ghost laws = { grains_equivalent };
 }
 
-/// Which departures there are (docs/HOLDING.md).
+/// Which departures there are (docs/SCHEDULING.md, "Departures that hold back").
 #[derive(Clone, Copy, Debug, PartialEq, Eq)]
 pub enum Departures {
     /// A departure takes another choice first.

@@ -15,7 +15,8 @@ use vdesign::design::Design;
 use vmodel::{State, opening};
 
 /// The runs of a design within a time limit, in units of its precision, and in a grain; with which departures
-/// there are and what is looked at (docs/HOLDING.md). A clause sees it as the `Setting` of these five.
+/// there are and what is looked at (docs/SCHEDULING.md, "Departures that hold back"). A clause sees it as the
+/// `Setting` of these five.
 #[derive(Drop)]
 pub struct Machine {
     pub(crate) alloc: Global,

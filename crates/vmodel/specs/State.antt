@@ -1,6 +1,6 @@
 -- *trusted*: A state of a run (IEEE 1364-2005, 11.1, 11.3; docs/SCHEDULING.md): values, what each process has left, the queue, why the run
--- ended if `$finish` or `$stop` was taken, and, where the setting asks for these, what is held back and the lines of the slot
--- (docs/HOLDING.md). All of it is numbers, letters and lists of them; statements go by their places in the design's table of actions.
+-- ended if `$finish` or `$stop` was taken, and, where the setting asks for these, what is held back and the lines of the slot.
+-- All of it is numbers, letters and lists of them; statements go by their places in the design's table of actions.
 use Rattle.std.specs.Prelude.{ℕ, List, Option}
 use Rattle.vbits.specs.Vectors.{Vector}
 use Rattle.vmodel.specs.Queue.{Queue}
