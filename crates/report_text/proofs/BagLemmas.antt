@@ -1,18 +1,15 @@
 -- Printed lines in the order of their bytes, and their texts.
-use Rattle.std.proofs.Common.{◌≡◌, ℕ, suc, ◌<◌, ◌≤◌, ◌^◌, true, List, [], ◌∷◌, ◌++◌, length, slice_get, Option, Some, None, arith, ap, refl, sym, subst, ◌∙◌, append_assoc}
+use Rattle.std.proofs.Common.{◌≡◌, ℕ, ◌<◌, ◌≤◌, ◌^◌, true, List, [], ◌∷◌, ◌++◌, length, Option, Some, None, arith, ap, refl, sym, ◌∙◌, append_assoc}
 use Rattle.std.specs.Prelude.{codes}
 use Rattle.std.specs.List.{flat_map}
 use Rattle.std.specs.Fmt.{decimal}
-use Rattle.std.specs.Ordering.{nat_cmp, is_eq, ordering_reverse}
+use Rattle.std.specs.Ordering.{nat_cmp, ordering_reverse}
 use Rattle.std.specs.Cmp.{IsTotalOrder}
 use Rattle.std.specs.Cmp.Lexicographic.{slice_cmp}
 use Rattle.std.specs.declared.cmp.Ordering.{Ordering}
 use Rattle.std.specs.declared.cmp.Ordering.TheVariants.{Less, Equal, Greater}
 use Rattle.std.proofs.lemmas.Cmp.{nat_list_cmp_total}
-use Rattle.std.proofs.lemmas.Map.Text.{is_eq-slice_cmp}
-use Rattle.std.proofs.lemmas.Slice.Eq.{bytes_eq-Decides}
 use Rattle.sched_core.specs.declared.setting.Looked.TheVariants.{Values, Lines}
-use Rattle.sched_core.specs.Bags.{placed, with_line, AreLinesInOrder}
 use Rattle.report_text.specs.ReportText.{number_line, counted_text, counted_texts, printed_lines}
 use Rattle.report_text.specs.Inner.Headings.{label_line_before}
 use Rattle.report_text.specs.Inner.Lines.{IsNotAfter, HasCountable, ArePrintedTaken}
@@ -29,32 +26,6 @@ not_after_trans a b c h k less = by (slice_cmp nat_cmp c b) refl
     by Less is = k is
     by Equal is = h (sym (total.congr c b a is) ∙ less)
     by Greater is = h (total.trans b c a (total.antisymm b c ∙ ap ordering_reverse is) less)
-
-first_placed : (o : Ordering) (line x : List ℕ) (later xs : List (List ℕ)) → slice_cmp nat_cmp line x ≡ o → IsNotAfter line x → placed o line x later xs ≡ line ∷ x ∷ xs
-first_placed Less line x later xs is low = refl
-first_placed Equal line x later xs is low = refl
-first_placed Greater line x later xs is low = absurd (low (total.antisymm x line ∙ ap ordering_reverse is))
-
--- a line that is greater than none of a bag is put first
-put_first : (line : List ℕ) (bag : List (List ℕ)) → ((j : ℕ) (x : List ℕ) → slice_get bag j ≡ Some x → IsNotAfter line x) → with_line line bag ≡ line ∷ bag
-put_first line [] low = refl
-put_first line (x ∷ xs) low = first_placed (slice_cmp nat_cmp line x) line x (with_line line xs) xs refl (low 0 x refl)
-
-last_placed : (o : Ordering) (line first : List ℕ) (rest : List (List ℕ)) → slice_cmp nat_cmp line first ≡ o → IsNotAfter first line → AreLinesInOrder (first ∷ rest) →
-    with_line line rest ≡ rest ++ line ∷ [] → placed o line first (with_line line rest) rest ≡ first ∷ rest ++ line ∷ []
-last_placed Greater line first rest is high order later = ap (λ (t : List (List ℕ)). first ∷ t) later
-last_placed Less line first rest is high order later = absurd (high is)
-last_placed Equal line first rest is high order later =
-    let same : line ≡ first = (bytes_eq-Decides line first).0 (sym (is_eq-slice_cmp line first) ∙ ap is_eq is) in
-    let front : with_line line rest ≡ line ∷ rest = put_first line rest (λ j x at. subst (λ (t : List ℕ). IsNotAfter t x) (sym same) (order 0 (suc j) first x (omega arith) refl at)) in
-    (λ i. same i ∷ sym same i ∷ rest) ∙ ap (λ (t : List (List ℕ)). first ∷ t) (sym front ∙ later)
-
--- a line that is less than none of a bag is put last
-pub put_last : (line : List ℕ) (bag : List (List ℕ)) → AreLinesInOrder bag → ((j : ℕ) (x : List ℕ) → slice_get bag j ≡ Some x → IsNotAfter x line) → with_line line bag ≡ bag ++ line ∷ []
-put_last line [] order high = refl
-put_last line (first ∷ rest) order high =
-    last_placed (slice_cmp nat_cmp line first) line first rest refl (high 0 first refl) order
-    (put_last line rest (λ i j a b lt at there. order (suc i) (suc j) a b (omega (arith, lt)) at there) (λ j x at. high (suc j) x at))
 
 -- ---- texts
 

@@ -54,7 +54,7 @@ pub fn take_lines(alloc: Global, reader: &mut Reader, count: u64) -> Result<Bag,
         if !reader.is_ok() {
             return Ok(bag);
         }
-        bag.insert(line)?;
+        bag.push(line)?;
     }
     Ok(bag)
 }

@@ -1,5 +1,5 @@
 -- *internal*: Tests that decide equality, of lists and of options by those of their items (laws with their proofs).
-use Rattle.std.specs.Prelude.{◌≡◌, Bool, List, Some, None, Decides, refl}
+use Rattle.std.specs.Prelude.{◌≡◌, Bool, Some, None, Decides, refl}
 use Rattle.std.proofs.Common.{ap}
 use Rattle.std.specs.Option.{option_eq}
 use Rattle.std.specs.Cmp.Lexicographic.{pointwise}

@@ -1,9 +1,9 @@
 // The lines of a time slot, as a bag in the order of their bytes (IEEE 1364-2005, 17.1.1, 17.1.2).
 
-ghost use Rattle.std.specs.Prelude.{◌≡◌, ◌≤◌, ◌++◌, [], length, IfOk, OnOk, OnErr};
+ghost use Rattle.std.specs.Prelude.{◌≡◌, ◌≤◌, ◌++◌, ◌∷◌, [], length, IfOk, OnOk, OnErr};
 ghost use Rattle.std.specs.Ordering.{nat_cmp};
 ghost use Rattle.std.specs.Cmp.Lexicographic.{slice_cmp};
-ghost use Rattle.sched_core.specs.Bags.{with_line};
+ghost use Rattle.sched_core.specs.Bags.{with_line, AreLinesInOrder};
 ghost use Rattle.sched_core.specs.Inner.Bags.{place_of_line};
 
 use basis::NoMemory;
@@ -218,6 +218,17 @@ impl Bag {
         let alloc = *self.lines.allocator();
         let place = place_among(&self.lines, line);
         self.lines.insert(place, PrintedLine::new(alloc, line)?)?;
+        Ok(())
+    }
+
+    /// The bag with one line more, none of whose lines is greater. After want of memory it is as it was.
+    pub fn push(&mut self, line: &[u8]) -> Result<(), NoMemory>
+        requires { AreLinesInOrder (self.old ++ line.now ∷ []) }
+        ensures ok { OnOk result (self.new ≡ self.old ++ line.now ∷ []) }
+        ensures err { OnErr result (self.new ≡ self.old) }
+    {
+        let alloc = *self.lines.allocator();
+        self.lines.push(PrintedLine::new(alloc, line)?)?;
         Ok(())
     }
 

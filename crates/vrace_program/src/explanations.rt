@@ -141,7 +141,7 @@ const EXPLANATIONS: [Explanation; 32] = [
         number: 402,
         meaning: "a step that the log names isn't reached or hasn't that choice",
         example: "99:1 on a run of nine steps",
-        advice: "a log is for one text, one grain, one top and one time limit: was the text changed, or --grain, --top or --until left out?",
+        advice: "a log is for one text, one grain, one kind of departures, one top and one time limit: was the text changed, or --grain, --hold, --top or --until left out?",
     },
     Explanation {
         number: 403,
@@ -165,7 +165,7 @@ const EXPLANATIONS: [Explanation; 32] = [
         number: 502,
         meaning: "an end of the report isn't true; at 0 is the first one",
         example: "the text was changed behind the report",
-        advice: "replay the log of that end and compare time, cause, values and dump; then explore anew",
+        advice: "replay the log of that end and compare time, cause, values, lines and dump; then explore anew",
     },
     Explanation {
         number: 503,

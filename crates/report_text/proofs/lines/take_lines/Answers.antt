@@ -1,20 +1,23 @@
 use Rattle.std.proofs.Common.{◌≡◌, ◌+◌, ◌++◌, ◌∷◌, [], ◌∙◌, ap, sym, subst, arith, length, length-append}
 use Rattle.report_text.specs.ReportText.{counted_text}
 use Rattle.report_text.specs.Inner.Lines.{IsCountable, IsNotAfter}
-use Rattle.report_text.proofs.ListLemmas.{HasRead, has_all, has_lost, listed_front, listed_last}
+use Rattle.report_text.proofs.ListLemmas.{HasRead, has_all, has_lost}
 use Rattle.report_text.proofs.FollowLemmas.{follow_step}
-use Rattle.report_text.proofs.BagLemmas.{not_after_trans, put_last, texts_spelled}
+use Rattle.report_text.proofs.BagLemmas.{not_after_trans, texts_spelled}
 use Rattle.report_text.proofs.lines.take_lines.Goals as goal
+
+pub push-requires : goal.push-requires
+push-requires c =
+    let read = follow_step counted_text IsCountable IsNotAfter not_after_trans c.args.count c.args.reader.now c.loop-place.reader c.take_text-line.new.reader c.require.new.self c.loop-place.bag c.take_text-line.result.now c.may_follow_line.result
+    c.loop-place.invariant.read (omega (arith, c.loop-place.invariant.len, c.loop-place-test.true)) c.take_text-line.ensures.read c.take_text-line.ensures.each (rw c.as_slice.ensures at c.may_follow_line.ensures) c.require.ensures.ok c.require.ensures.rest in
+    (read.sound (sym c.is_ok.ensures ∙ c.if-not-is_ok.false)).1.0.1
 
 pub loop-place-preserved : goal.loop-place-preserved
 loop-place-preserved c =
     let read = follow_step counted_text IsCountable IsNotAfter not_after_trans c.args.count c.args.reader.now c.loop-place.reader c.take_text-line.new.reader c.require.new.self c.loop-place.bag c.take_text-line.result.now c.may_follow_line.result
     c.loop-place.invariant.read (omega (arith, c.loop-place.invariant.len, c.loop-place-test.true)) c.take_text-line.ensures.read c.take_text-line.ensures.each (rw c.as_slice.ensures at c.may_follow_line.ensures) c.require.ensures.ok c.require.ensures.rest in
-    let all = (read.sound (sym c.is_ok.ensures ∙ c.if-not-is_ok.false)).1.0 in
-    let front = listed_front IsCountable IsNotAfter c.loop-place.bag (c.take_text-line.result.now ∷ []) all in
-    let last = listed_last IsCountable IsNotAfter c.loop-place.bag c.take_text-line.result.now all in
-    let put : c.insert.new.self ≡ c.loop-place.bag ++ c.take_text-line.result.now ∷ [] = c.in_ok-insert.ensures.ok ∙ put_last c.take_text-line.result.now c.loop-place.bag front.1 last.1 in
-    let l : length c.insert.new.self ≡ length c.loop-place.bag + 1 = ap length put ∙ length-append c.loop-place.bag (c.take_text-line.result.now ∷ []) in
+    let put = c.in_ok-push.ensures.ok in
+    let l : length c.push.new.self ≡ length c.loop-place.bag + 1 = ap length put ∙ length-append c.loop-place.bag (c.take_text-line.result.now ∷ []) in
     record {
       read = subst (λ bag. HasRead counted_text IsCountable IsNotAfter c.args.count c.args.reader.now bag c.require.new.self) (sym put) read;
       len = omega (arith, l, c.loop-place.invariant.len);
