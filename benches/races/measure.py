@@ -1,10 +1,12 @@
 #!/usr/bin/env python3
-"""Counts what exploring a text costs, of four kinds of texts:
+"""Counts what exploring a text costs, of five kinds of texts:
 
 - shared: P processes that share 65 variables of 1 to 64 bits, 20 steps a slot over 10 slots (`text`);
 - pipeline: stages that pass four values on by `<=`, all at one clock;
 - handshake: pairs of processes with request and acknowledge, which wait for each other;
-- updates: processes of one statement, each of which posts one update at time 0.
+- updates: processes of one statement, each of which posts one update at time 0;
+- holding: one text of each of the first three, and the queue of examples/fifo-two-clocks made 100 cycles long, searched by departures
+  that take and by ones that hold back (docs/SCHEDULING.md), with K = 1 and 2.
 
 Usage: benches/races/measure.py [PATH_OF_vrace_program [PART..]]
 
@@ -17,8 +19,9 @@ Beside the other kinds stands what `vvp` takes, where it is installed. It runs e
 that one run, and of updates by the process, the reading of its compiled text with it.
 
 Status 1 where with 16 processes a choice costs more than 30,000 instructions beside the forced steps of its way, a step more than
-6,000, or an entry more than 3 times the 65 * 24 bytes of its values; where with 14 stages a choice costs more than 90,000; or where
-a choice of 60 updates costs more than 3 times one of 20, as its states are 3 times as large.
+6,000, or an entry more than 3 times the 65 * 24 bytes of its values; where with 14 stages a choice costs more than 90,000; where
+a choice of 60 updates costs more than 3 times one of 20, as its states are 3 times as large; or where with K = 1 departures that hold
+back meet more than 3 times the choices of ones that take.
 """
 import subprocess
 import sys
@@ -29,7 +32,8 @@ sys.path.insert(0, str(Path(__file__).resolve().parents[1]))
 from counting import beside_vvp, counted, counted_in, parts_of, peak_bytes, program_of
 
 TEXT = Path(__file__).resolve().parent / "text"
-MOST = 1_000_000
+QUEUE = Path(__file__).resolve().parents[2] / "examples/fifo-two-clocks/tb.v"
+MOST, USUAL = 1_000_000, 100_000
 SEARCH = "explore::alone::explore_alone", "statebook::way::walk", "vmachine::machine_state::MachineStatePartialEq::eq"
 VALUES = 65 * 24
 
@@ -78,29 +82,32 @@ def updates(processes):
     return module([f"  reg {', '.join(names)};"] + [f"  initial {name} <= 1;" for name in names])
 
 
-def explore(depart, entries=MOST):
-    return ["explore", "--depart", str(depart), "--entries", str(entries)]
+def explore(depart, entries=MOST, more=()):
+    return ["explore", "--depart", str(depart), "--entries", str(entries), *more]
 
 
-def is_whole(program, text, depart, entries):
-    written = subprocess.run([program, *explore(depart, entries)], input=text, capture_output=True).stdout
+def is_whole(program, text, depart, entries, more=()):
+    written = subprocess.run([program, *explore(depart, entries, more)], input=text, capture_output=True).stdout
     return b"\nstate exhausted\n" in written
 
 
-def entries_of(program, text, depart):
-    """How many entries the search has: the least limit at which it isn't cut is one more."""
+def entries_of(program, text, depart, more=(), most=MOST):
+    """How many entries the search has: the least limit at which it isn't cut is one more. None where there are too many."""
     low, high = 1, 1024
-    while not is_whole(program, text, depart, high):
-        low, high = high, min(2 * high, MOST)
+    while not is_whole(program, text, depart, high, more):
+        if high == most:
+            return None
+        low, high = high, min(2 * high, most)
     while low < high:
         middle = (low + high) // 2
-        low, high = (low, middle) if is_whole(program, text, depart, middle) else (middle + 1, high)
+        low, high = (low, middle) if is_whole(program, text, depart, middle, more) else (middle + 1, high)
     return low - 1
 
 
-def default_run(program, text):
+def default_run(program, text, more=()):
     """The steps of the default run, its stations, and the choices that they have together."""
-    lines = subprocess.run([program, "replay", "--trace", "--steps", "1000000"], input=text, capture_output=True).stdout.decode().splitlines()
+    words = [program, "replay", "--trace", "--steps", "1000000", *more]
+    lines = subprocess.run(words, input=text, capture_output=True).stdout.decode().splitlines()
     steps, stations, choices, is_mark = 0, 0, 0, True
     for words in (line.split() for line in lines):
         if words[0] == "step":
@@ -183,7 +190,28 @@ def measured_updates(program):
     return costs[-1] <= 3 * costs[0]
 
 
-PARTS = {"shared": measured_shared, "pipeline": measured_pipeline, "handshake": measured_handshake, "updates": measured_updates}
+def choices_met(program, text, more=()):
+    """Choices that a search with K = 1 meets: all of the default run, and one of each other entry."""
+    return default_run(program, text, more)[2] + entries_of(program, text, 1, more) - entries_of(program, text, 0, more)
+
+
+def measured_holding(program):
+    shared = subprocess.run([str(TEXT), "16"], capture_output=True, check=True).stdout
+    queue = QUEUE.read_bytes().replace(b"#20 $display", b"#1200 $display")
+    texts = {"16 processes": shared, "a pipeline of 14 stages, 4 clocks": pipeline(14, 4), "16 handshakes, 4 rounds": handshakes(16, 4),
+             "a queue between two clocks, 100 cycles": queue}
+    worst = 0
+    for name, text in texts.items():
+        taking, holding = choices_met(program, text), choices_met(program, text, ["--hold"])
+        worst = max(worst, holding / taking)
+        print("%s: K = 1: %d choices met, with --hold %d: %.2f times as many (at most 3)" % (name, taking, holding, holding / taking))
+        taking, holding = (entries_of(program, text, 2, more, USUAL) or "over %d" % USUAL for more in ([], ["--hold"]))
+        print("  K = 2: entries: %s, with --hold %s" % (taking, holding), flush=True)
+    return worst <= 3
+
+
+PARTS = {"shared": measured_shared, "pipeline": measured_pipeline, "handshake": measured_handshake, "updates": measured_updates,
+         "holding": measured_holding}
 
 
 def main():
