@@ -1,4 +1,4 @@
--- *trusted*: Bags of lines: the lines of a time slot (IEEE 1364-2005, 17.1.1, 17.1.2), in the order of their bytes, so that in which
+-- *product rule*: Bags of lines: the lines of a time slot (IEEE 1364-2005, 17.1.1, 17.1.2), in the order of their bytes, so that in which
 -- order processes print doesn't count.
 use Rattle.std.specs.Prelude.{◌≡◌, ◌≢◌, ℕ, ◌<◌, Bool, List, [], ◌∷◌, slice_get, Option, Some, None, nat_eq}
 use Rattle.std.specs.Ordering.{nat_cmp}

@@ -1,4 +1,4 @@
--- *trusted*: Which processes a departure holds back, and until when (IEEE 1364-2005, 11.4.1, 11.4.2;
+-- *product rule*: Which processes a departure holds back, and until when (IEEE 1364-2005, 11.4.1, 11.4.2;
 -- docs/SCHEDULING.md, "Departures that hold back").
 use Rattle.std.specs.Prelude.{ℕ, ◌+◌, ◌-◌, ◌==◌, ◌&&◌, nat_lt, if◌then◌else◌, take, List, [], ◌∷◌, length, Option, Some, None}
 use Rattle.vmodel.specs.declared.choice.Choice.{Choice}

@@ -1,4 +1,4 @@
--- *trusted*: The lines that steps put into the bag of their time slot (IEEE 1364-2005, 17.1.1, 17.1.2; docs/SCHEDULING.md,
+-- *product rule*: The lines that steps put into the bag of their time slot (IEEE 1364-2005, 17.1.1, 17.1.2; docs/SCHEDULING.md,
 -- "Lines of a slot"): in which order processes print doesn't count.
 use Rattle.std.specs.Prelude.{ℕ, List, [], ◌∷◌, Option, Some, None}
 use Rattle.sched_core.specs.Bags.{with_line}
