@@ -76,7 +76,7 @@ fn replay_command<'a>(alloc: Global) -> Result<Command<'a>, NoMemory> {
         alloc,
         "log",
         "L",
-        "The departures, as step:index joined by commas, or - for none; process/ or statement/ before it names the grain, process-holding/ or statement-holding/ one where departures hold back",
+        "The departures, as step:index joined by commas, or - for none; process/ or statement/ before it names the grain; process-holding/ or statement-holding/ also says that departures may hold back",
     )
     .default_value("-");
     let trace = Arg::new(alloc, "trace")
