@@ -16,8 +16,8 @@ const LAST_STEP: u32 = 999_999;
 /// from 1 to 4,294,967,295.
 pub type Member = (u32, u32);
 
-/// The departures of a run from choice 0, the delays of a delay-bounded search, steps strictly
-/// rising. A clause sees the list of members. Its length is the number of departures.
+/// The departures of a run from choice 0, steps strictly rising. A clause sees the list of members.
+/// Its length is the number of departures.
 #[derive(Drop)]
 pub struct Log {
     members: Vec<(u32, u32)>,
