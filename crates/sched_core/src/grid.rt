@@ -33,7 +33,8 @@ impl Grid {
 }
 
 impl Space for Grid {
-    ghost use Rattle.sched_core.specs.Toys.Grids.{grid_rules};
+    ghost use Rattle.sched_core.specs.Toys.Grids.{grid_rules, grid_width, grid_after};
+    ghost use Rattle.std.specs.Prelude.{◌<◌, IsOk, IfOk};
     ghost use Rattle.std.proofs.Common.{rules as std_rules};
     ghost use Rattle.sched_core.specs.Toys.GridLaws.{grid_is_lawful};
 
@@ -41,11 +42,17 @@ impl Space for Grid {
 
     ghost rules = { λ g. grid_rules g.right g.down };
 
-    fn root(&self) -> Result<Square, NoMemory> {
+    fn root(&self) -> Result<Square, NoMemory>
+        ensures succeeds { IsOk result }
+        ensures opening { IfOk result (λ s. s ≡ record { x = 0; y = 0 }) }
+    {
         Ok(Square { x: 0, y: 0 })
     }
 
-    fn copy(&self, s: &Square) -> Result<Square, NoMemory> {
+    fn copy(&self, s: &Square) -> Result<Square, NoMemory>
+        ensures succeeds { IsOk result }
+        ensures same { IfOk result (λ t. t ≡ s.now) }
+    {
         Ok(*s)
     }
 
@@ -53,7 +60,11 @@ impl Space for Grid {
         (s.x < self.right) as u32 + (s.y < self.down) as u32
     }
 
-    fn step(&self, s: &mut Square, i: u32) -> Result<(), NoMemory> {
+    fn step(&self, s: &mut Square, i: u32) -> Result<(), NoMemory>
+        requires { i < grid_width self.now.right self.now.down s.old }
+        ensures succeeds { IsOk result }
+        ensures after { s.new ≡ grid_after self.now.right s.old i }
+    {
         if i == 0 && s.x < self.right {
             s.x += 1;
         } else {

@@ -1,6 +1,6 @@
 -- What is held back and printed: what a choice takes changes neither, and reads neither.
 use Rattle.std.proofs.Common.{◌≡◌, ℕ, List, [], ◌∷◌, ◌++◌, Option, Some, None, refl, sym, ap, ◌∙◌}
-use Rattle.std.specs.Prelude.{slice_get}
+use Rattle.std.specs.Prelude.{slice_get, Result, Ok, Err, IfOk}
 use Rattle.vdesign.specs.Design.{Design}
 use Rattle.vdesign.specs.declared.action.Action.{Action}
 use Rattle.sched_core.specs.declared.end.Cause.{Cause}
@@ -15,7 +15,8 @@ use Rattle.vmodel.specs.State.{State}
 use Rattle.vmodel.specs.InnerStep.{transition_to}
 use Rattle.vmodel.specs.Holding.{held_after}
 use Rattle.vmodel.specs.Printed.{printed_after}
-use Rattle.vmodel.specs.Step.{Transition, environment_of, quiet, execute_at, held_of, with_step, place_of, with_moves_by, with_woken, with_moves, monitors_by, complete, first_of, with_update, with_advance, action_transition, continuation_transition, continuation_of, transition_of, line_item, shown_items, slot_end_by, slot_end_of, strobe_items, before_end, items_of, with_held_after, with_lines_after, with_views, transition_by}
+use Rattle.vmodel.specs.Choices.{choices}
+use Rattle.vmodel.specs.Step.{Transition, environment_of, quiet, execute_at, held_of, with_step, place_of, with_moves_by, with_woken, with_moves, monitors_by, complete, first_of, with_update, with_advance, action_transition, continuation_transition, continuation_of, transition_of, line_item, shown_items, slot_end_by, slot_end_of, strobe_items, before_end, items_of, with_held_after, with_lines_after, with_views, transition_by, next}
 
 -- ---- what stays
 
@@ -66,6 +67,20 @@ no_lines design c s before transition none same is =
     let stay : printed_after c (items_of design before) s.printed ≡ before.state.printed =
     ap (printed_after c (items_of design before)) none ∙ sym none ∙ sym same in
     ap (λ (o : Option (List (List ℕ))). record before { state = record before.state { printed = o } }) stay ∙ is
+
+-- a step where departures only take and no lines are looked at
+pub plain : (design : Design) (i : ℕ) (c : Choice) (s : State) (transition : Transition) → s.held_back ≡ None → s.printed ≡ None →
+    slice_get (choices s) i ≡ Some c → transition_of design c s ≡ transition → next design s i ≡ transition
+plain design i c s transition none unseen there is =
+    ap (transition_by design s i) there
+    ∙ no_lines design c s (with_held_after s i c (transition_of design c s)) transition unseen (printed_stays design c s) (no_held design i c s transition none is)
+
+pub plain_ok : {E : Type 0} (design : Design) (i : ℕ) (c : Choice) (s new : State) (monitors : List ℕ) (result : Result Effect E) →
+    s.held_back ≡ None → s.printed ≡ None → slice_get (choices s) i ≡ Some c →
+    IfOk result (λ effect. transition_of design c s ≡ transition_to new effect monitors) →
+    IfOk result (λ effect. next design s i ≡ transition_to new effect monitors)
+plain_ok design i c s new monitors (Ok effect) none unseen there is = plain design i c s (transition_to new effect monitors) none unseen there is
+plain_ok design i c s new monitors (Err refused) none unseen there is = is
 
 -- a step by a copy, whose lines were put into its bag
 pub viewed : (design : Design) (i : ℕ) (c : Choice) (s after moved printed swapped : State) (effect : Effect) (ran list monitors : List ℕ) →

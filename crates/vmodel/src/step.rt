@@ -301,7 +301,8 @@ impl State {
         self.close(monitors);
     }
 
-    // A process takes one step.
+    // A process takes one step. It is inlined, as each call that hands an effect on moves some 300 bytes.
+    #[inline(always)]
     fn run(
         &mut self,
         design: &Design,
@@ -351,6 +352,7 @@ impl State {
     }
 
     // The step of a choice, without what is held back from now on and the lines of the slot.
+    #[inline(always)]
     fn take(
         &mut self,
         design: &Design,
@@ -435,27 +437,6 @@ impl State {
         Ok(effect)
     }
 
-    // The step of choice `i`, which is this one, with what is held back from now on and the lines of the slot.
-    fn take_viewed(
-        &mut self,
-        design: &Design,
-        i: u32,
-        choice: Choice,
-        monitors: &mut Vec<usize>,
-    ) -> Result<Effect, NoMemory>
-        requires { IsWithin choice }
-        ensures ok { IfOk result (λ effect. with_views design.now self.old i choice (transition_of design.now choice self.old)
-            ≡ transition_to self.new effect monitors.new.items) }
-        ensures err { OnErr result (self.new ≡ self.old) }
-        ensures err_monitors { OnErr result (monitors.new.items ≡ monitors.old.items) }
-    {
-        if self.printed.is_none() {
-            self.take_holding(design, i, choice, monitors)
-        } else {
-            self.take_printing(design, i, choice, monitors)
-        }
-    }
-
     /// The step of choice `i`, in place: one step of a process, the write of an update or the advance of the time, and the
     /// region moves after it (11.3, 11.4). The answer is what the step did, and the list is then that of the monitor events that ran:
     /// the places of their print tasks, in order of creation (17.1.2). Where there is no such choice nothing happens. E901 is the
@@ -471,9 +452,15 @@ impl State {
         ensures err { OnErr result (self.new ≡ self.old) }
         ensures err_monitors { OnErr result (monitors.new.items ≡ monitors.old.items) }
     {
-        match self.choice(i) {
-            None => Ok(self.stay(monitors)),
-            Some(choice) => self.take_viewed(design, i, choice, monitors),
+        let Some(choice) = self.choice(i) else {
+            return Ok(self.stay(monitors));
+        };
+        match &self.printed {
+            Some(_) => self.take_printing(design, i, choice, monitors),
+            None => match &self.held_back {
+                Some(_) => self.take_holding(design, i, choice, monitors),
+                None => self.take(design, choice, monitors),
+            },
         }
     }
 
