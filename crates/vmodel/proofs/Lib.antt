@@ -17,6 +17,7 @@ mod OpenLemmas
 mod HeldLemmas
 mod KeptLemmas
 mod ViewLemmas
+mod SilentLemmas
 mod SettingLemmas
 mod ValuesLemmas
 mod ShapeLemmas

@@ -23,3 +23,4 @@ pub mod RulesLaws
 pub mod Inner
 pub mod InnerContinuation
 pub mod InnerStep
+pub mod InnerSilent

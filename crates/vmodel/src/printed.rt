@@ -1,6 +1,6 @@
 // The lines of a slot, where they are looked at, step by step (IEEE 1364-2005, 17.1.1, 17.1.2).
 
-ghost use Rattle.std.specs.Prelude.{◌≡◌, IfOk, OnOk};
+ghost use Rattle.std.specs.Prelude.{◌≡◌, IfOk, OnOk, option_map};
 ghost use Rattle.vmodel.specs.Printed.{with_item, with_lines, lines_before, printed_after};
 
 use crate::choice::Choice;
@@ -31,13 +31,20 @@ fn insert_items(bag: &mut Bag, items: &[Item]) -> Result<(), NoMemory>
     Ok(())
 }
 
-// The bag after a step by this choice, which gave these items to the history.
-fn take_items(bag: &mut Bag, choice: Choice, items: &[Item]) -> Result<(), NoMemory>
-    ensures { OnOk result (bag.new ≡ with_lines items.now (lines_before choice bag.old)) }
+// The bag where a step by this choice begins: an advance begins a slot, which has printed nothing.
+fn begin_step(bag: &mut Bag, choice: Choice)
+    ensures { bag.new ≡ lines_before choice bag.old }
 {
     if let Choice::Advance = choice {
         bag.clear();
     }
+}
+
+// The bag after a step by this choice, which gave these items to the history.
+fn take_items(bag: &mut Bag, choice: Choice, items: &[Item]) -> Result<(), NoMemory>
+    ensures { OnOk result (bag.new ≡ with_lines items.now (lines_before choice bag.old)) }
+{
+    begin_step(bag, choice);
     insert_items(bag, items)
 }
 
@@ -48,6 +55,16 @@ pub(crate) fn copy_printed(alloc: Global, printed: &Option<Bag>) -> Result<Optio
     match printed {
         None => Ok(None),
         Some(bag) => Ok(Some(bag.copy(alloc)?)),
+    }
+}
+
+/// The bag, where there is one, after a step by this choice that prints nothing.
+pub(crate) fn print_nothing(printed: &mut Option<Bag>, choice: Choice)
+    ensures { printed.new ≡ option_map (lines_before choice) printed.old }
+{
+    match printed {
+        None => {}
+        Some(bag) => begin_step(bag, choice),
     }
 }
 

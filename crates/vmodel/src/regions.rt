@@ -266,6 +266,13 @@ impl Queue {
         self.posted = updates;
     }
 
+    /// Whether no monitor event waits for the end of the slot (17.1.2).
+    pub(crate) fn has_no_strobe(&self) -> bool
+        ensures { result ≡ (length self.now.strobes == 0) }
+    {
+        self.strobes.is_empty()
+    }
+
     /// Whether nothing is active: a slot end, where the run goes on.
     pub(crate) fn is_idle(&self) -> bool
         ensures { result ≡ ((length self.now.active == 0) && (length self.now.activated == 0)) }

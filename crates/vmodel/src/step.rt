@@ -1,6 +1,6 @@
 // The one step of a choice, and the region moves after it (IEEE 1364-2005, 11.3, 11.4, 11.6).
 
-ghost use Rattle.std.specs.Prelude.{◌≡◌, ℕ, List, ◌<◌, ◌++◌, [], IfOk, OnOk, OnErr, IfSome, IfNone, length, slice_get, slice_set, drop};
+ghost use Rattle.std.specs.Prelude.{◌≡◌, ℕ, List, ◌<◌, ◌++◌, [], IfOk, OnOk, OnErr, IfSome, IfNone, length, slice_get, slice_set, drop, true};
 ghost use Rattle.std.specs.Option.{option_to_list};
 ghost use Rattle.vmodel.specs.Step.{frames, process_to_continue, process_by, reschedule, posts, with_woken, with_moves, monitors_of, complete, no_transition, continuation_of, environment_of, process_transition, transition_of, with_held_after, with_lines_after, with_views, next, slot_end_of, items_of};
 ghost use Rattle.vmodel.specs.Parts.{write, with_parts};
@@ -10,6 +10,8 @@ ghost use Rattle.vmodel.specs.Step as spec;
 ghost use Rattle.vmodel.specs.Choices.{choices as choices_of, IsWithin};
 ghost use Rattle.vmodel.specs.Inner.{IsFirstAction, first_place};
 ghost use Rattle.vmodel.specs.InnerContinuation.{IsWhole, continuation_frames};
+ghost use Rattle.vmodel.specs.InnerSilent as silent;
+ghost use Rattle.vmodel.specs.InnerSilent.{is_at_print, IsSilent};
 ghost use Rattle.vmodel.specs.InnerStep.{state_with_move, with_cause, behind, continuation_in, held_in, process_with_move, queue_with_move, transition_to, processes_with_move};
 
 use crate::choice::Choice;
@@ -18,7 +20,7 @@ use crate::effect::{Disposition, Effect, Execution, effect_at};
 use crate::history::Item;
 use crate::holding::{held_with, released};
 use crate::part::{Kept, Part, Parts};
-use crate::printed::print_items;
+use crate::printed::{print_items, print_nothing};
 use crate::process::{Frame, Process};
 use crate::queue::Queue;
 use crate::shown::put_items;
@@ -127,6 +129,13 @@ fn move_one(
 {
     let process = &mut processes[number as usize];
     move_process(process, queue, number, then, next, effect)
+}
+
+// Whether an action is a print task (17.1).
+fn is_print(action: &Action) -> bool
+    ensures { result ≡ silent.is_print action.now }
+{
+    matches!(action, Action::Print { .. })
 }
 
 // A time in units in which delays are written (17.7.1).
@@ -413,6 +422,46 @@ impl State {
         print_items(&mut self.printed, choice, &items)
     }
 
+    // Whether the choice is of a process that comes first to a print task.
+    fn is_at_print(&self, design: &Design, choice: Choice) -> bool
+        ensures { result ≡ is_at_print design.now choice self.now }
+    {
+        let Choice::Run(number) = choice else {
+            return false;
+        };
+        match self.action_of(design, number) {
+            None => false,
+            Some((_, action)) => is_print(action),
+        }
+    }
+
+    // Whether the step of a choice is sure to print nothing: it is of no print task, and no monitor event waits.
+    fn is_silent(&self, design: &Design, choice: Choice) -> bool
+        ensures { result ≡ true → IsSilent design.now choice self.now }
+    {
+        self.queue.has_no_strobe() && !self.is_at_print(design, choice)
+    }
+
+    // The step of choice `i`, which is this one and prints nothing, with what is held back from now on and the lines of the slot.
+    fn take_silent(
+        &mut self,
+        design: &Design,
+        i: u32,
+        choice: Choice,
+        monitors: &mut Vec<usize>,
+    ) -> Result<Effect, NoMemory>
+        requires within { IsWithin choice }
+        requires silent { IsSilent design.now choice self.old }
+        ensures ok { IfOk result (λ effect. with_views design.now self.old i choice (transition_of design.now choice self.old)
+            ≡ transition_to self.new effect monitors.new.items) }
+        ensures err { OnErr result (self.new ≡ self.old) }
+        ensures err_monitors { OnErr result (monitors.new.items ≡ monitors.old.items) }
+    {
+        let effect = self.take_holding(design, i, choice, monitors)?;
+        print_nothing(&mut self.printed, choice);
+        Ok(effect)
+    }
+
     // The step of choice `i`, which is this one, with what is held back from now on and the lines of the slot, taken by a copy.
     fn take_printing(
         &mut self,
@@ -456,6 +505,9 @@ impl State {
             return Ok(self.stay(monitors));
         };
         match &self.printed {
+            Some(_) if self.is_silent(design, choice) => {
+                self.take_silent(design, i, choice, monitors)
+            }
             Some(_) => self.take_printing(design, i, choice, monitors),
             None => match &self.held_back {
                 Some(_) => self.take_holding(design, i, choice, monitors),
