@@ -10,19 +10,21 @@ use basis::NoMemory;
 use std::alloc::Global;
 use std::cmp::Ordering;
 use std::marker::Model;
+use std::sync::ArcSlice;
 
-/// A line as it was printed, with its line feed. A clause sees its bytes.
+/// A line as it was printed, with its line feed. Its bytes never change, and bags share them. A clause sees the bytes.
 #[derive(Drop)]
 pub struct PrintedLine {
-    bytes: Vec<u8>,
+    bytes: ArcSlice<u8>,
 }
 
 impl Model for PrintedLine {
     ghost use Rattle.std.specs.Prelude.{ℕ, List};
+    ghost use Rattle.std.specs.Arc.{arc_slice_items};
 
     ghost Value = { List ℕ };
 
-    ghost view = { λ line. line.bytes.items };
+    ghost view = { λ line. arc_slice_items line.bytes };
 }
 
 /// Two are equal where they have the same bytes.
@@ -37,7 +39,7 @@ impl PartialEq for PrintedLine {
     ghost laws = { partial_equiv_from_equiv nat_list_eq_equiv };
 
     fn eq(&self, other: &PrintedLine) -> bool {
-        self.bytes == other.bytes
+        self.as_bytes() == other.as_bytes()
     }
 }
 
@@ -77,7 +79,7 @@ impl Ord for PrintedLine {
     ghost matches_eq = { texts_ties };
 
     fn cmp(&self, other: &PrintedLine) -> Ordering {
-        self.bytes.cmp(&other.bytes)
+        self.as_bytes().cmp(other.as_bytes())
     }
 }
 
@@ -86,8 +88,18 @@ impl PrintedLine {
     pub fn new(alloc: Global, bytes: &[u8]) -> Result<PrintedLine, NoMemory>
         ensures { IfOk result (λ line. line ≡ bytes.now) }
     {
+        let list = Vec::from_slice(alloc, bytes)?;
         Ok(PrintedLine {
-            bytes: Vec::from_slice(alloc, bytes)?,
+            bytes: ArcSlice::from_vec(list)?,
+        })
+    }
+
+    /// The same line. Its bytes aren't copied: one more owner of them is counted, and refused only where 2^63 - 1 are counted already.
+    pub fn share(&self) -> Result<PrintedLine, NoMemory>
+        ensures { IfOk result (λ line. line ≡ self.now) }
+    {
+        Ok(PrintedLine {
+            bytes: self.bytes.clone()?,
         })
     }
 
@@ -95,7 +107,7 @@ impl PrintedLine {
     pub fn as_bytes(&self) -> &[u8]
         ensures { result.now ≡ self.now }
     {
-        &self.bytes
+        self.bytes.as_slice()
     }
 }
 
@@ -195,7 +207,7 @@ fn copy_lines(alloc: Global, lines: &[PrintedLine]) -> Result<Vec<PrintedLine>, 
 {
     let mut copied = Vec::new(alloc);
     for line in lines {
-        copied.push(PrintedLine::new(alloc, line.as_bytes())?)?;
+        copied.push(line.share()?)?;
     }
     Ok(copied)
 }
