@@ -6,7 +6,7 @@ use std::alloc::Global;
 use std::io;
 use std::io::{ErrorKind, Read, Write};
 use std::test::Fail;
-use vcd_text::Metered;
+use byte_sinks::Metered;
 use vrace::{Fault, Options, Show, check_text, explore_text_alone, read_text, replay_text};
 
 const DUMPING: &[u8] =

@@ -5,7 +5,7 @@ use explore;
 use sched_core::setting::Grain;
 use std::alloc::Global;
 use std::test::Fail;
-use vcd_text::Metered;
+use byte_sinks::Metered;
 use vrace::{Options, Status, check_text, explore_text_alone};
 
 // The order of the first two writes decides what `x` is to the end, and `n` at each time from 1 on.

@@ -7,7 +7,7 @@ use std::alloc::Global;
 use std::sync::Wait;
 use std::test::Fail;
 use std::thread::Threads;
-use vcd_text::Metered;
+use byte_sinks::Metered;
 use vrace::{Fault, Options, Reason, Status, explore_text, explore_text_alone};
 use workpool::OpenGate;
 

@@ -2,7 +2,7 @@
 use Rattle.std.proofs.Common.{◌≡◌, ◌<◌, ◌≤◌, ◌+◌, ℕ, List, [], ◌∷◌, length, drop, get_or, sym, subst}
 use Rattle.std.proofs.lemmas.List.{drop_all}
 use Rattle.basis.specs.declared.memory.OrMemory.{OrMemory}
-use Rattle.vcd_text.specs.ByteSinks.{IsByteSink}
+use Rattle.byte_sinks.specs.ByteSinks.{IsByteSink}
 use Rattle.vcd_text.proofs.ItemLemmas.{left_items}
 use Rattle.vmodel.specs.declared.history.Item.{Item}
 use Rattle.lines_text.specs.declared.sink.LinesSink.{LinesSink}

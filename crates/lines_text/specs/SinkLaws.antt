@@ -2,8 +2,8 @@
 use Rattle.std.proofs.Common.{◌≡◌, ℕ, List, [], ◌∷◌, ◌++◌, refl, sym, ap, subst, ◌∙◌, append_assoc}
 use Rattle.basis.specs.declared.memory.OrMemory.{OrMemory}
 use Rattle.vdesign.specs.Design.{Design}
-use Rattle.vcd_text.specs.ByteSinks.{IsByteSink, Stopped}
-use Rattle.vcd_text.specs.ByteSinkLaws.{stopped_after, stopped_before}
+use Rattle.byte_sinks.specs.ByteSinks.{IsByteSink, Stopped}
+use Rattle.byte_sinks.specs.ByteSinkLaws.{stopped_after, stopped_before}
 use Rattle.vmodel.specs.declared.history.Item.{Item}
 use Rattle.lines_text.specs.declared.in_force.InForce.{InForce}
 use Rattle.lines_text.specs.declared.sink.LinesSink.{LinesSink}

@@ -3,7 +3,7 @@ use Rattle.std.specs.Prelude.{◌≡◌, ℕ, List, [], ◌∷◌}
 use Rattle.basis.specs.declared.memory.OrMemory.{OrMemory}
 use Rattle.vbits.specs.Vectors.{Vector}
 use Rattle.vdesign.specs.Design.{Design}
-use Rattle.vcd_text.specs.ByteSinks.{Stopped}
+use Rattle.byte_sinks.specs.ByteSinks.{Stopped}
 use Rattle.vmodel.specs.declared.history.Item.{Item}
 use Rattle.lines_text.specs.declared.in_force.InForce.{InForce}
 use Rattle.lines_text.specs.declared.in_force.InForce.TheVariants.{Printed}

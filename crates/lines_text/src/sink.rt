@@ -2,7 +2,7 @@
 
 ghost use Rattle.std.specs.Prelude.{◌≡◌, [], ◌∷◌, OnOk, IfErr};
 ghost use Rattle.vmodel.specs.declared.history.Item.TheVariants.{SlotEnd, Line};
-ghost use Rattle.vcd_text.specs.ByteSinks.{Stopped};
+ghost use Rattle.byte_sinks.specs.ByteSinks.{Stopped};
 ghost use Rattle.lines_text.specs.declared.in_force.InForce.TheVariants.{Nobody};
 ghost use Rattle.lines_text.specs.LinesText.{line_at as line_text_at};
 
@@ -10,7 +10,7 @@ use crate::in_force::{InForce, due, line_at, watched_values};
 use basis::OrMemory;
 use std::alloc::Global;
 use vbits::Vec4;
-use vcd_text::{ByteSink, put};
+use byte_sinks::{ByteSink, put};
 use vdesign::design::Design;
 use vmodel::history::Item;
 use vmodel::sink::HistorySink;

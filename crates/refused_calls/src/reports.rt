@@ -7,7 +7,7 @@ use report_text::{ReportFault, read_report};
 use statebook::Limits;
 use std::alloc::Global;
 use std::io;
-use vcd_text::{Metered, WriteFault};
+use byte_sinks::{Metered, WriteFault};
 use vmachine::Machine;
 use vreport::{Explored, report_alone, write_report};
 

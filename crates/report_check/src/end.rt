@@ -10,7 +10,7 @@ use basis::{NoMemory, OrMemory};
 use report_text::{End, Report};
 use sched_core::{Log, replay};
 use std::alloc::Global;
-use vcd_text::{Expected, expected_is_whole};
+use byte_sinks::{Expected, expected_is_whole};
 use vmachine::{Machine, MachineState, machine_law};
 use vreport::{line_of_values, write_dump};
 

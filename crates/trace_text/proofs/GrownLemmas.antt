@@ -2,10 +2,10 @@
 use Rattle.std.proofs.Common.{◌≡◌, ℕ, List, [], Option, OnOk, IfErr, Result, Ok, Err, refl, ap, ◌∙◌}
 use Rattle.std.specs.Io.KnownBytes.{Appends}
 use Rattle.basis.specs.declared.memory.OrMemory.{OrMemory}
-use Rattle.vcd_text.specs.Metered.{Grows, Stops, count_after}
-use Rattle.vcd_text.specs.MeteredLaws.{grows_none, grows_joins}
-use Rattle.vcd_text.specs.declared.metered.Metered.{Metered}
-use Rattle.vcd_text.specs.declared.fault.WriteFault.{WriteFault}
+use Rattle.byte_sinks.specs.Metered.{Grows, Stops, count_after}
+use Rattle.byte_sinks.specs.MeteredLaws.{grows_none, grows_joins}
+use Rattle.byte_sinks.specs.declared.metered.Metered.{Metered}
+use Rattle.byte_sinks.specs.declared.fault.WriteFault.{WriteFault}
 use Rattle.trace_text.specs.Traces.{HasGrown, HasStopped, HasWritten}
 
 module _ {W : Type 0} (contents : W → Option (List ℕ)) where

@@ -9,7 +9,7 @@ use basis::{NoMemory, OrMemory};
 use sched_core::{Log, next_choice};
 use std::alloc::Global;
 use std::io::Write;
-use vcd_text::{Metered, WriteFault, put};
+use byte_sinks::{Metered, WriteFault, put};
 use vdesign::design::Design;
 use vmachine::Machine;
 use vmodel::State;

@@ -9,7 +9,7 @@ use Rattle.basis.specs.declared.memory.OrMemory.TheVariants.{Fault, Memory}
 use Rattle.vcd_text.specs.declared.progress.Progress.{Progress}
 use Rattle.vcd_text.specs.declared.progress.Progress.TheVariants.{Failed}
 use Rattle.vcd_text.specs.declared.sink.DumpSink.{DumpSink}
-use Rattle.vcd_text.specs.ByteSinks.{IsByteSink}
+use Rattle.byte_sinks.specs.ByteSinks.{IsByteSink}
 use Rattle.vcd_text.specs.Sinks.{Takes, Fails, IsOver, items_text, progress_over, text_of}
 use Rattle.vcd_text.specs.SinkLaws.{takes_none, takes_joins, fails_after, fails_before}
 

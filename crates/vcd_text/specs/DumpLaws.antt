@@ -10,8 +10,8 @@ use Rattle.vcd_text.specs.DumpText.{Piece, DumpSlot, body, dump_of, dump_slots, 
 use Rattle.vcd_text.specs.declared.progress.Progress.{Progress}
 use Rattle.vcd_text.specs.declared.progress.Progress.TheVariants.{Waiting, Started}
 use Rattle.vcd_text.specs.Sinks.{end_text, history_text, items_text, last_line, progress_over, start_text, text_at_time, text_of, Takes, Fails}
-use Rattle.vcd_text.specs.ByteSinks.{IsByteSink, Stopped}
-use Rattle.vcd_text.specs.ByteSinkLaws.{stopped_after, stopped_before}
+use Rattle.byte_sinks.specs.ByteSinks.{IsByteSink, Stopped}
+use Rattle.byte_sinks.specs.ByteSinkLaws.{stopped_after, stopped_before}
 use Rattle.vcd_text.specs.SinkLaws.{text_joins}
 use Rattle.basis.specs.declared.memory.OrMemory.{OrMemory}
 use Rattle.vcd_text.specs.declared.sink.DumpSink.{DumpSink}

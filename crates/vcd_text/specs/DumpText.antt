@@ -18,7 +18,7 @@ use Rattle.vdesign.specs.declared.dump.DumpCommand.TheVariants.{Vars, Off, On, A
 use Rattle.vmodel.specs.History.{History}
 use Rattle.vmodel.specs.declared.history.Item.{Item}
 use Rattle.vmodel.specs.declared.history.Item.TheVariants.{SlotEnd, Dump, Line, Monitor}
-use Rattle.vcd_text.specs.Comparing.{rest_behind}
+use Rattle.byte_sinks.specs.Comparing.{rest_behind}
 
 abbrev pub line : List ℕ → List ℕ
 line text = text ++ 10 ∷ []

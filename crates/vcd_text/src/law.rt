@@ -1,8 +1,7 @@
-// Laws: what is written can be read, a sink completes a dump, and a text is compared byte for byte.
+// Laws: what is written can be read, and a sink completes a dump.
 
 ghost use Rattle.std.specs.Prelude.{◌≡◌, ◌+◌, ℕ, Bool, List, All, length};
 ghost use Rattle.vcd_text.specs.CodeLaws.{IsDigit, IsNumeral, number_of};
-ghost use Rattle.vcd_text.specs.Comparing.{IsWhole};
 ghost use Rattle.vcd_text.specs.DumpText.{DumpSlot, code, short_digits, vcd};
 ghost use Rattle.vcd_text.specs.Readers.{TellsValues, full_digits};
 ghost use Rattle.vcd_text.specs.Sinks.{history_text};
@@ -26,10 +25,4 @@ pub fn dumps_are_readable()
 pub fn sinks_complete_dumps()
     ensures { (design : Design) (history : History) →
         history_text design history ≡ vcd design history }
-{}
-
-/// The law of `Expected`, which does nothing: nothing of a text is left where just that text has come.
-pub fn expected_is_whole()
-    ensures whole { (text : List ℕ) → IsWhole text text }
-    ensures only { (text expected : List ℕ) → IsWhole text expected → text ≡ expected }
 {}

@@ -4,28 +4,19 @@
 // The law: the bytes are those of specs/DumpText.antt, and after a fault a prefix of them.
 #![tactic(auto)]
 
-mod byte_sink;
 mod commands;
-mod counter;
-mod expected;
-mod fault;
 mod header;
-mod held;
 mod law;
-mod metered;
 mod progress;
 mod selected;
 mod sink;
 mod values;
 mod write;
 
-pub use byte_sink::{ByteSink, put};
-pub use counter::Counter;
-pub use expected::Expected;
-pub use fault::{Full, Never, TooMany, WriteFault};
-pub use held::{HELD_BYTES, HeldText};
-pub use law::{dumps_are_readable, expected_is_whole, sinks_complete_dumps};
-pub use metered::Metered;
+pub use byte_sinks::{
+    ByteSink, Counter, Expected, Full, HELD_BYTES, HeldText, Metered, Never, TooMany, WriteFault, expected_is_whole, put,
+};
+pub use law::{dumps_are_readable, sinks_complete_dumps};
 pub use progress::Progress;
 pub use sink::DumpSink;
 pub use values::put_digits;

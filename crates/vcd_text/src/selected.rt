@@ -2,7 +2,7 @@
 
 ghost use Rattle.std.specs.Prelude.{◌≡◌, ◌∷◌, [], ◌++◌, OnOk, IfOk, Some, nat_lt, option_map, replicate};
 ghost use Rattle.std.specs.List.{list_any};
-ghost use Rattle.vcd_text.specs.Comparing.{rest_behind};
+ghost use Rattle.byte_sinks.specs.Comparing.{rest_behind};
 ghost use Rattle.vcd_text.specs.DumpText as spec;
 
 use basis::NoMemory;

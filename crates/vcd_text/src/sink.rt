@@ -4,9 +4,9 @@ ghost use Rattle.std.specs.Prelude.{◌≡◌, ◌≢◌, [], ◌∷◌, OnOk, O
 ghost use Rattle.vmodel.specs.declared.history.Item.TheVariants.{SlotEnd, Dump};
 ghost use Rattle.vcd_text.specs.declared.progress.Progress.TheVariants.{Waiting, Failed};
 ghost use Rattle.vcd_text.specs.Sinks.{progress_at_start, begun_text, end_line, line_after_slot, slot_text, started_text};
-ghost use Rattle.vcd_text.specs.ByteSinks.{Stopped};
+ghost use Rattle.byte_sinks.specs.ByteSinks.{Stopped};
 
-use crate::byte_sink::{ByteSink, put};
+use byte_sinks::{ByteSink, put};
 use crate::commands::{Commands, have_start, on_after};
 use crate::header::header_of;
 use crate::progress::{Progress, first_text, later_text, line_after, line_of};

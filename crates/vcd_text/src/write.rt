@@ -2,13 +2,13 @@
 
 ghost use Rattle.std.specs.Prelude.{◌≡◌, [], OnOk, IfErr};
 ghost use Rattle.vcd_text.specs.DumpText.{vcd};
-ghost use Rattle.vcd_text.specs.Metered.{Grows, Stops};
+ghost use Rattle.byte_sinks.specs.Metered.{Grows, Stops};
 ghost use Rattle.vcd_text.specs.declared.progress.Progress.TheVariants.{Waiting};
 ghost use Rattle.vcd_text.specs.Sinks.{IsSameDump, TakesDump, FailsDump};
 
-use crate::byte_sink::ByteSink;
-use crate::fault::WriteFault;
-use crate::metered::Metered;
+use byte_sinks::ByteSink;
+use byte_sinks::WriteFault;
+use byte_sinks::Metered;
 use crate::sink::DumpSink;
 use basis::OrMemory;
 use std::alloc::Global;

@@ -10,10 +10,10 @@ use Rattle.basis.specs.Reasons.{Because}
 use Rattle.basis.specs.declared.memory.OrMemory.{OrMemory}
 use Rattle.basis.specs.declared.memory.OrMemory.TheVariants as or
 use Rattle.vcd_text.specs.DumpText.{vcd}
-use Rattle.vcd_text.specs.Metered.{Written, Broken}
-use Rattle.vcd_text.specs.MeteredLaws.{stops_of}
-use Rattle.vcd_text.specs.declared.metered.Metered.{Metered}
-use Rattle.vcd_text.specs.declared.fault.WriteFault.{WriteFault}
+use Rattle.byte_sinks.specs.Metered.{Written, Broken}
+use Rattle.byte_sinks.specs.MeteredLaws.{stops_of}
+use Rattle.byte_sinks.specs.declared.metered.Metered.{Metered}
+use Rattle.byte_sinks.specs.declared.fault.WriteFault.{WriteFault}
 use Rattle.vreport.specs.Dumps.{IsDumpFront, IsRunDump, StopsDump as StopsByteSink}
 use Rattle.vreport.specs.declared.dump.DumpFront.{DumpFront}
 use Rattle.vrace.specs.RunDumps.{IsRunFault, StopsText, fault_of, replay_fault_of, seeing_fault_of}

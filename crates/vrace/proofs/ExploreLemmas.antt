@@ -4,11 +4,11 @@ use Rattle.statebook.specs.declared.limits.Limits.{Limits}
 use Rattle.vmodel.specs.Run.{Setting}
 use Rattle.basis.specs.declared.memory.OrMemory.{OrMemory}
 use Rattle.basis.specs.declared.memory.OrMemory.TheVariants as or
-use Rattle.vcd_text.specs.Metered.{Written, Broken, count_after}
-use Rattle.vcd_text.specs.MeteredLaws.{stops_of}
-use Rattle.vcd_text.specs.declared.metered.Metered.{Metered}
-use Rattle.vcd_text.specs.declared.fault.WriteFault.{WriteFault}
-use Rattle.vcd_text.specs.declared.fault.WriteFault.TheVariants as write
+use Rattle.byte_sinks.specs.Metered.{Written, Broken, count_after}
+use Rattle.byte_sinks.specs.MeteredLaws.{stops_of}
+use Rattle.byte_sinks.specs.declared.metered.Metered.{Metered}
+use Rattle.byte_sinks.specs.declared.fault.WriteFault.{WriteFault}
+use Rattle.byte_sinks.specs.declared.fault.WriteFault.TheVariants as write
 use Rattle.report_text.specs.Report.{Report}
 use Rattle.report_text.specs.ReportText.{report_text}
 use Rattle.vreport.specs.Ends.{HasSomeLongDump}

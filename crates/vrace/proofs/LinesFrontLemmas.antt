@@ -9,14 +9,14 @@ use Rattle.vmodel.specs.Run.{Setting, rules_of, items_after}
 use Rattle.vmachine.specs.Runs.{AllWaits, IsHandedSo, IsRunAt}
 use Rattle.vmachine.specs.declared.run.Run.{Run}
 use Rattle.vmachine.proofs.GivenLemmas.{given_nothing}
-use Rattle.vcd_text.specs.ByteSinks.{IsByteSink, Stopped}
-use Rattle.vcd_text.specs.ByteSinkLaws.{stopped_before}
+use Rattle.byte_sinks.specs.ByteSinks.{IsByteSink, Stopped}
+use Rattle.byte_sinks.specs.ByteSinkLaws.{stopped_before}
 use Rattle.lines_text.specs.LinesText.{lines, lines_from}
 use Rattle.lines_text.specs.Sinks.{Fails, IsSameSink, Takes, in_force_over}
 use Rattle.vmachine.specs.Handed.{LeavesSink}
 use Rattle.vmachine.specs.declared.run.RunFault.{RunFault}
 use Rattle.vmachine.specs.declared.run.RunFault.TheVariants.{Replay, Sink}
-use Rattle.vcd_text.specs.Held.{Appended}
+use Rattle.byte_sinks.specs.Held.{Appended}
 use Rattle.lines_text.specs.SinkLaws.{takes_none, text_joins}
 use Rattle.lines_text.specs.declared.in_force.InForce.{InForce}
 use Rattle.lines_text.specs.declared.in_force.InForce.TheVariants.{Nobody}

@@ -15,12 +15,12 @@ use Rattle.vmachine.specs.declared.run.RunFault.TheVariants.{Sink}
 use Rattle.basis.specs.declared.memory.NoMemory.{NoMemory}
 use Rattle.basis.specs.declared.memory.OrMemory.{OrMemory}
 use Rattle.basis.specs.declared.memory.OrMemory.TheVariants as or
-use Rattle.vcd_text.specs.Held.{Appended}
-use Rattle.vcd_text.specs.ByteSinks.{IsByteSink, Stopped}
-use Rattle.vcd_text.specs.Metered.{Written, Broken}
-use Rattle.vcd_text.specs.MeteredLaws.{stops_of}
-use Rattle.vcd_text.specs.declared.metered.Metered.{Metered}
-use Rattle.vcd_text.specs.declared.fault.WriteFault.{WriteFault}
+use Rattle.byte_sinks.specs.Held.{Appended}
+use Rattle.byte_sinks.specs.ByteSinks.{IsByteSink, Stopped}
+use Rattle.byte_sinks.specs.Metered.{Written, Broken}
+use Rattle.byte_sinks.specs.MeteredLaws.{stops_of}
+use Rattle.byte_sinks.specs.declared.metered.Metered.{Metered}
+use Rattle.byte_sinks.specs.declared.fault.WriteFault.{WriteFault}
 use Rattle.lines_text.specs.LinesText.{lines, lines_from}
 use Rattle.lines_text.specs.declared.in_force.InForce.{InForce}
 use Rattle.lines_text.specs.declared.in_force.InForce.TheVariants.{Nobody}

@@ -5,12 +5,12 @@ use Rattle.sched_core.specs.declared.end.End.{End}
 use Rattle.vmodel.specs.RunProgress.{Finishes}
 use Rattle.sched_core.specs.Replay.{IsMissing, TakesMore}
 use Rattle.vcd_text.specs.DumpText.{vcd}
-use Rattle.vcd_text.specs.declared.metered.Metered.{Metered}
-use Rattle.vcd_text.specs.declared.fault.WriteFault.{WriteFault}
-use Rattle.vcd_text.specs.declared.fault.WriteFault.TheVariants as write
+use Rattle.byte_sinks.specs.declared.metered.Metered.{Metered}
+use Rattle.byte_sinks.specs.declared.fault.WriteFault.{WriteFault}
+use Rattle.byte_sinks.specs.declared.fault.WriteFault.TheVariants as write
 use Rattle.basis.specs.declared.memory.OrMemory.{OrMemory}
 use Rattle.basis.specs.declared.memory.OrMemory.TheVariants as or
-use Rattle.vcd_text.specs.Metered.{count_after}
+use Rattle.byte_sinks.specs.Metered.{count_after}
 use Rattle.vrace.specs.Request.{Request}
 use Rattle.vrace.specs.Replays.{Replayed, setting_of, text_of_run, IsShown, IsDump}
 use Rattle.vrace.specs.declared.replay.Show.{Show}

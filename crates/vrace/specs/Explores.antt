@@ -11,10 +11,10 @@ use Rattle.vdesign.specs.Design.{Design}
 use Rattle.sched_core.specs.declared.setting.Departures.TheVariants.{Taking, Holding}
 use Rattle.sched_core.specs.declared.setting.Looked.TheVariants.{Values}
 use Rattle.vmodel.specs.Run.{Setting, rules_of}
-use Rattle.vcd_text.specs.Metered.{Grows, Stops}
-use Rattle.vcd_text.specs.declared.metered.Metered.{Metered}
-use Rattle.vcd_text.specs.declared.fault.TooMany.{TooMany}
-use Rattle.vcd_text.specs.declared.fault.WriteFault.{WriteFault}
+use Rattle.byte_sinks.specs.Metered.{Grows, Stops}
+use Rattle.byte_sinks.specs.declared.metered.Metered.{Metered}
+use Rattle.byte_sinks.specs.declared.fault.TooMany.{TooMany}
+use Rattle.byte_sinks.specs.declared.fault.WriteFault.{WriteFault}
 use Rattle.report_text.specs.declared.report.Outcome.TheVariants.{Exhausted}
 use Rattle.report_text.specs.Report.{Report}
 use Rattle.report_text.specs.ReportText.{report_text}

@@ -1,7 +1,7 @@
 -- *product rule*: What reading a text to its end takes from a reader.
 use Rattle.std.specs.Prelude.{◌≡◌, ℕ, ◌+◌, ◌<◌, ◌≤◌, List, Option, length}
 use Rattle.std.specs.Io.KnownBytes.{Consumes, IsAtEnd}
-use Rattle.vcd_text.specs.Metered.{one_more}
+use Rattle.byte_sinks.specs.Metered.{one_more}
 use Rattle.vrace.specs.Replays.{limit}
 use Rattle.vrace.specs.declared.fault.Fault.{Fault}
 use Rattle.vrace.specs.declared.fault.Fault.TheVariants.{Memory, Read, TooLong}

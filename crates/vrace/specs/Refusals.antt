@@ -20,7 +20,7 @@ use Rattle.vhierarchy.specs.Instances.{broken_rule}
 use Rattle.sched_core.specs.LogText.{IsNoNamedLogText}
 use Rattle.sched_core.specs.Replay.{IsMissing, TakesMore}
 use Rattle.vmodel.specs.Run.{rules_of}
-use Rattle.vcd_text.specs.declared.metered.Metered.{Metered}
+use Rattle.byte_sinks.specs.declared.metered.Metered.{Metered}
 use Rattle.vrace.specs.Request.{Request}
 use Rattle.vrace.specs.Replays.{limit, total, AreRead, AreTokens, IsTreeOf, IsDesignOf, IsDesignOfFiles, Replayed, setting_of, IsShown, IsDump}
 use Rattle.vrace.specs.declared.replay.Show.{Show}

@@ -4,10 +4,10 @@ use Rattle.sched_core.specs.Replay.{IsMissing, TakesMore}
 use Rattle.sched_core.specs.declared.run.ReplayFault.{ReplayFault}
 use Rattle.sched_core.specs.declared.run.ReplayFault.TheVariants as replay
 use Rattle.vmodel.specs.Run.{Setting, rules_of}
-use Rattle.vcd_text.specs.Metered.{Stops, one_more}
-use Rattle.vcd_text.specs.declared.metered.Metered.{Metered}
-use Rattle.vcd_text.specs.declared.fault.WriteFault.{WriteFault}
-use Rattle.vcd_text.specs.declared.fault.WriteFault.TheVariants as write
+use Rattle.byte_sinks.specs.Metered.{Stops, one_more}
+use Rattle.byte_sinks.specs.declared.metered.Metered.{Metered}
+use Rattle.byte_sinks.specs.declared.fault.WriteFault.{WriteFault}
+use Rattle.byte_sinks.specs.declared.fault.WriteFault.TheVariants as write
 use Rattle.basis.specs.declared.memory.OrMemory.{OrMemory}
 use Rattle.basis.specs.declared.memory.OrMemory.TheVariants as or
 use Rattle.vreport.specs.Dumps.{IsRunDump}

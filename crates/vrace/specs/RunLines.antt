@@ -10,7 +10,7 @@ use Rattle.lines_text.specs.declared.in_force.InForce.TheVariants.{Nobody}
 use Rattle.lines_text.specs.declared.sink.LinesSink.{LinesSink}
 use Rattle.vmachine.specs.Runs.{IsHandedSo, IsRunAt}
 use Rattle.vmachine.specs.declared.run.Run.{Run}
-use Rattle.vcd_text.specs.ByteSinks.{Stopped}
+use Rattle.byte_sinks.specs.ByteSinks.{Stopped}
 use Rattle.vrace.specs.declared.lines.LinesFront.{LinesFront}
 use Rattle.vrace.specs.declared.lines.HeldLines.{HeldLines}
 use Rattle.vrace.specs.declared.lines.HeldLines.TheVariants.{Whole, Front}

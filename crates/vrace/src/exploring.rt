@@ -23,7 +23,7 @@ use std::alloc::Global;
 use std::io::Write;
 use std::sync::Wait;
 use std::thread::Threads;
-use vcd_text::{Metered, TooMany};
+use byte_sinks::{Metered, TooMany};
 use vhierarchy::law::elaboration_law;
 use vmachine::Machine;
 use vreport::{Explored, report_alone, report_shared, write_report};

@@ -16,7 +16,7 @@ use lines_text::{InForce, LinesSink};
 use sched_core::end::End;
 use sched_core::{Log, ReplayFault};
 use std::alloc::Global;
-use vcd_text::{ByteSink, HeldText, put};
+use byte_sinks::{ByteSink, HeldText, put};
 use vmachine::{Machine, Run, RunFault};
 
 // Hands what a run gives, which ends, to a sink, from where it stands.

@@ -9,7 +9,7 @@ use crate::fault::Fault;
 use basis::NoMemory;
 use std::alloc::Global;
 use std::io::Read;
-use vcd_text::Metered;
+use byte_sinks::Metered;
 
 /// The most bytes that a text may have.
 pub const LIMIT: usize = 16_777_216;

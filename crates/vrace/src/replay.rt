@@ -7,7 +7,7 @@ ghost use Rattle.vsrc.specs.Source.{file_bytes};
 ghost use Rattle.sched_core.specs.declared.end.End.{End};
 ghost use Rattle.vmodel.specs.RunProgress.{Finishes};
 ghost use Rattle.vmodel.specs.Run.{rules_of};
-ghost use Rattle.vcd_text.specs.Metered.{Grows};
+ghost use Rattle.byte_sinks.specs.Metered.{Grows};
 ghost use Rattle.vrace.specs.Request.{request_of};
 ghost use Rattle.vrace.specs.Replays.{IsShown, IsReplayInput, grain_under as grain_by, departures_under as departures_by};
 ghost use Rattle.vrace.specs.Refusals.{IsLogFault, IsReason, Leaves};
@@ -26,7 +26,7 @@ use sched_core::{Log, LogFault, LogHead, ReplayFault, read_named_log, replay};
 use std::alloc::Global;
 use std::io::Write;
 use trace_text::Origins;
-use vcd_text::{HELD_BYTES, HeldText, Metered, WriteFault, put};
+use byte_sinks::{HELD_BYTES, HeldText, Metered, WriteFault, put};
 use vmachine::{Machine, machine_law};
 use vreport::{DumpFront, HeldDump, hold_dump, write_dump, write_from};
 

@@ -14,7 +14,7 @@ use crate::replay::{of_writing, replay_input_of, see_end};
 use std::alloc::Global;
 use std::io::Write;
 use trace_text::write_trace;
-use vcd_text::Metered;
+use byte_sinks::Metered;
 
 /// Writes the trace of the run of the files under the log to the writer, step by step: a line for each step, each slot end
 /// and the run's end (docs/FORMATS.md, "Traces"). No clause says which bytes.

@@ -18,7 +18,7 @@ use std::process::ExitCode;
 use std::sync::Wait;
 use std::thread::Threads;
 use std::{env, io};
-use vcd_text::Metered;
+use byte_sinks::Metered;
 use vrace::{
     Fault, Options, Status, check_text, explore_text, explore_text_alone, read_text, replay_text,
     trace_text,

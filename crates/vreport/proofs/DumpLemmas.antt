@@ -17,7 +17,7 @@ use Rattle.basis.specs.declared.memory.NoMemory.{NoMemory}
 use Rattle.basis.specs.declared.memory.OrMemory.{OrMemory}
 use Rattle.basis.specs.declared.memory.OrMemory.TheVariants as or
 use Rattle.vcd_text.specs.DumpText.{vcd}
-use Rattle.vcd_text.specs.ByteSinks.{IsByteSink, Stopped}
+use Rattle.byte_sinks.specs.ByteSinks.{IsByteSink, Stopped}
 use Rattle.vcd_text.specs.declared.progress.Progress.TheVariants.{Waiting}
 use Rattle.vcd_text.specs.Sinks.{end_text, Takes, Fails}
 use Rattle.vcd_text.specs.SinkLaws.{fails_after, fails_before}

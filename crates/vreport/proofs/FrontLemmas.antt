@@ -12,9 +12,9 @@ use Rattle.vmachine.specs.declared.run.Run.{Run}
 use Rattle.vmachine.proofs.GivenLemmas.{given_nothing}
 use Rattle.vcd_text.specs.DumpText.{vcd}
 use Rattle.vcd_text.specs.DumpLaws.{front_of_dump}
-use Rattle.vcd_text.specs.ByteSinks.{IsByteSink, Stopped}
-use Rattle.vcd_text.specs.ByteSinkLaws.{stopped_before}
-use Rattle.vcd_text.specs.Held.{Appended, held_laws}
+use Rattle.byte_sinks.specs.ByteSinks.{IsByteSink, Stopped}
+use Rattle.byte_sinks.specs.ByteSinkLaws.{stopped_before}
+use Rattle.byte_sinks.specs.Held.{Appended, held_laws}
 use Rattle.vcd_text.specs.Sinks.{Fails, IsSameDump, Takes, items_text, progress_over}
 use Rattle.vmachine.specs.Handed.{LeavesSink}
 use Rattle.vmachine.specs.declared.run.RunFault.{RunFault}

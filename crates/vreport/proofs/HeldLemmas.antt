@@ -3,7 +3,7 @@ use Rattle.std.proofs.Common.{◌≡◌, ℕ, zero, suc, List, [], ◌∷◌, �
 use Rattle.std.specs.Prelude.{IfSome}
 use Rattle.std.proofs.lemmas.Option.{same_Some}
 use Rattle.vmodel.specs.Run.{Setting}
-use Rattle.vcd_text.specs.Held.{Appended}
+use Rattle.byte_sinks.specs.Held.{Appended}
 use Rattle.report_text.specs.Report.{End}
 use Rattle.vreport.specs.Dumps.{IsRunDump, TakesDump}
 use Rattle.vreport.specs.Inner.{IsCounted}

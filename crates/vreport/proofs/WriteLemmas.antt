@@ -7,8 +7,8 @@ use Rattle.basis.specs.declared.memory.OrMemory.{OrMemory}
 use Rattle.basis.specs.declared.memory.OrMemory.TheVariants.{Memory}
 use Rattle.vmodel.specs.Run.{Setting, rules_of, history_after}
 use Rattle.vcd_text.specs.DumpText.{vcd}
-use Rattle.vcd_text.specs.ByteSinks.{IsByteSink, Stopped}
-use Rattle.vcd_text.specs.ByteSinkLaws.{stopped_before, stopped_after}
+use Rattle.byte_sinks.specs.ByteSinks.{IsByteSink, Stopped}
+use Rattle.byte_sinks.specs.ByteSinkLaws.{stopped_before, stopped_after}
 use Rattle.report_text.specs.Report.{End, LineRace}
 use Rattle.sched_core.specs.declared.setting.Looked.{Looked}
 use Rattle.sched_core.specs.declared.setting.Looked.TheVariants.{Values, Lines}

@@ -11,7 +11,7 @@ use Rattle.vcd_text.specs.DumpText.{vcd}
 use Rattle.vcd_text.specs.Sinks.{Takes, items_text, progress_over}
 use Rattle.vcd_text.specs.declared.progress.Progress.TheVariants.{Waiting}
 use Rattle.vcd_text.specs.declared.sink.DumpSink.{DumpSink}
-use Rattle.vcd_text.specs.ByteSinks.{Stopped}
+use Rattle.byte_sinks.specs.ByteSinks.{Stopped}
 use Rattle.vreport.specs.declared.dump.DumpFront.{DumpFront}
 use Rattle.vreport.specs.declared.dump.HeldDump.{HeldDump}
 use Rattle.vreport.specs.declared.dump.HeldDump.TheVariants.{Whole, Front}

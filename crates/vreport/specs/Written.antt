@@ -2,7 +2,7 @@
 use Rattle.std.specs.Prelude.{◌≡◌, ℕ, List, [], ◌∷◌, ◌++◌, length, Option, IfSome}
 use Rattle.basis.specs.declared.memory.OrMemory.{OrMemory}
 use Rattle.vmodel.specs.Run.{Setting}
-use Rattle.vcd_text.specs.ByteSinks.{Stopped}
+use Rattle.byte_sinks.specs.ByteSinks.{Stopped}
 use Rattle.report_text.specs.Report.{End, Report}
 use Rattle.report_text.specs.ReportText.{end_text, ends_text, report_text}
 use Rattle.vreport.specs.Dumps.{IsRunDump}

@@ -15,7 +15,8 @@ use basis::OrMemory;
 use sched_core::end::End;
 use sched_core::{Log, ReplayFault};
 use std::alloc::Global;
-use vcd_text::{ByteSink, DumpSink, HeldText, Progress, put};
+use byte_sinks::{ByteSink, HeldText, put};
+use vcd_text::{DumpSink, Progress};
 use vmachine::{Machine, Run, RunFault};
 
 // Hands what a run gives, which ends, to a sink, from where it stands.

@@ -19,7 +19,7 @@ use report_text::End;
 use sched_core::Log;
 use statebook::Limits;
 use std::alloc::Global;
-use vcd_text::{Counter, HELD_BYTES, HeldText, TooMany};
+use byte_sinks::{Counter, HELD_BYTES, HeldText, TooMany};
 use vmachine::{Machine, MachineState, machine_law};
 use vmodel::run_law;
 

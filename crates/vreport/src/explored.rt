@@ -15,7 +15,7 @@ use statebook::Limits;
 use std::alloc::Global;
 use std::sync::Wait;
 use std::thread::Threads;
-use vcd_text::{HeldText, TooMany};
+use byte_sinks::{HeldText, TooMany};
 use vmachine::{Machine, MachineState, machine_law};
 use workpool::Gate;
 

@@ -22,7 +22,7 @@ use report_text::{Column, LineRace, Outcome, PrintedLines, Race, RaceValue, Repo
 use sched_core::setting::{Departures, Looked};
 use statebook::Limits;
 use std::alloc::Global;
-use vcd_text::{HeldText, TooMany};
+use byte_sinks::{HeldText, TooMany};
 use vdesign::design::Variable;
 use vmachine::{Machine, MachineState};
 use vmodel::run_law;

@@ -1,7 +1,7 @@
 // The text of a report, with the dump of each end.
 
 ghost use Rattle.std.specs.Prelude.{◌≡◌, ℕ, List, OnOk, IfOk, IfErr};
-ghost use Rattle.vcd_text.specs.ByteSinks.{Stopped};
+ghost use Rattle.byte_sinks.specs.ByteSinks.{Stopped};
 ghost use Rattle.report_text.specs.WellFormed.{Each};
 ghost use Rattle.report_text.specs.ReportText.{line_races_part, line_races_text, races_text};
 ghost use Rattle.vreport.specs.Ends.{HasBytes};
@@ -16,7 +16,7 @@ use report_text::{
 };
 use sched_core::setting::Looked;
 use std::alloc::Global;
-use vcd_text::{ByteSink, HeldText, put};
+use byte_sinks::{ByteSink, HeldText, put};
 use vmachine::Machine;
 
 // Hands on a text that was made, unless memory was refused for it.

@@ -1,6 +1,6 @@
 use Rattle.std.proofs.lemmas.Bool.Decides.{Decides-eqb}
 use Rattle.std.proofs.lemmas.Slice.Eq.{strip_prefix_is}
-use Rattle.vcd_text.proofs.ExpectedLemmas.{is_stripped}
+use Rattle.byte_sinks.proofs.ExpectedLemmas.{is_stripped}
 use Rattle.vcd_text.proofs.selected.behind.Goals as goal
 
 pub returns : goal.returns

@@ -1,7 +1,7 @@
 use Rattle.std.proofs.Common.{◌≡◌, ◌∙◌, ap, subst, sym, List, ℕ, Bool}
 use Rattle.vdesign.specs.Design.{Design, Scope}
 use Rattle.vcd_text.specs.DumpText.{header, scope_marks, spread, variable_marks}
-use Rattle.vcd_text.specs.ByteSinks.{Stopped}
+use Rattle.byte_sinks.specs.ByteSinks.{Stopped}
 use Rattle.vcd_text.proofs.SelectedLemmas.{begun_is}
 use Rattle.vcd_text.proofs.sink.begin.Goals as goal
 

@@ -1,7 +1,7 @@
 use Rattle.std.proofs.Common.{◌++◌, ◌∙◌, ap, subst, List, ℕ}
 use Rattle.basis.proofs.Results.{on_err, on_ok}
-use Rattle.vcd_text.specs.ByteSinks.{Stopped}
-use Rattle.vcd_text.specs.ByteSinkLaws.{stopped_after, stopped_before}
+use Rattle.byte_sinks.specs.ByteSinks.{Stopped}
+use Rattle.byte_sinks.specs.ByteSinkLaws.{stopped_after, stopped_before}
 use Rattle.vcd_text.proofs.sink.put_start.Goals as goal
 
 pub returns-in-Ok-clause-ok : goal.returns-in-Ok-clause-ok

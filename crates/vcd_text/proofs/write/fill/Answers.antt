@@ -3,7 +3,7 @@ use Rattle.basis.proofs.Results.{on_err, on_ok}
 use Rattle.vmodel.specs.declared.history.Item.{Item}
 use Rattle.vmodel.specs.History.{History}
 use Rattle.sched_core.specs.declared.end.End.{End}
-use Rattle.vcd_text.specs.ByteSinks.{Stopped}
+use Rattle.byte_sinks.specs.ByteSinks.{Stopped}
 use Rattle.vcd_text.specs.Sinks.{end_text, Takes, Fails}
 use Rattle.vcd_text.specs.DumpLaws.{completes, stops_completing, stops_taking}
 use Rattle.vcd_text.proofs.write.fill.Goals as goal

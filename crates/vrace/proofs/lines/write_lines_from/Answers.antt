@@ -1,5 +1,5 @@
 use Rattle.std.proofs.Common.{rules, ℕ, List, OnOk, IfErr, ◌∙◌, sym, subst}
-use Rattle.vcd_text.specs.ByteSinks.{Stopped}
+use Rattle.byte_sinks.specs.ByteSinks.{Stopped}
 use Rattle.vrace.specs.RunLines.{StopsLines, TakesLines}
 use Rattle.vrace.proofs.LinesFrontLemmas.{resumed_front, stops_in_front}
 use Rattle.vrace.proofs.lines.write_lines_from.Goals as goal

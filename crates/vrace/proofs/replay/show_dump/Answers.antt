@@ -1,6 +1,6 @@
 use Rattle.std.proofs.Common.{ℕ, List, Option, OnOk, IfErr, inl, inr, refl, subst, sym}
 use Rattle.std.specs.Prelude.{IfSome}
-use Rattle.vcd_text.specs.Metered.{Grows}
+use Rattle.byte_sinks.specs.Metered.{Grows}
 use Rattle.vreport.specs.Dumps.{IsHeldDump, IsRunDump}
 use Rattle.vreport.specs.declared.dump.HeldDump.{HeldDump}
 use Rattle.vrace.specs.RunDumps.{Ends, IsRunFault}

@@ -1,6 +1,6 @@
 use Rattle.std.proofs.Common.{ℕ, List, Option, OnOk, IfErr, inl, inr, refl, subst, sym}
 use Rattle.std.specs.Prelude.{IfSome}
-use Rattle.vcd_text.specs.Metered.{Grows}
+use Rattle.byte_sinks.specs.Metered.{Grows}
 use Rattle.vrace.specs.RunLines.{IsHeldLines, IsRunLines}
 use Rattle.vrace.specs.declared.lines.HeldLines.{HeldLines}
 use Rattle.vrace.specs.RunDumps.{Ends, IsRunFault}

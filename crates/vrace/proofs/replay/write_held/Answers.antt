@@ -1,4 +1,4 @@
-use Rattle.vcd_text.specs.MeteredLaws.{stops_of}
+use Rattle.byte_sinks.specs.MeteredLaws.{stops_of}
 use Rattle.vrace.proofs.replay.write_held.Goals as goal
 
 pub returns-in-Err-clause-err : goal.returns-in-Err-clause-err

@@ -1,8 +1,8 @@
 use Rattle.std.proofs.Common.{rules, ◌≡◌, ℕ, List, ◌∙◌, subst}
 use Rattle.std.specs.Prelude.{⊤}
-use Rattle.vcd_text.specs.Held.{Appended, held_laws}
+use Rattle.byte_sinks.specs.Held.{Appended, held_laws}
 use Rattle.vcd_text.specs.Sinks.{Takes}
-use Rattle.vcd_text.specs.declared.fault.Full.{Full}
+use Rattle.byte_sinks.specs.declared.fault.Full.{Full}
 use Rattle.vmachine.specs.Handed.{RunsInto}
 use Rattle.vmachine.specs.Runs.{Reaches}
 use Rattle.vreport.specs.Dumps.{IsRunDump}

@@ -1,5 +1,5 @@
 use Rattle.std.proofs.Common.{rules, ℕ, List, OnOk, IfErr, ◌∙◌, sym, subst}
-use Rattle.vcd_text.specs.ByteSinks.{Stopped}
+use Rattle.byte_sinks.specs.ByteSinks.{Stopped}
 use Rattle.vreport.specs.Dumps.{StopsDump, TakesDump}
 use Rattle.vreport.proofs.FrontLemmas.{resumed_front, stops_in_front}
 use Rattle.vreport.proofs.dump.write_from.Goals as goal

@@ -2,7 +2,7 @@ use Rattle.std.proofs.Common.{rules, ◌≡◌, ℕ, List, Option, Some, Result,
 use Rattle.std.specs.Prelude.{IfOk, IfSome}
 use Rattle.basis.specs.Reasons.{Because, IfFault}
 use Rattle.basis.specs.declared.memory.OrMemory.{OrMemory}
-use Rattle.vcd_text.specs.declared.fault.TooMany.{TooMany}
+use Rattle.byte_sinks.specs.declared.fault.TooMany.{TooMany}
 use Rattle.vmodel.specs.Run.{Setting}
 use Rattle.vreport.specs.Dumps.{IsDumpFront, IsHeldDump}
 use Rattle.vreport.specs.Ends.{HasLongDump}

@@ -1,6 +1,6 @@
 use Rattle.std.proofs.Common.{ap, ◌∙◌}
 use Rattle.std.proofs.lemmas.Result.{IfErr-weaker, on_ok_weaker}
-use Rattle.vcd_text.specs.ByteSinks.{Stopped}
+use Rattle.byte_sinks.specs.ByteSinks.{Stopped}
 use Rattle.report_text.specs.Report.{Report}
 use Rattle.report_text.specs.ReportText.{line_races_line, line_races_part, line_races_text}
 use Rattle.vreport.proofs.WriteLemmas.{lines_stop, lines_stop_first, lines_taken}

@@ -1,6 +1,6 @@
 use Rattle.std.proofs.Common.{List, ◌++◌, codes, length, subst}
 use Rattle.std.proofs.lemmas.Result.{IfErr-weaker, on_ok_weaker}
-use Rattle.vcd_text.specs.ByteSinks.{Stopped}
+use Rattle.byte_sinks.specs.ByteSinks.{Stopped}
 use Rattle.report_text.specs.Report.{Column, End, Race, Report}
 use Rattle.report_text.specs.ReportText.{head_text, line_races_part, number_line, races_text}
 use Rattle.vreport.specs.Written.{StopsEnds, StopsReport, TakesEnds}

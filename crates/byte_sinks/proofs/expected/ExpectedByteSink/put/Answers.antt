@@ -1,9 +1,9 @@
 use Rattle.std.proofs.Common.{◌∙◌, ap, sym, option_map}
 use Rattle.std.proofs.lemmas.Bool.Decides.{Decides-eqb}
 use Rattle.std.proofs.lemmas.Slice.Eq.{strip_prefix_is}
-use Rattle.vcd_text.specs.Comparing.{rest_behind}
-use Rattle.vcd_text.proofs.ExpectedLemmas.{is_stripped}
-use Rattle.vcd_text.proofs.expected.ExpectedByteSink.put.Goals as goal
+use Rattle.byte_sinks.specs.Comparing.{rest_behind}
+use Rattle.byte_sinks.proofs.ExpectedLemmas.{is_stripped}
+use Rattle.byte_sinks.proofs.expected.ExpectedByteSink.put.Goals as goal
 
 pub returns-in-Some-clause-ok : goal.returns-in-Some-clause-ok
 returns-in-Some-clause-ok c =

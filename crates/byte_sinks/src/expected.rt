@@ -41,7 +41,7 @@ impl<'a> Expected<'a> {
 }
 
 impl<'a> ByteSink for Expected<'a> {
-    ghost use Rattle.vcd_text.specs.Comparing.{Strips, expected_laws};
+    ghost use Rattle.byte_sinks.specs.Comparing.{Strips, expected_laws};
 
     type Fault = Never;
 

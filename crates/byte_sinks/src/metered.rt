@@ -3,7 +3,7 @@
 ghost use Rattle.std.specs.Prelude.{◌≡◌, is_err};
 ghost use Rattle.std.specs.Io.{ReadsAtMost, WritesAtMost};
 ghost use Rattle.std.specs.Io.KnownBytes.{Keeps};
-ghost use Rattle.vcd_text.specs.Metered.{Reads, Writes, count_after_call, is_failed_write};
+ghost use Rattle.byte_sinks.specs.Metered.{Reads, Writes, count_after_call, is_failed_write};
 
 use crate::byte_sink::ByteSink;
 use crate::fault::WriteFault;
@@ -103,8 +103,8 @@ impl<W: Write> Write for Metered<W> {
 }
 
 impl<W: Write> ByteSink for Metered<W> {
-    ghost use Rattle.vcd_text.specs.Metered.{Written, Broken};
-    ghost use Rattle.vcd_text.specs.MeteredLaws.{metered_laws};
+    ghost use Rattle.byte_sinks.specs.Metered.{Written, Broken};
+    ghost use Rattle.byte_sinks.specs.MeteredLaws.{metered_laws};
 
     type Fault = WriteFault;
 

@@ -1,9 +1,9 @@
 -- *product rule*: Readers and writers whose failures are counted, and what pieces of text make of such a writer.
 use Rattle.std.specs.Prelude.{◌≡◌, ℕ, zero, suc, ◌+◌, ◌%◌, ◌^◌, Bool, true, false, if◌then◌else◌, List, [], ◌∷◌, take, Option, Result, Ok, Err}
 use Rattle.std.specs.Io.KnownBytes.{Appends, ReadConsumes, WriteAppends}
-use Rattle.vcd_text.specs.declared.metered.Metered.{Metered}
-use Rattle.vcd_text.specs.declared.fault.WriteFault.{WriteFault}
-use Rattle.vcd_text.specs.declared.fault.WriteFault.TheVariants.{Write}
+use Rattle.byte_sinks.specs.declared.metered.Metered.{Metered}
+use Rattle.byte_sinks.specs.declared.fault.WriteFault.{WriteFault}
+use Rattle.byte_sinks.specs.declared.fault.WriteFault.TheVariants.{Write}
 use Rattle.basis.specs.declared.memory.OrMemory.{OrMemory}
 use Rattle.basis.specs.declared.memory.OrMemory.TheVariants.{Fault, Memory}
 

@@ -48,7 +48,7 @@ impl HeldText {
 
 impl ByteSink for HeldText {
     ghost use Rattle.std.specs.Prelude.{⊤};
-    ghost use Rattle.vcd_text.specs.Held.{Appended, held_laws};
+    ghost use Rattle.byte_sinks.specs.Held.{Appended, held_laws};
 
     type Fault = Full;
 

@@ -2,7 +2,7 @@
 use Rattle.std.proofs.Common.{◌≡◌, ℕ, List, [], ◌++◌, ap, sym, ◌∙◌}
 use Rattle.std.specs.Prelude.{⊤}
 use Rattle.std.proofs.lemmas.List.{append-nil, append_assoc}
-use Rattle.vcd_text.specs.ByteSinks.{IsByteSink}
+use Rattle.byte_sinks.specs.ByteSinks.{IsByteSink}
 
 -- it holds the text behind what it held
 abbrev pub Appended : List ℕ → List ℕ → List ℕ → Type 0

@@ -1,9 +1,9 @@
 use Rattle.std.proofs.Common.{length}
-use Rattle.vcd_text.specs.declared.metered.Metered.{Metered}
+use Rattle.byte_sinks.specs.declared.metered.Metered.{Metered}
 use Rattle.basis.specs.declared.memory.OrMemory.TheVariants.{Fault}
-use Rattle.vcd_text.specs.declared.fault.WriteFault.TheVariants.{Write as WriteFailed}
-use Rattle.vcd_text.specs.Metered.{Grows, Stops}
-use Rattle.vcd_text.proofs.metered.MeteredByteSink.put.Given as goal
+use Rattle.byte_sinks.specs.declared.fault.WriteFault.TheVariants.{Write as WriteFailed}
+use Rattle.byte_sinks.specs.Metered.{Grows, Stops}
+use Rattle.byte_sinks.proofs.metered.MeteredByteSink.put.Given as goal
 
 -- what the rest does, the whole does
 abbrev pub invariant-loop-rest : goal.invariant-loop-rest

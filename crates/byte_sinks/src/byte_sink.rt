@@ -1,7 +1,7 @@
 // What takes texts, one after another.
 
 ghost use Rattle.std.specs.Prelude.{ℕ, List, OnOk, IfErr};
-ghost use Rattle.vcd_text.specs.ByteSinks.{IsByteSink, Stopped};
+ghost use Rattle.byte_sinks.specs.ByteSinks.{IsByteSink, Stopped};
 
 use basis::OrMemory;
 

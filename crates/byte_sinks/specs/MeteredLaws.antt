@@ -3,13 +3,13 @@ use Rattle.std.proofs.Common.{ℕ, ◌+◌, min, List, [], ◌++◌, length, tak
 use Rattle.std.specs.Io.KnownBytes.{Appends}
 use Rattle.std.proofs.lemmas.List.{append-nil}
 use Rattle.std.proofs.Math.Seq.{take-append-add}
-use Rattle.vcd_text.specs.declared.metered.Metered.{Metered}
+use Rattle.byte_sinks.specs.declared.metered.Metered.{Metered}
 use Rattle.basis.specs.declared.memory.OrMemory.{OrMemory}
 use Rattle.basis.specs.declared.memory.OrMemory.TheVariants.{Fault, Memory}
-use Rattle.vcd_text.specs.declared.fault.WriteFault.{WriteFault}
-use Rattle.vcd_text.specs.Metered.{Grows, Stops, Written, Broken, count_after}
-use Rattle.vcd_text.specs.ByteSinks.{IsByteSink, Stopped}
-use Rattle.vcd_text.specs.ByteSinkLaws.{take_front}
+use Rattle.byte_sinks.specs.declared.fault.WriteFault.{WriteFault}
+use Rattle.byte_sinks.specs.Metered.{Grows, Stops, Written, Broken, count_after}
+use Rattle.byte_sinks.specs.ByteSinks.{IsByteSink, Stopped}
+use Rattle.byte_sinks.specs.ByteSinkLaws.{take_front}
 
 appends_none : (c : Option (List ℕ)) → Appends c c []
 appends_none None = tt

@@ -3,7 +3,7 @@ use Rattle.std.proofs.Common.{◌≡◌, ℕ, ◌==◌, Bool, true, if◌then◌
 use Rattle.std.proofs.lemmas.Bool.{cases_Bool}
 use Rattle.std.proofs.lemmas.List.{append-nil}
 use Rattle.std.proofs.lemmas.Bool.Decides.{nat_tests}
-use Rattle.vcd_text.specs.ByteSinks.{IsByteSink}
+use Rattle.byte_sinks.specs.ByteSinks.{IsByteSink}
 
 -- what is left of an expected text once this one was taken off its front; none where it doesn't begin so
 abbrev pub rest_behind : List ℕ → Option (List ℕ) → Option (List ℕ)

@@ -4,7 +4,7 @@ use Rattle.std.proofs.lemmas.List.{take-append-le, take_min}
 use Rattle.std.proofs.Math.Seq.{take-append-add}
 use Rattle.basis.specs.declared.memory.OrMemory.{OrMemory}
 use Rattle.basis.specs.declared.memory.OrMemory.TheVariants.{Fault, Memory}
-use Rattle.vcd_text.specs.ByteSinks.{IsByteSink, Stopped}
+use Rattle.byte_sinks.specs.ByteSinks.{IsByteSink, Stopped}
 
 -- a front of a text is one of the text with more behind it
 pub take_front : (xs ys : List ℕ) (n : ℕ) → take (min n (length xs)) (xs ++ ys) ≡ take n xs

@@ -28,7 +28,7 @@ impl Counter {
 }
 
 impl ByteSink for Counter {
-    ghost use Rattle.vcd_text.specs.Counts.{Counts, IsFull, counter_laws};
+    ghost use Rattle.byte_sinks.specs.Counts.{Counts, IsFull, counter_laws};
 
     type Fault = TooMany;
 

@@ -2,13 +2,13 @@
 use Rattle.std.proofs.Common.{◌≡◌, ◌<◌, ℕ, zero, suc, List, [], ◌∷◌, ◌++◌, length, take, drop, Option, None, Some, Ok, sym, ap, ◌∙◌, arith}
 use Rattle.std.specs.Io.KnownBytes.{Keeps, Appends}
 use Rattle.std.proofs.lemmas.List.{append-nil, take-append-drop}
-use Rattle.vcd_text.specs.declared.metered.Metered.{Metered}
+use Rattle.byte_sinks.specs.declared.metered.Metered.{Metered}
 use Rattle.basis.specs.declared.memory.OrMemory.{OrMemory}
 use Rattle.basis.specs.declared.memory.OrMemory.TheVariants.{Fault}
-use Rattle.vcd_text.specs.declared.fault.WriteFault.{WriteFault}
-use Rattle.vcd_text.specs.declared.fault.WriteFault.TheVariants.{Write}
-use Rattle.vcd_text.specs.Metered.{Grows, Stops, count_after_call, is_failed_write, one_more}
-use Rattle.vcd_text.specs.MeteredLaws.{grows_none, grows_joins, stops_after}
+use Rattle.byte_sinks.specs.declared.fault.WriteFault.{WriteFault}
+use Rattle.byte_sinks.specs.declared.fault.WriteFault.TheVariants.{Write}
+use Rattle.byte_sinks.specs.Metered.{Grows, Stops, count_after_call, is_failed_write, one_more}
+use Rattle.byte_sinks.specs.MeteredLaws.{grows_none, grows_joins, stops_after}
 
 keeps_is_nothing : (a b : Option (List ℕ)) → Keeps a b → Appends a b []
 keeps_is_nothing None b k = tt

@@ -2,7 +2,7 @@
 use Rattle.std.proofs.Common.{◌≡◌, ◌≢◌, ℕ, List, ◌++◌, Option, Some, None, option_map, refl, sym, ap, ◌∙◌}
 use Rattle.std.specs.Prelude.{MatchOption}
 use denote.Ref.{Bor}
-use Rattle.vcd_text.specs.Comparing.{rest_behind, rest_behind_front, only_front}
+use Rattle.byte_sinks.specs.Comparing.{rest_behind, rest_behind_front, only_front}
 
 never_front : (text expected : List ℕ) (left : Option (List ℕ)) → left ≡ rest_behind text (Some expected) →
     ((rest : List ℕ) → expected ≢ text ++ rest) → None ≡ left

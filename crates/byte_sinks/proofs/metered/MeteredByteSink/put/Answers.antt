@@ -1,9 +1,9 @@
 use Rattle.std.proofs.Common.{arith}
 use Rattle.std.proofs.lemmas.Bool.Decides.{nat_tests}
-use Rattle.vcd_text.proofs.PutLemmas.{stops_by_error, stops_dry, rest_grows, rest_stops, grows_done}
+use Rattle.byte_sinks.proofs.PutLemmas.{stops_by_error, stops_dry, rest_grows, rest_stops, grows_done}
 use Rattle.basis.specs.declared.memory.OrMemory.TheVariants.{Fault}
-use Rattle.vcd_text.specs.declared.fault.WriteFault.TheVariants.{Write as WriteFailed}
-use Rattle.vcd_text.proofs.metered.MeteredByteSink.put.Goals as goal
+use Rattle.byte_sinks.specs.declared.fault.WriteFault.TheVariants.{Write as WriteFailed}
+use Rattle.byte_sinks.proofs.metered.MeteredByteSink.put.Goals as goal
 
 pub returns-then-taken-eq0-clause-err : goal.returns-then-taken-eq0-clause-err
 returns-then-taken-eq0-clause-err g c =

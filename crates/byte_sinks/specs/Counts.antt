@@ -1,10 +1,10 @@
 -- *internal*: What counts the bytes of texts.
 use Rattle.std.proofs.Common.{◌≡◌, ◌≤◌, ◌^◌, ℕ, ◌+◌, min, List, ◌++◌, length, take, length-append, subst, sym, arith}
 use Rattle.std.proofs.Math.Seq.{take-append-add}
-use Rattle.vcd_text.specs.declared.counter.Counter.{Counter}
-use Rattle.vcd_text.specs.declared.fault.TooMany.{TooMany}
-use Rattle.vcd_text.specs.ByteSinks.{IsByteSink}
-use Rattle.vcd_text.specs.ByteSinkLaws.{take_front}
+use Rattle.byte_sinks.specs.declared.counter.Counter.{Counter}
+use Rattle.byte_sinks.specs.declared.fault.TooMany.{TooMany}
+use Rattle.byte_sinks.specs.ByteSinks.{IsByteSink}
+use Rattle.byte_sinks.specs.ByteSinkLaws.{take_front}
 
 -- it counted the text's bytes
 abbrev pub Counts : Counter → List ℕ → Counter → Type 0

@@ -1,0 +1,2 @@
+pub mod ExpectedLemmas
+pub mod PutLemmas
