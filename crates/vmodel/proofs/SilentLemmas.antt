@@ -1,5 +1,5 @@
 -- Steps that print nothing: of no print task, where no monitor event waits. What the slot has printed stays.
-use Rattle.std.proofs.Common.{◌≡◌, ℕ, Bool, true, false, not, List, [], ◌∷◌, ◌++◌, Option, Some, None, refl, sym, ap, ◌∙◌}
+use Rattle.std.proofs.Common.{◌≡◌, ℕ, Bool, true, false, List, [], ◌∷◌, ◌++◌, Option, Some, None, refl, sym, ap, ◌∙◌}
 use Rattle.std.specs.Prelude.{slice_get, option_map}
 use Rattle.std.specs.Option.{option_to_list}
 use Rattle.vbits.specs.Vectors.{Vector}
@@ -141,10 +141,6 @@ silent design Update s none other =
     (tt, monitors-none (with_woken design s.values None (with_update s)) (update-none s.queue.activated s.queue none))
 silent design Advance s none other =
     (tt, monitors-none (record s { queue = with_advance s.queue.future s.queue }) (advance-none s.queue.future s.queue none))
-
-pub negated : (b : Bool) → not b ≡ true → b ≡ false
-negated true h = let absurd : false ≡ true = h in cc
-negated false h = refl
 
 -- ---- the lines of the slot
 

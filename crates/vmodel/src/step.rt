@@ -439,7 +439,10 @@ impl State {
     fn is_silent(&self, design: &Design, choice: Choice) -> bool
         ensures { result ≡ true → IsSilent design.now choice self.now }
     {
-        self.queue.has_no_strobe() && !self.is_at_print(design, choice)
+        if self.is_at_print(design, choice) {
+            return false;
+        }
+        self.queue.has_no_strobe()
     }
 
     // The step of choice `i`, which is this one and prints nothing, with what is held back from now on and the lines of the slot.
