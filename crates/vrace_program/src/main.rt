@@ -25,7 +25,7 @@ use vrace::{
 };
 use words::{
     Request, Search, Wanted, commands, files_of, has_dashed_log, has_dashed_report, has_dashed_top,
-    log_of, report_of, request_of, search_of, wanted_of,
+    has_joined_letters, log_of, report_of, request_of, search_of, wanted_of,
 };
 use workpool::OpenGate;
 
@@ -315,6 +315,9 @@ fn run<'a, R: Threads + Wait + Sync>(
     threads: &R,
     words: &'a [String],
 ) -> Result<ExitCode, Stop> {
+    if has_joined_letters(words) {
+        return Err(Stop::Usage);
+    }
     let Ok(commands) = commands(rt.alloc()) else {
         return Err(Stop::NoMemory);
     };

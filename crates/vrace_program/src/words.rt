@@ -184,6 +184,20 @@ fn is_dashed(matches: &ArgMatches<'_>, name: &str) -> bool {
     }
 }
 
+/// Whether a word before `--` is one dash with several letters, as `-hold` is. No option is written so; `-h` at its front would print help.
+pub fn has_joined_letters(words: &[String]) -> bool {
+    for word in words {
+        let letters = word.as_bytes();
+        if letters == b"--".as_slice() {
+            return false;
+        }
+        if letters.len() > 2 && letters[0] == b'-' && letters[1] != b'-' {
+            return true;
+        }
+    }
+    false
+}
+
 /// Whether the value of `--top` reads as an option.
 pub fn has_dashed_top(matches: &ArgMatches<'_>) -> bool {
     is_dashed(matches, "top")
