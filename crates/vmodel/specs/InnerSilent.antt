@@ -1,5 +1,6 @@
--- *internal*: Steps that are sure to print nothing: words for the contracts of parts within.
-use Rattle.std.specs.Prelude.{◌≡◌, Bool, true, false, [], Option, Some, None}
+-- *internal*: Steps where departures only take and no lines are looked at, and steps that are sure to print nothing: words for the
+-- contracts of parts within.
+use Rattle.std.specs.Prelude.{◌≡◌, ℕ, Bool, true, false, [], Option, Some, None, slice_get}
 use Rattle.vdesign.specs.Design.{Design}
 use Rattle.vdesign.specs.declared.action.Action.{Action}
 use Rattle.vdesign.specs.declared.action.Action.TheVariants.{Print}
@@ -10,6 +11,7 @@ use Rattle.vmodel.specs.declared.effect.Shown.TheVariants.{Commands, Prints, Wat
 use Rattle.vmodel.specs.State.{State}
 use Rattle.vmodel.specs.Inner.{first_action}
 use Rattle.vmodel.specs.InnerStep.{continuation_in}
+use Rattle.vmodel.specs.Choices.{choices}
 use Rattle.vmodel.specs.Step.{transition_of}
 
 -- 17.1: `$display`, `$strobe` or `$monitor`
@@ -37,3 +39,7 @@ ShowsNoLine (Some (Watches place)) = Unit {0}
 -- the step of a choice shows no line, and no monitor event runs after it
 abbrev pub IsSilent : Design → Choice → State → Type 0
 IsSilent design c s = ShowsNoLine (transition_of design c s).effect.shown × ((transition_of design c s).monitors ≡ [])
+
+-- choice i is c, departures only take, and no lines are looked at
+abbrev pub IsPlainChoice : State → ℕ → Choice → Type 0
+IsPlainChoice s i c = (s.held_back ≡ None) × (s.printed ≡ None) × (slice_get (choices s) i ≡ Some c)

@@ -1,7 +1,7 @@
 // The one step of a choice, and the region moves after it (IEEE 1364-2005, 11.3, 11.4, 11.6).
 
 ghost use Rattle.std.specs.Prelude.{◌≡◌, ℕ, List, ◌<◌, ◌++◌, [], IfOk, OnOk, OnErr, IfSome, IfNone, length, slice_get, slice_set, drop, true};
-ghost use Rattle.std.specs.Option.{option_to_list};
+ghost use Rattle.std.specs.Option.{option_to_list, ForSome};
 ghost use Rattle.vmodel.specs.Step.{frames, process_to_continue, process_by, reschedule, posts, with_woken, with_moves, monitors_of, complete, no_transition, continuation_of, environment_of, process_transition, transition_of, with_held_after, with_lines_after, with_views, next, slot_end_of, items_of};
 ghost use Rattle.vmodel.specs.Parts.{write, with_parts};
 ghost use Rattle.vmodel.specs.declared.process.Frame.{Frame};
@@ -11,7 +11,7 @@ ghost use Rattle.vmodel.specs.Choices.{choices as choices_of, IsWithin};
 ghost use Rattle.vmodel.specs.Inner.{IsFirstAction, first_place};
 ghost use Rattle.vmodel.specs.InnerContinuation.{IsWhole, continuation_frames};
 ghost use Rattle.vmodel.specs.InnerSilent as silent;
-ghost use Rattle.vmodel.specs.InnerSilent.{is_at_print, IsSilent};
+ghost use Rattle.vmodel.specs.InnerSilent.{is_at_print, IsSilent, IsPlainChoice};
 ghost use Rattle.vmodel.specs.InnerStep.{state_with_move, with_cause, behind, continuation_in, held_in, process_with_move, queue_with_move, transition_to, processes_with_move};
 
 use crate::choice::Choice;
@@ -361,7 +361,6 @@ impl State {
     }
 
     // The step of a choice, without what is held back from now on and the lines of the slot.
-    #[inline(always)]
     fn take(
         &mut self,
         design: &Design,
@@ -489,6 +488,42 @@ impl State {
         Ok(effect)
     }
 
+    // Choice `i`, where departures only take and no lines are looked at.
+    fn plain_choice(&self, i: u32) -> Option<Choice>
+        ensures plain { IfSome result (λ c. IsPlainChoice self.now i c) }
+        ensures few { ForSome result IsWithin }
+    {
+        match (&self.held_back, &self.printed) {
+            (None, None) => self.choice(i),
+            _ => None,
+        }
+    }
+
+    // The step of choice `i`, of any setting, also where there is no such choice.
+    #[inline(never)]
+    fn step_any(
+        &mut self,
+        design: &Design,
+        i: u32,
+        monitors: &mut Vec<usize>,
+    ) -> Result<Effect, NoMemory>
+        ensures ok { IfOk result (λ effect.
+            next design.now self.old i ≡ transition_to self.new effect monitors.new.items) }
+        ensures err { OnErr result (self.new ≡ self.old) }
+        ensures err_monitors { OnErr result (monitors.new.items ≡ monitors.old.items) }
+    {
+        let Some(choice) = self.choice(i) else {
+            return Ok(self.stay(monitors));
+        };
+        match &self.printed {
+            None => self.take_holding(design, i, choice, monitors),
+            Some(_) if self.is_silent(design, choice) => {
+                self.take_silent(design, i, choice, monitors)
+            }
+            Some(_) => self.take_printing(design, i, choice, monitors),
+        }
+    }
+
     /// The step of choice `i`, in place: one step of a process, the write of an update or the advance of the time, and the
     /// region moves after it (11.3, 11.4). The answer is what the step did, and the list is then that of the monitor events that ran:
     /// the places of their print tasks, in order of creation (17.1.2). Where there is no such choice nothing happens. E901 is the
@@ -504,18 +539,11 @@ impl State {
         ensures err { OnErr result (self.new ≡ self.old) }
         ensures err_monitors { OnErr result (monitors.new.items ≡ monitors.old.items) }
     {
-        let Some(choice) = self.choice(i) else {
-            return Ok(self.stay(monitors));
-        };
-        match &self.printed {
-            Some(_) if self.is_silent(design, choice) => {
-                self.take_silent(design, i, choice, monitors)
-            }
-            Some(_) => self.take_printing(design, i, choice, monitors),
-            None => match &self.held_back {
-                Some(_) => self.take_holding(design, i, choice, monitors),
-                None => self.take(design, choice, monitors),
-            },
+        match self.plain_choice(i) {
+            None => self.step_any(design, i, monitors),
+            Some(Choice::Run(process)) => self.run(design, process, monitors),
+            Some(Choice::Update) => Ok(self.update(design, monitors)),
+            Some(Choice::Advance) => Ok(self.advance(monitors)),
         }
     }
 

@@ -1,9 +1,15 @@
-use Rattle.std.proofs.Common.{ap, sym, ◌∙◌}
-use Rattle.vmodel.specs.State.{State}
-use Rattle.vmodel.proofs.ViewLemmas.{plain_ok}
+use Rattle.std.proofs.Common.{Some, refl, ap, subst, ◌∙◌}
+use Rattle.vmodel.specs.declared.choice.Choice.TheVariants.{Advance}
+use Rattle.vmodel.specs.Choices.{IsWithin}
+use Rattle.vmodel.specs.InnerStep.{transition_to}
+use Rattle.vmodel.proofs.ViewLemmas.{plain}
 use Rattle.vmodel.proofs.state.State.step.Goals as goal
 
-pub returns-in-None-held_back-clause-ok : goal.returns-in-None-held_back-clause-ok
-returns-in-None-held_back-clause-ok c =
-    plain_ok c.args.design.now c.args.i c.in-Some.choice c.args.self.now c.take.new.self c.take.new.monitors.items c.take.result
-    (sym (ap (λ (s : State). s.held_back) c.self.view_is) ∙ c.in-None-held_back.is) (sym (ap (λ (s : State). s.printed) c.self.view_is) ∙ c.in-None.is) (sym c.choice.ensures.exact ∙ c.in-Some.is) c.take.ensures.ok
+pub run-requires : goal.run-requires
+run-requires c = subst IsWithin c.in-Some-Run.field-0-is (c.in-Some-Run.ensures.few c.in-Some-Run.field-0 refl)
+
+pub returns-in-Some-Advance-clause-ok : goal.returns-in-Some-Advance-clause-ok
+returns-in-Some-Advance-clause-ok c =
+    let is = c.in-Some-Advance.ensures.plain in
+    plain c.args.design.now c.args.i Advance c.args.self.now (transition_to c.advance.new.self c.advance.result c.advance.new.monitors.items)
+    is.0 is.1 (is.2 ∙ ap Some c.in-Some-Advance.field-0-is) (c.advance.ensures c.args.design.now)
