@@ -1,0 +1,148 @@
+// The code of a design: links by place, begins by process, listeners by variable and by event.
+
+ghost use Rattle.std.specs.Prelude.{◌≡◌};
+ghost use Rattle.vcode.specs.Code as spec;
+
+use crate::link::Link;
+use crate::listener::{Listener, Listeners};
+use crate::point::Point;
+use std::marker::Model;
+
+/// The code of a design. A clause sees it as the record `Code` of specs/Code.antt.
+#[derive(Drop)]
+pub struct Code {
+    /// By place.
+    pub links: Vec<Link>,
+    /// By place the number of a counter, which is that of the `repeat` where one stands there.
+    pub counters: Vec<u32>,
+    /// By process the point at which it begins.
+    pub begins: Vec<Point>,
+    pub by_variable: Vec<Listeners>,
+    pub by_event: Vec<Listeners>,
+    /// Whether every place leads to what stands behind it in the design, and everybody who may wait is listed.
+    pub whole: bool,
+}
+
+impl Model for Code {
+    ghost use Rattle.vcode.specs.Code as code;
+
+    ghost Value = { code.Code };
+
+    ghost view = { λ c. record {
+      links = c.links.items;
+      counters = c.counters.items;
+      begins = c.begins.items;
+      by_variable = c.by_variable.items;
+      by_event = c.by_event.items;
+      whole = c.whole;
+    } };
+}
+
+/// What leads on from this place; no process comes to a place that isn't there.
+pub fn link_at(links: &[Link], place: usize) -> Link
+    ensures { result ≡ spec.link_at links.now place }
+{
+    match links.get(place) {
+        Some(link) => *link,
+        None => Link {
+            next: Point::Ended,
+            owner: 0,
+        },
+    }
+}
+
+// Those of this number.
+fn listeners_at(lists: &[Listeners], number: usize) -> &[Listener]
+    ensures { result.now ≡ spec.listeners_at lists.now number }
+{
+    match lists.get(number) {
+        Some(listeners) => listeners.as_slice(),
+        None => &[],
+    }
+}
+
+impl Code {
+    /// The point at which this process begins.
+    pub fn begin(&self, process: usize) -> Point
+        ensures { result ≡ spec.begin_of self.now process }
+    {
+        match self.begins.get(process) {
+            Some(point) => *point,
+            None => Point::Ended,
+        }
+    }
+
+    /// The number of the counter of this place.
+    pub fn counter(&self, place: usize) -> u32
+        ensures { result ≡ spec.counter_at self.now place }
+    {
+        match self.counters.get(place) {
+            Some(counter) => *counter,
+            None => 0,
+        }
+    }
+
+    /// How many turns this counter says are left at this place.
+    pub fn turns_at(&self, turns: &[u64], place: usize) -> u64
+        ensures { result ≡ spec.turns_at self.now turns.now place }
+    {
+        match turns.get(self.counter(place) as usize) {
+            Some(left) => *left,
+            None => 0,
+        }
+    }
+
+    // Whether it is at a `repeat` of which no turn is left.
+    fn is_spent(&self, turns: &[u64], point: Point) -> bool
+        ensures { result ≡ spec.is_spent self.now turns.now point }
+    {
+        match point {
+            Point::Ended => false,
+            Point::Executing(_) => false,
+            Point::Repeating(place) => self.turns_at(turns, place as usize) == 0,
+            Point::Writing(_) => false,
+            Point::Waiting(_) => false,
+        }
+    }
+
+    // The point behind this one.
+    fn past(&self, point: Point) -> Point
+        ensures { result ≡ spec.past self.now point }
+    {
+        match point.place() {
+            Some(place) => link_at(&self.links, place as usize).next,
+            None => Point::Ended,
+        }
+    }
+
+    /// The point at which a process comes that is done with this place: a `repeat` of which no turn is left is passed (9.6).
+    pub fn behind(&self, turns: &[u64], place: usize) -> Point
+        ensures { result ≡ spec.behind self.now turns.now place }
+    {
+        let mut point = link_at(&self.links, place).next;
+        let mut most = self.links.len();
+        while most > 0 {
+            if self.is_spent(turns, point) {
+                point = self.past(point);
+                most -= 1;
+            } else {
+                return point;
+            }
+        }
+        point
+    }
+
+    /// Those who may wait for a change of this variable.
+    pub fn heard_by_variable(&self, variable: usize) -> &[Listener]
+        ensures { result.now ≡ spec.listeners_at self.now.by_variable variable }
+    {
+        listeners_at(&self.by_variable, variable)
+    }
+
+    /// Those who may wait for this event.
+    pub fn heard_by_event(&self, event: usize) -> &[Listener]
+        ensures { result.now ≡ spec.listeners_at self.now.by_event event }
+    {
+        listeners_at(&self.by_event, event)
+    }
+}
