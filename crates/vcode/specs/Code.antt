@@ -1,5 +1,5 @@
 -- *internal*: The code of a design: by place what leads on from it, by process where it begins, by variable and by event who listens.
-use Rattle.std.specs.Prelude.{ℕ, zero, suc, ◌==◌, Bool, false, if◌then◌else◌, List, [], Option, None, Some, length, slice_get, unwrap_or}
+use Rattle.std.specs.Prelude.{ℕ, zero, suc, ◌==◌, Bool, false, if◌then◌else◌, List, [], Option, None, Some, length, slice_get, slice_set, unwrap_or}
 use Rattle.vcode.specs.declared.point.Point.{Point}
 use Rattle.vcode.specs.declared.point.Point.TheVariants.{Ended, Executing, Repeating, Writing, Waiting}
 use Rattle.vcode.specs.declared.link.Link.{Link}
@@ -8,7 +8,7 @@ use Rattle.vcode.specs.Points.{place_of_point}
 
 pub record Code : Type 0 where
   pub links : List Link  -- by place
-  pub counters : List ℕ  -- by place the number of a counter, which is that of the `repeat` where one stands there
+  pub counters : List (Option ℕ)  -- by place the number of the counter of the `repeat` there, if one stands there
   pub begins : List Point  -- by process
   pub by_variable : List (List Listener)
   pub by_event : List (List Listener)
@@ -27,13 +27,26 @@ listeners_at lists number = unwrap_or (slice_get lists number) []
 abbrev pub begin_of : Code → ℕ → Point
 begin_of code process = unwrap_or (slice_get code.begins process) Ended
 
--- ---- 9.6: turns; counters go by their numbers, and say how many turns are left
+-- ---- 9.6: turns; counters go by their numbers
 
-abbrev pub counter_at : Code → ℕ → ℕ
-counter_at code place = unwrap_or (slice_get code.counters place) 0
+abbrev pub counter_at : Code → ℕ → Option ℕ
+counter_at code place = unwrap_or (slice_get code.counters place) None
+
+-- how many turns are left by a counter, where there is one
+abbrev pub turns_by : List ℕ → Option ℕ → ℕ
+turns_by turns None = 0
+turns_by turns (Some counter) = unwrap_or (slice_get turns counter) 0
 
 abbrev pub turns_at : Code → List ℕ → ℕ → ℕ
-turns_at code turns place = unwrap_or (slice_get turns (counter_at code place)) 0
+turns_at code turns place = turns_by turns (counter_at code place)
+
+abbrev pub with_counter : Option ℕ → ℕ → List ℕ → List ℕ
+with_counter None n turns = turns
+with_counter (Some counter) n turns = slice_set turns counter n
+
+-- the counters once so many turns are left at a place
+abbrev pub with_turns : Code → ℕ → ℕ → List ℕ → List ℕ
+with_turns code place n turns = with_counter (counter_at code place) n turns
 
 -- whether it is at a `repeat` of which no turn is left
 abbrev pub is_spent : Code → List ℕ → Point → Bool
@@ -56,6 +69,10 @@ abbrev pub settled : Code → List ℕ → ℕ → Point → Point
 settled code turns zero point = point
 settled code turns (suc most) point = if is_spent code turns point then settled code turns most (past code point) else point
 
--- where a process comes that is done with a place; no more are passed than there are places
+-- where a process comes that comes to a point; no more are passed than there are places
+abbrev pub settle : Code → List ℕ → Point → Point
+settle code turns point = settled code turns (length code.links) point
+
+-- where it comes that is done with a place
 abbrev pub behind : Code → List ℕ → ℕ → Point
-behind code turns place = settled code turns (length code.links) (link_at code.links place).next
+behind code turns place = settle code turns (link_at code.links place).next

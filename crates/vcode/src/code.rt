@@ -1,6 +1,6 @@
 // The code of a design: links by place, begins by process, listeners by variable and by event.
 
-ghost use Rattle.std.specs.Prelude.{◌≡◌};
+ghost use Rattle.std.specs.Prelude.{◌≡◌, Some};
 ghost use Rattle.vcode.specs.Code as spec;
 
 use crate::link::Link;
@@ -13,8 +13,8 @@ use std::marker::Model;
 pub struct Code {
     /// By place.
     pub links: Vec<Link>,
-    /// By place the number of a counter, which is that of the `repeat` where one stands there.
-    pub counters: Vec<u32>,
+    /// By place the number of the counter of the `repeat` there, if one stands there (9.6).
+    pub counters: Vec<Option<u32>>,
     /// By process the point at which it begins.
     pub begins: Vec<Point>,
     pub by_variable: Vec<Listeners>,
@@ -61,6 +61,25 @@ fn listeners_at(lists: &[Listeners], number: usize) -> &[Listener]
     }
 }
 
+// How many turns are left by the counter of this number.
+fn turns_by(turns: &[u64], counter: usize) -> u64
+    ensures { result ≡ spec.turns_by turns.now (Some counter) }
+{
+    match turns.get(counter) {
+        Some(left) => *left,
+        None => 0,
+    }
+}
+
+// So many are left by it.
+fn set_counter(turns: &mut [u64], counter: usize, left: u64)
+    ensures { turns.new ≡ spec.with_counter (Some counter) left turns.old }
+{
+    if counter < turns.len() {
+        turns[counter] = left;
+    }
+}
+
 impl Code {
     /// The point at which this process begins.
     pub fn begin(&self, process: usize) -> Point
@@ -72,23 +91,33 @@ impl Code {
         }
     }
 
-    /// The number of the counter of this place.
-    pub fn counter(&self, place: usize) -> u32
+    // The number of the counter of this place.
+    fn counter(&self, place: usize) -> Option<u32>
         ensures { result ≡ spec.counter_at self.now place }
     {
         match self.counters.get(place) {
             Some(counter) => *counter,
-            None => 0,
+            None => None,
         }
     }
 
-    /// How many turns this counter says are left at this place.
+    /// How many turns are left at this place, by the counters.
     pub fn turns_at(&self, turns: &[u64], place: usize) -> u64
         ensures { result ≡ spec.turns_at self.now turns.now place }
     {
-        match turns.get(self.counter(place) as usize) {
-            Some(left) => *left,
+        match self.counter(place) {
             None => 0,
+            Some(counter) => turns_by(turns, counter as usize),
+        }
+    }
+
+    /// From here on so many turns are left at this place.
+    pub fn set_turns(&self, turns: &mut [u64], place: usize, left: u64)
+        ensures { turns.new ≡ spec.with_turns self.now place left turns.old }
+    {
+        match self.counter(place) {
+            None => {}
+            Some(counter) => set_counter(turns, counter as usize, left),
         }
     }
 
@@ -115,21 +144,28 @@ impl Code {
         }
     }
 
-    /// The point at which a process comes that is done with this place: a `repeat` of which no turn is left is passed (9.6).
+    /// The point at which a process comes that comes to this one: each `repeat` of which no turn is left is passed (9.6).
+    pub fn settle(&self, turns: &[u64], point: Point) -> Point
+        ensures { result ≡ spec.settle self.now turns.now point }
+    {
+        let mut settled = point;
+        let mut most = self.links.len();
+        while most > 0 {
+            if self.is_spent(turns, settled) {
+                settled = self.past(settled);
+                most -= 1;
+            } else {
+                return settled;
+            }
+        }
+        settled
+    }
+
+    /// The point at which a process comes that is done with this place.
     pub fn behind(&self, turns: &[u64], place: usize) -> Point
         ensures { result ≡ spec.behind self.now turns.now place }
     {
-        let mut point = link_at(&self.links, place).next;
-        let mut most = self.links.len();
-        while most > 0 {
-            if self.is_spent(turns, point) {
-                point = self.past(point);
-                most -= 1;
-            } else {
-                return point;
-            }
-        }
-        point
+        self.settle(turns, link_at(&self.links, place).next)
     }
 
     /// Those who may wait for a change of this variable.

@@ -1,5 +1,5 @@
 -- Whoever may wait for a change or for an event stands in the list of that, and nobody else does.
-use Rattle.std.proofs.Common.{◌≡◌, ℕ, ◌+◌, ◌<◌, zero, suc, Bool, true, false, ◌||◌, List, [], ◌∷◌, length, replicate, slice_get, Option, Some, refl, sym, ap, subst, ◌∙◌, ◌⊎◌, inl, inr, arith}
+use Rattle.std.proofs.Common.{◌≡◌, ℕ, ◌+◌, ◌<◌, zero, suc, nat_lt, Bool, true, false, ◌||◌, List, [], ◌∷◌, length, replicate, slice_get, Option, Some, refl, sym, ap, subst, ◌∙◌, ◌⊎◌, inl, inr, arith}
 use Rattle.std.specs.List.{Contains}
 use Rattle.std.proofs.lemmas.List.Elements.{Contains-append_left, Contains-append_right, Contains-append_cases}
 use Rattle.basis.proofs.Bools.{and_left, and_right, or_first, or_second}
@@ -18,7 +18,7 @@ use Rattle.vcompile.specs.Listening.{terms_of, edge_of, listener_at, at_edge, Li
 use Rattle.vcompile.specs.Whole.{is_listed, are_listed, all_listed}
 use Rattle.vcompile.specs.CodeOf.{code_of}
 use Rattle.vcompile.specs.Laws.{heard_of, with_edge, HearsAll, Awaits, HearsOnly}
-use Rattle.vcompile.proofs.LinkLemmas.{is_below}
+use Rattle.std.proofs.lemmas.Bool.Decides.{nat_tests}
 use Rattle.vcompile.proofs.StepLemmas.{Holds, holds_of}
 
 -- ---- one list
@@ -70,6 +70,9 @@ length_of_none : (count : ℕ) (empty : List Listener) → length (replicate cou
 length_of_none zero empty = refl
 length_of_none (suc count) empty = ap suc (length_of_none count empty)
 
+is_place : {X : Type 0} (xs : List X) (n count : ℕ) → length xs ≡ count → nat_lt n count ≡ true → n < length xs
+is_place xs n count is h = grind (arith, nat_tests)
+
 -- ---- a term
 
 -- those who listen to what a term is of
@@ -94,9 +97,9 @@ term_keeps l (Event event) lists (Event one) x h = list_keeps lists.by_event eve
 term_has : (variables events : ℕ) (l : Listener) (t : Term) (lists : Lists) → AreLists variables events lists → is_listed variables events t ≡ true →
     Contains (heard_in (with_term l t lists) t) (at_edge l (edge_of t))
 term_has variables events l (Change edge variable) lists h listed =
-    list_has lists.by_variable variable (at_edge l edge) (subst (λ n. variable < n) (sym h.0) (is_below variable variables listed))
+    list_has lists.by_variable variable (at_edge l edge) (is_place lists.by_variable variable variables h.0 listed)
 term_has variables events l (Event event) lists h listed =
-    list_has lists.by_event event (at_edge l Any) (subst (λ n. event < n) (sym h.1) (is_below event events listed))
+    list_has lists.by_event event (at_edge l Any) (is_place lists.by_event event events h.1 listed)
 
 -- x is of the term t, and listens as one that listens to another term would
 record IsOf (l : Listener) (t term : Term) (x : Listener) : Type 0 where

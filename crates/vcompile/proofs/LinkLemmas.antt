@@ -1,8 +1,8 @@
 -- What the tests of links tell: which point stands behind a place, and whose it is.
-use Rattle.std.proofs.Common.{◌≡◌, ℕ, ◌+◌, ◌<◌, ◌≤◌, zero, suc, ◌==◌, nat_lt, true, List, [], ◌∷◌, length, slice_get, unwrap_or, Option, None, Some, refl, ap, subst, ◌∙◌, arith}
+use Rattle.std.proofs.Common.{◌≡◌, ℕ, ◌+◌, ◌<◌, ◌≤◌, zero, suc, ◌==◌, nat_lt, true, ◌&&◌, List, [], ◌∷◌, length, slice_get, unwrap_or, Option, None, Some, refl, sym, ap, subst, ◌∙◌, arith}
 use Rattle.std.proofs.lemmas.Bool.Decides.{nat_tests}
 use Rattle.basis.proofs.Bools.{and_left, and_right}
-use Rattle.basis.proofs.Lists.{place_within}
+use Rattle.basis.proofs.Lists.{place_within, listed_place}
 use Rattle.vcode.specs.declared.point.Point.{Point}
 use Rattle.vcode.specs.declared.point.Point.TheVariants.{Ended, Executing, Repeating, Writing, Waiting}
 use Rattle.vcode.specs.declared.link.Link.{Link}
@@ -10,15 +10,18 @@ use Rattle.vcode.specs.Points.{is_same_point, place_of_point}
 use Rattle.vcode.specs.Code.{no_link, link_at}
 use Rattle.vdesign.specs.declared.action.Action.{Action}
 use Rattle.vcompile.specs.Links.{place_number, first_point}
-use Rattle.vcompile.specs.Whole.{leads_by, is_chain, is_linked, are_linked, begin_well, is_behind, rise}
+use Rattle.vcompile.specs.Whole.{leads_by, is_chain, is_linked, are_linked, begin_well, is_behind, is_owned, leads_on, lead_on}
 
 -- ---- numbers and points
 
-pub same_number : (a b : ℕ) → (a == b) ≡ true → a ≡ b
-same_number a b h = grind (arith, nat_tests)
+pub of_same_number : {X : Type 0} (f : ℕ → X) (a b : ℕ) → (a == b) ≡ true → f a ≡ f b
+of_same_number f a b h = let same : a ≡ b = grind (arith, nat_tests) in ap f same
 
-pub is_below : (a b : ℕ) → nat_lt a b ≡ true → a < b
-is_below a b h = grind (arith, nat_tests)
+is_between : (low n high : ℕ) → (nat_lt low n && nat_lt n high) ≡ true → (low < n) × (n < high)
+is_between low n high h =
+    let above : nat_lt low n ≡ true = and_left (nat_lt low n) (nat_lt n high) h in
+    let below : nat_lt n high ≡ true = and_right (nat_lt low n) (nat_lt n high) h in
+    (grind (arith, nat_tests), grind (arith, nat_tests))
 
 pub number_of_place : (place : ℕ) → place ≤ 4294967295 → place_number place ≡ place
 number_of_place place le = grind arith
@@ -30,25 +33,25 @@ same_point Ended (Repeating b) h = absurd cc
 same_point Ended (Writing b) h = absurd cc
 same_point Ended (Waiting b) h = absurd cc
 same_point (Executing a) Ended h = absurd cc
-same_point (Executing a) (Executing b) h = ap Executing (same_number a b h)
+same_point (Executing a) (Executing b) h = of_same_number Executing a b h
 same_point (Executing a) (Repeating b) h = absurd cc
 same_point (Executing a) (Writing b) h = absurd cc
 same_point (Executing a) (Waiting b) h = absurd cc
 same_point (Repeating a) Ended h = absurd cc
 same_point (Repeating a) (Executing b) h = absurd cc
-same_point (Repeating a) (Repeating b) h = ap Repeating (same_number a b h)
+same_point (Repeating a) (Repeating b) h = of_same_number Repeating a b h
 same_point (Repeating a) (Writing b) h = absurd cc
 same_point (Repeating a) (Waiting b) h = absurd cc
 same_point (Writing a) Ended h = absurd cc
 same_point (Writing a) (Executing b) h = absurd cc
 same_point (Writing a) (Repeating b) h = absurd cc
-same_point (Writing a) (Writing b) h = ap Writing (same_number a b h)
+same_point (Writing a) (Writing b) h = of_same_number Writing a b h
 same_point (Writing a) (Waiting b) h = absurd cc
 same_point (Waiting a) Ended h = absurd cc
 same_point (Waiting a) (Executing b) h = absurd cc
 same_point (Waiting a) (Repeating b) h = absurd cc
 same_point (Waiting a) (Writing b) h = absurd cc
-same_point (Waiting a) (Waiting b) h = ap Waiting (same_number a b h)
+same_point (Waiting a) (Waiting b) h = of_same_number Waiting a b h
 
 -- ---- a place leads to a point
 
@@ -64,7 +67,7 @@ leads_as links place owner next (Some l) is h =
     let there : link_at links place ≡ l = ap (λ (o : Option Link). unwrap_or o no_link) is in
     record {
       within = place_within links place l is;
-      owner_is = ap (λ (x : Link). x.owner) there ∙ same_number l.owner owner (and_right (is_same_point l.next next) (l.owner == owner) h);
+      owner_is = ap (λ (x : Link). x.owner) there ∙ of_same_number (λ n. n) l.owner owner (and_right (is_same_point l.next next) (l.owner == owner) h);
       next_is = ap (λ (x : Link). x.next) there ∙ same_point l.next next (and_left (is_same_point l.next next) (l.owner == owner) h);
     }
 
@@ -109,39 +112,43 @@ begins_at links n (a ∷ more) (suc i) places h there =
 
 -- ---- every place leads on
 
--- a place behind another one, if it is one, of so many
-abbrev pub IsBehind : ℕ → ℕ → Option ℕ → Type 0
-IsBehind count place None = Unit {0}
-IsBehind count place (Some other) = (place < other) × (other < count)
-
-behind_by : (count place : ℕ) (other : Option ℕ) → is_behind count place other ≡ true → IsBehind count place other
-behind_by count place None h = tt
-behind_by count place (Some other) h =
-    (is_below place other (and_left (nat_lt place other) (nat_lt other count) h), is_below other count (and_right (nat_lt place other) (nat_lt other count) h))
-
-pub behind_further : (count low place : ℕ) (other : Option ℕ) → low ≤ place → IsBehind count place other → IsBehind count low other
-behind_further count low place None le h = tt
-behind_further count low place (Some other) le h =
-    let above : place < other = h.0 in
-    (omega (arith, le, above), h.1)
-
-rises_at : (count n : ℕ) (links : List Link) (i : ℕ) → rise count n links ≡ true → i < length links →
-    IsBehind count (n + i) (place_of_point (link_at links i).next)
-rises_at count n [] i h lt = absurd (omega (arith, lt))
-rises_at count n (l ∷ more) zero h lt =
-    let place : n ≡ n + 0 = omega arith in
-    subst (λ p. IsBehind count p (place_of_point l.next)) place
-    (behind_by count n (place_of_point l.next) (and_left (is_behind count n (place_of_point l.next)) (rise count (suc n) more) h))
-rises_at count n (l ∷ more) (suc i) h lt =
-    let place : suc n + i ≡ n + suc i = omega arith in
-    subst (λ p. IsBehind count p (place_of_point (link_at more i).next)) place
-    (rises_at count (suc n) more i (and_right (is_behind count n (place_of_point l.next)) (rise count (suc n) more) h) (omega (arith, lt)))
+-- a place behind another one, of the same process, if it is one
+abbrev pub IsNext : List Link → ℕ → Option ℕ → Type 0
+IsNext links place None = Unit {0}
+IsNext links place (Some other) = (place < other) × (other < length links) × ((link_at links other).owner ≡ (link_at links place).owner)
 
 -- what all links do
-abbrev pub Rise : List Link → Type 0
-Rise links = (place : ℕ) → place < length links → IsBehind (length links) place (place_of_point (link_at links place).next)
+abbrev pub LeadOn : List Link → Type 0
+LeadOn links = (place : ℕ) → place < length links → IsNext links place (place_of_point (link_at links place).next)
 
-pub all_rise : (links : List Link) → rise (length links) 0 links ≡ true → Rise links
-all_rise links h place lt =
+next_by : (links : List Link) (place owner : ℕ) (other : Option ℕ) → owner ≡ (link_at links place).owner → is_behind (length links) place other ≡ true →
+    is_owned links owner other ≡ true → IsNext links place other
+next_by links place owner None same h owned = tt
+next_by links place owner (Some other) same h owned =
+    let between : (place < other) × (other < length links) = is_between place other (length links) h in
+    (between.0, between.1, of_same_number (λ n. n) (link_at links other).owner owner owned ∙ same)
+
+-- of the links from a place on
+leads_at : (all : List Link) (n : ℕ) (links : List Link) (i : ℕ) (l : Link) → lead_on all n links ≡ true → slice_get links i ≡ Some l → leads_on all (n + i) l ≡ true
+leads_at all n [] i l h there = absurd cc
+leads_at all n (a ∷ more) zero l h there =
+    let same : a ≡ l = cc in
+    let place : n ≡ n + 0 = omega arith in
+    subst (λ p. leads_on all p l ≡ true) place
+    (subst (λ x. leads_on all n x ≡ true) same (and_left (leads_on all n a) (lead_on all (suc n) more) h))
+leads_at all n (a ∷ more) (suc i) l h there =
+    let place : suc n + i ≡ n + suc i = omega arith in
+    subst (λ p. leads_on all p l ≡ true) place
+    (leads_at all (suc n) more i l (and_right (leads_on all n a) (lead_on all (suc n) more) h) there)
+
+pub all_lead_on : (links : List Link) → lead_on links 0 links ≡ true → LeadOn links
+all_lead_on links h place lt =
+    let found : (l : Link) × (slice_get links place ≡ Some l) = listed_place links place lt in
+    let l : Link = found.0 in
+    let there : link_at links place ≡ l = ap (λ (o : Option Link). unwrap_or o no_link) found.1 in
     let zero_plus : 0 + place ≡ place = omega arith in
-    subst (λ p. IsBehind (length links) p (place_of_point (link_at links place).next)) zero_plus (rises_at (length links) 0 links place h lt)
+    let leads : leads_on links place l ≡ true = subst (λ p. leads_on links p l ≡ true) zero_plus (leads_at links 0 links place l h found.1) in
+    subst (λ (x : Link). IsNext links place (place_of_point x.next)) (sym there)
+    (next_by links place l.owner (place_of_point l.next) (ap (λ (x : Link). x.owner) (sym there))
+    (and_left (is_behind (length links) place (place_of_point l.next)) (is_owned links l.owner (place_of_point l.next)) leads)
+    (and_right (is_behind (length links) place (place_of_point l.next)) (is_owned links l.owner (place_of_point l.next)) leads))

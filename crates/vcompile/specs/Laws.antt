@@ -1,11 +1,11 @@
 -- *internal*: What holds of the code of a design that is whole (IEEE 1364-2005, clause 9); `code_law` proves it.
-use Rattle.std.specs.Prelude.{◌≡◌, ℕ, ◌-◌, ◌<◌, ◌≤◌, true, List, [], ◌∷◌, length, slice_get, slice_set, Option, Some}
+use Rattle.std.specs.Prelude.{◌≡◌, ◌≢◌, ℕ, ◌-◌, ◌<◌, ◌≤◌, true, List, [], ◌∷◌, length, slice_get, Option, Some}
 use Rattle.std.specs.List.{Contains}
 use Rattle.vbits.specs.Vectors.{Vector}
 use Rattle.vcode.specs.declared.point.Point.{Point}
 use Rattle.vcode.specs.declared.point.Point.TheVariants as points
 use Rattle.vcode.specs.declared.listener.Listener.{Listener}
-use Rattle.vcode.specs.Code.{Code, link_at, listeners_at, begin_of, counter_at, turns_at, behind}
+use Rattle.vcode.specs.Code.{Code, link_at, listeners_at, begin_of, counter_at, turns_at, with_turns, settle, behind}
 use Rattle.vdesign.specs.Design.{Design}
 use Rattle.vdesign.specs.declared.action.Edge.{Edge}
 use Rattle.vdesign.specs.declared.action.Term.{Term}
@@ -16,9 +16,10 @@ use Rattle.vvalue.specs.Value.{Environment}
 use Rattle.vvalue.specs.Cases.{turns_of}
 use Rattle.vmodel.specs.declared.process.Frame.{Frame}
 use Rattle.vmodel.specs.declared.process.Frame.TheVariants.{Executing, Repeating, Writing}
+use Rattle.vmodel.specs.declared.effect.Disposition.TheVariants.{Waiting}
 use Rattle.vmodel.specs.Step.{frames, place_of, execute_at}
 use Rattle.vmodel.specs.Waking.{hears, has_come}
-use Rattle.vcompile.specs.Listening.{edge_of, listener_at}
+use Rattle.vcompile.specs.Listening.{edge_of, resumes_at, listener_at}
 use Rattle.vcompile.specs.CodeOf.{code_of}
 
 -- ---- the links go the way of a continuation
@@ -53,13 +54,13 @@ AreLed code process turns (frame ∷ rest) = IsLed code process turns frame rest
 
 -- 9.6: the counters behind a step: a `repeat` takes its count, and each turn is one less
 abbrev pub turns_behind : Code → Frame → Action → Environment → List ℕ → List ℕ
-turns_behind code (Executing place) (Repeat count body) now turns = slice_set turns (counter_at code place) (turns_of now count)
-turns_behind code (Repeating place n) (Repeat count body) now turns = slice_set turns (counter_at code place) (n - 1)
+turns_behind code (Executing place) (Repeat count body) now turns = with_turns code place (turns_of now count) turns
+turns_behind code (Repeating place n) (Repeat count body) now turns = with_turns code place (n - 1) turns
 turns_behind code _ _ now turns = turns
 
--- there are counters for all
+-- there are so many counters as the code has
 abbrev pub HasCounters : Code → List ℕ → Type 0
-HasCounters code turns = (place : ℕ) → counter_at code place < length turns
+HasCounters code turns = (place counter : ℕ) → counter_at code place ≡ Some counter → counter < length turns
 
 -- a process begins at the first of its places, and its links lead along them
 abbrev pub BeginsAlong : Type 0
@@ -67,16 +68,44 @@ BeginsAlong = (design : Design) (turns : List ℕ) (process : ℕ) (places : Lis
     (code_of design).whole ≡ true → slice_get design.processes process ≡ Some places →
     (begin_of (code_of design) process ≡ first_of (frames places [])) × AreLed (code_of design) process turns (frames places [])
 
--- where the links lead along what a process has left, they lead along what it has left behind its step, too
+-- a process takes a step of the action at the place of its first frame, and its links lead along what it has left
+pub record TakesStep (design : Design) (turns : List ℕ) (process : ℕ) (frame : Frame) (after : List Frame) (action : Action) : Type 0 where
+  pub whole : (code_of design).whole ≡ true
+  pub counters : HasCounters (code_of design) turns
+  pub there : slice_get design.actions (place_of frame) ≡ Some action
+  pub led : AreLed (code_of design) process turns (frame ∷ after)
+
+-- they lead along what it has left behind the step, too
 abbrev pub StepsAlong : Type 0
 StepsAlong = (design : Design) (turns : List ℕ) (process : ℕ) (frame : Frame) (after : List Frame) (action : Action) (held : Option Vector) (now : Environment) →
-    (code_of design).whole ≡ true → HasCounters (code_of design) turns → slice_get design.actions (place_of frame) ≡ Some action →
-    AreLed (code_of design) process turns (frame ∷ after) →
+    TakesStep design turns process frame after action →
     AreLed (code_of design) process (turns_behind (code_of design) frame action now turns) (execute_at frame action after held now).continuation
+
+-- where the step puts nothing before what was left, the process comes to what stands behind the place
+abbrev pub PassesAlong : Type 0
+PassesAlong = (design : Design) (turns : List ℕ) (process : ℕ) (frame : Frame) (after : List Frame) (action : Action) (now : Environment) →
+    TakesStep design turns process frame after action →
+    behind (code_of design) (turns_behind (code_of design) frame action now turns) (place_of frame) ≡ first_of after
+
+-- where it waits, it waits at the place, and goes on where its listeners say (9.7.2, 9.7.6, 6.1)
+abbrev pub ResumesAlong : Type 0
+ResumesAlong = (design : Design) (turns : List ℕ) (process : ℕ) (frame : Frame) (after : List Frame) (action : Action) (held : Option Vector) (now : Environment) (place : ℕ) →
+    TakesStep design turns process frame after action → (execute_at frame action after held now).effect.disposition ≡ Waiting place →
+    (place ≡ place_of frame)
+    × (settle (code_of design) turns (resumes_at place (link_at (code_of design).links place).next action) ≡ first_of (execute_at frame action after held now).continuation)
+
+-- turns of a place of another process change nothing
+abbrev pub StaysAlong : Type 0
+StaysAlong = (design : Design) (turns : List ℕ) (process : ℕ) (left : List Frame) (place n : ℕ) →
+    (code_of design).whole ≡ true → (link_at (code_of design).links place).owner ≢ process → AreLed (code_of design) process turns left →
+    AreLed (code_of design) process (with_turns (code_of design) place n turns) left
 
 pub record IsLinked : Type 0 where
   pub begins : BeginsAlong
   pub steps : StepsAlong
+  pub passes : PassesAlong
+  pub resumes : ResumesAlong
+  pub stays : StaysAlong
 
 -- ---- who waits is listed
 

@@ -1,5 +1,5 @@
 -- *internal*: Where the places of a design lead (IEEE 1364-2005, clause 9): what stands behind each, and which process comes to it.
-use Rattle.std.specs.Prelude.{ℕ, zero, suc, ◌+◌, min, List, [], ◌∷◌, map, length, replicate, slice_get, slice_set, Option, None, Some}
+use Rattle.std.specs.Prelude.{ℕ, zero, suc, Bool, true, false, min, List, [], ◌∷◌, map, length, replicate, slice_get, slice_set, Option, None, Some}
 use Rattle.vcode.specs.declared.point.Point.{Point}
 use Rattle.vcode.specs.declared.point.Point.TheVariants.{Ended, Executing, Repeating}
 use Rattle.vcode.specs.declared.link.Link.{Link}
@@ -86,12 +86,20 @@ begins_by processes = map (λ places. first_point places Ended) processes
 
 -- ---- 9.6: counters
 
--- how many counters an action has
-abbrev pub counted : Action → ℕ
-counted (Repeat count places) = 1
-counted _ = 0
+abbrev pub is_repeat : Action → Bool
+is_repeat (Repeat count places) = true
+is_repeat _ = false
 
--- by place, how many of them stand before, from n on
-abbrev pub counters_from : ℕ → List Action → List ℕ
+-- a `repeat` has the next counter
+abbrev pub counter_by : Bool → ℕ → Option ℕ
+counter_by true n = Some n
+counter_by false n = None
+
+abbrev pub next_counter : Bool → ℕ → ℕ
+next_counter true n = suc n
+next_counter false n = n
+
+-- by place, numbered from n on
+abbrev pub counters_from : ℕ → List Action → List (Option ℕ)
 counters_from n [] = []
-counters_from n (action ∷ more) = n ∷ counters_from (n + counted action) more
+counters_from n (action ∷ more) = counter_by (is_repeat action) n ∷ counters_from (next_counter (is_repeat action) n) more

@@ -42,16 +42,24 @@ abbrev pub begin_well : List Link → ℕ → List (List ℕ) → Bool
 begin_well links n [] = true
 begin_well links n (places ∷ more) = is_chain links n places Ended && begin_well links (suc n) more
 
--- ---- every place leads on to a place behind it, or to the end
+-- ---- every place leads on to a place behind it, of the same process, or to the end
 
 abbrev pub is_behind : ℕ → ℕ → Option ℕ → Bool
 is_behind count place None = true
 is_behind count place (Some other) = nat_lt place other && nat_lt other count
 
--- links of places from n on, of so many places
-abbrev pub rise : ℕ → ℕ → List Link → Bool
-rise count n [] = true
-rise count n (l ∷ more) = is_behind count n (place_of_point l.next) && rise count (suc n) more
+abbrev pub is_owned : List Link → ℕ → Option ℕ → Bool
+is_owned links owner None = true
+is_owned links owner (Some place) = (link_at links place).owner == owner
+
+-- whether a link of this place does
+abbrev pub leads_on : List Link → ℕ → Link → Bool
+leads_on links place l = is_behind (length links) place (place_of_point l.next) && is_owned links l.owner (place_of_point l.next)
+
+-- links of places from n on
+abbrev pub lead_on : List Link → ℕ → List Link → Bool
+lead_on links n [] = true
+lead_on links n (l ∷ more) = leads_on links n l && lead_on links (suc n) more
 
 -- ---- terms
 
@@ -72,7 +80,7 @@ all_listed variables events (action ∷ more) = are_listed variables events (ter
 
 -- links of all places
 abbrev pub are_all : Design → List Link → Bool
-are_all design links = (length links == length design.actions) && rise (length links) 0 links
+are_all design links = (length links == length design.actions) && lead_on links 0 links
 
 abbrev pub holds_links : Design → List Link → Bool
 holds_links design links = are_all design links && (are_linked links 0 design.actions && begin_well links 0 design.processes)

@@ -1,7 +1,6 @@
 // Whether every place leads to what stands behind it in a design, and everybody who may wait is listed.
 
 ghost use Rattle.std.specs.Prelude.{◌≡◌, ◌≤◌, length, slice_get};
-ghost use Rattle.vcode.specs.Points.{place_of_point};
 ghost use Rattle.vcompile.specs.Links as links_spec;
 ghost use Rattle.vcompile.specs.Whole as spec;
 
@@ -124,19 +123,30 @@ fn is_behind(count: usize, place: usize, other: Option<u32>) -> bool
     }
 }
 
-// Whether a link of this place leads on to a place behind it, or to the end.
-fn rises(count: usize, place: usize, link: &Link) -> bool
-    ensures { result ≡ spec.is_behind count place (place_of_point link.now.next) }
+// Whether a place, if it is one, is this process's.
+fn is_owned(links: &[Link], owner: u32, place: Option<u32>) -> bool
+    ensures { result ≡ spec.is_owned links.now owner place }
 {
-    is_behind(count, place, link.next.place())
+    match place {
+        None => true,
+        Some(place) => link_at(links, place as usize).owner == owner,
+    }
 }
 
-fn rise(count: usize, links: &[Link]) -> bool
-    ensures { result ≡ spec.rise count 0 links.now }
+// Whether a link of this place leads on to a place behind it, of the same process, or to the end.
+fn leads_on(links: &[Link], place: usize, link: &Link) -> bool
+    ensures { result ≡ spec.leads_on links.now place link.now }
+{
+    let next = link.next.place();
+    is_behind(links.len(), place, next) && is_owned(links, link.owner, next)
+}
+
+fn lead_on(links: &[Link]) -> bool
+    ensures { result ≡ spec.lead_on links.now 0 links.now }
 {
     let mut place = 0;
     for link in links {
-        if !rises(count, place, link) {
+        if !leads_on(links, place, link) {
             return false;
         }
         place += 1;
@@ -180,7 +190,7 @@ fn all_listed(variables: usize, events: usize, actions: &[Action]) -> bool
 fn are_all(design: &Design, links: &[Link]) -> bool
     ensures { result ≡ spec.are_all design.now links.now }
 {
-    links.len() == design.actions.len() && rise(links.len(), links)
+    links.len() == design.actions.len() && lead_on(links)
 }
 
 fn holds_links(design: &Design, links: &[Link]) -> bool
