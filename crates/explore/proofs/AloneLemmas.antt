@@ -31,7 +31,7 @@ use Rattle.explore.proofs.MarkLemmas.{has_no_shorter, lists_each}
 use Rattle.statebook.proofs.NextLemmas.{exceeds}
 
 -- the root's entry
-root_entry : {S : Type 0} (r : Rules S) (limits : Limits) (e : Entry S) → r.same e.state r.first ≡ true → e.budget ≡ limits.depart → e.log ≡ [] → e.steps ≡ 0 → IsEntry r limits.depart limits.steps e
+pub root_entry : {S : Type 0} (r : Rules S) (limits : Limits) (e : Entry S) → r.same e.state r.first ≡ true → e.budget ≡ limits.depart → e.log ≡ [] → e.steps ≡ 0 → IsEntry r limits.depart limits.steps e
 root_entry {S} r limits e same budget log steps =
     let none : length e.log ≡ 0 = ap length log in
     let A : ℕ → Type 0 = λ n. r.same e.state (stands r e.log n) ≡ true in
@@ -47,7 +47,7 @@ root_entry {S} r limits e same budget log steps =
       budget = omega (arith, budget, none);
     }
 
-nothing_there : {X : Type 0} (i : ℕ) (x : X) → slice_get [] i ≡ Some x → ⊥
+pub nothing_there : {X : Type 0} (i : ℕ) (x : X) → slice_get [] i ≡ Some x → ⊥
 nothing_there i x at = cc
 
 -- the book with the root's entry alone
@@ -76,7 +76,7 @@ pub exhausted : {S : Type 0} (r : Rules S) → IsLawful r → (limits : Limits) 
 exhausted r law limits b marks u closed lists log n short run mark =
     let l : IsListed r b.entries (stands r log n) (length log) = closed_listed r limits.depart limits.steps b 0 closed.0 law u.sound closed.1 log n short run mark in
     let at_mark : r.mark l.entry.state ≡ true = law.mark_same l.entry.state (stands r log n) l.same ∙ mark in
-    let m : IsListedMark r marks l.entry.state (length l.entry.log) = lists_each r law limits b marks u lists l.place l.entry l.at at_mark in
+    let m : IsListedMark r marks l.entry.state (length l.entry.log) = lists_each r law limits b marks u.sound.entry lists l.place l.entry l.at at_mark in
     record {
       place = m.place;
       found = m.found;
@@ -93,7 +93,7 @@ fewest r law limits b marks u closed found lists i p at log n run same = elim (c
       let mark : r.mark (stands r log n) ≡ true = sym (law.mark_same p.0 (stands r log n) same) ∙ (found i p at).mark in
       let l : IsListed r b.entries (stands r log n) (length log) = closed_listed r limits.depart limits.steps b 0 closed.0 law u.sound closed.1 log n short run mark in
       let near : r.same p.0 l.entry.state ≡ true = law.transitive p.0 (stands r log n) l.entry.state same (law.symmetric l.entry.state (stands r log n) l.same) in
-      omega (arith, has_no_shorter r limits b marks u lists i p at l.place l.entry l.at near, l.departures))
+      omega (arith, has_no_shorter r limits b marks u.sound.entry lists i p at l.place l.entry l.at near, l.departures))
 ]
 
 -- a book's entries differ in state or budget

@@ -8,7 +8,7 @@ use Rattle.statebook.specs.Books.{Book, IsFinished}
 use Rattle.statebook.specs.declared.entry.Entry.{Entry}
 use Rattle.statebook.specs.declared.limits.Limits.{Limits}
 use Rattle.explore.specs.BookFindings.{AllChoicesLeadOn, AllLeadOn, IsBounded, SomeChoiceGoesPast, SomeWayGoesPast}
-use Rattle.explore.specs.Inner.Exploring.{AddsFew, AllVisited, BookGrows, FinishedAt, GrowsFrom, IsUnderWay, LeadsOnAt, VisitedAt, WasVisited, width_limit}
+use Rattle.explore.specs.Inner.Exploring.{AddsFew, AllVisited, AreEntries, BookGrows, FinishedAt, GrowsFrom, LeadsOnAt, VisitedAt, WasVisited, width_limit}
 use Rattle.explore.proofs.VisitLemmas.{grows_twice, leads_later, still_there, true_not_false}
 
 -- Of each place that has an entry of at least this budget it is true.
@@ -46,7 +46,7 @@ one_later {S} P Q old new budget place g on lt h i e less at same =
     on i (h i e less (subst T itself x.1) same)
 
 -- it is true of one place more
-one_more : {S : Type 0} (P Q : ℕ → Type 0) (old new : Book S) (budget place : ℕ) → BookGrows old new budget → ((i : ℕ) → P i → Q i) → place < length old.entries → EachUpTo P old budget place → Q place → EachUpTo Q new budget (place + 1)
+pub one_more : {S : Type 0} (P Q : ℕ → Type 0) (old new : Book S) (budget place : ℕ) → BookGrows old new budget → ((i : ℕ) → P i → Q i) → place < length old.entries → EachUpTo P old budget place → Q place → EachUpTo Q new budget (place + 1)
 one_more {S} P Q old new budget place g on lt h here i e less at same = elim (cases_lt i place) [
   | inl before ↦ one_later P Q old new budget place g on lt h i e before at same
   | inr ge ↦ (
@@ -55,7 +55,7 @@ one_more {S} P Q old new budget place g on lt h here i e less at same = elim (ca
 ]
 
 -- the entry at the place has another budget
-one_other : {S : Type 0} (P : ℕ → Type 0) (b : Book S) (budget place : ℕ) (x : Entry S) → slice_get b.entries place ≡ Some x → x.budget ≢ budget → EachUpTo P b budget place → EachUpTo P b budget (place + 1)
+pub one_other : {S : Type 0} (P : ℕ → Type 0) (b : Book S) (budget place : ℕ) (x : Entry S) → slice_get b.entries place ≡ Some x → x.budget ≢ budget → EachUpTo P b budget place → EachUpTo P b budget (place + 1)
 one_other {S} P b budget place x there other h i e less at same = elim (cases_lt i place) [
   | inl before ↦ h i e before at same
   | inr ge ↦ (
@@ -146,8 +146,8 @@ class_visited r limits start now budget place within s le i e at same =
     s.visited i e (omega (arith, slice_get_within now.entries i e at, le)) at same
 
 -- no entry has more departures left than the limit
-pub none_over : {S : Type 0} (P : ℕ → Type 0) (r : Rules S) (limits : Limits) (b : Book S) (budget : ℕ) → IsUnderWay r limits b → limits.depart < budget → EachFrom P b budget
-none_over P r limits b budget u lt i e at le = absurd (omega (arith, (u.sound.entry i e at).budget, lt, le))
+pub none_over : {S : Type 0} (P : ℕ → Type 0) (r : Rules S) (limits : Limits) (b : Book S) (budget : ℕ) → AreEntries r limits b → limits.depart < budget → EachFrom P b budget
+none_over P r limits b budget u lt i e at le = absurd (omega (arith, (u i e at).budget, lt, le))
 
 -- with a class more, it is true from its budget on
 pub from_next : {S : Type 0} (P Q : ℕ → Type 0) (old new : Book S) (before budget after : ℕ) → before ≡ budget + 1 → after ≡ budget → ((i : ℕ) → P i → Q i) → BookGrows old new budget → EachFrom P old before → ((i : ℕ) (e : Entry S) → slice_get new.entries i ≡ Some e → e.budget ≡ budget → Q i) → EachFrom Q new after

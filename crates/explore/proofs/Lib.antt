@@ -8,3 +8,6 @@ pub mod MarkLemmas
 pub mod AloneLemmas
 pub mod ListingLemmas
 pub mod SharedLemmas
+pub mod RankBookLemmas
+pub mod RankedLemmas
+pub mod RankLoopLemmas

@@ -14,7 +14,7 @@ use Rattle.statebook.specs.declared.entry.Entry.{Entry}
 use Rattle.statebook.specs.declared.limits.Limits.{Limits}
 use Rattle.explore.specs.Found.{AreFound, IsFound, IsListedMark}
 use Rattle.explore.specs.BookFindings.{IsAmongMarks, ListsExactly}
-use Rattle.explore.specs.Inner.Exploring.{IsUnderWay}
+use Rattle.explore.specs.Inner.Exploring.{AreEntries}
 use Rattle.explore.proofs.InsertLemmas.{Inserted, inserted, same_value}
 
 -- the pair is the state and the log of an entry before the place, of the greatest budget among them
@@ -229,7 +229,7 @@ marks_read r limits b place marks m all = record {
 }
 
 -- each entry that stands at a mark is listed, under a log with no more departures
-pub lists_each : {S : Type 0} (r : Rules S) → IsLawful r → (limits : Limits) (b : Book S) (marks : List (S × List (ℕ × ℕ))) → IsUnderWay r limits b → ListsExactly r b marks → (i : ℕ) (e : Entry S) → slice_get b.entries i ≡ Some e → r.mark e.state ≡ true → IsListedMark r marks e.state (length e.log)
+pub lists_each : {S : Type 0} (r : Rules S) → IsLawful r → (limits : Limits) (b : Book S) (marks : List (S × List (ℕ × ℕ))) → AreEntries r limits b → ListsExactly r b marks → (i : ℕ) (e : Entry S) → slice_get b.entries i ≡ Some e → r.mark e.state ≡ true → IsListedMark r marks e.state (length e.log)
 lists_each r law limits b marks u lists i e at mark =
     let m = lists.each i e at mark in
     let best = lists.best m.place m.found m.at in
@@ -239,12 +239,12 @@ lists_each r law limits b marks u lists i e at mark =
       found = m.found;
       at = m.at;
       same = m.same;
-      departures = omega (arith, best.greatest i e at m.same, count, (u.sound.entry i e at).budget, (u.sound.entry best.place best.entry best.at).budget);
+      departures = omega (arith, best.greatest i e at m.same, count, (u i e at).budget, (u best.place best.entry best.at).budget);
     }
 
 -- no entry that stands at a listed mark has fewer departures
-pub has_no_shorter : {S : Type 0} (r : Rules S) (limits : Limits) (b : Book S) (marks : List (S × List (ℕ × ℕ))) → IsUnderWay r limits b → ListsExactly r b marks → (j : ℕ) (p : S × List (ℕ × ℕ)) → slice_get marks j ≡ Some p → (i : ℕ) (e : Entry S) → slice_get b.entries i ≡ Some e → r.same p.0 e.state ≡ true → length p.1 ≤ length e.log
+pub has_no_shorter : {S : Type 0} (r : Rules S) (limits : Limits) (b : Book S) (marks : List (S × List (ℕ × ℕ))) → AreEntries r limits b → ListsExactly r b marks → (j : ℕ) (p : S × List (ℕ × ℕ)) → slice_get marks j ≡ Some p → (i : ℕ) (e : Entry S) → slice_get b.entries i ≡ Some e → r.same p.0 e.state ≡ true → length p.1 ≤ length e.log
 has_no_shorter r limits b marks u lists j p at i e at' same =
     let best = lists.best j p at in
     let count : length p.1 ≡ length best.entry.log = ap length best.log in
-    omega (arith, best.greatest i e at' same, count, (u.sound.entry i e at').budget, (u.sound.entry best.place best.entry best.at).budget)
+    omega (arith, best.greatest i e at' same, count, (u i e at').budget, (u best.place best.entry best.at).budget)

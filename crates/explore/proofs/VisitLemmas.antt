@@ -119,7 +119,7 @@ met_more {S} r old now new place choice j next h g m = record {
   ];
 }
 
-set_at : {X : Type 0} (xs : List X) (i : ℕ) (x y : X) → slice_get xs i ≡ Some x → slice_get (slice_set xs i y) i ≡ Some y
+pub set_at : {X : Type 0} (xs : List X) (i : ℕ) (x y : X) → slice_get xs i ≡ Some x → slice_get (slice_set xs i y) i ≡ Some y
 set_at [] i x y e = absurd cc
 set_at (z ∷ xs) zero x y e = refl
 set_at (z ∷ xs) (suc i) x y e = set_at xs i x y e

@@ -3,3 +3,4 @@ pub mod Exploring
 pub mod Ways
 pub mod Listing
 pub mod Shared
+pub mod RankedSearches

@@ -5,10 +5,18 @@
 
 mod alone;
 mod classes;
+mod collector;
 mod findings;
+mod halt;
 mod listing;
 mod marks;
 mod next;
+mod rank_book;
+mod ranked;
+mod ranked_classes;
+mod ranked_findings;
+mod ranked_search;
+mod ranked_visit;
 mod search;
 mod visit;
 mod way;
@@ -16,6 +24,9 @@ mod ways;
 mod workers;
 
 pub use alone::explore_alone;
+pub use collector::{Collector, Progress, Watcher};
 pub use findings::{Findings, Status};
+pub use ranked::explore_ranked;
+pub use ranked_findings::{RankedFindings, RankedReason, RankedStatus};
 pub use statebook::Reason;
 pub use workers::explore;

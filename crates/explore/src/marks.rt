@@ -4,7 +4,7 @@ ghost use Rattle.std.specs.Prelude.{◌≡◌, IfOk, OnOk};
 ghost use Rattle.indexmap.specs.IndexMap.{IsUnique, insert_entry};
 ghost use Rattle.explore.specs.Found.{AreFound};
 ghost use Rattle.explore.specs.BookFindings.{ListsExactly};
-ghost use Rattle.explore.specs.Inner.Exploring.{IsUnderWay};
+ghost use Rattle.explore.specs.Inner.Exploring.{AreEntries};
 
 use basis::NoMemory;
 use indexmap::IndexMap;
@@ -34,7 +34,7 @@ pub fn list_marks<P: Space>(
     limits: &Limits,
     book: &PlainBook<P::State>,
 ) -> Result<IndexMap<P::State, Log>, NoMemory>
-    requires { IsUnderWay (P.rules space.now) limits.now book.now }
+    requires { AreEntries (P.rules space.now) limits.now book.now }
     ensures found { IfOk result (λ marks. AreFound (P.rules space.now) limits.now marks.entries) }
     ensures read { IfOk result (λ marks. ListsExactly (P.rules space.now) book.now marks.entries) }
     ensures distinct { IfOk result (λ marks. IsUnique P.State.eq marks) }

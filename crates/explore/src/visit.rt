@@ -16,8 +16,8 @@ use statebook::{Done, Entry, Limits, Met, PlainBook};
 use std::alloc::Global;
 use std::hash::Hash;
 
-// How many choices the entry's budget allows: choice 0, and the others where a departure is left.
-fn choice_count<P: Space>(space: &P, entry: &Entry<P::State>) -> u32
+/// How many choices the entry's budget allows: choice 0, and the others where a departure is left.
+pub fn choice_count<P: Space>(space: &P, entry: &Entry<P::State>) -> u32
     ensures { result ≡ choices_of ((P.rules space.now).width entry.now.state) entry.now.budget }
 {
     let width = space.width(&entry.state);

@@ -1,4 +1,5 @@
 pub mod RunLemmas
+pub mod FrontierLemmas
 pub mod CoreLemmas
 pub mod BookLemmas
 pub mod ReachLemmas

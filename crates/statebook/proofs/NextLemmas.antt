@@ -9,10 +9,11 @@ use Rattle.sched_core.proofs.LogLemmas.{IsLogFrom-append}
 use Rattle.statebook.specs.Stations.{is_station, forced_state, IsNextStation}
 use Rattle.statebook.specs.ExplorerCore.{IsEntry, choices_of, budget_after}
 use Rattle.statebook.specs.declared.entry.Entry.{Entry}
-use Rattle.statebook.proofs.RunLemmas.{departs, is_station_same, width_between}
+use Rattle.statebook.proofs.RunLemmas.{is_station_same, width_between}
 use Rattle.statebook.specs.declared.limits.Limits.{Limits}
 use Rattle.statebook.specs.Ways.{Allows, ChoiceGoesPast, GoesPast, SomeRunExceeds}
 use Rattle.statebook.specs.Inner.Forced.{ComesTo, Follows, log_of}
+use Rattle.statebook.specs.Inner.Frontiers.{departs}
 
 -- a log that names only steps below n can go on at n
 next_from_below : (low n : ℕ) (log : List (ℕ × ℕ)) → low ≤ n → NamesBelow log n → next_from low log ≤ n
@@ -72,7 +73,7 @@ goes_on_by log n (suc c) b = record {
 }
 
 -- the longer run stands where the shorter one stood
-same_so_far : {S : Type 0} (r : Rules S) (log after : List (ℕ × ℕ)) (n : ℕ) → ((k : ℕ) → k < n → choice_at after k ≡ choice_at log k) → (m : ℕ) → m ≤ n → stands r after m ≡ stands r log m
+pub same_so_far : {S : Type 0} (r : Rules S) (log after : List (ℕ × ℕ)) (n : ℕ) → ((k : ℕ) → k < n → choice_at after k ≡ choice_at log k) → (m : ℕ) → m ≤ n → stands r after m ≡ stands r log m
 same_so_far r log after n h zero le = refl
 same_so_far r log after n h (suc m) le = λ i. r.after (same_so_far r log after n h m (omega (arith, le)) i) (h m (omega (arith, le)) i)
 

@@ -5,16 +5,7 @@ use Rattle.std.proofs.lemmas.Bool.Decides.{nat_tests}
 use Rattle.basis.proofs.Bools.{same_truth}
 use Rattle.sched_core.specs.Rules.{Rules, IsLawful, stands, choice_at, IsRun}
 use Rattle.statebook.specs.Stations.{is_station, forced_state}
-
--- 1 where the choice departs from choice 0
-abbrev pub departs : ℕ → ℕ
-departs zero = 0
-departs (suc c) = 1
-
--- how many of the first n steps depart
-abbrev pub used : List (ℕ × ℕ) → ℕ → ℕ
-used log zero = 0
-used log (suc n) = used log n + departs (choice_at log n)
+use Rattle.statebook.specs.Inner.Frontiers.{departs, used}
 
 used_nil : (n : ℕ) → used [] n ≡ 0
 used_nil zero = refl

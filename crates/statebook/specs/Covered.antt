@@ -6,3 +6,7 @@ use Rattle.sched_core.specs.Rules.{Rules, stands, IsRun}
 -- with a log that departs no more often than the run.
 abbrev pub IsCovered : {S : Type 0} → Rules S → ℕ → (S → ℕ → Type 0) → Type 0
 IsCovered {S} r k Listed = (log : List (ℕ × ℕ)) (n : ℕ) → length log ≤ k → IsRun r log n → r.mark (stands r log n) ≡ true → Listed (stands r log n) (length log)
+
+-- So it is of the marks of rank top and below.
+abbrev pub IsCoveredTo : {S : Type 0} → Rules S → ℕ → (S → ℕ) → ℕ → (S → ℕ → Type 0) → Type 0
+IsCoveredTo r k rank top Listed = IsCovered r k (λ s d. rank s ≤ top → Listed s d)

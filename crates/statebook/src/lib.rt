@@ -15,6 +15,6 @@ pub use book::{Done, Met, PlainBook};
 pub use entry::Entry;
 pub use law::{book_stays_sound, closed_covers};
 pub use limits::Limits;
-pub use next::{budget_left, log_after};
+pub use next::{budget_left, log_after, next_entry};
 pub use reason::Reason;
 pub use way::walk;

@@ -10,13 +10,12 @@ ghost use Rattle.statebook.specs.Inner.Forced.{IfPast, IfReached, IsFirst, MayBe
 ghost use Rattle.workpool.specs.Inner.Works.{IsCounted, IsSamePlace, IsSeated, StaysCounted, TellsPast};
 
 use crate::insert::insert;
-use crate::next::next_entry;
 use crate::tally::Tally;
 use crate::work::Work;
 use basis::NoMemory;
 use sched_core::Space;
 use shardbook::{Book, BookIdentity, Done, SearchParameters, Seen};
-use statebook::{Entry, Limits};
+use statebook::{Entry, Limits, next_entry};
 use std::alloc::Global;
 use std::sync::Wait;
 

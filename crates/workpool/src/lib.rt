@@ -8,7 +8,6 @@ mod gate;
 mod hand;
 mod insert;
 mod job;
-mod next;
 mod ran;
 mod ring;
 mod room;

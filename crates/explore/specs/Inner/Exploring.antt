@@ -4,7 +4,7 @@ use Rattle.basis.specs.declared.memory.OrMemory.{OrMemory}
 use Rattle.basis.specs.declared.memory.OrMemory.TheVariants.{Fault}
 use Rattle.sched_core.specs.Rules.{Rules}
 use Rattle.statebook.specs.Books.{Book, IsClosed, IsFinished, IsRootAt, add}
-use Rattle.statebook.specs.ExplorerCore.{IsSuccessorAt, IsSound, choices_of}
+use Rattle.statebook.specs.ExplorerCore.{IsEntry, IsSuccessorAt, IsSound, choices_of}
 use Rattle.statebook.specs.declared.entry.Entry.{Entry}
 use Rattle.statebook.specs.declared.limits.Limits.{Limits}
 use Rattle.statebook.specs.Ways.{Allows}
@@ -61,6 +61,10 @@ width_limit = 2 ^ 32
 pub record IsUnderWay {S : Type 0} (r : Rules S) (limits : Limits) (b : Book S) : Type 0 where
   pub sound : IsSound r limits.depart limits.steps b
   pub root : IsRootAt b.entries 0
+
+-- Each entry of the book may be added within the limits.
+abbrev pub AreEntries : {S : Type 0} → Rules S → Limits → Book S → Type 0
+AreEntries {S} r limits b = (i : ℕ) (e : Entry S) → slice_get b.entries i ≡ Some e → IsEntry r limits.depart limits.steps e
 
 -- The book stays, or has the entry more.
 abbrev pub IsSameOrAdded : {S : Type 0} → Book S → Entry S → Book S → Type 0

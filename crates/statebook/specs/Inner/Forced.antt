@@ -1,5 +1,5 @@
 -- *internal*: What a walk along forced steps comes to.
-use Rattle.std.specs.Prelude.{◌≡◌, ℕ, ◌+◌, ◌<◌, zero, suc, true, false, List, [], ◌∷◌, ◌++◌, Option, Result, IfOk, IfSome, IfNone}
+use Rattle.std.specs.Prelude.{◌≡◌, ℕ, ◌+◌, ◌<◌, ◌≤◌, zero, suc, true, false, List, [], ◌∷◌, ◌++◌, Option, Result, IfOk, IfSome, IfNone}
 use Rattle.sched_core.specs.Rules.{Rules}
 use Rattle.statebook.specs.ExplorerCore.{IsEntry, budget_after}
 use Rattle.statebook.specs.Stations.{is_station, forced_state, IsNextStation}
@@ -48,3 +48,8 @@ MayBeAdded r limits e = IsEntry r limits.depart limits.steps e
 abbrev pub log_of : List (ℕ × ℕ) → ℕ → ℕ → List (ℕ × ℕ)
 log_of log step zero = log
 log_of log step (suc c) = log ++ (step, suc c) ∷ []
+
+-- The run of the next entry is that of e, which goes on by the choice.
+pub record GoesOn {S : Type 0} (e : Entry S) (c : ℕ) (next : Entry S) : Type 0 where
+  pub log : next.log ≡ log_of e.log e.steps c
+  pub later : e.steps ≤ next.steps

@@ -15,8 +15,8 @@ loop-departures-init g c =
       searching = c.requires.searching;
       few = c.requires.few;
       bounded = c.requires.bounded;
-      finished = λ t. none_over (IsFinished b) r limits b (limits.depart + 1 - 0) c.requires.searching.under_way (omega arith);
-      visited = none_over (WasVisited r limits b.entries) r limits b (limits.depart + 1 - 0) c.requires.searching.under_way (omega arith);
+      finished = λ t. none_over (IsFinished b) r limits b (limits.depart + 1 - 0) c.requires.searching.under_way.sound.entry (omega arith);
+      visited = none_over (WasVisited r limits b.entries) r limits b (limits.depart + 1 - 0) c.requires.searching.under_way.sound.entry (omega arith);
       past = λ t. absurd (true_not_false t);
     }
 

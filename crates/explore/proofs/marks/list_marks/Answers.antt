@@ -11,7 +11,7 @@ loop-place-preserved g c =
     let limits = c.args.limits.now in
     elim c.if-is_mark.branch [
       | then-is_mark+in_ok-copy+in_ok-copy-2+in_ok-note w ↦ rw w.marks-is (record {
-        marks = marks_more r law limits g.P.State.PartialEq.eq (g.met.P.Space.same_is_eq c.args.space.now) c.args.book.now.entries c.len-place-end.ensures.undominated c.requires.sound.entry
+        marks = marks_more r law limits g.P.State.PartialEq.eq (g.met.P.Space.same_is_eq c.args.space.now) c.args.book.now.entries c.len-place-end.ensures.undominated c.requires
             c.loop-place.place c.loop-place.marks.entries w.note.new.marks.entries c.read-entry.result.now w.in_ok-copy.field-0 w.in_ok-copy-2.field-0 c.loop-place.invariant.marks c.read-entry.ensures
             (sym c.is_mark.ensures ∙ w.if-is_mark.true) w.in_ok-copy.ensures w.in_ok-copy-2.ensures.equal w.in_ok-note.ensures.distinct w.in_ok-note.ensures.put;
         distinct = w.in_ok-note.ensures.distinct;

@@ -1,9 +1,9 @@
 use Rattle.std.proofs.Common.{◌≡◌, ◌+◌, arith, true}
 use Rattle.statebook.proofs.NextLemmas.{allowed_width, follows_from, entry_from, stepped}
 use Rattle.statebook.proofs.WayLemmas.{past_same}
-use Rattle.workpool.proofs.next.next_entry.Given.{Over}
-use Rattle.workpool.proofs.next.next_entry.Goals as goal
-use Rattle.workpool.proofs.next.next_entry.Goals.{In_ok-steps}
+use Rattle.statebook.proofs.next.next_entry.Given.{Over}
+use Rattle.statebook.proofs.next.next_entry.Goals as goal
+use Rattle.statebook.proofs.next.next_entry.Goals.{In_ok-steps}
 
 pub returns-then-entry-limits-clause-past : goal.returns-then-entry-limits-clause-past
 returns-then-entry-limits-clause-past g c = λ j le. absurd (let full = c.if-entry-limits.true in omega (arith, le, full))

@@ -1,0 +1,33 @@
+use Rattle.std.proofs.Common.{◌≡◌, ◌∙◌, sym, subst, arith}
+use Rattle.std.proofs.lemmas.Option.{same_Some}
+use Rattle.statebook.specs.declared.entry.Entry.{Entry}
+use Rattle.statebook.specs.Inner.Forced.{GoesOn, MayBeAdded}
+use Rattle.statebook.specs.Inner.Frontiers.{HasSuccessorIn}
+use Rattle.statebook.proofs.FrontierLemmas.{follower_rises}
+use Rattle.statebook.proofs.NextLemmas.{exceeds}
+use Rattle.explore.specs.Inner.RankedSearches.{IsHeld}
+use Rattle.explore.proofs.RankedLemmas.{is_successor}
+use Rattle.explore.proofs.ranked_visit.keep_choice.Goals as goal
+
+pub keep-requires-clause-rank : goal.keep-requires-clause-rank
+keep-requires-clause-rank g c κs within =
+    let r = g.P.Space.rules c.args.space.now in
+    let e = c.read-entry.result.now in
+    let here = c.requires.searching.held.current e (c.args.place, c.read-entry.ensures) in
+    let goes : GoesOn e c.args.choice c.in-Some.next = rw c.in-Some.is at c.in_ok-next.ensures.goes_on in
+    let follows : MayBeAdded r c.args.limits.now c.in-Some.next = rw c.in-Some.is at c.in_ok-next.ensures.allowed in
+    omega (arith, here.1, follower_rises r (g.P.Ranked.ranks c.args.space.now) (g.met.P.Ranked.ranked c.args.space.now) c.args.limits.now.depart c.args.limits.now.steps e c.in-Some.next c.args.choice here.0 follows goes.log goes.later)
+
+pub returns-in_ok-keep-in-Some-clause-met : goal.returns-in_ok-keep-in-Some-clause-met
+returns-in_ok-keep-in-Some-clause-met g c = λ e at.
+    let r = g.P.Space.rules c.args.space.now in
+    let grows = c.in_ok-keep-in-Some.ensures.grows in
+    let itself : c.read-entry.result.now ≡ e = same_Some _ _ (sym (grows.current.stays c.args.place c.read-entry.result.now c.read-entry.ensures) ∙ at) in
+    let P : Entry g.row.P-State.Denot → Type 0 = λ x. HasSuccessorIn r (IsHeld c.keep.new.search) x c.args.choice in
+    subst P itself (is_successor r (g.met.P.Space.lawful c.args.space.now) (IsHeld c.keep.new.search) c.read-entry.result.now c.in-Some.next c.args.choice (rw c.in-Some.is at c.in_ok-next.ensures.follows) c.in_ok-keep-in-Some.ensures.dominated)
+
+pub returns-in-None-clause-why : goal.returns-in-None-clause-why
+returns-in-None-clause-why g c =
+    let e = c.read-entry.result.now in
+    exceeds (g.P.Space.rules c.args.space.now) (g.met.P.Space.lawful c.args.space.now) c.args.limits.now e c.args.choice (c.requires.searching.held.current e (c.args.place, c.read-entry.ensures)).0 (c.requires.choice e c.read-entry.ensures)
+    (rw c.in-None.is at c.in_ok-next.ensures.past)

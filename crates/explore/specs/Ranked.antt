@@ -1,0 +1,60 @@
+-- *product rule*: What a search that goes by rank hands on: the marks of one rank after another, each under the log of a run that
+-- reaches it; and of which marks it has handed on all. The rank of a state is the time of a simulation, or another number that no step lowers.
+use Rattle.std.specs.Prelude.{◌≡◌, ℕ, List, ◌++◌, length, slice_get, Some}
+use Rattle.sched_core.specs.Rules.{Rules}
+use Rattle.statebook.specs.Covered.{IsCovered, IsCoveredTo}
+use Rattle.statebook.specs.declared.limits.Limits.{Limits}
+use Rattle.statebook.specs.Ways.{SomeRunExceeds}
+use Rattle.explore.specs.Found.{AllFewest, AreFound, HasEntries, IsListedMark}
+use Rattle.explore.specs.declared.ranked_findings.RankedFindings.{RankedFindings}
+use Rattle.explore.specs.declared.ranked_findings.RankedReason.TheVariants.{Entries, Steps}
+use Rattle.explore.specs.declared.ranked_findings.RankedStatus.TheVariants.{Exhausted, Cut}
+
+-- The marks that were handed on as a rank was closed, each with its log.
+pub record Closing (S : Type 0) : Type 0 where
+  pub rank : ℕ
+  pub marks : List (S × List (ℕ × ℕ))
+
+-- It is so of each closing.
+abbrev pub OfEach : {S : Type 0} → List (Closing S) → (Closing S → Type 0) → Type 0
+OfEach {S} closings P = (i : ℕ) (c : Closing S) → slice_get closings i ≡ Some c → P c
+
+-- Each mark was handed on under its own rank.
+abbrev pub HasItsRank : {S : Type 0} → (S → ℕ) → Closing S → Type 0
+HasItsRank {S} rank c = (i : ℕ) (found : S × List (ℕ × ℕ)) → slice_get c.marks i ≡ Some found → rank found.0 ≡ c.rank
+
+-- A state equal to s was handed on, under a log of at most d departures.
+abbrev pub WasHandedOn : {S : Type 0} → Rules S → List (Closing S) → S → ℕ → Type 0
+WasHandedOn {S} r closings s d = (i : ℕ) × (c : Closing S) × (slice_get closings i ≡ Some c) × IsListedMark r c.marks s d
+
+-- each mark that was handed on is one, under its log
+abbrev pub HandsOnFound : {S : Type 0} → Rules S → Limits → List (Closing S) → Type 0
+HandsOnFound r limits closings = OfEach closings (λ c. AreFound r limits c.marks)
+
+-- no run at all that reaches it has fewer departures than its log
+abbrev pub HandsOnFewest : {S : Type 0} → Rules S → List (Closing S) → Type 0
+HandsOnFewest r closings = OfEach closings (λ c. AllFewest r c.marks)
+
+-- every mark of every run within the limit of departures was handed on, of those of rank top and below
+abbrev pub HandsOnAllTo : {S : Type 0} → Rules S → Limits → (S → ℕ) → List (Closing S) → ℕ → Type 0
+HandsOnAllTo r limits rank closings top = IsCoveredTo r limits.depart rank top (WasHandedOn r closings)
+
+-- `Exhausted` is said only where that is so of all marks
+abbrev pub HandsOnAll : {S : Type 0} → Rules S → Limits → List (Closing S) → RankedFindings → Type 0
+HandsOnAll r limits closings findings = findings.status ≡ Exhausted → IsCovered r limits.depart (WasHandedOn r closings)
+
+-- `Cut(Entries)` is said only where there are so many entries
+abbrev pub TellsOfEntries : {S : Type 0} → Rules S → Limits → RankedFindings → Type 0
+TellsOfEntries r limits findings = findings.status ≡ Cut Entries → HasEntries r limits
+
+-- `Cut(Steps)` is said only where a run takes more steps
+abbrev pub TellsOfSteps : {S : Type 0} → Rules S → Limits → RankedFindings → Type 0
+TellsOfSteps r limits findings = findings.status ≡ Cut Steps → SomeRunExceeds r limits
+
+-- The closing is of this rank, and each of its marks is in the list.
+abbrev pub IsPartOf : {S : Type 0} → ℕ → List (S × List (ℕ × ℕ)) → Closing S → Type 0
+IsPartOf {S} rank marks c = (c.rank ≡ rank) × ((i : ℕ) (found : S × List (ℕ × ℕ)) → slice_get c.marks i ≡ Some found → (j : ℕ) × (slice_get marks j ≡ Some found))
+
+-- What was handed on before was kept, and what was put behind it is of these marks, of this rank.
+abbrev pub ArePartOf : {S : Type 0} → ℕ → List (S × List (ℕ × ℕ)) → List (Closing S) → List (Closing S) → Type 0
+ArePartOf {S} rank marks old new = (more : List (Closing S)) × (new ≡ old ++ more) × OfEach more (IsPartOf rank marks)

@@ -1,0 +1,35 @@
+// Who takes what a search that goes by rank finds, and who is asked whether it is to go on.
+
+ghost use Rattle.std.specs.Prelude.{◌≡◌, List, [], ◌∷◌, ◌++◌, OnOk, OnErr};
+ghost use Rattle.explore.specs.Ranked.{Closing, ArePartOf};
+
+use basis::NoMemory;
+use indexmap::IndexMap;
+use sched_core::Log;
+use std::hash::Hash;
+
+/// Takes the marks of one rank after another, each with a log of the fewest departures.
+pub trait Collector<S: Eq + Hash> {
+    ghost collected: { Self → List (Closing S) };
+
+    /// Takes the marks of the rank, which is closed. After want of memory it may have taken part of them.
+    fn collect(&mut self, rank: u64, marks: IndexMap<S, Log>) -> Result<(), NoMemory>
+        ensures ok { OnOk result (collected self.new ≡ collected self.old ++ record { rank = rank; marks = marks.entries } ∷ []) }
+        ensures err { OnErr result (ArePartOf rank marks.entries (collected self.old) (collected self.new)) };
+}
+
+/// How far a search that goes by rank has come: the rank under way, how many entries were opened in all, how
+/// many of them are held, those of this rank and those that wait at later ones, and how many ranks were closed.
+#[derive(Clone, Copy, Debug)]
+pub struct Progress {
+    pub rank: u64,
+    pub entries_opened: usize,
+    pub entries_held: usize,
+    pub ranks_closed: u64,
+}
+
+/// Who watches a search.
+pub trait Watcher {
+    /// Whether the search is to go on. It is asked once for each entry that is taken.
+    fn go_on(&mut self, progress: &Progress) -> bool;
+}

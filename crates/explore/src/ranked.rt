@@ -1,0 +1,209 @@
+// The call that goes by rank: it opens the first rank, goes through one after another, and hands on the marks of each.
+
+ghost use Rattle.std.specs.Prelude.{◌≡◌, [], IfOk, IfSome, OnOk};
+ghost use Rattle.basis.specs.Reasons.{IfFault};
+ghost use Rattle.basis.specs.declared.memory.OrMemory.TheVariants.{Fault};
+ghost use Rattle.explore.specs.Ranked.{HandsOnAll, HandsOnAllTo, HandsOnFewest, HandsOnFound, HasItsRank, OfEach, TellsOfEntries, TellsOfSteps};
+ghost use Rattle.explore.specs.Inner.RankedSearches.{AllAreLedOn, AreLawful, HasHandedOn, IsFollowed, IsKeptIn, IsRankedSearch, IsWhy, NoneBelow};
+
+use crate::collector::{Collector, Watcher};
+use crate::halt::Halt;
+use crate::marks::list_marks;
+use crate::rank_book::{RankBook, open_in};
+use crate::ranked_classes::visit_rank;
+use crate::ranked_findings::{RankedFindings, RankedReason, RankedStatus};
+use crate::ranked_search::RankedSearch;
+use basis::{NoMemory, OrMemory};
+use sched_core::{Log, Ranked};
+use statebook::{Entry, Limits, PlainBook};
+use std::alloc::Global;
+use std::hash::Hash;
+
+// The search with the root's entry alone.
+fn open_ranked<P: Ranked>(
+    alloc: Global,
+    space: &P,
+    limits: &Limits,
+) -> Result<RankedSearch<P::State>, NoMemory>
+    ensures searching { IfOk result (IsRankedSearch (P.rules space.now) limits.now (P.ranks space.now)) }
+    ensures lowest { IfOk result (λ search. NoneBelow (P.rules space.now) (P.ranks space.now) search.current.rank) }
+{
+    let root = Entry {
+        state: space.root()?,
+        budget: limits.depart,
+        log: Log::new(alloc),
+        steps: 0,
+    };
+    let rank = space.rank(&root.state);
+    let book = PlainBook::new(alloc);
+    let mut current = RankBook { rank, book };
+    open_in(&mut current, root)?;
+    let first = space.root()?;
+    let later = Vec::new(alloc);
+    Ok(RankedSearch {
+        root: first,
+        current,
+        later,
+        opened: 1,
+        held: 1,
+        closed: 0,
+    })
+}
+
+// Hands on the marks of the rank, which was gone through.
+fn hand_on<P: Ranked, C: Collector<P::State>>(
+    alloc: Global,
+    space: &P,
+    limits: &Limits,
+    search: &RankedSearch<P::State>,
+    collector: &mut C,
+) -> Result<(), NoMemory>
+    requires searching { IsRankedSearch (P.rules space.now) limits.now (P.ranks space.now) search.now }
+    requires all { AllAreLedOn (P.rules space.now) search.now }
+    requires so_far { HasHandedOn (P.rules space.now) limits.now (P.ranks space.now) (C.collected collector.old) search.now.current.rank }
+    ensures lawful { AreLawful (P.rules space.now) limits.now (P.ranks space.now) (C.collected collector.new) }
+    ensures kept { IsKeptIn (C.collected collector.old) (C.collected collector.new) }
+    ensures closed { OnOk result
+        (HandsOnAllTo (P.rules space.now) limits.now (P.ranks space.now) (C.collected collector.new) search.now.current.rank) }
+{
+    let marks = list_marks(alloc, space, limits, &search.current.book)?;
+    collector.collect(search.current.rank, marks)
+}
+
+// Goes on to the next rank that has entries. Answers false where there is none.
+fn go_on<P: Ranked>(space: &P, limits: &Limits, search: &mut RankedSearch<P::State>) -> bool
+    requires searching { IsRankedSearch (P.rules space.now) limits.now (P.ranks space.now) search.old }
+    requires all { AllAreLedOn (P.rules space.now) search.old }
+    ensures { IsFollowed (P.rules space.now) limits.now (P.ranks space.now) search.old.current.rank search.new result }
+{
+    match search.later.pop() {
+        Some(next) => {
+            search.held = search.held.saturating_sub(search.current.book.len());
+            search.closed = search.closed.saturating_add(1);
+            search.current = next;
+            true
+        }
+        None => false,
+    }
+}
+
+// Goes through the rank, hands on its marks, and goes on to the next rank. Answers false where there is none.
+fn close_rank<P: Ranked, C: Collector<P::State>, W: Watcher>(
+    alloc: Global,
+    space: &P,
+    limits: &Limits,
+    search: &mut RankedSearch<P::State>,
+    collector: &mut C,
+    watcher: &mut W,
+) -> Result<bool, OrMemory<Halt>>
+    requires searching { IsRankedSearch (P.rules space.now) limits.now (P.ranks space.now) search.old }
+    requires so_far { HasHandedOn (P.rules space.now) limits.now (P.ranks space.now) (C.collected collector.old) search.old.current.rank }
+    ensures why { IfFault result (IsWhy (P.rules space.now) limits.now) }
+    ensures lawful { AreLawful (P.rules space.now) limits.now (P.ranks space.now) (C.collected collector.new) }
+    ensures kept { IsKeptIn (C.collected collector.old) (C.collected collector.new) }
+    ensures closed { OnOk result
+        (HandsOnAllTo (P.rules space.now) limits.now (P.ranks space.now) (C.collected collector.new) search.old.current.rank) }
+    ensures followed { IfOk result
+        (IsFollowed (P.rules space.now) limits.now (P.ranks space.now) search.old.current.rank search.new) }
+{
+    visit_rank(alloc, space, limits, search, watcher)?;
+    hand_on(alloc, space, limits, search, collector)?;
+    Ok(go_on(space, limits, search))
+}
+
+// The reason that is told.
+fn reason_of(halt: OrMemory<Halt>) -> RankedReason
+    ensures entries { result ≡ RankedReason.Entries → halt ≡ Fault Halt.Entries }
+    ensures steps { result ≡ RankedReason.Steps → halt ≡ Fault Halt.Steps }
+{
+    match halt {
+        OrMemory::Fault(Halt::Entries) => RankedReason::Entries,
+        OrMemory::Fault(Halt::Steps) => RankedReason::Steps,
+        OrMemory::Fault(Halt::Stopped) => RankedReason::Stopped,
+        OrMemory::Memory(refused) => RankedReason::Memory(refused),
+    }
+}
+
+// The rank under way.
+fn rank_of<S: Eq + Hash>(search: &RankedSearch<S>) -> u64
+    ensures { result ≡ search.now.current.rank }
+{
+    search.current.rank
+}
+
+// Goes through one rank after another, from the search's own on.
+fn go_through<P: Ranked, C: Collector<P::State>, W: Watcher>(
+    alloc: Global,
+    space: &P,
+    limits: &Limits,
+    mut search: RankedSearch<P::State>,
+    collector: &mut C,
+    watcher: &mut W,
+) -> RankedFindings
+    requires searching { IsRankedSearch (P.rules space.now) limits.now (P.ranks space.now) search }
+    requires so_far { HasHandedOn (P.rules space.now) limits.now (P.ranks space.now) (C.collected collector.old) search.current.rank }
+    ensures lawful { AreLawful (P.rules space.now) limits.now (P.ranks space.now) (C.collected collector.new) }
+    ensures covered { IfSome result.closed
+        (HandsOnAllTo (P.rules space.now) limits.now (P.ranks space.now) (C.collected collector.new)) }
+    ensures exhausted { HandsOnAll (P.rules space.now) limits.now (C.collected collector.new) result }
+    ensures entries { TellsOfEntries (P.rules space.now) limits.now result }
+    ensures steps { TellsOfSteps (P.rules space.now) limits.now result }
+{
+    let mut closed = None;
+    loop {
+        let rank = rank_of(&search);
+        match close_rank(alloc, space, limits, &mut search, collector, watcher) {
+            Ok(true) => closed = Some(rank),
+            Ok(false) => {
+                return RankedFindings {
+                    status: RankedStatus::Exhausted,
+                    closed: Some(rank),
+                };
+            }
+            Err(halt) => {
+                return RankedFindings {
+                    status: RankedStatus::Cut(reason_of(halt)),
+                    closed,
+                };
+            }
+        }
+    }
+}
+
+/// Explores the space rank by rank, on the caller's own thread: every run of at most `limits.depart` departures
+/// from choice 0. Once a rank was gone through, its marks are handed to the collector, each with a log of the
+/// fewest departures, and its entries are forgotten. The watcher is asked before each entry that is taken.
+///
+/// Proved: each mark that was handed on is reached under its log, by a run within both limits, and no run at all
+/// that reaches it has fewer departures than its log. However the search ended, every mark of the rank `closed` or
+/// a lower one that a run of at most `limits.depart` departures reaches was handed on, after however many steps;
+/// where the status is `Exhausted`, that is so of every mark. Where it is `Cut(Entries)`, there are at least
+/// `limits.entries` entries; where `Cut(Steps)`, some run of at most `limits.depart` departures takes more than
+/// `limits.steps` steps. A rank in which some way takes more steps than the limit isn't closed.
+///
+/// Want of memory, the collector's too, cuts the search as the limits do.
+pub fn explore_ranked<P: Ranked, C: Collector<P::State>, W: Watcher>(
+    alloc: Global,
+    space: &P,
+    limits: &Limits,
+    collector: &mut C,
+    watcher: &mut W,
+) -> RankedFindings
+    requires { C.collected collector.old ≡ [] }
+    ensures found { HandsOnFound (P.rules space.now) limits.now (C.collected collector.new) }
+    ensures ranks { OfEach (C.collected collector.new) (HasItsRank (P.ranks space.now)) }
+    ensures fewest { HandsOnFewest (P.rules space.now) (C.collected collector.new) }
+    ensures covered { IfSome result.closed
+        (HandsOnAllTo (P.rules space.now) limits.now (P.ranks space.now) (C.collected collector.new)) }
+    ensures exhausted { HandsOnAll (P.rules space.now) limits.now (C.collected collector.new) result }
+    ensures entries { TellsOfEntries (P.rules space.now) limits.now result }
+    ensures steps { TellsOfSteps (P.rules space.now) limits.now result }
+{
+    match open_ranked(alloc, space, limits) {
+        Ok(search) => go_through(alloc, space, limits, search, collector, watcher),
+        Err(refused) => RankedFindings {
+            status: RankedStatus::Cut(RankedReason::Memory(refused)),
+            closed: None,
+        },
+    }
+}

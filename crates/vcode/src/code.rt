@@ -1,0 +1,184 @@
+// The code of a design: links by place, begins by process, listeners by variable and by event.
+
+ghost use Rattle.std.specs.Prelude.{◌≡◌, Some};
+ghost use Rattle.vcode.specs.Code as spec;
+
+use crate::link::Link;
+use crate::listener::{Listener, Listeners};
+use crate::point::Point;
+use std::marker::Model;
+
+/// The code of a design. A clause sees it as the record `Code` of specs/Code.antt.
+#[derive(Drop)]
+pub struct Code {
+    /// By place.
+    pub links: Vec<Link>,
+    /// By place the number of the counter of the `repeat` there, if one stands there (9.6).
+    pub counters: Vec<Option<u32>>,
+    /// By process the point at which it begins.
+    pub begins: Vec<Point>,
+    pub by_variable: Vec<Listeners>,
+    pub by_event: Vec<Listeners>,
+    /// Whether every place leads to what stands behind it in the design, and everybody who may wait is listed.
+    pub whole: bool,
+}
+
+impl Model for Code {
+    ghost use Rattle.vcode.specs.Code as code;
+
+    ghost Value = { code.Code };
+
+    ghost view = { λ c. record {
+      links = c.links.items;
+      counters = c.counters.items;
+      begins = c.begins.items;
+      by_variable = c.by_variable.items;
+      by_event = c.by_event.items;
+      whole = c.whole;
+    } };
+}
+
+/// What leads on from this place; no process comes to a place that isn't there.
+pub fn link_at(links: &[Link], place: usize) -> Link
+    ensures { result ≡ spec.link_at links.now place }
+{
+    match links.get(place) {
+        Some(link) => *link,
+        None => Link {
+            next: Point::Ended,
+            owner: 0,
+        },
+    }
+}
+
+// Those of this number.
+fn listeners_at(lists: &[Listeners], number: usize) -> &[Listener]
+    ensures { result.now ≡ spec.listeners_at lists.now number }
+{
+    match lists.get(number) {
+        Some(listeners) => listeners.as_slice(),
+        None => &[],
+    }
+}
+
+// How many turns are left by the counter of this number.
+fn turns_by(turns: &[u64], counter: usize) -> u64
+    ensures { result ≡ spec.turns_by turns.now (Some counter) }
+{
+    match turns.get(counter) {
+        Some(left) => *left,
+        None => 0,
+    }
+}
+
+// So many are left by it.
+fn set_counter(turns: &mut [u64], counter: usize, left: u64)
+    ensures { turns.new ≡ spec.with_counter (Some counter) left turns.old }
+{
+    if counter < turns.len() {
+        turns[counter] = left;
+    }
+}
+
+impl Code {
+    /// The point at which this process begins.
+    pub fn begin(&self, process: usize) -> Point
+        ensures { result ≡ spec.begin_of self.now process }
+    {
+        match self.begins.get(process) {
+            Some(point) => *point,
+            None => Point::Ended,
+        }
+    }
+
+    // The number of the counter of this place.
+    fn counter(&self, place: usize) -> Option<u32>
+        ensures { result ≡ spec.counter_at self.now place }
+    {
+        match self.counters.get(place) {
+            Some(counter) => *counter,
+            None => None,
+        }
+    }
+
+    /// How many turns are left at this place, by the counters.
+    pub fn turns_at(&self, turns: &[u64], place: usize) -> u64
+        ensures { result ≡ spec.turns_at self.now turns.now place }
+    {
+        match self.counter(place) {
+            None => 0,
+            Some(counter) => turns_by(turns, counter as usize),
+        }
+    }
+
+    /// From here on so many turns are left at this place.
+    pub fn set_turns(&self, turns: &mut [u64], place: usize, left: u64)
+        ensures { turns.new ≡ spec.with_turns self.now place left turns.old }
+    {
+        match self.counter(place) {
+            None => {}
+            Some(counter) => set_counter(turns, counter as usize, left),
+        }
+    }
+
+    // Whether it is at a `repeat` of which no turn is left.
+    fn is_spent(&self, turns: &[u64], point: Point) -> bool
+        ensures { result ≡ spec.is_spent self.now turns.now point }
+    {
+        match point {
+            Point::Ended => false,
+            Point::Executing(_) => false,
+            Point::Repeating(place) => self.turns_at(turns, place as usize) == 0,
+            Point::Writing(_) => false,
+            Point::Waiting(_) => false,
+        }
+    }
+
+    // The point behind this one.
+    fn past(&self, point: Point) -> Point
+        ensures { result ≡ spec.past self.now point }
+    {
+        match point.place() {
+            Some(place) => link_at(&self.links, place as usize).next,
+            None => Point::Ended,
+        }
+    }
+
+    /// The point at which a process comes that comes to this one: each `repeat` of which no turn is left is passed (9.6).
+    pub fn settle(&self, turns: &[u64], point: Point) -> Point
+        ensures { result ≡ spec.settle self.now turns.now point }
+    {
+        let mut settled = point;
+        let mut most = self.links.len();
+        while most > 0 {
+            if self.is_spent(turns, settled) {
+                settled = self.past(settled);
+                most -= 1;
+            } else {
+                return settled;
+            }
+        }
+        settled
+    }
+
+    /// The point at which a process comes that is done with this place.
+    pub fn behind(&self, turns: &[u64], place: usize) -> Point
+        ensures { result ≡ spec.behind self.now turns.now place }
+    {
+        self.settle(turns, link_at(&self.links, place).next)
+    }
+
+    /// Those who may wait for a change of this variable.
+    pub fn heard_by_variable(&self, variable: usize) -> &[Listener]
+        ensures { result.now ≡ spec.listeners_at self.now.by_variable variable }
+    {
+        listeners_at(&self.by_variable, variable)
+    }
+
+    /// Those who may wait for this event.
+    pub fn heard_by_event(&self, event: usize) -> &[Listener]
+        ensures { result.now ≡ spec.listeners_at self.now.by_event event }
+    {
+        listeners_at(&self.by_event, event)
+    }
+}

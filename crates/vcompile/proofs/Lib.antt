@@ -1,0 +1,4 @@
+pub mod LinkLemmas
+pub mod SettleLemmas
+pub mod StepLemmas
+pub mod HeardLemmas

@@ -1,0 +1,14 @@
+// Designs to step code (IEEE 1364-2005, clause 9). In goes a design; out comes its code: where each place leads, and who listens to
+// what. The law: the code is `code_of` the design (specs/CodeOf.antt), and where it is whole the links of a process go the way of
+// its continuation, and whoever may wait stands in the lists (`code_law`).
+#![tactic(auto)]
+
+mod counters;
+mod design_code;
+mod law;
+mod links;
+mod listening;
+mod whole;
+
+pub use design_code::compile;
+pub use law::code_law;
