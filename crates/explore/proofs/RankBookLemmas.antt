@@ -7,6 +7,7 @@ use Rattle.basis.proofs.Lists.{last_or_before, listed_place, stands_in_front, st
 use Rattle.statebook.specs.Books.{Book, Dominates, Inserts, no_entries}
 use Rattle.statebook.specs.declared.book.Met.TheVariants.{New, Known}
 use Rattle.statebook.specs.declared.entry.Entry.{Entry}
+use Rattle.statebook.proofs.CoreLemmas.{slice_get-set}
 use Rattle.explore.specs.Inner.Exploring.{IsSameOrAdded}
 use Rattle.explore.specs.Inner.RankedSearches.{AreAfter, AreFrom, AreInOrder, HasDominator, HasNone, IsFromBook, IsIn, IsNoRankAt, IsRankAt, IsWaiting, IsWaitingAt, Keeps, KeepsAt, Opens}
 use Rattle.explore.specs.declared.rank_book.RankBook.{RankBook}
@@ -44,17 +45,7 @@ put_in (z ∷ xs) zero x le = refl
 put_in [] (suc i) x le = absurd (omega (arith, le))
 put_in (z ∷ xs) (suc i) x le = put_in xs i x (omega (arith, le))
 
--- what stands in a list in which a place was written
-of_set : {X : Type 0} (xs : List X) (k : ℕ) (y : X) (i : ℕ) (x : X) → slice_get (slice_set xs k y) i ≡ Some x → (slice_get xs i ≡ Some x) ⊎ ((i ≡ k) × (y ≡ x))
-of_set [] k y i x e = inl e
-of_set (z ∷ xs) zero y zero x e = inr (refl, same_Some y x e)
-of_set (z ∷ xs) zero y (suc i) x e = inl e
-of_set (z ∷ xs) (suc k) y zero x e = inl e
-of_set (z ∷ xs) (suc k) y (suc i) x e = elim (of_set xs k y i x e) [
-  | inl h ↦ inl h
-  | inr h ↦ inr (ap suc h.0, h.1)
-]
-
+-- what stood in a list in which a place was written stands there still, or stood at that place
 into_set : {X : Type 0} (xs : List X) (k : ℕ) (y : X) (i : ℕ) (x : X) → slice_get xs i ≡ Some x → (slice_get (slice_set xs k y) i ≡ Some x) ⊎ (i ≡ k)
 into_set [] k y i x e = inl e
 into_set (z ∷ xs) zero y zero x e = inr refl
@@ -122,7 +113,7 @@ opened_alone {S} eq old entry new is_new none opens f there = elim (of_grown old
 ]
 
 rank_before : {S : Type 0} (old : List (RankBook S)) (place : ℕ) (b new : RankBook S) → slice_get old place ≡ Some b → new.rank ≡ b.rank → (i : ℕ) (x : RankBook S) → slice_get (slice_set old place new) i ≡ Some x → (y : RankBook S) × (slice_get old i ≡ Some y) × (y.rank ≡ x.rank)
-rank_before {S} old place b new at same i x at' = elim (of_set old place new i x at') [
+rank_before {S} old place b new at same i x at' = elim (slice_get-set old place new i x at') [
   | inl there ↦ (x, there, refl)
   | inr here ↦ (
       let P : ℕ → Type 0 = λ p. slice_get old p ≡ Some b in
@@ -153,7 +144,7 @@ set_stays {S} same old place b new entry is_new at opens e (i, c, at', there) = 
 ]
 
 set_from : {S : Type 0} (same : S → S → Bool) (old : List (RankBook S)) (place rank : ℕ) (b new : RankBook S) (entry : Entry S) (is_new : Bool) → slice_get old place ≡ Some b → b.rank ≡ rank → Opens same b entry new is_new → (i : ℕ) (x : RankBook S) → slice_get (slice_set old place new) i ≡ Some x → IsFromBook old rank entry x
-set_from {S} same old place rank b new entry is_new at here opens i x at' = elim (of_set old place new i x at') [
+set_from {S} same old place rank b new entry is_new at here opens i x at' = elim (slice_get-set old place new i x at') [
   | inl there ↦ inl (i, there)
   | inr (at_place, is) ↦ (
       let P : RankBook S → Type 0 = λ v. IsFromBook old rank entry v in

@@ -90,10 +90,6 @@ still_all_to r limits rank old new (Some top) kept to = λ log n short run mark 
 pub all_handed : {S : Type 0} (r : Rules S) (limits : Limits) (rank : S → ℕ) (closings : List (Closing S)) (least : ℕ) → HandsOnAllTo r limits rank closings least → NoneAbove r limits.depart rank least → IsCovered r limits.depart (WasHandedOn r closings)
 all_handed r limits rank closings least to none log n short run mark = to log n short run mark (none log n short run mark)
 
-pub no_items : {X : Type 0} (xs : List X) → length xs ≡ 0 → xs ≡ []
-no_items [] e = refl
-no_items (x ∷ xs) e = absurd (omega (arith, e))
-
 -- ranks are counted by 64 bits, so a higher one is nearer to their end
 pub rank_nearer : (old read new : ℕ) → read ≡ old → read < 2 ^ 64 → old < new → 2 ^ 64 - new < 2 ^ 64 - old
 rank_nearer old read new same fits higher = omega (arith, same, fits, higher)

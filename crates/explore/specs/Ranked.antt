@@ -1,5 +1,6 @@
 -- *product rule*: What a search that goes by rank hands on: the marks of one rank after another, each under the log of a run that
--- reaches it; and of which marks it has handed on all. The rank of a state is the time of a simulation, or another number that no step lowers.
+-- reaches it; and of which marks it has handed on all. The rank of a state is the time of a simulation, or another number that no
+-- step lowers.
 use Rattle.std.specs.Prelude.{◌≡◌, ℕ, List, ◌++◌, length, slice_get, Some}
 use Rattle.sched_core.specs.Rules.{Rules}
 use Rattle.statebook.specs.Covered.{IsCovered, IsCoveredTo}
@@ -51,9 +52,13 @@ TellsOfEntries r limits findings = findings.status ≡ Cut Entries → HasEntrie
 abbrev pub TellsOfSteps : {S : Type 0} → Rules S → Limits → RankedFindings → Type 0
 TellsOfSteps r limits findings = findings.status ≡ Cut Steps → SomeRunExceeds r limits
 
--- The closing is of this rank, and each of its marks is in the list.
+-- Each of these marks is in the list, under the same log.
+abbrev pub AreAmong : {S : Type 0} → List (S × List (ℕ × ℕ)) → List (S × List (ℕ × ℕ)) → Type 0
+AreAmong {S} these list = (i : ℕ) (found : S × List (ℕ × ℕ)) → slice_get these i ≡ Some found → (j : ℕ) × (slice_get list j ≡ Some found)
+
+-- The closing is of this rank, and its marks are among these.
 abbrev pub IsPartOf : {S : Type 0} → ℕ → List (S × List (ℕ × ℕ)) → Closing S → Type 0
-IsPartOf {S} rank marks c = (c.rank ≡ rank) × ((i : ℕ) (found : S × List (ℕ × ℕ)) → slice_get c.marks i ≡ Some found → (j : ℕ) × (slice_get marks j ≡ Some found))
+IsPartOf rank marks c = (c.rank ≡ rank) × AreAmong c.marks marks
 
 -- What was handed on before was kept, and what was put behind it is of these marks, of this rank.
 abbrev pub ArePartOf : {S : Type 0} → ℕ → List (S × List (ℕ × ℕ)) → List (Closing S) → List (Closing S) → Type 0

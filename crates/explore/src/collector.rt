@@ -8,14 +8,22 @@ use indexmap::IndexMap;
 use sched_core::Log;
 use std::hash::Hash;
 
-/// Takes the marks of one rank after another, each with a log of the fewest departures.
+/// The marks of a rank, each with a log of the fewest departures.
+#[derive(Drop)]
+pub struct RankMarks<S: Eq + Hash> {
+    pub rank: u64,
+    pub marks: IndexMap<S, Log>,
+}
+
+/// Takes the marks of one rank after another.
 pub trait Collector<S: Eq + Hash> {
     ghost collected: { Self → List (Closing S) };
 
-    /// Takes the marks of the rank, which is closed. After want of memory it may have taken part of them.
-    fn collect(&mut self, rank: u64, marks: IndexMap<S, Log>) -> Result<(), NoMemory>
-        ensures ok { OnOk result (collected self.new ≡ collected self.old ++ record { rank = rank; marks = marks.entries } ∷ []) }
-        ensures err { OnErr result (ArePartOf rank marks.entries (collected self.old) (collected self.new)) };
+    /// Takes the marks of a rank that is closed. After want of memory it may have taken part of them.
+    fn collect(&mut self, closed: RankMarks<S>) -> Result<(), NoMemory>
+        ensures ok { OnOk result
+            (collected self.new ≡ collected self.old ++ record { rank = closed.rank; marks = closed.marks.entries } ∷ []) }
+        ensures err { OnErr result (ArePartOf closed.rank closed.marks.entries (collected self.old) (collected self.new)) };
 }
 
 /// How far a search that goes by rank has come: the rank under way, how many entries were opened in all, how

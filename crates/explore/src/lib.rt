@@ -24,7 +24,7 @@ mod ways;
 mod workers;
 
 pub use alone::explore_alone;
-pub use collector::{Collector, Progress, Watcher};
+pub use collector::{Collector, Progress, RankMarks, Watcher};
 pub use findings::{Findings, Status};
 pub use ranked::explore_ranked;
 pub use ranked_findings::{RankedFindings, RankedReason, RankedStatus};

@@ -6,7 +6,7 @@ ghost use Rattle.basis.specs.declared.memory.OrMemory.TheVariants.{Fault};
 ghost use Rattle.explore.specs.Ranked.{HandsOnAll, HandsOnAllTo, HandsOnFewest, HandsOnFound, HasItsRank, OfEach, TellsOfEntries, TellsOfSteps};
 ghost use Rattle.explore.specs.Inner.RankedSearches.{AllAreLedOn, AreLawful, HasHandedOn, IsFollowed, IsKeptIn, IsRankedSearch, IsWhy, NoneBelow};
 
-use crate::collector::{Collector, Watcher};
+use crate::collector::{Collector, RankMarks, Watcher};
 use crate::halt::Halt;
 use crate::marks::list_marks;
 use crate::rank_book::{RankBook, open_in};
@@ -67,7 +67,8 @@ fn hand_on<P: Ranked, C: Collector<P::State>>(
         (HandsOnAllTo (P.rules space.now) limits.now (P.ranks space.now) (C.collected collector.new) search.now.current.rank) }
 {
     let marks = list_marks(alloc, space, limits, &search.current.book)?;
-    collector.collect(search.current.rank, marks)
+    let rank = search.current.rank;
+    collector.collect(RankMarks { rank, marks })
 }
 
 // Goes on to the next rank that has entries. Answers false where there is none.

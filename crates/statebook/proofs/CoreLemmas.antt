@@ -15,7 +15,7 @@ use Rattle.statebook.proofs.RunLemmas.{used-le, mark_is_station}
 use Rattle.statebook.proofs.FrontierLemmas.{Way, goes_through}
 
 -- a place of a list with one place written is that place, or was there
-slice_get-set : {X : Type 0} (xs : List X) (k : ℕ) (y : X) (i : ℕ) (x : X) → slice_get (slice_set xs k y) i ≡ Some x → (slice_get xs i ≡ Some x) ⊎ ((i ≡ k) × (y ≡ x))
+pub slice_get-set : {X : Type 0} (xs : List X) (k : ℕ) (y : X) (i : ℕ) (x : X) → slice_get (slice_set xs k y) i ≡ Some x → (slice_get xs i ≡ Some x) ⊎ ((i ≡ k) × (y ≡ x))
 slice_get-set [] k y i x e = inl e
 slice_get-set (z ∷ xs) zero y zero x e = inr (refl, same_Some y x e)
 slice_get-set (z ∷ xs) zero y (suc i) x e = inl e

@@ -1,6 +1,6 @@
 use Rattle.std.proofs.Common.{refl, arith}
+use Rattle.std.proofs.lemmas.List.{nil_from_length}
 use Rattle.explore.proofs.RankedLemmas.{goes_on, none_above}
-use Rattle.explore.proofs.RankLoopLemmas.{no_items}
 use Rattle.explore.proofs.ranked.go_on.Goals as goal
 
 pub returns-in-Some : goal.returns-in-Some
@@ -11,4 +11,4 @@ returns-in-Some g c =
 pub returns-in-None : goal.returns-in-None
 returns-in-None g c =
     none_above (g.P.Space.rules c.args.space.now) (g.met.P.Space.lawful c.args.space.now) c.args.limits.now (g.P.Ranked.ranks c.args.space.now) (g.met.P.Ranked.ranked c.args.space.now) c.args.search.now c.requires.searching c.requires.all
-    (no_items c.args.search.now.later.items (omega (arith, c.args.search.now.later.ok.0, c.in-None.ensures.cases.0)))
+    (nil_from_length c.args.search.now.later.items (omega (arith, c.args.search.now.later.ok.0, c.in-None.ensures.cases.0)))
