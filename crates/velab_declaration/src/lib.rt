@@ -11,7 +11,6 @@ pub mod drivers;
 pub mod names;
 pub mod nets;
 pub mod parameter;
-pub mod refusal;
 pub mod right;
 pub mod variable;
 pub mod width;

@@ -4,7 +4,7 @@ ghost use Rattle.std.specs.Prelude.{◌≡◌, ◌++◌, ◌∷◌, [], Some, tr
 ghost use Rattle.basis.specs.Reasons.{IfFault};
 ghost use Rattle.vmodules.specs.Names.{has_double, is_declared};
 
-use crate::refusal::refused;
+use velab_expr::refusal::refused;
 use basis::OrMemory;
 use velab_expr::fault::{ElabFault, Rule};
 use vmodules::names::Names;

@@ -9,7 +9,7 @@ ghost use Rattle.velab_declaration.specs.Variables.{nets_of as spec_nets_of};
 ghost use Rattle.velab_declaration.specs.Inner.{BreaksDrivers, among, item_nets, nets_as, port_nets, texts_of};
 
 use crate::driven::Driver;
-use crate::refusal::refused;
+use velab_expr::refusal::refused;
 use basis::{NoMemory, OrMemory};
 use std::alloc::Global;
 use vast::module::{DeclarationKind, Declared, ModuleItem, NetKind};

@@ -14,7 +14,7 @@ ghost use Rattle.velab_expr.specs.Inner.{symbols_in, IsNarrow};
 ghost use Rattle.velab_declaration.specs.Inner.{symbol_of, symbols_of, event_symbols, instance_symbols, overrides_tree, valueless_in, symbols_at_head, type_of};
 
 use crate::names::note;
-use crate::refusal::refused;
+use velab_expr::refusal::refused;
 use basis::OrMemory;
 use std::alloc::Global;
 use std::marker::Model;

@@ -11,6 +11,7 @@ ghost use Rattle.velab_expr.specs.Answers.{Gives};
 
 use crate::fault::{ElabFault, Rule};
 use crate::first::first_in;
+use crate::refusal::refused;
 use basis::OrMemory;
 use vast::expression::Expression as Written;
 use vbits::{Bit4, Vec4};
@@ -55,10 +56,7 @@ pub fn worth_of(expression: &Expression, written: &Written) -> Result<Vec4, OrMe
     match flaw_of(expression, &environment) {
         None => Ok(by_itself(expression, &environment)),
         Some(flaw) => {
-            Err(OrMemory::Fault(ElabFault {
-                rule: rule_of(flaw),
-                at: first_in(written),
-            }))
+            Err(refused(rule_of(flaw), first_in(written)))
         }
     }
 }

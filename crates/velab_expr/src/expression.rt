@@ -20,6 +20,7 @@ use crate::constant::{count_in, part_bounds, worth_of};
 use crate::fault::{ElabFault, Rule};
 use crate::first::first_among;
 use crate::number::constant_of;
+use crate::refusal::refused;
 use crate::scope::{Operand, Scope, operand_of};
 use basis::{NoMemory, OrMemory};
 use std::alloc::Global;
@@ -112,10 +113,7 @@ fn put_part(
         )?),
         Operand::Parameter { value, bounds } => {
             if !is_part(bounds, selection_of) {
-                return Err(OrMemory::Fault(ElabFault {
-                    rule: Rule::Width,
-                    at: Some(at.number),
-                }));
+                return Err(refused(Rule::Width, Some(at.number)));
             }
             Ok(put(nodes, plain(part_of(value, bounds, selection_of)))?)
         }
@@ -199,10 +197,7 @@ fn put_joined(
         (lower_joined fixed scope.now (text.trees_of (words_of tokens.now) parts.now))) }
 {
     if parts.len() > MOST_PARTS {
-        return Err(OrMemory::Fault(ElabFault {
-            rule: Rule::Width,
-            at: first_among(parts),
-        }));
+        return Err(refused(Rule::Width, first_among(parts)));
     }
     put_parts(alloc, scope, fixed, tokens, parts, nodes)
 }
@@ -249,10 +244,7 @@ fn put_expression(
         }
         Value::Time(word) => {
             if fixed {
-                return Err(OrMemory::Fault(ElabFault {
-                    rule: Rule::Constant,
-                    at: Some(word.number),
-                }));
+                return Err(refused(Rule::Constant, Some(word.number)));
             }
             Ok(put(nodes, Node::Time)?)
         }

@@ -10,6 +10,7 @@ pub mod fault;
 pub mod first;
 pub mod number;
 pub mod range;
+pub mod refusal;
 pub mod scope;
 pub mod select;
 pub mod symbol;

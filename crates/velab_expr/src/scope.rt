@@ -8,6 +8,7 @@ ghost use Rattle.velab_expr.specs.Answers.{Gives};
 ghost use Rattle.velab_expr.specs.Scopes as spec;
 
 use crate::fault::{ElabFault, Rule};
+use crate::refusal::refused;
 use basis::OrMemory;
 use std::marker::Model;
 use vast::token::Token;
@@ -137,10 +138,7 @@ fn operand_in(
     match meaning {
         Meaning::Variable(number) => {
             if fixed {
-                return Err(OrMemory::Fault(ElabFault {
-                    rule: Rule::Constant,
-                    at: Some(token.number),
-                }));
+                return Err(refused(Rule::Constant, Some(token.number)));
             }
             Ok(Operand::Variable(number))
         }
@@ -150,24 +148,14 @@ fn operand_in(
             before,
         } => {
             if fixed && before >= scope.known {
-                return Err(OrMemory::Fault(ElabFault {
-                    rule: Rule::Unknown,
-                    at: Some(token.number),
-                }));
+                return Err(refused(Rule::Unknown, Some(token.number)));
             }
             Ok(Operand::Parameter {
                 value,
                 bounds: bounds_for(value, bounds),
             })
         }
-        Meaning::Event(_) => Err(OrMemory::Fault(ElabFault {
-            rule: Rule::Kind,
-            at: Some(token.number),
-        })),
-        Meaning::Instance => Err(OrMemory::Fault(ElabFault {
-            rule: Rule::Kind,
-            at: Some(token.number),
-        })),
+        Meaning::Event(_) | Meaning::Instance => Err(refused(Rule::Kind, Some(token.number))),
     }
 }
 
@@ -183,10 +171,7 @@ pub fn operand_of(
         (spec.lower_name fixed scope.now (numbered (words_of tokens.now) token)) }
 {
     match meaning_of(scope, tokens, token) {
-        None => Err(OrMemory::Fault(ElabFault {
-            rule: Rule::Unknown,
-            at: Some(token.number),
-        })),
+        None => Err(refused(Rule::Unknown, Some(token.number))),
         Some(meaning) => operand_in(scope, fixed, meaning, token),
     }
 }
@@ -201,23 +186,11 @@ pub fn number_of(
         (spec.lower_variable scope.now (numbered (words_of tokens.now) token)) }
 {
     match meaning_of(scope, tokens, token) {
-        None => Err(OrMemory::Fault(ElabFault {
-            rule: Rule::Unknown,
-            at: Some(token.number),
-        })),
+        None => Err(refused(Rule::Unknown, Some(token.number))),
         Some(Meaning::Variable(number)) => Ok(number),
-        Some(Meaning::Parameter { .. }) => Err(OrMemory::Fault(ElabFault {
-            rule: Rule::Kind,
-            at: Some(token.number),
-        })),
-        Some(Meaning::Event(_)) => Err(OrMemory::Fault(ElabFault {
-            rule: Rule::Kind,
-            at: Some(token.number),
-        })),
-        Some(Meaning::Instance) => Err(OrMemory::Fault(ElabFault {
-            rule: Rule::Kind,
-            at: Some(token.number),
-        })),
+        Some(Meaning::Parameter { .. }) => Err(refused(Rule::Kind, Some(token.number))),
+        Some(Meaning::Event(_)) => Err(refused(Rule::Kind, Some(token.number))),
+        Some(Meaning::Instance) => Err(refused(Rule::Kind, Some(token.number))),
     }
 }
 
@@ -231,22 +204,10 @@ pub fn event_of(
         (spec.lower_event scope.now (numbered (words_of tokens.now) token)) }
 {
     match meaning_of(scope, tokens, token) {
-        None => Err(OrMemory::Fault(ElabFault {
-            rule: Rule::Unknown,
-            at: Some(token.number),
-        })),
+        None => Err(refused(Rule::Unknown, Some(token.number))),
         Some(Meaning::Event(number)) => Ok(number),
-        Some(Meaning::Variable(_)) => Err(OrMemory::Fault(ElabFault {
-            rule: Rule::Kind,
-            at: Some(token.number),
-        })),
-        Some(Meaning::Parameter { .. }) => Err(OrMemory::Fault(ElabFault {
-            rule: Rule::Kind,
-            at: Some(token.number),
-        })),
-        Some(Meaning::Instance) => Err(OrMemory::Fault(ElabFault {
-            rule: Rule::Kind,
-            at: Some(token.number),
-        })),
+        Some(Meaning::Variable(_)) => Err(refused(Rule::Kind, Some(token.number))),
+        Some(Meaning::Parameter { .. }) => Err(refused(Rule::Kind, Some(token.number))),
+        Some(Meaning::Instance) => Err(refused(Rule::Kind, Some(token.number))),
     }
 }

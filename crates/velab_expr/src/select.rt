@@ -13,6 +13,7 @@ ghost use Rattle.velab_expr.specs.Selections as spec;
 
 use crate::fault::{ElabFault, Rule};
 use crate::number::constant_of;
+use crate::refusal::refused;
 use crate::scope::Scope;
 use basis::{NoMemory, OrMemory};
 use std::alloc::Global;
@@ -117,10 +118,7 @@ pub fn selection_of(
             .value
             .to_u64()
         {
-            None => Err(OrMemory::Fault(ElabFault {
-                rule: Rule::Kind,
-                at: Some(selection.levels.number),
-            })),
+            None => Err(refused(Rule::Kind, Some(selection.levels.number))),
             Some(levels) => {
                 let list = chosen_by(alloc, tokens, scope.top, levels, &selection.paths)?;
                 Ok(list)

@@ -21,6 +21,7 @@ use vast::token::Token;
 use vdesign::action::{Action, Places};
 use velab_expr::expression::{expression_of, expression_of_name};
 use velab_expr::fault::{ElabFault, Rule};
+use velab_expr::refusal::refused;
 use velab_expr::scope::{Scope, number_of};
 use vlex::Tokens;
 use vmodules::connect::ConnectionMap;
@@ -89,10 +90,7 @@ fn output_action(
         (numbered (words_of tokens.now) port) (name_of (words_of tokens.now) net)) }
 {
     let Some(net) = net else {
-        return Err(OrMemory::Fault(ElabFault {
-            rule: Rule::Ports,
-            at: Some(whose.number),
-        }));
+        return Err(refused(Rule::Ports, Some(whose.number)));
     };
     let net = number_of(outer, tokens, net)?;
     let terms = name_terms(alloc, inner, tokens, port)?;

@@ -20,6 +20,7 @@ use vdesign::print::{Pieces, When};
 use velab_expr::expression::expression_of;
 use velab_expr::fault::{ElabFault, Rule};
 use velab_expr::first::first_argument;
+use velab_expr::refusal::refused;
 use velab_expr::scope::Scope;
 use vlex::Tokens;
 use vmodules::letters::letters;
@@ -124,9 +125,6 @@ pub fn pieces_in(
     let pieces = printer.finish()?;
     match right_pieces(is_right, pieces) {
         Some(line) => Ok(line),
-        None => Err(OrMemory::Fault(ElabFault {
-            rule: Rule::Kind,
-            at: first_argument(arguments),
-        })),
+        None => Err(refused(Rule::Kind, first_argument(arguments))),
     }
 }

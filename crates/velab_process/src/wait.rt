@@ -21,6 +21,7 @@ use vast::statement::{
 use vast::token::Token;
 use vdesign::action::{Edge, Term, Terms};
 use velab_expr::fault::{ElabFault, Rule};
+use velab_expr::refusal::refused;
 use velab_expr::scope::{Meaning, Scope, meaning_of};
 use vlex::Tokens;
 
@@ -46,16 +47,10 @@ fn put_term(
         (lower_term scope.now edge (numbered (words_of tokens.now) name))) }
 {
     match meaning_of(scope, tokens, name) {
-        None => Err(OrMemory::Fault(ElabFault {
-            rule: Rule::Unknown,
-            at: Some(name.number),
-        })),
+        None => Err(refused(Rule::Unknown, Some(name.number))),
         Some(Meaning::Variable(variable)) => Ok(terms.push(Term::Change { edge, variable })?),
         Some(Meaning::Event(number)) if edge == Edge::Any => Ok(terms.push(Term::Event(number))?),
-        Some(_) => Err(OrMemory::Fault(ElabFault {
-            rule: Rule::Kind,
-            at: Some(name.number),
-        })),
+        Some(_) => Err(refused(Rule::Kind, Some(name.number))),
     }
 }
 

@@ -29,7 +29,7 @@ use vast::token::Token;
 use vdesign::design::{Design, Scope as Room, Variable};
 use velab_declaration::names::note;
 use velab_declaration::parameter::Overrides;
-use velab_declaration::refusal::refused;
+use velab_expr::refusal::refused;
 use velab_declaration::right::check_kinds;
 use velab_declaration::width::check_flaws;
 use velab_expr::fault::{ElabFault, Rule};

@@ -13,7 +13,7 @@ use crate::part::Part;
 use basis::OrMemory;
 use std::alloc::Global;
 use velab_declaration::parameter::Overrides;
-use velab_declaration::refusal::refused;
+use velab_expr::refusal::refused;
 use velab_declaration::variable::dotted_path;
 use velab_expr::fault::{ElabFault, Rule};
 use velab_expr::scope::Scope;

@@ -22,7 +22,7 @@ use std::alloc::Global;
 use vast::module::{Connections, Instance, ModuleItem, ModuleTree};
 use vast::token::Token;
 use velab_declaration::declared::port_names;
-use velab_declaration::refusal::refused;
+use velab_expr::refusal::refused;
 use velab_expr::fault::{ElabFault, Rule};
 use velab_expr::symbol::symbol_count;
 use vlex::Tokens;

@@ -27,7 +27,7 @@ use vdesign::design::{Scope as Room, Variable};
 use velab_declaration::declared::declared;
 use velab_declaration::drivers::ScopeDrivers;
 use velab_declaration::parameter::{Growing, MOST_EVENTS, add_head, add_items, add_valueless};
-use velab_declaration::refusal::refused;
+use velab_expr::refusal::refused;
 use velab_declaration::variable::{put_ports, put_variables};
 use velab_expr::fault::{ElabFault, Rule};
 use velab_expr::scope::Scope;

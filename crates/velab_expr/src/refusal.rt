@@ -4,7 +4,7 @@ ghost use Rattle.std.specs.Prelude.{◌≡◌};
 ghost use Rattle.basis.specs.declared.memory.OrMemory.TheVariants as or_memory;
 
 use basis::OrMemory;
-use velab_expr::fault::{ElabFault, Rule};
+use crate::fault::{ElabFault, Rule};
 
 /// The rule is broken, at the token of this number if there is one.
 pub fn refused(rule: Rule, at: Option<u32>) -> OrMemory<ElabFault>
