@@ -1,0 +1,10 @@
+pub mod MemberLemmas
+pub mod MayLemmas
+pub mod FreeLemmas
+pub mod ReleaseLemmas
+pub mod LastLemmas
+pub mod SeenLemmas
+pub mod AmongLemmas
+pub mod TakingLemmas
+pub mod LineLemmas
+pub mod SlotLemmas

@@ -1,0 +1,20 @@
+use Rattle.holding_law.proofs.FreeLemmas.{has_free_ones, is_all_active, last_goes_on}
+use Rattle.holding_law.proofs.ReleaseLemmas.{taken_released, advance_releases}
+use Rattle.holding_law.proofs.LastLemmas.{default_is_free}
+use Rattle.holding_law.proofs.TakingLemmas.{holding_is_taking}
+use Rattle.holding_law.proofs.LineLemmas.{unordered}
+use Rattle.holding_law.proofs.SlotLemmas.{holds_slot_lines}
+use Rattle.holding_law.proofs.holding_law.Goals as goal
+
+pub returns : goal.returns
+returns c = record {
+  takes = holding_is_taking c.run_law.ensures.kept;
+  default = default_is_free c.run_law.ensures.kept;
+  last = last_goes_on;
+  free = has_free_ones c.run_law.ensures.kept;
+  active = is_all_active c.run_law.ensures.kept;
+  advance = advance_releases c.run_law.ensures.kept;
+  taken = taken_released;
+  lines = holds_slot_lines c.run_law.ensures.kept;
+  unordered = unordered;
+}
