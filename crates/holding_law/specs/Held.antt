@@ -25,7 +25,7 @@ HasFreeProcess s = (p : ℕ) × IsActive s p × (¬ IsHeld s p)
 abbrev pub HasFree : State → Type 0
 HasFree s = HasFreeProcess s ⊎ (s.queue.activated ≢ [])
 
--- what a process has left begins at the place of an action. In each run of a text's design it does: `statement_law` [text], [trees]
+-- what a process has left begins at the place of an action
 abbrev pub HasActions : Design → State → Type 0
 HasActions design s = (p : ℕ) (frame : Frame) (after : List Frame) →
     continuation_of (slice_get s.processes p) ≡ frame ∷ after → (action : Action) × (slice_get design.actions (place_of frame) ≡ Some action)

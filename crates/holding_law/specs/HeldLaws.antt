@@ -1,12 +1,21 @@
 -- *internal*: What holds of what is held back, in every state of the runs of every setting; `holding_law` proves it.
-use Rattle.std.specs.Prelude.{◌≡◌, ℕ, suc, ◌<◌, List, [], Some, None, slice_get}
+use Rattle.std.specs.Prelude.{◌≡◌, ℕ, suc, ◌<◌, List, [], Option, Some, None, slice_get}
+use Rattle.basis.specs.declared.timescale.Timescale.{Timescale}
+use Rattle.vast.specs.Words.{Text}
+use Rattle.vast.specs.NumberedModules.{SourceTree}
 use Rattle.sched_core.specs.Rules.{choice_at}
+use Rattle.vhierarchy.specs.Instances.{Elaborates}
 use Rattle.vmodel.specs.declared.choice.Choice.TheVariants.{Run, Advance}
 use Rattle.vmodel.specs.Choices.{choices}
 use Rattle.vmodel.specs.Run.{Setting, state_after}
 use Rattle.holding_law.specs.Held.{held_in, IsHeld, IsActive, HasFree, HasActions}
 
--- choice 0 takes no process that is held back
+-- what a process of a text's design has left begins at the place of an action, in every state of every run
+abbrev pub HasActionsByText : Type 0
+HasActionsByText = (modules : SourceTree) (top : Option Text) (scale : Timescale) (setting : Setting) (log : List (ℕ × ℕ)) (n : ℕ) →
+    Elaborates modules top scale setting.design → HasActions setting.design (state_after setting log n)
+
+-- so choice 0 takes no process that is held back
 abbrev pub DefaultIsFree : Type 0
 DefaultIsFree = (setting : Setting) (log : List (ℕ × ℕ)) (n p : ℕ) →
     ((k : ℕ) → k < n → HasActions setting.design (state_after setting log k)) →

@@ -2,10 +2,11 @@
 // Nothing goes in and nothing comes out: the crate has one law, and nothing stands on it.
 #![tactic(auto)]
 
-ghost use Rattle.holding_law.specs.HeldLaws.{DefaultIsFree, LastGoesOn, HasFreeOnes, IsAllActive, AdvanceReleases, TakenIsReleased};
+ghost use Rattle.holding_law.specs.HeldLaws.{HasActionsByText, DefaultIsFree, LastGoesOn, HasFreeOnes, IsAllActive, AdvanceReleases, TakenIsReleased};
 ghost use Rattle.holding_law.specs.TakingLaws.{HoldingIsTaking};
 ghost use Rattle.holding_law.specs.LineLaws.{HoldsSlotLines, IsUnordered};
 
+use statement_law::law::statement_law;
 use vmodel::run_law;
 
 /// The law of departures that hold back, and of lines that are looked at, which does nothing. Each run in which departures may hold
@@ -15,6 +16,7 @@ use vmodel::run_law;
 /// has printed it, in whichever order.
 pub fn holding_law()
     ensures takes { HoldingIsTaking }
+    ensures actions { HasActionsByText }
     ensures default { DefaultIsFree }
     ensures last { LastGoesOn }
     ensures free { HasFreeOnes }
@@ -25,4 +27,5 @@ pub fn holding_law()
     ensures unordered { IsUnordered }
 {
     run_law();
+    statement_law();
 }
