@@ -17,7 +17,7 @@ use Rattle.vmodel.specs.State.{Process, State}
 use Rattle.vmodel.specs.Waking.{wakes, awake}
 use Rattle.vmodel.specs.Choices.{choices}
 use Rattle.vmodel.specs.Step.{StepResult, environment_of, execute_at, held_of, continuation_of, place_of, process_by, with_moves_by, with_moves, with_step, with_woken, transition_with, action_transition, continuation_transition, with_update, with_advance, transition_of, transition_by, next}
-use Rattle.vmodel.specs.Run.{Setting, opening_process, opening_of, state_after}
+use Rattle.vmodel.specs.Run.{Setting, opening_process, state_after}
 use Rattle.vmodel.specs.RunProgress.{opening_is, after_is}
 use Rattle.statement_law.specs.Laws.{Begin, AllStand, FollowsTrees}
 use Rattle.statement_law.specs.DesignLaws.{begins_of_top, DesignBegins, StandsByText}
@@ -114,5 +114,5 @@ has_actions begin trees text modules top scale setting log n made p frame after 
     by (Some one) is =
         let somewhere = text modules top scale setting p one log n made is in
         let step = trees one.scope (environment_of setting.design s) None setting.design.actions somewhere.at.pending frame after
-            (subst (StandAt one.scope setting.design.actions somewhere.at.pending) left somewhere.there.stands) in
+        (subst (StandAt one.scope setting.design.actions somewhere.at.pending) left somewhere.there.stands) in
         (step.action, step.there)

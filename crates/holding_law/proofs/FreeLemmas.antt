@@ -85,7 +85,7 @@ is_all_active keeps setting log n p held =
 -- ---- what choice 0 takes, where no process goes on
 
 -- the choices where departures may hold back
-going_on : (s : State) (held : List ℕ) → s.cause ≡ None → s.held_back ≡ Some held →
+pub going_on : (s : State) (held : List ℕ) → s.cause ≡ None → s.held_back ≡ Some held →
     choices s ≡ or_advance (taking_or_holding (order_of held s.queue)) s.queue.future
 going_on s held goes is = λ k. cond (is_some (goes k)) [] (choices_by (is k) s.queue)
 

@@ -3,6 +3,7 @@ pub mod MayLemmas
 pub mod FreeLemmas
 pub mod ReleaseLemmas
 pub mod LastLemmas
+pub mod HoldLemmas
 pub mod ActionLemmas
 pub mod SeenLemmas
 pub mod AmongLemmas

@@ -28,7 +28,7 @@ use Rattle.vmodel.specs.Run.{Setting, rules_of, opening_of, printed_at_first, st
 use Rattle.vmodel.specs.RunProgress.{opening_is, width_is, after_is}
 use Rattle.vmodel.specs.RunLaws.{IsAlwaysKept}
 use Rattle.vmodel.specs.Kept.{IsIdle}
-use Rattle.holding_law.specs.LineLaws.{times_in, lines_in, AreWithin, HasSlotLines}
+use Rattle.holding_law.specs.SlotLines.{times_in, lines_in, AreWithin, HasSlotLines}
 use Rattle.holding_law.proofs.MemberLemmas.{IsIn}
 use Rattle.holding_law.proofs.MayLemmas.{MayGo, may_go}
 use Rattle.holding_law.proofs.SeenLemmas.{items-seen}

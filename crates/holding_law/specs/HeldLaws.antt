@@ -1,14 +1,22 @@
 -- *internal*: What holds of what is held back, in every state of the runs of every setting; `holding_law` proves it.
-use Rattle.std.specs.Prelude.{◌≡◌, ℕ, suc, ◌<◌, List, [], Option, Some, None, slice_get}
+use Rattle.std.specs.Prelude.{◌≡◌, ℕ, suc, ◌*◌, ◌<◌, List, [], length, Option, Some, None, slice_get}
 use Rattle.basis.specs.declared.timescale.Timescale.{Timescale}
 use Rattle.vast.specs.Words.{Text}
 use Rattle.vast.specs.NumberedModules.{SourceTree}
 use Rattle.sched_core.specs.Rules.{choice_at}
 use Rattle.vhierarchy.specs.Instances.{Elaborates}
+use Rattle.sched_core.specs.declared.setting.Departures.TheVariants.{Holding}
+use Rattle.vmodel.specs.declared.choice.Choice.{Choice}
 use Rattle.vmodel.specs.declared.choice.Choice.TheVariants.{Run, Advance}
 use Rattle.vmodel.specs.Choices.{choices}
 use Rattle.vmodel.specs.Run.{Setting, state_after}
-use Rattle.holding_law.specs.Held.{held_in, IsHeld, IsActive, HasFree, HasActions}
+use Rattle.holding_law.specs.Held.{held_in, IsHeld, IsActive, HasFree, HasActions, HoldsBefore}
+
+-- where departures may hold back, what a choice of the first half takes may also be taken while all that stands before it is held back
+abbrev pub CanHold : Type 0
+CanHold = (setting : Setting) (log : List (ℕ × ℕ)) (n k : ℕ) (c : Choice) → setting.departures ≡ Holding →
+    2 * k < length (choices (state_after setting log n)) → slice_get (choices (state_after setting log n)) k ≡ Some c →
+    HoldsBefore setting.design (state_after setting log n) k c
 
 -- what a process of a text's design has left begins at the place of an action, in every state of every run
 abbrev pub HasActionsByText : Type 0

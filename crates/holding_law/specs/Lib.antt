@@ -2,4 +2,5 @@
 pub mod Held
 pub mod HeldLaws
 pub mod TakingLaws
+pub mod SlotLines
 pub mod LineLaws

@@ -2,6 +2,7 @@ use Rattle.holding_law.proofs.FreeLemmas.{has_free_ones, is_all_active, last_goe
 use Rattle.holding_law.proofs.ReleaseLemmas.{taken_released, advance_releases}
 use Rattle.holding_law.proofs.LastLemmas.{default_is_free}
 use Rattle.holding_law.proofs.ActionLemmas.{has_actions}
+use Rattle.holding_law.proofs.HoldLemmas.{can_hold}
 use Rattle.holding_law.proofs.TakingLemmas.{holding_is_taking}
 use Rattle.holding_law.proofs.LineLemmas.{unordered}
 use Rattle.holding_law.proofs.SlotLemmas.{holds_slot_lines}
@@ -10,6 +11,7 @@ use Rattle.holding_law.proofs.holding_law.Goals as goal
 pub returns : goal.returns
 returns c = record {
   takes = holding_is_taking c.run_law.ensures.kept;
+  holds = can_hold c.run_law.ensures.kept;
   actions = has_actions c.statement_law.ensures.design c.statement_law.ensures.trees c.statement_law.ensures.text;
   default = default_is_free c.run_law.ensures.kept;
   last = last_goes_on;
