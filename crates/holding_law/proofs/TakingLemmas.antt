@@ -17,7 +17,7 @@ use Rattle.vmodel.specs.Step.{Transition, transition_of, with_held_after, with_v
 use Rattle.vmodel.specs.Run.{Setting, rules_of, state_after, items_after}
 use Rattle.vmodel.specs.RunProgress.{opening_is, width_is, after_is}
 use Rattle.vmodel.specs.RunLaws.{IsAlwaysKept}
-use Rattle.holding_law.specs.TakingLaws.{taking, without_held, HasFewChoices, IsTakingRun}
+use Rattle.holding_law.specs.TakingLaws.{taking, without_held, HasFewChoices, AreAlike, IsTakingRun}
 use Rattle.holding_law.proofs.SeenLemmas.{with_seen_after, transition-seen, items-seen}
 use Rattle.holding_law.proofs.AmongLemmas.{among, none_too}
 
@@ -36,38 +36,39 @@ same_step design i j c s =
 -- ---- the same run
 
 -- logs that name the same choices of the first n steps
-abbrev AreAlike : List (ℕ × ℕ) → List (ℕ × ℕ) → ℕ → Type 0
-AreAlike one other n = (k : ℕ) → k < n → choice_at one k ≡ choice_at other k
+abbrev NameAlike : List (ℕ × ℕ) → List (ℕ × ℕ) → ℕ → Type 0
+NameAlike one other n = (k : ℕ) → k < n → choice_at one k ≡ choice_at other k
 
-state_alike : (setting : Setting) (one other : List (ℕ × ℕ)) (n : ℕ) → AreAlike one other n → state_after setting one n ≡ state_after setting other n
+state_alike : (setting : Setting) (one other : List (ℕ × ℕ)) (n : ℕ) → NameAlike one other n → state_after setting one n ≡ state_after setting other n
 state_alike setting one other zero alike = refl
 state_alike setting one other (suc n) alike =
     λ k. (rules_of setting).after (state_alike setting one other n (λ j lt. alike j (omega (arith, lt))) k) (alike n (omega arith) k)
 
-items_alike : (setting : Setting) (one other : List (ℕ × ℕ)) (n : ℕ) → AreAlike one other n → items_after setting one n ≡ items_after setting other n
+items_alike : (setting : Setting) (one other : List (ℕ × ℕ)) (n : ℕ) → NameAlike one other n → items_after setting one n ≡ items_after setting other n
 items_alike setting one other zero alike = refl
 items_alike setting one other (suc n) alike =
     λ k.
     items_alike setting one other n (λ j lt. alike j (omega (arith, lt))) k
     ++ items_of setting.design (next setting.design (state_alike setting one other n (λ j lt. alike j (omega (arith, lt))) k) (alike n (omega arith) k))
 
-width_alike : (setting : Setting) (one other : List (ℕ × ℕ)) (n : ℕ) → AreAlike one other n →
+width_alike : (setting : Setting) (one other : List (ℕ × ℕ)) (n : ℕ) → NameAlike one other n →
     (rules_of setting).width (state_after setting one n) ≡ (rules_of setting).width (state_after setting other n)
 width_alike setting one other n alike = ap (rules_of setting).width (state_alike setting one other n alike)
 
 -- what is kept of the other log, step by step
 record Follows (setting : Setting) (log : List (ℕ × ℕ)) (n : ℕ) (other : List (ℕ × ℕ)) : Type 0 where
   run : IsRun (rules_of (taking setting)) other n
-  state : state_after (taking setting) other n ≡ without_held (state_after setting log n)
-  items : items_after (taking setting) other n ≡ items_after setting log n
+  alike : (k : ℕ) → k ≤ n → AreAlike setting log other k
   names : NamesBelow other n
   log_is : n ≤ 1000000 → HasFewChoices (taking setting) other n → IsLog other
 
 begins : (setting : Setting) (log : List (ℕ × ℕ)) → Follows setting log 0 []
 begins setting log = record {
   run = λ k lt. absurd (omega (arith, lt));
-  state = opening_is (taking setting) ∙ ap without_held (sym (opening_is setting));
-  items = refl;
+  alike = λ k le. let first : 0 ≡ k = omega (arith, le) in subst (AreAlike setting log []) first (record {
+    state = opening_is (taking setting) ∙ ap without_held (sym (opening_is setting));
+    items = refl;
+  });
   names = tt;
   log_is = λ le few. tt;
 }
@@ -102,13 +103,13 @@ goes_on setting log other n j c so here there lt = record {
     | inr now ↦ subst (λ (m : ℕ). choice_at new m < (rules_of (taking setting)).width (state_after (taking setting) new m)) (sym now)
         (omega (arith, wide, goes.at, width_alike (taking setting) new other n goes.before))
   ];
-  state = after_is (taking setting) (state_after (taking setting) new n) (choice_at new n)
-      ∙ ap (λ (x : Transition). x.state) same
-      ∙ ap (λ (x : Transition). without_held x.state) (sym was)
-      ∙ ap without_held (sym (after_is setting s i));
-  items = λ k.
-      (items_alike (taking setting) new other n goes.before ∙ so.items) k
-      ++ (ap (items_of setting.design) same ∙ items-seen None t.state.printed setting.design t ∙ ap (items_of setting.design) (sym was)) k;
+  alike = λ k le. elim (last_or k (suc n) (omega (arith, le))) [
+    | inl before ↦ record {
+      state = state_alike (taking setting) new other k (λ m lower. goes.before m (omega (arith, lower, before))) ∙ (so.alike k (omega (arith, before))).state;
+      items = items_alike (taking setting) new other k (λ m lower. goes.before m (omega (arith, lower, before))) ∙ (so.alike k (omega (arith, before))).items;
+    }
+    | inr now ↦ subst (AreAlike setting log new) (sym now) then
+  ];
   names = goes.names;
   log_is = log_with setting log other n j so so.names wide;
 }
@@ -128,12 +129,15 @@ goes_on setting log other n j c so here there lt = record {
     goes : GoesOnBy other new n j
     goes = goes_on_by other n j so.names
 
+    now : AreAlike setting log other n
+    now = so.alike n (omega arith)
+
     wide : j < (rules_of (taking setting)).width (state_after (taking setting) other n)
     wide = omega (
       arith,
       lt,
       width_is (taking setting) (state_after (taking setting) other n),
-      ap (λ (x : State). length (choices x)) so.state,
+      ap (λ (x : State). length (choices x)) now.state,
     )
 
     was : next setting.design s i ≡ t
@@ -141,9 +145,20 @@ goes_on setting log other n j c so here there lt = record {
 
     same : next setting.design (state_after (taking setting) new n) (choice_at new n) ≡ with_seen_after None t.state.printed t
     same =
-        (λ k. next setting.design ((state_alike (taking setting) new other n goes.before ∙ so.state) k) (goes.at k))
+        (λ k. next setting.design ((state_alike (taking setting) new other n goes.before ∙ now.state) k) (goes.at k))
         ∙ ap (transition_by setting.design (without_held s) j) there
         ∙ same_step setting.design i j c s
+
+    then : AreAlike setting log new (suc n)
+    then = record {
+      state = after_is (taking setting) (state_after (taking setting) new n) (choice_at new n)
+          ∙ ap (λ (x : Transition). x.state) same
+          ∙ ap (λ (x : Transition). without_held x.state) (sym was)
+          ∙ ap without_held (sym (after_is setting s i));
+      items = λ k.
+          (items_alike (taking setting) new other n goes.before ∙ now.items) k
+          ++ (ap (items_of setting.design) same ∙ items-seen None t.state.printed setting.design t ∙ ap (items_of setting.design) (sym was)) k;
+    }
 
     last_or : (k n : ℕ) → k < suc n → (k < n) ⊎ (k ≡ n)
     last_or k n less = elim (cases_lt k n) [ inl lower ↦ inl lower | inr up ↦ inr (omega (arith, less, up)) ]
@@ -174,12 +189,11 @@ holding_is_taking keeps setting log n run =
       other,
       record {
         run = so.run;
-        state = so.state;
-        items = so.items;
+        alike = so.alike;
         ends = λ ends. record {
           run = so.run;
           end = width_is (taking setting) (state_after (taking setting) other n)
-              ∙ ap (λ (x : State). length (choices x)) so.state
+              ∙ ap (λ (x : State). length (choices x)) (so.alike n (omega arith)).state
               ∙ none_too (state_after setting log n) (sym (width_is setting (state_after setting log n)) ∙ ends.end);
           names = so.names;
         };

@@ -19,11 +19,15 @@ without_held s = record s { held_back = None }
 abbrev pub HasFewChoices : Setting → List (ℕ × ℕ) → ℕ → Type 0
 HasFewChoices setting log n = (k : ℕ) → k < n → (rules_of setting).width (state_after setting log k) ≤ 4294967296
 
--- under the other log departures that only take go the same way: the same states, and the same items
+-- after so many steps both runs stand in the same state, and have given the same items
+pub record AreAlike (setting : Setting) (log other : List (ℕ × ℕ)) (k : ℕ) : Type 0 where
+  pub state : state_after (taking setting) other k ≡ without_held (state_after setting log k)
+  pub items : items_after (taking setting) other k ≡ items_after setting log k
+
+-- under the other log departures that only take go the same way, step by step
 pub record IsTakingRun (setting : Setting) (log : List (ℕ × ℕ)) (n : ℕ) (other : List (ℕ × ℕ)) : Type 0 where
   pub run : IsRun (rules_of (taking setting)) other n
-  pub state : state_after (taking setting) other n ≡ without_held (state_after setting log n)
-  pub items : items_after (taking setting) other n ≡ items_after setting log n
+  pub alike : (k : ℕ) → k ≤ n → AreAlike setting log other k
   -- where the one ends so does the other
   pub ends : EndsAfter (rules_of setting) log n → EndsAfter (rules_of (taking setting)) other n
   -- and the other log is well formed
