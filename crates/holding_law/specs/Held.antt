@@ -31,7 +31,8 @@ HasFree s = HasFreeProcess s ⊎ (s.queue.activated ≢ [])
 -- what a process has left begins at the place of an action
 abbrev pub HasActions : Design → State → Type 0
 HasActions design s = (p : ℕ) (frame : Frame) (after : List Frame) →
-    continuation_of (slice_get s.processes p) ≡ frame ∷ after → (action : Action) × (slice_get design.actions (place_of frame) ≡ Some action)
+    continuation_of (slice_get s.processes p) ≡ frame ∷ after →
+    (action : Action) × (slice_get design.actions (place_of frame) ≡ Some action)
 
 -- ---- choices that hold back
 

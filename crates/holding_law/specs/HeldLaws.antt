@@ -37,11 +37,13 @@ LastGoesOn = (setting : Setting) (log : List (ℕ × ℕ)) (n p : ℕ) →
 
 -- while a process is held back something else can go on
 abbrev pub HasFreeOnes : Type 0
-HasFreeOnes = (setting : Setting) (log : List (ℕ × ℕ)) (n p : ℕ) → IsHeld (state_after setting log n) p → HasFree (state_after setting log n)
+HasFreeOnes = (setting : Setting) (log : List (ℕ × ℕ)) (n p : ℕ) →
+    IsHeld (state_after setting log n) p → HasFree (state_after setting log n)
 
 -- what is held back is active, so nothing inactive or posted passes it (11.4)
 abbrev pub IsAllActive : Type 0
-IsAllActive = (setting : Setting) (log : List (ℕ × ℕ)) (n p : ℕ) → IsHeld (state_after setting log n) p → IsActive (state_after setting log n) p
+IsAllActive = (setting : Setting) (log : List (ℕ × ℕ)) (n p : ℕ) →
+    IsHeld (state_after setting log n) p → IsActive (state_after setting log n) p
 
 -- an advance leaves nobody held back
 abbrev pub AdvanceReleases : Type 0
