@@ -1,12 +1,12 @@
 // Writers and readers that fail, in the middle of a dump, of a report and of a text: what stands written then, and which fault is
 // told. The texts that stand written were worked out by hand, from docs/FORMATS.md.
 
+use byte_sinks::Metered;
 use sched_core::setting::Grain;
 use std::alloc::Global;
 use std::io;
 use std::io::{ErrorKind, Read, Write};
 use std::test::Fail;
-use byte_sinks::Metered;
 use vrace::{Fault, Options, Show, check_text, explore_text_alone, read_text, replay_text};
 
 const DUMPING: &[u8] =

@@ -1,11 +1,11 @@
 // A report of many races, all of which two logs show: `check` runs each of them once. Run once for each value that names it they
 // take about 200 million steps in place of 40 thousand.
 
+use byte_sinks::Metered;
 use explore;
 use sched_core::setting::Grain;
 use std::alloc::Global;
 use std::test::Fail;
-use byte_sinks::Metered;
 use vrace::{Options, Status, check_text, explore_text_alone};
 
 // The order of the first two writes decides what `x` is to the end, and `n` at each time from 1 on.

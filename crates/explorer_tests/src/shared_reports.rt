@@ -1,13 +1,13 @@
 // Reports of a text by several workers: the same bytes as by one, where one log alone has the fewest departures.
 
 use crate::gates::HoldsSecond;
+use byte_sinks::Metered;
 use explore;
 use sched_core::setting::Grain;
 use std::alloc::Global;
 use std::sync::Wait;
 use std::test::Fail;
 use std::thread::Threads;
-use byte_sinks::Metered;
 use vrace::{Fault, Options, Reason, Status, explore_text, explore_text_alone};
 use workpool::OpenGate;
 

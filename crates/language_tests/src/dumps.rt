@@ -3,13 +3,13 @@
 ghost use Rattle.std.specs.Prelude.{◌≤◌};
 
 use basis::{Count, Span, Timescale, Unit};
+use byte_sinks::{ByteSink, Full, HeldText, Metered};
 use sched_core::end::{Cause, End};
 use std::alloc::Global;
 use std::io;
 use std::io::{Read, Write};
 use std::test::Fail;
 use vbits::{Bit4, Vec4};
-use byte_sinks::{ByteSink, Full, HeldText, Metered};
 use vcd_text::{DumpSink, write_vcd};
 use vdesign::action::Action;
 use vdesign::design::{Design, Kind, Scope, Variable};

@@ -1,6 +1,7 @@
 // From the bytes of files to places, tokens, trees and steps.
 
 use basis::{OrMemory, Timescale};
+use byte_sinks::HeldText;
 use sched_core::end::Cause;
 use sched_core::setting::Grain;
 use sched_core::{Log, ReplayFault};
@@ -12,7 +13,6 @@ use vast::statement::{Delay, Statement};
 use vast::token::Token;
 use vast::{fits, spell};
 use vbits::Vec4;
-use byte_sinks::HeldText;
 use vcd_text::DumpSink;
 use vdesign::design::Design;
 use vhierarchy::elaborate;

@@ -8,9 +8,9 @@ ghost use Rattle.lines_text.specs.LinesText.{line_at as line_text_at};
 
 use crate::in_force::{InForce, due, line_at, watched_values};
 use basis::OrMemory;
+use byte_sinks::{ByteSink, put};
 use std::alloc::Global;
 use vbits::Vec4;
-use byte_sinks::{ByteSink, put};
 use vdesign::design::Design;
 use vmodel::history::Item;
 use vmodel::sink::HistorySink;

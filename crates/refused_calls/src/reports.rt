@@ -3,11 +3,11 @@
 ghost use Rattle.vreport.specs.Reports.{HoldsDumps, TellsBytes};
 
 use basis::OrMemory;
+use byte_sinks::{Metered, WriteFault};
 use report_text::{ReportFault, read_report};
 use statebook::Limits;
 use std::alloc::Global;
 use std::io;
-use byte_sinks::{Metered, WriteFault};
 use vmachine::Machine;
 use vreport::{Explored, report_alone, write_report};
 

@@ -7,10 +7,10 @@ ghost use Rattle.report_check.specs.Inner.{EndsSo, TellsStanding};
 
 use crate::printed::is_printed;
 use basis::{NoMemory, OrMemory};
+use byte_sinks::{Expected, expected_is_whole};
 use report_text::{End, Report};
 use sched_core::{Log, replay};
 use std::alloc::Global;
-use byte_sinks::{Expected, expected_is_whole};
 use vmachine::{Machine, MachineState, machine_law};
 use vreport::{line_of_values, write_dump};
 

@@ -6,10 +6,10 @@ ghost use Rattle.trace_text.specs.Traces.{HasGrown, HasStopped};
 
 use crate::line::{Origins, end_line, opening_line, step};
 use basis::{NoMemory, OrMemory};
+use byte_sinks::{Metered, WriteFault, put};
 use sched_core::{Log, next_choice};
 use std::alloc::Global;
 use std::io::Write;
-use byte_sinks::{Metered, WriteFault, put};
 use vdesign::design::Design;
 use vmachine::Machine;
 use vmodel::State;

@@ -14,7 +14,8 @@ mod values;
 mod write;
 
 pub use byte_sinks::{
-    ByteSink, Counter, Expected, Full, HELD_BYTES, HeldText, Metered, Never, TooMany, WriteFault, expected_is_whole, put,
+    ByteSink, Counter, Expected, Full, HELD_BYTES, HeldText, Metered, Never, TooMany, WriteFault,
+    expected_is_whole, put,
 };
 pub use law::{dumps_are_readable, sinks_complete_dumps};
 pub use progress::Progress;

@@ -6,12 +6,12 @@ ghost use Rattle.vcd_text.specs.declared.progress.Progress.TheVariants.{Waiting,
 ghost use Rattle.vcd_text.specs.Sinks.{progress_at_start, begun_text, end_line, line_after_slot, slot_text, started_text};
 ghost use Rattle.byte_sinks.specs.ByteSinks.{Stopped};
 
-use byte_sinks::{ByteSink, put};
 use crate::commands::{Commands, have_start, on_after};
 use crate::header::header_of;
 use crate::progress::{Progress, first_text, later_text, line_after, line_of};
 use crate::selected::{scope_marks, spread};
 use basis::OrMemory;
+use byte_sinks::{ByteSink, put};
 use sched_core::end::End;
 use std::alloc::Global;
 use vbits::Vec4;

@@ -6,11 +6,9 @@ ghost use Rattle.byte_sinks.specs.Metered.{Grows, Stops};
 ghost use Rattle.vcd_text.specs.declared.progress.Progress.TheVariants.{Waiting};
 ghost use Rattle.vcd_text.specs.Sinks.{IsSameDump, TakesDump, FailsDump};
 
-use byte_sinks::ByteSink;
-use byte_sinks::WriteFault;
-use byte_sinks::Metered;
 use crate::sink::DumpSink;
 use basis::OrMemory;
+use byte_sinks::{ByteSink, Metered, WriteFault};
 use std::alloc::Global;
 use std::io::Write;
 use vdesign::design::Design;

@@ -4,9 +4,9 @@ ghost use Rattle.std.specs.Prelude.{◌≡◌, ◌++◌, ◌∷◌, [], Some, tr
 ghost use Rattle.basis.specs.Reasons.{IfFault};
 ghost use Rattle.vmodules.specs.Names.{has_double, is_declared};
 
-use velab_expr::refusal::refused;
 use basis::OrMemory;
 use velab_expr::fault::{ElabFault, Rule};
+use velab_expr::refusal::refused;
 use vmodules::names::Names;
 
 /// Adds a name, the token of this number, behind the others. E302 where it is among them.

@@ -9,11 +9,11 @@ ghost use Rattle.velab_declaration.specs.Variables.{nets_of as spec_nets_of};
 ghost use Rattle.velab_declaration.specs.Inner.{BreaksDrivers, among, item_nets, nets_as, port_nets, texts_of};
 
 use crate::driven::Driver;
-use velab_expr::refusal::refused;
 use basis::{NoMemory, OrMemory};
 use std::alloc::Global;
 use vast::module::{DeclarationKind, Declared, ModuleItem, NetKind};
 use velab_expr::fault::{ElabFault, Rule};
+use velab_expr::refusal::refused;
 use vlex::Tokens;
 use vmodules::letters::letters;
 use vmodules::names::Names;

@@ -14,7 +14,6 @@ ghost use Rattle.velab_expr.specs.Inner.{symbols_in, IsNarrow};
 ghost use Rattle.velab_declaration.specs.Inner.{symbol_of, symbols_of, event_symbols, instance_symbols, overrides_tree, valueless_in, symbols_at_head, type_of};
 
 use crate::names::note;
-use velab_expr::refusal::refused;
 use basis::OrMemory;
 use std::alloc::Global;
 use std::marker::Model;
@@ -26,6 +25,7 @@ use velab_expr::constant::nothing;
 use velab_expr::expression::constant_expression;
 use velab_expr::fault::{ElabFault, Rule};
 use velab_expr::range::{range_bounds, span};
+use velab_expr::refusal::refused;
 use velab_expr::scope::{Meaning, Scope};
 use vlex::Tokens;
 use vmodules::connect::ConnectionMap;

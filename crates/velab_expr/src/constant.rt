@@ -55,9 +55,7 @@ pub fn worth_of(expression: &Expression, written: &Written) -> Result<Vec4, OrMe
     let environment = nothing();
     match flaw_of(expression, &environment) {
         None => Ok(by_itself(expression, &environment)),
-        Some(flaw) => {
-            Err(refused(rule_of(flaw), first_in(written)))
-        }
+        Some(flaw) => { Err(refused(rule_of(flaw), first_in(written))) }
     }
 }
 

@@ -3,8 +3,8 @@
 ghost use Rattle.std.specs.Prelude.{◌≡◌};
 ghost use Rattle.basis.specs.declared.memory.OrMemory.TheVariants as or_memory;
 
-use basis::OrMemory;
 use crate::fault::{ElabFault, Rule};
+use basis::OrMemory;
 
 /// The rule is broken, at the token of this number if there is one.
 pub fn refused(rule: Rule, at: Option<u32>) -> OrMemory<ElabFault>

@@ -127,7 +127,7 @@ action-silent design p frame (Some action) after s none other =
     (λ k. none k ++ option_to_list (shows.strobed k)) in
     let moved : HasNoStrobe (with_step p step s).queue =
     reschedule-none p step.effect.disposition (process_to_continue p step.continuation) (posts step.effect.posted (with_strobe step.effect.strobed s.queue))
-        (posts-none step.effect.posted (with_strobe step.effect.strobed s.queue) strobed) in
+    (posts-none step.effect.posted (with_strobe step.effect.strobed s.queue) strobed) in
     (shows.shown, monitors-none (with_woken design s.values step.effect.triggered (with_step p step s)) moved)
 
 process-silent : (design : Design) (p : ℕ) (continuation : List Frame) (s : State) → HasNoStrobe s.queue →
@@ -179,5 +179,5 @@ silent_view design i c s moved printed effect monitors quiet step is =
     let x = with_held_after s i c (transition_of design c s) in
     let kept : moved.printed ≡ s.printed = sym (ap (λ (t : Transition). t.state.printed) step) ∙ printed_stays design c s in
     ap (λ (o : Option (List (List ℕ))). record x { state = record x.state { printed = o } })
-        (silent_printed design c x s.printed quiet.0 quiet.1 ∙ ap (option_map (lines_before c)) (sym kept) ∙ sym is)
+    (silent_printed design c x s.printed quiet.0 quiet.1 ∙ ap (option_map (lines_before c)) (sym kept) ∙ sym is)
     ∙ ap (λ (t : Transition). record t { state = record t.state { printed = printed } }) step

@@ -12,11 +12,11 @@ ghost use Rattle.vmachine.specs.Runs.{IsRunAt};
 ghost use Rattle.vrace.specs.RunLines.{HasEnd, IsLinesFront, IsFrontOf, IsHeldLines, StopsLines, TakesLines};
 
 use basis::OrMemory;
+use byte_sinks::{ByteSink, HeldText, put};
 use lines_text::{InForce, LinesSink};
 use sched_core::end::End;
 use sched_core::{Log, ReplayFault};
 use std::alloc::Global;
-use byte_sinks::{ByteSink, HeldText, put};
 use vmachine::{Machine, Run, RunFault};
 
 // Hands what a run gives, which ends, to a sink, from where it stands.

@@ -7,9 +7,9 @@ ghost use Rattle.vrace.specs.Reads.{IsAllOf, IsReadReason, IsTaken, most};
 
 use crate::fault::Fault;
 use basis::NoMemory;
+use byte_sinks::Metered;
 use std::alloc::Global;
 use std::io::Read;
-use byte_sinks::Metered;
 
 /// The most bytes that a text may have.
 pub const LIMIT: usize = 16_777_216;

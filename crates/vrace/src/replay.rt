@@ -21,12 +21,12 @@ use crate::lines::{HeldLines, LinesFront, hold_lines, write_lines, write_lines_f
 use crate::machine::machine_in;
 use crate::options::Options;
 use basis::OrMemory;
+use byte_sinks::{HELD_BYTES, HeldText, Metered, WriteFault, put};
 use sched_core::setting::{Departures, Grain, Looked};
 use sched_core::{Log, LogFault, LogHead, ReplayFault, read_named_log, replay};
 use std::alloc::Global;
 use std::io::Write;
 use trace_text::Origins;
-use byte_sinks::{HELD_BYTES, HeldText, Metered, WriteFault, put};
 use vmachine::{Machine, machine_law};
 use vreport::{DumpFront, HeldDump, hold_dump, write_dump, write_from};
 

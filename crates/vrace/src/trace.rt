@@ -11,10 +11,10 @@ ghost use Rattle.vrace.specs.RunDumps.{failures_after};
 use crate::fault::Fault;
 use crate::options::Options;
 use crate::replay::{of_writing, replay_input_of, see_end};
+use byte_sinks::Metered;
 use std::alloc::Global;
 use std::io::Write;
 use trace_text::write_trace;
-use byte_sinks::Metered;
 
 /// Writes the trace of the run of the files under the log to the writer, step by step: a line for each step, each slot end
 /// and the run's end (docs/FORMATS.md, "Traces"). No clause says which bytes.

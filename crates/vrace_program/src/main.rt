@@ -7,6 +7,7 @@ mod explanations;
 mod words;
 
 use basis::NoMemory;
+use byte_sinks::Metered;
 use clap::error::ErrorKind;
 use clap::{ArgMatches, Error};
 use explanations::{explanation_of, show, show_all};
@@ -18,7 +19,6 @@ use std::process::ExitCode;
 use std::sync::Wait;
 use std::thread::Threads;
 use std::{env, io};
-use byte_sinks::Metered;
 use vrace::{
     Fault, Options, Status, check_text, explore_text, explore_text_alone, read_text, replay_text,
     trace_text,

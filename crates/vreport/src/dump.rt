@@ -12,10 +12,10 @@ ghost use Rattle.vmodel.specs.RunProgress.{Finishes};
 ghost use Rattle.vreport.specs.Dumps.{HasDump, IsDumpFront, IsFrontOf, IsHeldDump, StopsDump, TakesDump};
 
 use basis::OrMemory;
+use byte_sinks::{ByteSink, HeldText, put};
 use sched_core::end::End;
 use sched_core::{Log, ReplayFault};
 use std::alloc::Global;
-use byte_sinks::{ByteSink, HeldText, put};
 use vcd_text::{DumpSink, Progress};
 use vmachine::{Machine, Run, RunFault};
 

@@ -14,12 +14,12 @@ ghost use Rattle.vreport.specs.Inner.{AreEnds, AreRows, AreSortedRows, CountsDum
 use crate::dump::{DumpFront, HeldDump, hold_dump, write_dump, write_from};
 use crate::row::{Row, cause_of, copy_printed, rows_in_order};
 use basis::OrMemory;
+use byte_sinks::{Counter, HELD_BYTES, HeldText, TooMany};
 use explore::Findings;
 use report_text::End;
 use sched_core::Log;
 use statebook::Limits;
 use std::alloc::Global;
-use byte_sinks::{Counter, HELD_BYTES, HeldText, TooMany};
 use vmachine::{Machine, MachineState, machine_law};
 use vmodel::run_law;
 

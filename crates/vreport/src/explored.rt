@@ -9,13 +9,13 @@ ghost use Rattle.vreport.specs.Reports.{HoldsDumps, IsReadable, MeansEntries, Re
 
 use crate::report::hold_report;
 use basis::OrMemory;
+use byte_sinks::{HeldText, TooMany};
 use explore::{Findings, Status, explore, explore_alone};
 use report_text::Report;
 use statebook::Limits;
 use std::alloc::Global;
 use std::sync::Wait;
 use std::thread::Threads;
-use byte_sinks::{HeldText, TooMany};
 use vmachine::{Machine, MachineState, machine_law};
 use workpool::Gate;
 

@@ -10,13 +10,13 @@ ghost use Rattle.vreport.specs.Written.{AreHeld, IsHeld, StopsEnd, StopsEnds, St
 
 use crate::dump::write_dump;
 use basis::{NoMemory, OrMemory};
+use byte_sinks::{ByteSink, HeldText, put};
 use report_text::{
     Column, End, LineRace, Race, Report, end_lines, head_lines, line_race_count_line,
     line_race_lines, race_count_line, race_lines,
 };
 use sched_core::setting::Looked;
 use std::alloc::Global;
-use byte_sinks::{ByteSink, HeldText, put};
 use vmachine::Machine;
 
 // Hands on a text that was made, unless memory was refused for it.

@@ -1,0 +1,12 @@
+pub mod MemberLemmas
+pub mod MayLemmas
+pub mod FreeLemmas
+pub mod ReleaseLemmas
+pub mod LastLemmas
+pub mod HoldLemmas
+pub mod ActionLemmas
+pub mod SeenLemmas
+pub mod AmongLemmas
+pub mod TakingLemmas
+pub mod LineLemmas
+pub mod SlotLemmas

@@ -1,0 +1,49 @@
+-- *product rule*: The lines of a slot (IEEE 1364-2005, 11.3, 17.1.1, 17.1.2; docs/SCHEDULING.md, "Lines of a slot"), as what a run has
+-- given to its history shows them.
+use Rattle.std.specs.Prelude.{◌≡◌, ◌⊎◌, ℕ, suc, if◌then◌else◌, nat_eq, List, [], ◌∷◌, ◌++◌, Some}
+use Rattle.std.specs.Cmp.Lexicographic.{pointwise}
+use Rattle.vbits.specs.Vectors.{Vector}
+use Rattle.vmodel.specs.declared.history.Item.{Item}
+use Rattle.vmodel.specs.declared.history.Item.TheVariants.{SlotEnd, Dump, Line, Monitor}
+use Rattle.vmodel.specs.State.{State}
+use Rattle.vmodel.specs.Step.{slot_end_of}
+
+-- how often a line stands among these
+abbrev pub times_in : List ℕ → List (List ℕ) → ℕ
+times_in line [] = 0
+times_in line (one ∷ more) = if pointwise nat_eq line one then suc (times_in line more) else times_in line more
+
+-- what these items print, by `$display` or `$strobe`
+abbrev pub lines_in : List Item → List (List ℕ)
+lines_in [] = []
+lines_in (Line text ∷ items) = text ∷ lines_in items
+lines_in (SlotEnd time values ∷ items) = lines_in items
+lines_in (Dump command ∷ items) = lines_in items
+lines_in (Monitor place ∷ items) = lines_in items
+
+-- none of these items ends a slot
+abbrev pub AreWithin : List Item → Type 0
+AreWithin [] = Unit {0}
+AreWithin (SlotEnd time values ∷ items) = ⊥
+AreWithin (Dump command ∷ items) = AreWithin items
+AreWithin (Line text ∷ items) = AreWithin items
+AreWithin (Monitor place ∷ items) = AreWithin items
+
+-- the last of these items ends a slot
+abbrev pub EndsSlot : List Item → Type 0
+EndsSlot items = (front : List Item) × (time : ℕ) × (values : List Vector) × (items ≡ front ++ SlotEnd time values ∷ [])
+
+-- what a run has given: the items of earlier slots, then those of this slot so far, then its end, where the state is one (11.4)
+pub record IsSlot (s : State) (items before slot : List Item) : Type 0 where
+  pub whole : items ≡ before ++ slot ++ slot_end_of s
+  pub within : AreWithin slot
+  pub begins : (before ≡ []) ⊎ EndsSlot before
+
+-- the bag has each line as often as the slot has printed it
+pub record HasSlotLines (s : State) (items : List Item) : Type 0 where
+  pub before : List Item
+  pub slot : List Item
+  pub slot_is : IsSlot s items before slot
+  pub bag : List (List ℕ)
+  pub printed : s.printed ≡ Some bag
+  pub times : (line : List ℕ) → times_in line bag ≡ times_in line (lines_in slot)
