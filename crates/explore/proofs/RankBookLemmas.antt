@@ -148,10 +148,13 @@ set_from {S} same old place rank b new entry is_new at here opens i x at' = elim
   | inl there ↦ inl (i, there)
   | inr (at_place, is) ↦ (
       let P : RankBook S → Type 0 = λ v. IsFromBook old rank entry v in
-      subst P is (inr (opens.rank ∙ here, λ e there. elim (of_grown b.book entry new.book opens.grown e there) [
-        | inl itself ↦ inl itself
-        | inr before ↦ inr (place, b, at, here, before)
-      ])))
+      subst P is (inr (
+        opens.rank ∙ here,
+        λ e there. elim (of_grown b.book entry new.book opens.grown e there) [
+          | inl itself ↦ inl itself
+          | inr before ↦ inr (place, b, at, here, before)
+        ],
+      )))
 ]
 
 -- the book of the rank, which stood at the place, met the entry

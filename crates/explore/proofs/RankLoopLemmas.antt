@@ -68,12 +68,15 @@ begins {S} r limits rank eq root s b =
         order = λ i j x y lt at at'. absurd (nowhere i x at);
         frontier = root_frontier r limits.depart rank s.current.rank (AreHeld s.current s.later.items) root there b.same b.budget;
       };
-      opened = (root ∷ [], record {
-        count = b.one;
-        allowed = λ i e at. (let P : Entry S → Type 0 = λ x. MayBeAdded r limits x in subst P (seen_is root i e at) is);
-        differ = λ i j e f lt at at'. one_seen r root i j e f lt at';
-        held = λ i e at high. (let P : Entry S → Type 0 = λ x. AreHeld s.current s.later.items x in subst P (seen_is root i e at) there);
-      });
+      opened = (
+        root ∷ [],
+        record {
+          count = b.one;
+          allowed = λ i e at. (let P : Entry S → Type 0 = λ x. MayBeAdded r limits x in subst P (seen_is root i e at) is);
+          differ = λ i j e f lt at at'. one_seen r root i j e f lt at';
+          held = λ i e at high. (let P : Entry S → Type 0 = λ x. AreHeld s.current s.later.items x in subst P (seen_is root i e at) there);
+        },
+      );
     }
 
 -- what was handed on, whether or not all of it was taken

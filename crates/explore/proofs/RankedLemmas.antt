@@ -314,8 +314,12 @@ goes_on {S} r law limits rank ranked old new next h all items is root few =
     let higher : old.current.rank < next.rank = f.above (length later) next (stands_last later next) in
     let N : RankBook S → Type 0 = λ b. IsAFrontier r limits rank b later × (old.current.rank < b.rank) × NoneBetween r limits.depart rank old.current.rank b.rank in
     let R : S → Type 0 = λ s. r.same s r.first ≡ true in
-    let all_of = subst N (sym is) (held, higher, none_between r law limits.depart rank ranked old.current.rank next.rank (IsIn old.current.book.entries) (IsWaiting (later ++ next ∷ [])) w
-    (λ e waits. next_least r limits rank next later held e (next_or_waits later next e waits))) in
+    let all_of = subst N (sym is) (
+      held,
+      higher,
+      none_between r law limits.depart rank ranked old.current.rank next.rank (IsIn old.current.book.entries) (IsWaiting (later ++ next ∷ [])) w
+          (λ e waits. next_least r limits rank next later held e (next_or_waits later next e waits)),
+    ) in
     record {
       searching = record { root = subst R (sym root) h.root; held = all_of.0; opened = (h.opened.0, next_opened r limits rank old new next h.opened.0 h.held h.opened.1 items is higher few) };
       higher = all_of.1;
@@ -358,8 +362,11 @@ rank_fewest r law limits rank ranked s marks h all found lists i p at log n run 
       let here : rank (stands r log n) ≡ s.current.rank = sym (ranked.rank_same p.0 (stands r log n) same) ∙ marks_rank r limits rank ranked s.current marks h.held.current lists i p at in
       let on = ends_now r law limits.depart rank ranked s.current.rank (IsIn s.current.book.entries) (IsWaiting s.later.items) (worked_off r limits rank s h all) log n short run mark here in
       let near : r.same p.0 on.entry.state ≡ true = law.transitive p.0 (stands r log n) on.entry.state same (law.symmetric on.entry.state (stands r log n) on.same) in
-      omega (arith, has_no_shorter r limits s.current.book marks (rank_entries r limits rank s.current h.held.current) lists i p at on.inside.0 on.entry on.inside.1 near,
-      ends_short r limits rank s.current log n h.held.current on))
+      omega (
+        arith,
+        has_no_shorter r limits s.current.book marks (rank_entries r limits rank s.current h.held.current) lists i p at on.inside.0 on.entry on.inside.1 near,
+        ends_short r limits rank s.current log n h.held.current on,
+      ))
 ]
 
 -- every mark of the rank that a run within the limit of departures reaches is listed
