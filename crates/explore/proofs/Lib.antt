@@ -11,3 +11,4 @@ pub mod SharedLemmas
 pub mod RankBookLemmas
 pub mod RankedLemmas
 pub mod RankLoopLemmas
+pub mod RankMarksLemmas

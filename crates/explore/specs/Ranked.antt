@@ -1,12 +1,13 @@
 -- *product rule*: What a search that goes by rank hands on: the marks of one rank after another, each under the log of a run that
 -- reaches it; and of which marks it has handed on all. The rank of a state is the time of a simulation, or another number that no
 -- step lowers.
-use Rattle.std.specs.Prelude.{◌≡◌, ℕ, List, ◌++◌, length, slice_get, Some}
+use Rattle.std.specs.Prelude.{◌≡◌, ℕ, List, ◌++◌, length, slice_get, map, Some}
 use Rattle.sched_core.specs.Rules.{Rules}
 use Rattle.statebook.specs.Covered.{IsCovered, IsCoveredTo}
 use Rattle.statebook.specs.declared.limits.Limits.{Limits}
 use Rattle.statebook.specs.Ways.{SomeRunExceeds}
 use Rattle.explore.specs.Found.{AllFewest, AreFound, HasEntries, IsListedMark}
+use Rattle.explore.specs.declared.rank_marks.FoundMark.{FoundMark}
 use Rattle.explore.specs.declared.ranked_findings.RankedFindings.{RankedFindings}
 use Rattle.explore.specs.declared.ranked_findings.RankedReason.TheVariants.{Entries, Steps}
 use Rattle.explore.specs.declared.ranked_findings.RankedStatus.TheVariants.{Exhausted, Cut}
@@ -15,6 +16,10 @@ use Rattle.explore.specs.declared.ranked_findings.RankedStatus.TheVariants.{Exha
 pub record Closing (S : Type 0) : Type 0 where
   pub rank : ℕ
   pub marks : List (S × List (ℕ × ℕ))
+
+-- The marks of a list, each with its log.
+abbrev pub pairs_of : {S : Type 0} → List (FoundMark S) → List (S × List (ℕ × ℕ))
+pairs_of marks = map (λ found. (found.state, found.log)) marks
 
 -- It is so of each closing.
 abbrev pub OfEach : {S : Type 0} → List (Closing S) → (Closing S → Type 0) → Type 0

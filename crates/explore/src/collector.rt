@@ -1,29 +1,20 @@
 // Who takes what a search that goes by rank finds, and who is asked whether it is to go on.
 
 ghost use Rattle.std.specs.Prelude.{◌≡◌, List, [], ◌∷◌, ◌++◌, OnOk, OnErr};
-ghost use Rattle.explore.specs.Ranked.{Closing, ArePartOf};
+ghost use Rattle.explore.specs.Ranked.{Closing, ArePartOf, pairs_of};
 
+use crate::rank_marks::RankMarks;
 use basis::NoMemory;
-use indexmap::IndexMap;
-use sched_core::Log;
-use std::hash::Hash;
-
-/// The marks of a rank, each with a log of the fewest departures.
-#[derive(Drop)]
-pub struct RankMarks<S: Eq + Hash> {
-    pub rank: u64,
-    pub marks: IndexMap<S, Log>,
-}
 
 /// Takes the marks of one rank after another.
-pub trait Collector<S: Eq + Hash> {
+pub trait Collector<S> {
     ghost collected: { Self → List (Closing S) };
 
     /// Takes the marks of a rank that is closed. After want of memory it may have taken part of them.
     fn collect(&mut self, closed: RankMarks<S>) -> Result<(), NoMemory>
         ensures ok { OnOk result
-            (collected self.new ≡ collected self.old ++ record { rank = closed.rank; marks = closed.marks.entries } ∷ []) }
-        ensures err { OnErr result (ArePartOf closed.rank closed.marks.entries (collected self.old) (collected self.new)) };
+            (collected self.new ≡ collected self.old ++ record { rank = closed.rank; marks = pairs_of closed.marks.items } ∷ []) }
+        ensures err { OnErr result (ArePartOf closed.rank (pairs_of closed.marks.items) (collected self.old) (collected self.new)) };
 }
 
 /// How far a search that goes by rank has come: the rank under way, how many entries were opened in all, how

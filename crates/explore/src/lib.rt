@@ -12,6 +12,7 @@ mod listing;
 mod marks;
 mod next;
 mod rank_book;
+mod rank_marks;
 mod ranked;
 mod ranked_classes;
 mod ranked_findings;
@@ -24,8 +25,9 @@ mod ways;
 mod workers;
 
 pub use alone::explore_alone;
-pub use collector::{Collector, Progress, RankMarks, Watcher};
+pub use collector::{Collector, Progress, Watcher};
 pub use findings::{Findings, Status};
+pub use rank_marks::{FoundMark, RankMarks};
 pub use ranked::explore_ranked;
 pub use ranked_findings::{RankedFindings, RankedReason, RankedStatus};
 pub use statebook::Reason;

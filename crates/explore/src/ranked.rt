@@ -6,10 +6,11 @@ ghost use Rattle.basis.specs.declared.memory.OrMemory.TheVariants.{Fault};
 ghost use Rattle.explore.specs.Ranked.{HandsOnAll, HandsOnAllTo, HandsOnFewest, HandsOnFound, HasItsRank, OfEach, TellsOfEntries, TellsOfSteps};
 ghost use Rattle.explore.specs.Inner.RankedSearches.{AllAreLedOn, AreLawful, HasHandedOn, IsFollowed, IsKeptIn, IsRankedSearch, IsWhy, NoneBelow};
 
-use crate::collector::{Collector, RankMarks, Watcher};
+use crate::collector::{Collector, Watcher};
 use crate::halt::Halt;
 use crate::marks::list_marks;
 use crate::rank_book::{RankBook, open_in};
+use crate::rank_marks::{RankMarks, found_marks};
 use crate::ranked_classes::visit_rank;
 use crate::ranked_findings::{RankedFindings, RankedReason, RankedStatus};
 use crate::ranked_search::RankedSearch;
@@ -66,7 +67,8 @@ fn hand_on<P: Ranked, C: Collector<P::State>>(
     ensures closed { OnOk result
         (HandsOnAllTo (P.rules space.now) limits.now (P.ranks space.now) (C.collected collector.new) search.now.current.rank) }
 {
-    let marks = list_marks(alloc, space, limits, &search.current.book)?;
+    let listed = list_marks(alloc, space, limits, &search.current.book)?;
+    let marks = found_marks(alloc, listed)?;
     let rank = search.current.rank;
     collector.collect(RankMarks { rank, marks })
 }

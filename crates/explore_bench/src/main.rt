@@ -1,12 +1,19 @@
 //! Explores a board of so many squares by 4, or by so many as a third word says, with so many departures at most, so that its
 //! instructions can be counted and its answers compared; a fourth and a fifth word limit the steps of a run and the entries.
-//! With a sixth word above 0 so many workers explore it, else `explore_alone`; with a seventh each mark is written with how many
-//! departures its log has. In go the numbers as words; out come the number of marks and the status, and the marks in order.
-//! Without words nothing is run. No law is claimed.
+//! With a sixth word above 0 so many workers explore it, with the word `ranked` `explore_ranked`, else `explore_alone`; with a
+//! seventh each mark is written with how many departures its log has; an eighth stops a search by rank once so many entries were
+//! taken. In go the numbers as words; out come the number of marks and the status, the marks in order, and how far a search by rank
+//! came. Without words nothing is run. No law is claimed.
 #![tactic(auto)]
 
 ghost use Rattle.std.specs.Prelude.{◌≤◌};
 
+mod by_rank;
+mod kept;
+mod marks;
+
+use crate::by_rank::explore_by_rank;
+use crate::marks::show_marks;
 use anyhow::{Context, Result};
 use basis::NoMemory;
 use explore::{Findings, Reason, Status, explore, explore_alone};
@@ -42,6 +49,14 @@ fn found<R: Threads + Wait + Sync>(
     explore(rt, alloc, grid, limits, workers, &OpenGate)
 }
 
+// Whether the word at the place says that the search goes by rank.
+fn is_ranked(words: &[String], place: usize) -> bool {
+    match words.get(place) {
+        Some(word) => word.as_str() == "ranked",
+        None => false,
+    }
+}
+
 // How the search ended.
 fn told(status: Status) -> &'static str {
     match status {
@@ -61,16 +76,19 @@ fn main(rt: HostRuntime) -> Result<()> {
     let depart = number(&words, 2, 0)?;
     let steps = number(&words, 4, 1_000_000)?;
     let entries = number(&words, 5, 1_000_000)?;
-    let workers = number(&words, 6, 0)?.min(64);
     let limits = Limits::new(depart, steps, entries).context("limits")?;
+    let lists = words.len() > 7;
+    if is_ranked(&words, 6) {
+        let most = number(&words, 8, u32::MAX)?;
+        return explore_by_rank(&rt, rt.alloc(), &grid, &limits, lists, most);
+    }
+    let workers = number(&words, 6, 0)?.min(64);
     let findings = found(&rt, rt.alloc(), &grid, &limits, workers as usize)
         .ok()
         .context("memory")?;
     println!(rt; "{} marks, {}", findings.marks.len(), told(findings.status))?;
-    if words.len() > 7 {
-        for (square, log) in &findings.marks {
-            println!(rt; "{} {} {}", square.x, square.y, log.members().len())?;
-        }
+    if lists {
+        show_marks(&rt, &findings.marks)?;
     }
     Ok(())
 }
