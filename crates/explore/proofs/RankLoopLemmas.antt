@@ -12,6 +12,7 @@ use Rattle.statebook.specs.Inner.Forced.{IsFirst, MayBeAdded}
 use Rattle.statebook.proofs.FrontierLemmas.{root_frontier}
 use Rattle.explore.specs.Found.{Differ}
 use Rattle.explore.specs.Ranked.{ArePartOf, Closing, HandsOnAllTo, WasHandedOn}
+use Rattle.explore.specs.Inner.Ways.{IsSearching}
 use Rattle.explore.specs.Inner.RankedSearches.{AreHeld, HasHandedOn, HasOpened, IsAFrontier, IsIn, IsKeptIn, IsOfRank, IsRankedSearch, NoneAbove, Opens}
 use Rattle.explore.specs.declared.rank_book.RankBook.{RankBook}
 use Rattle.explore.specs.declared.ranked_search.RankedSearch.{RankedSearch}
@@ -30,7 +31,7 @@ pub record Begins {S : Type 0} (r : Rules S) (limits : Limits) (rank : S → ℕ
   pub of_rank : empty.rank ≡ rank root.state
   pub is_new : Bool
   pub opens : Opens eq empty root s.current is_new
-  pub first : IsFirst r s.root
+  pub known : IsSearching r limits s.known
   pub none : s.later.items ≡ []
   pub one : s.opened ≤ 1
 
@@ -58,7 +59,7 @@ begins {S} r limits rank eq root s b =
     let nowhere : (i : ℕ) (x : RankBook S) → slice_get s.later.items i ≡ Some x → ⊥ = λ i x at.
     (let P : List (RankBook S) → Type 0 = λ l. slice_get l i ≡ Some x in nothing_there i x (subst P b.none at)) in
     record {
-      root = b.first;
+      known = b.known;
       held = record {
         current = λ e inside.
             (let P : Entry S → Type 0 = λ x. MayBeAdded r limits x × (rank x.state ≡ s.current.rank) in

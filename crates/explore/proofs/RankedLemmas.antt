@@ -13,15 +13,18 @@ use Rattle.statebook.specs.declared.entry.Entry.{Entry}
 use Rattle.statebook.specs.declared.limits.Limits.{Limits}
 use Rattle.statebook.specs.Inner.Forced.{Follows, MayBeAdded}
 use Rattle.statebook.specs.Inner.Frontiers.{IsOnWay, HasSuccessorIn, LeadsInto, IsFrontier}
-use Rattle.statebook.proofs.RunLemmas.{used-le}
+use Rattle.statebook.proofs.RunLemmas.{is_station_same, used-le}
 use Rattle.statebook.proofs.FrontierLemmas.{IsWorkedOff, ends_now, later_frontier, none_between, rank_rises}
 use Rattle.explore.specs.Found.{AllFewest, AreFound, Differ, HasEntries, IsListedMark}
 use Rattle.explore.specs.BookFindings.{ListsExactly}
 use Rattle.explore.specs.Ranked.{ArePartOf, Closing, HandsOnAllTo, HasItsRank, IsPartOf, OfEach, WasHandedOn}
 use Rattle.explore.specs.Inner.Exploring.{AreEntries, BookGrows}
+use Rattle.explore.specs.Inner.Ways.{AllComeTo, IsSearching}
 use Rattle.explore.specs.Inner.RankedSearches.{AllAreLedOn, AreHeld, AreLawful, AreLedOnWith, GoesOnTo, HasDominator, HasHandedOn, HasOpened, HasOpenedSome, IsAFrontier, IsHeld, IsIn, IsKeptIn, IsLedOn, IsMetAt, IsOfRank, IsRankedSearch, IsWaiting, Keeps, Meets, NoneAbove, NoneBelow, NoneBetween, Opens, RankGrows, RankGrowsFrom}
 use Rattle.explore.specs.declared.rank_book.RankBook.{RankBook}
 use Rattle.explore.specs.declared.ranked_search.RankedSearch.{RankedSearch}
+use Rattle.explore.specs.declared.search.Checkpoint.{Checkpoint}
+use Rattle.explore.specs.declared.search.Search.{Search}
 use Rattle.explore.proofs.ClassLemmas.{EachUpTo, one_more}
 use Rattle.explore.proofs.VisitLemmas.{grows_more, grows_not, grows_twice}
 use Rattle.explore.proofs.MarkLemmas.{has_no_shorter, lists_each}
@@ -185,11 +188,11 @@ meets_opened r limits rank ranked eq agree old new entry true h (seen, o) is hig
 meets_opened r limits rank ranked eq agree old new entry false h (seen, o) is high m few = (seen, opened_known r limits rank eq old new entry seen o m few)
 
 -- the search that has met an entry
-pub meets_searching : {S : Type 0} (r : Rules S) (limits : Limits) (rank : S → ℕ) → IsRanked r rank → (eq : S → S → Bool) → ((s t : S) → r.same s t ≡ eq s t) → (old new : RankedSearch S) (entry : Entry S) (is_new : Bool) → IsRankedSearch r limits rank old → MayBeAdded r limits entry → old.current.rank ≤ rank entry.state → Meets eq (rank entry.state) old.current old.later.items entry new.current new.later.items is_new → new.root ≡ old.root → Counts is_new old.opened new.opened → IsRankedSearch r limits rank new
-meets_searching {S} r limits rank ranked eq agree old new entry is_new h is high m root few =
-    let R : S → Type 0 = λ s. r.same s r.first ≡ true in
+pub meets_searching : {S : Type 0} (r : Rules S) (limits : Limits) (rank : S → ℕ) → IsRanked r rank → (eq : S → S → Bool) → ((s t : S) → r.same s t ≡ eq s t) → (old new : RankedSearch S) (entry : Entry S) (is_new : Bool) → IsRankedSearch r limits rank old → MayBeAdded r limits entry → old.current.rank ≤ rank entry.state → Meets eq (rank entry.state) old.current old.later.items entry new.current new.later.items is_new → new.known ≡ old.known → Counts is_new old.opened new.opened → IsRankedSearch r limits rank new
+meets_searching {S} r limits rank ranked eq agree old new entry is_new h is high m known few =
+    let K : Search S → Type 0 = λ s. IsSearching r limits s in
     record {
-      root = subst R (sym root) h.root;
+      known = subst K (sym known) h.known;
       held = meets_frontier r limits rank eq old.current old.later.items entry new.current new.later.items is_new h.held is high m;
       opened = meets_opened r limits rank ranked eq agree old new entry is_new h.held h.opened is high m few;
     }
@@ -303,8 +306,8 @@ next_opened {S} r limits rank old new next seen f o items is higher few = record
 }
 
 -- the search goes on to the last of the books, whose rank is the least
-pub goes_on : {S : Type 0} (r : Rules S) → IsLawful r → (limits : Limits) (rank : S → ℕ) → IsRanked r rank → (old new : RankedSearch S) (next : RankBook S) → IsRankedSearch r limits rank old → AllAreLedOn r old → old.later.items ≡ new.later.items ++ next ∷ [] → new.current ≡ next → new.root ≡ old.root → new.opened ≤ old.opened → GoesOnTo r limits rank old.current.rank new
-goes_on {S} r law limits rank ranked old new next h all items is root few =
+pub goes_on : {S : Type 0} (r : Rules S) → IsLawful r → (limits : Limits) (rank : S → ℕ) → IsRanked r rank → (old new : RankedSearch S) (next : RankBook S) → IsRankedSearch r limits rank old → AllAreLedOn r old → old.later.items ≡ new.later.items ++ next ∷ [] → new.current ≡ next → new.known ≡ old.known → new.opened ≤ old.opened → GoesOnTo r limits rank old.current.rank new
+goes_on {S} r law limits rank ranked old new next h all items is known few =
     let later : List (RankBook S) = new.later.items in
     let F : List (RankBook S) → Type 0 = λ l. IsAFrontier r limits rank old.current l in
     let W : List (RankBook S) → Type 0 = λ l. IsWorkedOff r limits.depart rank old.current.rank (IsIn old.current.book.entries) (IsWaiting l) in
@@ -313,7 +316,7 @@ goes_on {S} r law limits rank ranked old new next h all items is root few =
     let held : IsAFrontier r limits rank next later = next_frontier r law limits rank ranked old.current next later f w in
     let higher : old.current.rank < next.rank = f.above (length later) next (stands_last later next) in
     let N : RankBook S → Type 0 = λ b. IsAFrontier r limits rank b later × (old.current.rank < b.rank) × NoneBetween r limits.depart rank old.current.rank b.rank in
-    let R : S → Type 0 = λ s. r.same s r.first ≡ true in
+    let K : Search S → Type 0 = λ s. IsSearching r limits s in
     let all_of = subst N (sym is) (
       held,
       higher,
@@ -321,7 +324,7 @@ goes_on {S} r law limits rank ranked old new next h all items is root few =
           (λ e waits. next_least r limits rank next later held e (next_or_waits later next e waits)),
     ) in
     record {
-      searching = record { root = subst R (sym root) h.root; held = all_of.0; opened = (h.opened.0, next_opened r limits rank old new next h.opened.0 h.held h.opened.1 items is higher few) };
+      searching = record { known = subst K (sym known) h.known; held = all_of.0; opened = (h.opened.0, next_opened r limits rank old new next h.opened.0 h.held h.opened.1 items is higher few) };
       higher = all_of.1;
       none = all_of.2;
     }
@@ -522,3 +525,33 @@ led_more r old new budget place e at same grows led here =
 
 pub led_to_end : {S : Type 0} (r : Rules S) (s : RankedSearch S) (budget place : ℕ) → EachUpTo (IsLedOn r s) s.current.book budget place → length s.current.book.entries ≤ place → AreLedOnWith r s budget
 led_to_end r s budget place led le i e at same = led i e (omega (arith, slice_get_within s.current.book.entries i e at, le)) at same
+
+-- a copy of an entry may be added
+pub copy_allowed : {S : Type 0} (r : Rules S) → IsLawful r → (limits : Limits) (e copy : Entry S) → MayBeAdded r limits e → r.same copy.state e.state ≡ true → copy.budget ≡ e.budget → copy.log ≡ e.log → copy.steps ≡ e.steps → MayBeAdded r limits copy
+copy_allowed {S} r law limits e copy is same budget log steps =
+    let P : List (ℕ × ℕ) → ℕ → Type 0 = λ l n. MayBeAdded r limits (record { state = copy.state; budget = copy.budget; log = l; steps = n }) in
+    let Q : ℕ → Type 0 = λ n. P copy.log n in
+    let R : List (ℕ × ℕ) → Type 0 = λ l. P l e.steps in
+    subst Q (sym steps) (subst R (sym log) (record {
+      run = is.run;
+      at = law.transitive copy.state e.state (stands r e.log e.steps) same is.at;
+      station = is_station_same r law copy.state e.state same ∙ is.station;
+      within = is.within;
+      log = is.log;
+      names = is.names;
+      budget = omega (arith, budget, is.budget);
+    }))
+
+-- and ways that come to the entry come to it
+pub copy_reached : {S : Type 0} (r : Rules S) → IsLawful r → (checkpoints : List (Checkpoint S)) (e copy : Entry S) → AllComeTo r checkpoints e → r.same copy.state e.state ≡ true → copy.steps ≡ e.steps → AllComeTo r checkpoints copy
+copy_reached r law checkpoints e copy come same steps i l at =
+    let way = come i l at in
+    record { forced_steps = way.forced_steps; count = steps ∙ way.count; next = way.next; same = law.transitive copy.state e.state (forced_state r l.state way.forced_steps) same way.same }
+
+-- the search that knows other ways
+pub knows_instead : {S : Type 0} (r : Rules S) (limits : Limits) (rank : S → ℕ) (s : RankedSearch S) (known : Search S) → IsRankedSearch r limits rank s → IsSearching r limits known → IsRankedSearch r limits rank (record s { known = known })
+knows_instead r limits rank s known h is = record {
+  known = is;
+  held = h.held;
+  opened = (h.opened.0, (let o = h.opened.1 in record { count = o.count; allowed = o.allowed; differ = o.differ; held = o.held }));
+}

@@ -5,6 +5,7 @@ ghost use Rattle.indexmap.specs.IndexMap.{IsUnique};
 ghost use Rattle.explore.specs.Found.{ListsAll, ListsFewest, ListsFound, TellsEntries, TellsSteps};
 ghost use Rattle.explore.specs.BookFindings.{TellsOfBook};
 ghost use Rattle.explore.specs.Inner.Exploring.{Closes, IsComplete, IsUnderWay, StoppedFull};
+ghost use Rattle.explore.specs.Inner.Ways.{IsSearching};
 
 use crate::classes::{Full, visit_all};
 use crate::findings::{Findings, Status};
@@ -49,6 +50,21 @@ fn open_book<P: Space>(
         Ok(_) => Ok(book),
         Err((refused, _)) => Err(refused),
     }
+}
+
+/// The search with the root's entry alone, which remembers nothing yet.
+pub fn open_search<P: Space>(
+    alloc: Global,
+    space: &P,
+    limits: &Limits,
+) -> Result<Search<P::State>, NoMemory>
+    ensures searching { IfOk result (IsSearching (P.rules space.now) limits.now) }
+    ensures alone { IfOk result (λ search. length search.book.entries ≡ 1) }
+{
+    Ok(Search {
+        book: open_book(alloc, space, limits)?,
+        ways: IndexMap::new(alloc),
+    })
 }
 
 // What is to be said of a book that was gone through: exhausted where a closing scan of all its
@@ -107,10 +123,7 @@ pub fn explore_alone<P: Space>(
     ensures steps { IfOk result (TellsSteps (P.rules space.now) limits.now) }
     ensures book { IfOk result (TellsOfBook (P.rules space.now) limits.now) }
 {
-    let mut search = Search {
-        book: open_book(alloc, space, limits)?,
-        ways: IndexMap::new(alloc),
-    };
+    let mut search = open_search(alloc, space, limits)?;
     let visited = visit_all(alloc, space, limits, &mut search);
     let Search { book, ways } = search;
     drop(ways);

@@ -2,7 +2,7 @@
 
 ghost use Rattle.std.specs.Prelude.{◌≡◌, []};
 ghost use Rattle.statebook.specs.Ways.{Allows, ChoiceGoesPast};
-ghost use Rattle.statebook.specs.Inner.Forced.{Follows, IfPast, IfReached, MayBeAdded};
+ghost use Rattle.statebook.specs.Inner.Forced.{Follows, GoesOn, IfPast, IfReached, MayBeAdded};
 ghost use Rattle.explore.specs.Inner.Ways.{AllComeTo, AllGoPast, IsSearching};
 
 use crate::search::{Checkpoint, Search};
@@ -28,6 +28,7 @@ pub fn next_entry<P: Space>(
     requires none_yet { checkpoints.old.items ≡ [] }
     ensures follows { IfReached result (Follows (P.rules space.now) entry.now choice) }
     ensures allowed { IfReached result (MayBeAdded (P.rules space.now) limits.now) }
+    ensures goes_on { IfReached result (GoesOn entry.now choice) }
     ensures past { IfPast result (ChoiceGoesPast (P.rules space.now) limits.now entry.now choice) }
     ensures come { IfReached result (AllComeTo (P.rules space.now) checkpoints.new.items) }
     ensures go_past { IfPast result (AllGoPast (P.rules space.now) checkpoints.new.items limits.now) }

@@ -6,6 +6,7 @@ ghost use Rattle.basis.specs.declared.memory.OrMemory.TheVariants.{Fault};
 ghost use Rattle.explore.specs.Ranked.{HandsOnAll, HandsOnAllTo, HandsOnFewest, HandsOnFound, HasItsRank, OfEach, TellsOfEntries, TellsOfSteps};
 ghost use Rattle.explore.specs.Inner.RankedSearches.{AllAreLedOn, AreLawful, HasHandedOn, IsFollowed, IsKeptIn, IsRankedSearch, IsWhy, NoneBelow};
 
+use crate::alone::open_search;
 use crate::collector::{Collector, Watcher};
 use crate::halt::Halt;
 use crate::marks::list_marks;
@@ -39,16 +40,33 @@ fn open_ranked<P: Ranked>(
     let book = PlainBook::new(alloc);
     let mut current = RankBook { rank, book };
     open_in(&mut current, root)?;
-    let first = space.root()?;
     let later = Vec::new(alloc);
+    let known = open_search(alloc, space, limits)?;
     Ok(RankedSearch {
-        root: first,
         current,
         later,
+        known,
         opened: 1,
         held: 1,
         closed: 0,
     })
+}
+
+// Forgets what is remembered of forced ways.
+fn forget_ways<P: Ranked>(
+    alloc: Global,
+    space: &P,
+    limits: &Limits,
+    search: &mut RankedSearch<P::State>,
+) -> Result<(), NoMemory>
+    requires { IsRankedSearch (P.rules space.now) limits.now (P.ranks space.now) search.old }
+    ensures searching { IsRankedSearch (P.rules space.now) limits.now (P.ranks space.now) search.new }
+    ensures rank { search.new.current.rank ≡ search.old.current.rank }
+{
+    if search.known.ways.len() > 0 {
+        search.known = open_search(alloc, space, limits)?;
+    }
+    Ok(())
 }
 
 // Hands on the marks of the rank, which was gone through.
@@ -109,6 +127,7 @@ fn close_rank<P: Ranked, C: Collector<P::State>, W: Watcher>(
     ensures followed { IfOk result
         (IsFollowed (P.rules space.now) limits.now (P.ranks space.now) search.old.current.rank search.new) }
 {
+    forget_ways(alloc, space, limits, search)?;
     visit_rank(alloc, space, limits, search, watcher)?;
     hand_on(alloc, space, limits, search, collector)?;
     Ok(go_on(space, limits, search))

@@ -4,15 +4,18 @@ ghost use Rattle.std.specs.Prelude.{◌≡◌, ◌<◌, ◌≤◌, length, IfOk,
 ghost use Rattle.basis.specs.Reasons.{IfFault};
 ghost use Rattle.statebook.specs.Inner.Forced.{MayBeAdded};
 ghost use Rattle.explore.specs.Inner.Exploring.{AllowsAt};
+ghost use Rattle.explore.specs.Inner.Ways.{AllComeTo, IsSearching};
 ghost use Rattle.explore.specs.Inner.RankedSearches.{AreInOrder, HasDominator, IsHeld, IsLedOn, IsMetAt, IsRankedSearch, IsWhy, Meets, RankGrows, RankGrowsFrom};
 
 use crate::halt::Halt;
+use crate::next::next_entry;
 use crate::rank_book::{RankBook, keep_later, open_in};
 use crate::ranked_search::RankedSearch;
-use crate::visit::choice_count;
+use crate::search::{Checkpoint, Search};
+use crate::visit::{choice_count, insert_reached};
 use basis::{NoMemory, OrMemory};
 use sched_core::Ranked;
-use statebook::{Entry, Limits, next_entry};
+use statebook::{Entry, Limits};
 use std::alloc::Global;
 
 // Meets the book of the entry's rank, the one under way or one that waits; answers whether it is new there.
@@ -58,6 +61,31 @@ fn keep<P: Ranked>(
     Ok(())
 }
 
+// Remembers that the ways from the checkpoints lead to the entry, under a copy of it.
+fn remember_way<P: Ranked>(
+    space: &P,
+    limits: &Limits,
+    known: &mut Search<P::State>,
+    checkpoints: Vec<Checkpoint<P::State>>,
+    entry: &Entry<P::State>,
+) -> Result<(), NoMemory>
+    requires searching { IsSearching (P.rules space.now) limits.now known.old }
+    requires allowed { MayBeAdded (P.rules space.now) limits.now entry.now }
+    requires come { AllComeTo (P.rules space.now) checkpoints.items entry.now }
+    ensures { IsSearching (P.rules space.now) limits.now known.new }
+{
+    if checkpoints.len() > 0 {
+        let copy = Entry {
+            state: space.copy(&entry.state)?,
+            budget: entry.budget,
+            log: entry.log.copy()?,
+            steps: entry.steps,
+        };
+        insert_reached(space, limits, known, checkpoints, copy)?;
+    }
+    Ok(())
+}
+
 // Keeps the entry of the next station after the choice. Where the way there takes more steps than the limit, the search
 // stops short.
 fn keep_choice<P: Ranked>(
@@ -77,9 +105,18 @@ fn keep_choice<P: Ranked>(
         (IsRankedSearch (P.rules space.now) limits.now (P.ranks space.now) search.new) }
     ensures grows { OnOk result (RankGrowsFrom search.old search.new place) }
 {
+    let mut checkpoints = Vec::new(alloc);
     let entry = search.current.book.read(place);
-    match next_entry(space, limits, &search.root, entry, choice)? {
+    match next_entry(
+        space,
+        limits,
+        &search.known,
+        entry,
+        choice,
+        &mut checkpoints,
+    )? {
         Some(next) => {
+            remember_way(space, limits, &mut search.known, checkpoints, &next)?;
             keep(alloc, space, limits, search, next)?;
             Ok(())
         }

@@ -4,11 +4,11 @@ ghost use Rattle.std.specs.Prelude.{◌≡◌, ℕ, ◌+◌, ◌<◌, ◌≤◌,
 ghost use Rattle.statebook.specs.ExplorerCore.{choices_of};
 ghost use Rattle.statebook.specs.Books.{IsFinished, IsFoundAt};
 ghost use Rattle.explore.specs.Inner.Exploring.{AddsFew, AllowsAt, CutsShortAt, GrowsFrom, IsSuccessorOfPlace, IsSameOrAdded, LeadsOnAt, width_limit};
-ghost use Rattle.statebook.specs.Inner.Forced.{IfPast, IfReached};
-ghost use Rattle.explore.specs.Inner.Ways.{IsSearching, PastFrom};
+ghost use Rattle.statebook.specs.Inner.Forced.{IfPast, IfReached, MayBeAdded};
+ghost use Rattle.explore.specs.Inner.Ways.{AllComeTo, IsSearching, PastFrom};
 
 use crate::next::next_entry;
-use crate::search::Search;
+use crate::search::{Checkpoint, Search};
 use crate::ways::remember;
 use basis::NoMemory;
 use sched_core::Space;
@@ -44,6 +44,28 @@ fn place_of_insert<S: Eq + Hash + Drop>(
     }
 }
 
+/// Meets the book with the entry, to which the ways from the checkpoints lead, and remembers that of them. Answers with the
+/// place of the entry that dominates it.
+pub fn insert_reached<P: Space>(
+    space: &P,
+    limits: &Limits,
+    search: &mut Search<P::State>,
+    checkpoints: Vec<Checkpoint<P::State>>,
+    entry: Entry<P::State>,
+) -> Result<usize, NoMemory>
+    requires searching { IsSearching (P.rules space.now) limits.now search.old }
+    requires allowed { MayBeAdded (P.rules space.now) limits.now entry }
+    requires come { AllComeTo (P.rules space.now) checkpoints.items entry }
+    ensures found { IfOk result (IsFoundAt P.State.eq search.new.book.entries entry) }
+    ensures searching { IsSearching (P.rules space.now) limits.now search.new }
+    ensures book { IsSameOrAdded search.old.book entry search.new.book }
+{
+    let end = entry.steps;
+    let place = place_of_insert(&mut search.book, entry)?;
+    remember(search, checkpoints, end, Some(place))?;
+    Ok(place)
+}
+
 // Meets the book with the next station after the choice, and answers with the place of the entry
 // that dominates it; None where the way there takes more steps than the limit.
 fn insert_choice<P: Space>(
@@ -67,10 +89,8 @@ fn insert_choice<P: Space>(
     let entry = search.book.read(place);
     match next_entry(space, limits, search, entry, choice, &mut checkpoints)? {
         Some(next) => {
-            let end = next.steps;
-            let met = Some(place_of_insert(&mut search.book, next)?);
-            remember(search, checkpoints, end, met)?;
-            Ok(met)
+            let met = insert_reached(space, limits, search, checkpoints, next)?;
+            Ok(Some(met))
         }
         None => {
             let end = limits.steps + 1;

@@ -6,11 +6,12 @@ use Rattle.statebook.specs.Covered.{IsCovered}
 use Rattle.statebook.specs.declared.entry.Entry.{Entry}
 use Rattle.statebook.specs.declared.limits.Limits.{Limits}
 use Rattle.statebook.specs.Ways.{SomeRunExceeds}
-use Rattle.statebook.specs.Inner.Forced.{IsFirst, MayBeAdded}
+use Rattle.statebook.specs.Inner.Forced.{MayBeAdded}
 use Rattle.statebook.specs.Inner.Frontiers.{HasSuccessorIn, IsFrontier, LeadsInto}
 use Rattle.explore.specs.Found.{Differ, HasEntries}
 use Rattle.explore.specs.Ranked.{Closing, HandsOnFewest, HandsOnFound, HasItsRank, OfEach, WasHandedOn}
 use Rattle.explore.specs.Inner.Exploring.{BookGrows, EachWith, IsSameOrAdded, OfEntry}
+use Rattle.explore.specs.Inner.Ways.{IsSearching}
 use Rattle.explore.specs.declared.halt.Halt.{Halt}
 use Rattle.explore.specs.declared.halt.Halt.TheVariants.{Entries, Steps, Stopped}
 use Rattle.explore.specs.declared.rank_book.RankBook.{RankBook}
@@ -124,7 +125,7 @@ HasOpenedSome {S} r limits rank s = (seen : List (Entry S)) × HasOpened r limit
 
 -- What a search that goes by rank is at any time.
 pub record IsRankedSearch {S : Type 0} (r : Rules S) (limits : Limits) (rank : S → ℕ) (s : RankedSearch S) : Type 0 where
-  pub root : IsFirst r s.root
+  pub known : IsSearching r limits s.known
   pub held : IsAFrontier r limits rank s.current s.later.items
   pub opened : HasOpenedSome r limits rank s
 

@@ -7,7 +7,7 @@ use Rattle.explore.proofs.alone.explore_alone.Goals as goal
 
 pub visit_all-visited-requires-clause-bounded : goal.visit_all-visited-requires-clause-bounded
 visit_all-visited-requires-clause-bounded g c = λ κs within.
-    root_is_bounded (g.P.Space.rules c.args.space.now) c.args.limits.now c.in_ok-open_book.field-0 c.in_ok-open_book.ensures.under_way c.in_ok-open_book.ensures.alone c.args.limits.now.within.some_entries
+    root_is_bounded (g.P.Space.rules c.args.space.now) c.args.limits.now c.in_ok-search.search.book c.in_ok-search.ensures.searching.under_way c.in_ok-search.ensures.alone c.args.limits.now.within.some_entries
 
 pub status_of-status-requires : goal.status_of-status-requires
 status_of-status-requires g c = λ is.

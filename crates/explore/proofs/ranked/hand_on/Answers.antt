@@ -3,9 +3,12 @@ use Rattle.basis.proofs.Results.{on_ok}
 use Rattle.explore.specs.Found.{AreFound}
 use Rattle.explore.specs.BookFindings.{ListsExactly}
 use Rattle.explore.specs.Ranked.{pairs_of}
-use Rattle.explore.proofs.RankedLemmas.{are_of_rank, handed_to, kept_same, part_kept, part_lawful}
+use Rattle.explore.proofs.RankedLemmas.{are_of_rank, handed_to, kept_same, part_kept, part_lawful, rank_entries}
 use Rattle.explore.proofs.RankLoopLemmas.{either_part}
 use Rattle.explore.proofs.ranked.hand_on.Goals as goal
+
+pub list_marks-requires-after_bounds : goal.list_marks-requires-after_bounds
+list_marks-requires-after_bounds g c κs within = rank_entries (g.P.Space.rules c.args.space.now) c.args.limits.now (g.P.Ranked.ranks c.args.space.now) c.args.search.now.current c.requires.searching.held.current
 
 pub returns-in_err-listed-clause-kept : goal.returns-in_err-listed-clause-kept
 returns-in_err-listed-clause-kept g c = kept_same (g.C.Collector.collected c.args.collector.now)

@@ -19,7 +19,7 @@ returns-clause-searching g c =
       of_rank = c.rank-rank.ensures;
       is_new = c.in_ok-open_in.field-0;
       opens = c.in_ok-open_in.ensures.ok;
-      first = c.in_ok-first.ensures;
+      known = c.in_ok-known.ensures.searching;
       none = c.new-later.ensures.items;
       one = omega arith;
     })

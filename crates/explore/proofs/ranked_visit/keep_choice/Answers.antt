@@ -6,8 +6,12 @@ use Rattle.statebook.specs.Inner.Frontiers.{HasSuccessorIn}
 use Rattle.statebook.proofs.FrontierLemmas.{follower_rises}
 use Rattle.statebook.proofs.NextLemmas.{exceeds}
 use Rattle.explore.specs.Inner.RankedSearches.{IsHeld}
-use Rattle.explore.proofs.RankedLemmas.{is_successor}
+use Rattle.explore.proofs.RankedLemmas.{is_successor, knows_instead}
 use Rattle.explore.proofs.ranked_visit.keep_choice.Goals as goal
+
+pub keep-requires-clause-searching : goal.keep-requires-clause-searching
+keep-requires-clause-searching g c κs within =
+    knows_instead (g.P.Space.rules c.args.space.now) c.args.limits.now (g.P.Ranked.ranks c.args.space.now) c.args.search.now c.remember_way.new.known c.requires.searching c.remember_way.ensures
 
 pub keep-requires-clause-rank : goal.keep-requires-clause-rank
 keep-requires-clause-rank g c κs within =
