@@ -30,11 +30,11 @@ module _ (files : List (List ℕ)) (asked : Request) (log : List ℕ) (replayed 
     end = end;
     finishes =
         subst (λ (s : Setting). Finishes s replayed.members asked.steps m end) same
-            (subst (λ (list : List (ℕ × ℕ)). Finishes setting list asked.steps m end) are finishes);
+        (subst (λ (list : List (ℕ × ℕ)). Finishes setting list asked.steps m end) are finishes);
     is_text =
         ap (trace setting origins members) (told_to_end setting members asked.steps n m end told finishes)
-            ∙ ap (λ (list : List (ℕ × ℕ)). trace setting origins list m) are
-            ∙ ap (λ (s : Setting). trace s origins replayed.members m) same;
+        ∙ ap (λ (list : List (ℕ × ℕ)). trace setting origins list m) are
+        ∙ ap (λ (s : Setting). trace s origins replayed.members m) same;
   }
 
   -- the fault came as it went out
