@@ -1,4 +1,5 @@
 pub mod Bools
+pub mod Decimals
 pub mod Digits
 pub mod Lists
 pub mod Numbers

@@ -8,7 +8,7 @@ use Rattle.std.proofs.lemmas.List.{map-append}
 use Rattle.std.specs.Bool.{Decides}
 use Rattle.std.proofs.lemmas.Slice.Eq.{bytes_eq-Decides}
 use Rattle.basis.proofs.Bools.{and_left, and_right, and_both, or_first, or_second}
-use Rattle.vast.specs.Words.{begins_name, is_in_name}
+use Rattle.basis.specs.Letters.{begins_name, is_in_name}
 use Rattle.report_text.specs.Report.{Column}
 use Rattle.report_text.specs.ReportText.{column_line, column_lines}
 use Rattle.report_text.specs.WellFormed.{IsColumn}

@@ -10,7 +10,6 @@ pub mod LineRaceLemmas
 pub mod ListLemmas
 pub mod LogLemmas
 pub mod NameLemmas
-pub mod NumberLemmas
 pub mod OneLemmas
 pub mod PieceLemmas
 pub mod RaceLemmas

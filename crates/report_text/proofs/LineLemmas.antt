@@ -8,7 +8,7 @@ use Rattle.std.proofs.lemmas.Bool.Decides.{nat_tests}
 use Rattle.basis.proofs.Bools.{and_left, and_right, and_both}
 use Rattle.report_text.specs.Inner.Fronts.{lacks, IsCut}
 use Rattle.report_text.specs.Inner.Places.{IsNumberFront}
-use Rattle.report_text.proofs.NumberLemmas.{decimal_digits}
+use Rattle.basis.proofs.Decimals.{decimal_digits}
 
 -- a text of bytes that pass a test lacks each byte that doesn't
 pub lacks_by : (test : ℕ → Bool) (b : ℕ) → test b ≡ false → (xs : List ℕ) → list_all test xs ≡ true → lacks b xs ≡ true

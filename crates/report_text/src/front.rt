@@ -1,8 +1,7 @@
-// Readers of the front of a text: a word up to a byte, given bytes, a number.
+// Readers of the front of a text: a word up to a byte, given bytes.
 
-ghost use Rattle.std.specs.Prelude.{◌≡◌, ℕ, List, ◌++◌, true, Some, IfSome, IfNone, MatchOption};
-ghost use Rattle.std.specs.Str.{all_ascii_digits};
-ghost use Rattle.report_text.specs.Inner.Fronts.{EachRest, EachSides, IsCut, IsNumber};
+ghost use Rattle.std.specs.Prelude.{◌≡◌, ◌++◌, IfSome};
+ghost use Rattle.report_text.specs.Inner.Fronts.{EachRest, EachSides, IsCut};
 
 use memchr::memchr;
 
@@ -21,42 +20,4 @@ pub fn after<'a>(text: &'a [u8], prefix: &[u8]) -> Option<&'a [u8]>
     ensures each { EachRest (λ rest. text.now ≡ prefix.now ++ rest) result }
 {
     text.strip_prefix(prefix)
-}
-
-// Whether each byte is a digit.
-fn are_digits(word: &[u8]) -> bool
-    ensures { result ≡ all_ascii_digits word.now }
-{
-    for byte in word {
-        if !byte.is_ascii_digit() {
-            return false;
-        }
-    }
-    true
-}
-
-// The number of 64 bits that is written by these digits, without leading zeros.
-fn plain_value(digits: &[u8]) -> Option<u64>
-    requires { all_ascii_digits digits.now ≡ true }
-    ensures read { IfSome result (λ n. IsNumber digits.now n) }
-    ensures none { IfNone result ((n : ℕ) → ¬ IsNumber digits.now n) }
-{
-    if digits.len() > 1 && digits[0] == b'0' {
-        return None;
-    }
-    match std::str::from_utf8(digits) {
-        Ok(text) => text.parse::<u64>().ok(),
-        Err(_) => None,
-    }
-}
-
-/// The number of 64 bits whose decimal the word is.
-pub fn number(word: &[u8]) -> Option<u64>
-    ensures read { IfSome result (λ n. IsNumber word.now n) }
-    ensures each { (n : ℕ) → IsNumber word.now n → result ≡ Some n }
-{
-    if !are_digits(word) {
-        return None;
-    }
-    plain_value(word)
 }

@@ -2,30 +2,17 @@
 
 ghost use Rattle.std.specs.Prelude.{◌≡◌, ◌↔◌, IsTrue};
 ghost use Rattle.std.specs.List.{list_all};
-ghost use Rattle.vast.specs.Words as words;
+ghost use Rattle.basis.specs.Letters as letters;
 ghost use Rattle.report_text.specs.Inner.Fronts.{goes_on};
 ghost use Rattle.report_text.specs.WellFormed as well_formed;
 ghost use Rattle.vast.specs.Names as names;
 
+use basis::{begins_name, is_in_name};
 use std::cmp::Ordering;
-
-// 3.7: a letter or `_`
-fn begins_name(byte: u8) -> bool
-    ensures { result ≡ words.begins_name byte }
-{
-    byte.is_ascii_alphabetic() || byte == b'_'
-}
-
-// 3.7: a letter, `_`, a digit or `$`
-fn is_in_name(byte: u8) -> bool
-    ensures { result ≡ words.is_in_name byte }
-{
-    begins_name(byte) || byte.is_ascii_digit() || byte == b'$'
-}
 
 // Whether each byte is one of a name.
 fn are_in_name(bytes: &[u8]) -> bool
-    ensures { result ≡ list_all words.is_in_name bytes.now }
+    ensures { result ≡ list_all letters.is_in_name bytes.now }
 {
     for byte in bytes {
         if !is_in_name(*byte) {

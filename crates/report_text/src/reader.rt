@@ -5,7 +5,8 @@ ghost use Rattle.std.specs.Char.{is_ascii_digit};
 ghost use Rattle.report_text.specs.Inner.Fronts.{IsCut};
 ghost use Rattle.report_text.specs.Inner.Places.{AreBytes, EachBytes, EachCut, HasTaken, IsNumberFront, PassesEach, Stands, TakesEach, Took};
 
-use crate::front::{after, cut, number};
+use crate::front::{after, cut};
+use basis::number_in;
 use std::marker::Model;
 
 /// What is left of a text. Once something that was asked for didn't stand in front, the reader is lost and stays so: what it
@@ -108,7 +109,7 @@ impl<'a> Reader<'a> {
         ensures each { TakesEach self.old self.new (IsNumberFront byte) result }
     {
         let word = self.word(byte);
-        match number(word) {
+        match number_in(word) {
             Some(n) => n,
             None => {
                 self.require(false);

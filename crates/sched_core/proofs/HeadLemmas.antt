@@ -11,7 +11,7 @@ use Rattle.sched_core.specs.declared.setting.Grain.TheVariants.{Process, Stateme
 use Rattle.sched_core.specs.declared.setting.Departures.TheVariants.{Taking, Holding}
 use Rattle.sched_core.specs.Logs.{IsLog}
 use Rattle.sched_core.specs.LogText.{more_text, log_text, named_log_text}
-use Rattle.sched_core.proofs.TextLemmas.{decimal_digits, member_whole}
+use Rattle.sched_core.proofs.TextLemmas.{small_digits, member_whole}
 
 digit_first : (ds r : List ℕ) → all_ascii_digits ds ≡ true → 0 < length ds → get_or (ds ++ r) 0 0 < 58
 digit_first [] r h some = absurd (omega (arith, some))
@@ -26,7 +26,7 @@ pub member_first : (m : ℕ × ℕ) (ms : List (ℕ × ℕ)) → IsLog (m ∷ ms
 member_first m ms h =
     let small : m.0 < 2 ^ 32 = omega (arith, h.1) in
     let P : List ℕ → Type 0 = λ t. 47 < get_or t 0 0 in
-    subst P (sym (member_whole m (more_text ms))) (digit_least (decimal m.0) _ (decimal_digits m.0 small) (decimal_nonempty m.0 (omega arith)))
+    subst P (sym (member_whole m (more_text ms))) (digit_least (decimal m.0) _ (small_digits m.0 small) (decimal_nonempty m.0 (omega arith)))
 
 -- the text of a log begins with '-' or a digit
 log_first : (log : List (ℕ × ℕ)) → IsLog log → get_or (log_text log) 0 0 < 58
@@ -34,7 +34,7 @@ log_first [] h = omega arith
 log_first (m ∷ ms) h =
     let small : m.0 < 2 ^ 32 = omega (arith, h.1) in
     let P : List ℕ → Type 0 = λ t. get_or t 0 0 < 58 in
-    subst P (sym (member_whole m (more_text ms))) (digit_first (decimal m.0) _ (decimal_digits m.0 small) (decimal_nonempty m.0 (omega arith)))
+    subst P (sym (member_whole m (more_text ms))) (digit_first (decimal m.0) _ (small_digits m.0 small) (decimal_nonempty m.0 (omega arith)))
 
 pub named_process : (text rest : List ℕ) (head : LogHead) (log : List (ℕ × ℕ)) → IsLog log → text ≡ codes "process/" ++ rest → text ≡ named_log_text head log → ((Named Process Taking) ≡ head) × (rest ≡ log_text log)
 named_process text rest Plain log h e f =

@@ -1,6 +1,6 @@
 // The text of a log, read and written.
 
-ghost use Rattle.std.specs.Prelude.{◌≡◌, ◌≢◌, ℕ, ◌+◌, ◌<◌, ◌≤◌, ◌^◌, List, [], ◌∷◌, ◌++◌, true, length, take, drop, IfOk, IfSome, IfNone, OnOk, IsErrOf, MatchResult};
+ghost use Rattle.std.specs.Prelude.{◌≡◌, ◌≢◌, ℕ, ◌+◌, ◌<◌, ◌≤◌, ◌^◌, List, [], ◌∷◌, ◌++◌, true, IfOk, IfSome, IfNone, OnOk, IsErrOf, MatchResult};
 ghost use Rattle.std.specs.Str.{all_ascii_digits};
 ghost use Rattle.std.specs.Fmt.{decimal};
 ghost use Rattle.basis.specs.Reasons.{IfFault};
@@ -11,38 +11,9 @@ ghost use Rattle.sched_core.specs.declared.log.LogHead.{LogHead};
 
 use crate::log::{Log, LogFault, LogHead, Member};
 use crate::setting::{Departures, Grain};
-use basis::{NoMemory, OrMemory};
+use basis::{NoMemory, OrMemory, digits_len, number_in};
 use itoa::Buffer;
 use std::alloc::Global;
-
-// How many digits stand at the front.
-fn digits_len(text: &[u8]) -> usize
-    ensures within { result ≤ length text.now }
-    ensures digits { all_ascii_digits (take result text.now) ≡ true }
-    ensures stops { StartsNoNumber (drop result text.now) }
-{
-    for (len, byte) in text.iter().enumerate() {
-        if !byte.is_ascii_digit() {
-            return len;
-        }
-    }
-    text.len()
-}
-
-// The number of 32 bits that is written by these digits, without leading zeros.
-fn plain_value(digits: &[u8]) -> Option<u32>
-    requires { all_ascii_digits digits.now ≡ true }
-    ensures read { IfSome result (λ n. digits.now ≡ decimal n) }
-    ensures none { IfNone result ((n : ℕ) → n < 2 ^ 32 → digits.now ≢ decimal n) }
-{
-    if digits.len() > 1 && digits[0] == b'0' {
-        return None;
-    }
-    match std::str::from_utf8(digits) {
-        Ok(text) => text.parse::<u32>().ok(),
-        Err(_) => None,
-    }
-}
 
 // The digits at the front, and what follows them.
 fn split_digits(text: &[u8]) -> (&[u8], &[u8])
@@ -53,13 +24,22 @@ fn split_digits(text: &[u8]) -> (&[u8], &[u8])
     text.split_at(digits_len(text))
 }
 
+// The number of 32 bits whose decimal the word is.
+fn small_number(word: &[u8]) -> Option<u32>
+    ensures read { IfSome result (λ n. word.now ≡ decimal n) }
+    ensures none { IfNone result ((n : ℕ) → n < 2 ^ 32 → word.now ≢ decimal n) }
+{
+    let number = number_in(word)?;
+    u32::try_from(number).ok()
+}
+
 // The number at the front, and what follows it.
 fn front_number(text: &[u8]) -> Option<(u32, &[u8])>
     ensures read { IfSome result (λ p. IsNumberFront text.now p.0 p.1.now) }
     ensures none { IfNone result (HasNoNumber text.now) }
 {
     let (digits, rest) = split_digits(text);
-    let value = plain_value(digits)?;
+    let value = small_number(digits)?;
     Some((value, rest))
 }
 

@@ -1,7 +1,7 @@
 -- *product rule*: Names as a report tells them (IEEE 1364-2005, 3.7, 12.5; docs/FORMATS.md, "Reports").
 use Rattle.std.specs.Prelude.{ℕ, ◌&&◌, ◌||◌, ◌==◌, Bool, true, false, List, [], ◌∷◌}
 use Rattle.std.specs.List.{list_all}
-use Rattle.vast.specs.Words.{begins_name, is_in_name}
+use Rattle.basis.specs.Letters.{begins_name, is_in_name}
 
 -- 3.7: a letter or `_`, then letters, digits, `_` and `$`; a reserved word counts as well
 abbrev pub has_letters_of_name : List ℕ → Bool

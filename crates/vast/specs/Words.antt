@@ -3,19 +3,12 @@
 use Rattle.std.specs.Prelude.{Bool, false, ◌&&◌, ◌||◌, not, ℕ, ◌==◌, List, [], ◌∷◌, codes}
 use Rattle.std.specs.List.{list_any, list_all}
 use Rattle.std.specs.Str.{bytes_eq}
-use Rattle.std.specs.Char.{is_ascii_digit, is_ascii_alphabetic}
+use Rattle.std.specs.Char.{is_ascii_digit}
+use Rattle.basis.specs.Letters.{begins_name, is_in_name}
 
 -- a word of the text, by its bytes
 abbrev pub Text : Type 0
 Text = List ℕ
-
--- 3.7: a letter or `_`
-abbrev pub begins_name : ℕ → Bool
-begins_name c = is_ascii_alphabetic c || (c == 95)
-
--- 3.7: a letter, `_`, a digit or `$`
-abbrev pub is_in_name : ℕ → Bool
-is_in_name c = begins_name c || is_ascii_digit c || (c == 36)
 
 -- the reserved words of this product (docs/LANGUAGE.md), in the order of their letters
 unfoldable pub reserved_words : List (List ℕ)

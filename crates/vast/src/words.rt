@@ -3,7 +3,10 @@
 ghost use Rattle.std.specs.Prelude.{◌≡◌};
 ghost use Rattle.std.specs.List.{list_any, list_all};
 ghost use Rattle.std.specs.Str.{bytes_eq};
-ghost use Rattle.vast.specs.Words.{is_reserved as is_reserved_word, is_name as is_name_text, is_number as is_number_text, is_string as is_string_text, is_time as is_time_text, begins_name as begins_name_code, is_in_name as is_in_name_code};
+ghost use Rattle.vast.specs.Words.{is_reserved as is_reserved_word, is_name as is_name_text, is_number as is_number_text, is_string as is_string_text, is_time as is_time_text};
+ghost use Rattle.basis.specs.Letters.{is_in_name as is_in_name_code};
+
+use basis::{begins_name, is_in_name};
 
 static RESERVED: [&[u8]; 96] = [
     b"always",
@@ -159,16 +162,4 @@ pub fn is_time(text: &[u8]) -> bool
     ensures { result ≡ is_time_text text.now }
 {
     b"$time".as_slice() == text
-}
-
-fn begins_name(c: u8) -> bool
-    ensures { result ≡ begins_name_code c }
-{
-    c.is_ascii_alphabetic() || c == b'_'
-}
-
-fn is_in_name(c: u8) -> bool
-    ensures { result ≡ is_in_name_code c }
-{
-    begins_name(c) || c.is_ascii_digit() || c == b'$'
 }

@@ -7,7 +7,8 @@ use Rattle.std.proofs.lemmas.Bool.{cases_Bool, not-true}
 use Rattle.std.proofs.lemmas.List.{append-nil}
 use Rattle.std.proofs.lemmas.Bool.Decides.{nat_tests}
 use Rattle.basis.proofs.Bools.{and_left, and_right, and_both, clash}
-use Rattle.vast.specs.Words.{Text, is_name, is_number, is_time, begins_name, is_in_name, is_reserved}
+use Rattle.basis.specs.Letters.{begins_name, is_in_name}
+use Rattle.vast.specs.Words.{Text, is_name, is_number, is_time, is_reserved}
 use Rattle.vast.specs.Expressions.{ExpressionTree, number, name, time, bit, part, parentheses, concatenation, replication, conversion, apply, combine, conditional, ExpressionTrees, none, first, spell_expression, spell_parts, spell_more_parts, fits_expression, fits_parts, depth, greatest_depth, rank, rank_of, unary_rank, unary_word, binary_word, conversion_word}
 use Rattle.vast.specs.declared.expression.UnaryOperator.{UnaryOperator}
 use Rattle.vast.specs.declared.expression.UnaryOperator.TheVariants as unary

@@ -8,7 +8,8 @@ use Rattle.std.proofs.lemmas.List.Folds.{list_all-append}
 use Rattle.std.proofs.lemmas.Slice.Eq.{bytes_eq-Decides}
 use Rattle.basis.proofs.Bools.{and_left, and_right, and_both, or_left, or_right, or_first, or_second}
 use Rattle.basis.specs.declared.timescale.Timescale.{Timescale}
-use Rattle.vast.specs.Words.{Text, begins_name, is_in_name, is_name, is_reserved}
+use Rattle.basis.specs.Letters.{begins_name, is_in_name}
+use Rattle.vast.specs.Words.{Text, is_name, is_reserved}
 use Rattle.vast.specs.Names.{has_letters_of_name, is_path_from, is_path}
 use Rattle.vast.specs.Modules.{DerivesText, SourceTree as PlainTree, fits, fits_module, fits_item, fits_declared, fits_optional, fits_optional_parameters, fits_optional_ports, fits_port, fits_direction, fits_declaration_kind, fits_overrides, fits_instance, fits_connections, is_directed, are_some}
 use Rattle.vast.specs.NumberedWords.{Word}

@@ -4,7 +4,8 @@ use Rattle.std.specs.List.{list_any, list_all}
 use Rattle.std.specs.Str.{bytes_eq}
 use Rattle.std.proofs.lemmas.Bool.Decides.{nat_tests}
 use Rattle.basis.proofs.Bools.{and_left, and_right}
-use Rattle.vast.specs.Words.{Text, is_name, is_number, is_reserved, reserved_words, begins_name, is_in_name}
+use Rattle.basis.specs.Letters.{begins_name, is_in_name}
+use Rattle.vast.specs.Words.{Text, is_name, is_number, is_reserved, reserved_words}
 use Rattle.vast.specs.Expressions.{ExpressionTree, number, name, time, bit, part, parentheses, conversion, apply, combine, conditional, concatenation, replication, unary_word, binary_word, depth, rank, unary_rank}
 use Rattle.vast.specs.declared.expression.BinaryOperator.{BinaryOperator}
 use Rattle.vast.specs.declared.expression.UnaryOperator.{UnaryOperator}

@@ -15,7 +15,8 @@ use Rattle.vlex.specs.Forms.{only_if, form_of, form_by, number_form, slash_form}
 use Rattle.vlex.specs.Lexed.{Lexed, Piece, IsFront}
 use Rattle.vlex.specs.Lexed.Lexed.{done, blank, comment, token}
 use Rattle.vlex.proofs.Leads.{Says, says}
-use Rattle.vast.specs.Words.{Text, is_name, is_number, begins_name, is_in_name, is_reserved}
+use Rattle.basis.specs.Letters.{begins_name, is_in_name}
+use Rattle.vast.specs.Words.{Text, is_name, is_number, is_reserved}
 use Rattle.std.specs.Char.{is_ascii_digit}
 use Rattle.vparse.specs.Words.{TellsNumber, TellsName}
 

@@ -10,7 +10,8 @@ use Rattle.basis.specs.declared.timescale.Unit.TheVariants.{Second, Millisecond,
 use Rattle.basis.specs.declared.timescale.Span.{Span}
 use Rattle.basis.specs.declared.timescale.Timescale.{Timescale}
 use Rattle.basis.specs.Timescales.{femtoseconds}
-use Rattle.vsrc.specs.Words.{is_in_name, blanks_len}
+use Rattle.basis.specs.Letters.{is_in_name}
+use Rattle.vsrc.specs.Words.{blanks_len}
 
 -- the numbers and the units that may stand in a timescale
 abbrev pub count_of : List ℕ → Option Count

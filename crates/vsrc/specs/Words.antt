@@ -2,20 +2,13 @@
 use Rattle.std.specs.Prelude.{ℕ, ◌+◌, ◌==◌, ◌||◌, Bool, if◌then◌else◌, List, [], ◌∷◌, take, drop, Option, None, Some, codes}
 use Rattle.std.specs.List.{prefix_len}
 use Rattle.std.specs.Str.{bytes_eq}
-use Rattle.std.specs.Char.{is_ascii_digit, is_ascii_alphabetic}
+use Rattle.basis.specs.Letters.{begins_name, is_in_name}
 use Rattle.vsrc.specs.declared.words.Word.{Word}
 use Rattle.vsrc.specs.declared.words.Word.TheVariants.{Define, Undef, Ifdef, Ifndef, Elsif, Else, Endif, Timescale, DefaultNettype}
 
 -- 3.2: what stands between words of one line: space, tab, carriage return and form feed
 abbrev pub is_blank : ℕ → Bool
 is_blank c = c == 32 || c == 9 || c == 13 || c == 12
-
--- 3.7: a name begins with a letter or _, and goes on with letters, digits, _ and $
-abbrev pub begins_name : ℕ → Bool
-begins_name c = is_ascii_alphabetic c || c == 95
-
-abbrev pub is_in_name : ℕ → Bool
-is_in_name c = is_ascii_alphabetic c || c == 95 || is_ascii_digit c || c == 36
 
 -- how many bytes at the head are blanks, and how many a name there has: none where no name begins
 abbrev pub blanks_len : List ℕ → ℕ

@@ -1,14 +1,12 @@
 // Timescales (IEEE 1364-2005, 19.8).
 
 ghost use Rattle.std.specs.Prelude.{◌≡◌, ◌≤◌, length, IfSome};
-ghost use Rattle.std.specs.List.{prefix_len};
-ghost use Rattle.std.specs.Char.{is_ascii_digit};
 ghost use Rattle.vsrc.specs.Timescales.{count_of, unit_of, span_behind, slash_behind, timescale_behind};
 ghost use Rattle.vsrc.specs.Timescales as spec;
 ghost use Rattle.vsrc.specs.Inner.{spanned_of, timed_of};
 
 use crate::words::{blanks_len, word_len};
-use basis::{Count, Span, Timescale, Unit};
+use basis::{Count, Span, Timescale, Unit, digits_len};
 
 fn count_of(digits: &[u8]) -> Option<Count>
     ensures { result ≡ count_of digits.now }
@@ -42,18 +40,6 @@ fn unit_of(word: &[u8]) -> Option<Unit>
     } else {
         None
     }
-}
-
-fn digits_len(text: &[u8]) -> usize
-    ensures value { result ≡ prefix_len is_ascii_digit text.now }
-    ensures within { result ≤ length text.now }
-{
-    for (at, byte) in text.iter().enumerate() {
-        if !byte.is_ascii_digit() {
-            return at;
-        }
-    }
-    text.len()
 }
 
 // The length of time behind blanks, and how many bytes both take.

@@ -2,8 +2,11 @@
 
 ghost use Rattle.std.specs.Prelude.{◌≡◌, ◌≤◌, ◌+◌, ℕ, length, IfSome};
 ghost use Rattle.std.specs.List.{prefix_len};
-ghost use Rattle.vsrc.specs.Words.{is_blank, begins_name, is_in_name, blanks_len, name_len, name_behind, directive_of};
+ghost use Rattle.basis.specs.Letters.{is_in_name};
+ghost use Rattle.vsrc.specs.Words.{is_blank, blanks_len, name_len, name_behind, directive_of};
 ghost use Rattle.vsrc.specs.Inner.{named_of};
+
+use basis::{begins_name, is_in_name};
 
 /// The word of a directive (IEEE 1364-2005, clause 19).
 #[derive(Clone, Copy)]
@@ -24,18 +27,6 @@ pub fn is_blank(byte: u8) -> bool
     ensures { result ≡ is_blank byte }
 {
     byte == b' ' || byte == b'\t' || byte == b'\r' || byte == 12
-}
-
-fn begins_name(byte: u8) -> bool
-    ensures { result ≡ begins_name byte }
-{
-    byte.is_ascii_alphabetic() || byte == b'_'
-}
-
-fn is_in_name(byte: u8) -> bool
-    ensures { result ≡ is_in_name byte }
-{
-    byte.is_ascii_alphabetic() || byte == b'_' || byte.is_ascii_digit() || byte == b'$'
 }
 
 /// How many bytes at the head are blanks.

@@ -1,6 +1,6 @@
 use Rattle.std.proofs.Common.{◌≡◌, drop}
 use Rattle.std.specs.List.{list_all}
-use Rattle.vast.specs.Words.{is_in_name}
+use Rattle.basis.specs.Letters.{is_in_name}
 use Rattle.report_text.proofs.letters.are_in_name.Given as goal
 
 abbrev pub invariant-loop-byte : goal.invariant-loop-byte

@@ -1,6 +1,6 @@
 use Rattle.std.proofs.Common.{sym, arith, length, ◌∙◌}
 use Rattle.std.proofs.lemmas.List.Sums.{prefix_len_is}
-use Rattle.vsrc.specs.Words.{is_in_name}
+use Rattle.basis.specs.Letters.{is_in_name}
 use Rattle.vsrc.proofs.words.word_len.Goals as goal
 
 pub returns-then-not-is_in_name-clause-value : goal.returns-then-not-is_in_name-clause-value

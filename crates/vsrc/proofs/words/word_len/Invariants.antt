@@ -1,5 +1,5 @@
 use Rattle.std.proofs.Common.{◌≡◌, ℕ, ◌<◌, true, get_or}
-use Rattle.vsrc.specs.Words.{is_in_name}
+use Rattle.basis.specs.Letters.{is_in_name}
 use Rattle.vsrc.proofs.words.word_len.Given as goal
 
 abbrev pub invariant-loop-at : goal.invariant-loop-at

@@ -1,7 +1,7 @@
 use Rattle.std.proofs.Common.{sym, arith, length, ◌∙◌}
 use Rattle.std.proofs.lemmas.List.Sums.{prefix_len_is}
 use Rattle.std.specs.Char.{is_ascii_digit}
-use Rattle.vsrc.proofs.timescale.digits_len.Goals as goal
+use Rattle.basis.proofs.numerals.digits_len.Goals as goal
 
 pub returns-then-not-is_ascii_digit-clause-value : goal.returns-then-not-is_ascii_digit-clause-value
 returns-then-not-is_ascii_digit-clause-value c =

@@ -1,6 +1,6 @@
 use Rattle.std.proofs.Common.{◌≡◌, ℕ, ◌<◌, true, get_or}
 use Rattle.std.specs.Char.{is_ascii_digit}
-use Rattle.vsrc.proofs.timescale.digits_len.Given as goal
+use Rattle.basis.proofs.numerals.digits_len.Given as goal
 
 abbrev pub invariant-loop-at : goal.invariant-loop-at
 invariant-loop-at l = (k : ℕ) → k < l.at → is_ascii_digit (get_or l.text k 0) ≡ true

@@ -1,9 +1,9 @@
 use Rattle.std.proofs.Common.{◌≡◌, ◌≤◌, arith, length, get_or}
 use Rattle.std.specs.Result.{result_ok}
 use Rattle.basis.proofs.Digits.{digits_are_text}
-use Rattle.report_text.proofs.NumberLemmas.{no_leading_zero, parsed, read_some, read_none, IsRead, Fits, parsed_fits}
-use Rattle.report_text.proofs.front.plain_value.Goals as goal
-use Rattle.report_text.proofs.front.plain_value.Goals.{else-digits-gt1-via-then-digits-gt1+else-digits-eq48, else-digits-gt1-via-else-digits-gt1}
+use Rattle.basis.proofs.Decimals.{no_leading_zero, parsed, read_some, read_none, IsRead, Fits, parsed_fits}
+use Rattle.basis.proofs.numerals.plain_value.Goals as goal
+use Rattle.basis.proofs.numerals.plain_value.Goals.{else-digits-gt1-via-then-digits-gt1+else-digits-eq48, else-digits-gt1-via-else-digits-gt1}
 
 pub returns-then-digits-eq48-clause-none : goal.returns-then-digits-eq48-clause-none
 returns-then-digits-eq48-clause-none c = λ n h. no_leading_zero c.args.digits.now n (omega arith) c.if-digits-eq48.true h.0 h.1

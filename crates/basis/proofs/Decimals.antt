@@ -1,11 +1,16 @@
--- Decimals of 64 bits, read.
-use Rattle.std.proofs.Common.{◌≡◌, ◌≢◌, ℕ, ◌^◌, ◌<◌, ◌≤◌, zero, suc, true, List, length, get_or, arith, ap, sym, ◌∙◌, IfSome, IfNone, Option, None, Some, Result, Ok, Err}
+-- Decimals of 64 bits, read; and digits at the front of a text.
+use Rattle.std.proofs.Common.{◌≡◌, ◌≢◌, ℕ, ◌^◌, ◌<◌, ◌≤◌, zero, suc, true, List, [], ◌∷◌, length, get_or, take, arith, ap, refl, sym, subst, ◌∙◌, inl, inr, IfSome, IfNone, Option, None, Some, Result, Ok, Err}
+use Rattle.std.specs.Char.{is_ascii_digit}
+use Rattle.std.specs.List.{prefix_len}
 use Rattle.std.specs.Str.{all_ascii_digits}
 use Rattle.std.specs.Str.Parse.{digits_value, ParsesUnsigned}
 use Rattle.std.specs.Result.{OkIff, result_ok}
 use Rattle.std.specs.Fmt.{decimal}
+use Rattle.basis.proofs.Bools.{and_left, and_right}
 use Rattle.basis.proofs.Digits.{decimal_numerals}
-use Rattle.report_text.specs.Inner.Fronts.{IsNumber}
+use Rattle.basis.specs.Numerals.{IsNumber}
+use Rattle.std.proofs.lemmas.Bool.{cases_Bool}
+use Rattle.std.proofs.lemmas.List.{take_all}
 use Rattle.std.proofs.lemmas.Str.Parse.{parse_digits}
 use Rattle.std.proofs.lemmas.Fmt.{digits_decimal, digits_value-decimal, decimal-digits_value, first_decimal, decimal_digit, decimal_nonempty, decimal_injective}
 
@@ -60,3 +65,25 @@ read_none ds (Some n) h = tt
 pub only_number : (ds : List ℕ) (o : Option ℕ) → IfSome o (IsNumber ds) → IfNone o ((n : ℕ) → ¬ IsNumber ds n) → (n : ℕ) → IsNumber ds n → o ≡ Some n
 only_number ds None some none n h = absurd (none n h)
 only_number ds (Some m) some none n h = ap Some (decimal_injective m n some.0 h.0 (sym some.1 ∙ h.1))
+
+-- a digit is counted before those that follow it
+pub counted : (c : ℕ) (cs : List ℕ) → is_ascii_digit c ≡ true → prefix_len is_ascii_digit (c ∷ cs) ≡ suc (prefix_len is_ascii_digit cs)
+counted c cs digit = rw digit (omega arith)
+
+-- digits alone stand at the front as a whole
+pub whole_digits : (ds : List ℕ) → all_ascii_digits ds ≡ true → prefix_len is_ascii_digit ds ≡ length ds
+whole_digits [] h = refl
+whole_digits (c ∷ cs) h = counted c cs (and_left _ _ h) ∙ ap suc (whole_digits cs (and_right _ _ h))
+
+-- those at the front are digits
+pub front_digits : (text : List ℕ) → all_ascii_digits (take (prefix_len is_ascii_digit text) text) ≡ true
+front_digits [] = refl
+front_digits (c ∷ cs) = elim (cases_Bool (is_ascii_digit c)) [
+  | inl digit ↦
+    subst (λ n. all_ascii_digits (take n (c ∷ cs)) ≡ true) (sym (counted c cs digit)) (rw digit (front_digits cs))
+  | inr other ↦ rw other refl
+]
+
+-- where they are all of it, it is digits
+pub are_digits : (text : List ℕ) → length text ≤ prefix_len is_ascii_digit text → all_ascii_digits text ≡ true
+are_digits text all = subst (λ ds. all_ascii_digits ds ≡ true) (take_all _ text all) (front_digits text)
