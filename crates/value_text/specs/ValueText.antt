@@ -4,23 +4,11 @@ use Rattle.std.specs.Prelude.{ℕ, zero, suc, ◌+◌, ◌-◌, ◌*◌, ◌/◌
 use Rattle.std.specs.List.{list_all, list_any}
 use Rattle.vbits.specs.declared.bit4.Bit4.{Bit4}
 use Rattle.vbits.specs.declared.bit4.Bit4.TheVariants.{Zero, One, X, Z}
-use Rattle.vbits.specs.Letters.{is_one}
+use Rattle.vbits.specs.Letters.{is_one, is_x, is_z}
 use Rattle.vbits.specs.Numbers.{number}
 use Rattle.vbits.specs.Vectors.{Vector, sign_letter, neg}
 
 -- ---- what isn't known (17.1.1.4)
-
-abbrev pub is_x : Bit4 → Bool
-is_x Zero = false
-is_x One = false
-is_x X = true
-is_x Z = false
-
-abbrev pub is_z : Bit4 → Bool
-is_z Zero = false
-is_z One = false
-is_z X = false
-is_z Z = true
 
 -- the one letter that stands for letters not all of which are known: `x` where all are x, `z` where all are z, `X` where some are x,
 -- else `Z`

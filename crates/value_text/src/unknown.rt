@@ -3,36 +3,15 @@
 ghost use Rattle.std.specs.Prelude.{◌≡◌};
 ghost use Rattle.std.specs.List.{list_all, list_any};
 ghost use Rattle.value_text.specs.ValueText as spec;
+ghost use Rattle.vbits.specs.Letters as letters;
 
-use vbits::{Bit4, Vec4};
-
-fn is_x(letter: Bit4) -> bool
-    ensures { result ≡ spec.is_x letter }
-{
-    match letter {
-        Bit4::Zero => false,
-        Bit4::One => false,
-        Bit4::X => true,
-        Bit4::Z => false,
-    }
-}
-
-fn is_z(letter: Bit4) -> bool
-    ensures { result ≡ spec.is_z letter }
-{
-    match letter {
-        Bit4::Zero => false,
-        Bit4::One => false,
-        Bit4::X => false,
-        Bit4::Z => true,
-    }
-}
+use vbits::Vec4;
 
 fn are_x(value: Vec4) -> bool
-    ensures { result ≡ list_all spec.is_x value.letters }
+    ensures { result ≡ list_all letters.is_x value.letters }
 {
     for i in 0..value.len() {
-        if !is_x(value.bit(i)) {
+        if !value.bit(i).is_x() {
             return false;
         }
     }
@@ -40,10 +19,10 @@ fn are_x(value: Vec4) -> bool
 }
 
 fn are_z(value: Vec4) -> bool
-    ensures { result ≡ list_all spec.is_z value.letters }
+    ensures { result ≡ list_all letters.is_z value.letters }
 {
     for i in 0..value.len() {
-        if !is_z(value.bit(i)) {
+        if !value.bit(i).is_z() {
             return false;
         }
     }
@@ -51,10 +30,10 @@ fn are_z(value: Vec4) -> bool
 }
 
 fn has_x(value: Vec4) -> bool
-    ensures { result ≡ list_any spec.is_x value.letters }
+    ensures { result ≡ list_any letters.is_x value.letters }
 {
     for i in 0..value.len() {
-        if is_x(value.bit(i)) {
+        if value.bit(i).is_x() {
             return true;
         }
     }

@@ -9,6 +9,18 @@ is_unknown One = false
 is_unknown X = true
 is_unknown Z = true
 
+abbrev pub is_x : Bit4 → Bool
+is_x Zero = false
+is_x One = false
+is_x X = true
+is_x Z = false
+
+abbrev pub is_z : Bit4 → Bool
+is_z Zero = false
+is_z One = false
+is_z X = false
+is_z Z = true
+
 abbrev pub is_one : Bit4 → Bool
 is_one Zero = false
 is_one One = true

@@ -24,4 +24,40 @@ impl Bit4 {
             Bit4::Z => Bit4::X,
         }
     }
+
+    /// Whether it is x.
+    pub fn is_x(self) -> bool
+        ensures { result ≡ letters.is_x self }
+    {
+        match self {
+            Bit4::Zero => false,
+            Bit4::One => false,
+            Bit4::X => true,
+            Bit4::Z => false,
+        }
+    }
+
+    /// Whether it is z.
+    pub fn is_z(self) -> bool
+        ensures { result ≡ letters.is_z self }
+    {
+        match self {
+            Bit4::Zero => false,
+            Bit4::One => false,
+            Bit4::X => false,
+            Bit4::Z => true,
+        }
+    }
+
+    /// Whether it is x or z.
+    pub fn is_unknown(self) -> bool
+        ensures { result ≡ letters.is_unknown self }
+    {
+        match self {
+            Bit4::Zero => false,
+            Bit4::One => false,
+            Bit4::X => true,
+            Bit4::Z => true,
+        }
+    }
 }

@@ -3,8 +3,7 @@ use Rattle.std.specs.Prelude.{ℕ, Bool, true, false, ◌&&◌, ◌||◌, if◌t
 use Rattle.vast.specs.declared.statement.CaseKind.{CaseKind}
 use Rattle.vast.specs.declared.statement.CaseKind.TheVariants as kinds
 use Rattle.vbits.specs.declared.bit4.Bit4.{Bit4}
-use Rattle.vbits.specs.declared.bit4.Bit4.TheVariants.{Zero, One, X, Z}
-use Rattle.vbits.specs.Letters.{is_unknown, is_one, is_same}
+use Rattle.vbits.specs.Letters.{is_unknown, is_one, is_same, is_z}
 use Rattle.vbits.specs.Numbers.{number}
 use Rattle.vbits.specs.Vectors.{Vector, sign_letter}
 use Rattle.vdesign.specs.Expressions.{ExpressionTree}
@@ -13,12 +12,6 @@ use Rattle.vvalue.specs.declared.size_and_sign.SizeAndSign.{SizeAndSign}
 use Rattle.vvalue.specs.Value.{Environment, own, common, value_of, by_itself}
 
 -- ---- 9.5: `case`
-
-abbrev pub is_z : Bit4 → Bool
-is_z Z = true
-is_z Zero = false
-is_z One = false
-is_z X = false
 
 -- 9.5.1: the letters that count as any letter: none, z, or x and z
 abbrev pub is_any : CaseKind → Bit4 → Bool

@@ -17,36 +17,14 @@ use vbits::{Bit4, Vec4};
 use vdesign::action::{Branch, Branches, Places};
 use vdesign::expression::Expression;
 
-fn is_z(letter: Bit4) -> bool
-    ensures { result ≡ spec.is_z letter }
-{
-    match letter {
-        Bit4::Zero => false,
-        Bit4::One => false,
-        Bit4::X => false,
-        Bit4::Z => true,
-    }
-}
-
-fn is_unknown(letter: Bit4) -> bool
-    ensures { result ≡ letters.is_unknown letter }
-{
-    match letter {
-        Bit4::Zero => false,
-        Bit4::One => false,
-        Bit4::X => true,
-        Bit4::Z => true,
-    }
-}
-
 // Whether a letter counts as any letter (9.5.1).
 fn is_any(kind: CaseKind, letter: Bit4) -> bool
     ensures { result ≡ spec.is_any kind letter }
 {
     match kind {
         CaseKind::Exact => false,
-        CaseKind::Z => is_z(letter),
-        CaseKind::X => is_unknown(letter),
+        CaseKind::Z => letter.is_z(),
+        CaseKind::X => letter.is_unknown(),
     }
 }
 

@@ -1,13 +1,13 @@
 use Rattle.std.proofs.Common.{arith, sym, ◌∙◌}
-use Rattle.value_text.specs.ValueText as spec
+use Rattle.vbits.specs.Letters as letters
 use Rattle.value_text.proofs.LetterLemmas.{any_stops, any_goes_on}
 use Rattle.value_text.proofs.unknown.has_x.Goals as goal
 
 pub returns-then-is_x : goal.returns-then-is_x
-returns-then-is_x c = any_stops spec.is_x c.args.value.letters c.loop-i.i c.bit.result c.bit.ensures (sym c.if-is_x.true ∙ c.is_x.ensures) c.loop-i.invariant.1
+returns-then-is_x c = any_stops letters.is_x c.args.value.letters c.loop-i.i c.bit.result c.bit.ensures (sym c.if-is_x.true ∙ c.is_x.ensures) c.loop-i.invariant.1
 
 pub loop-i-preserved : goal.loop-i-preserved
 loop-i-preserved c = (
   omega arith,
-  any_goes_on spec.is_x c.args.value.letters c.loop-i.i c.bit.result c.bit.ensures (sym c.if-is_x.false ∙ c.is_x.ensures) c.loop-i.invariant.1,
+  any_goes_on letters.is_x c.args.value.letters c.loop-i.i c.bit.result c.bit.ensures (sym c.if-is_x.false ∙ c.is_x.ensures) c.loop-i.invariant.1,
 )
