@@ -3,9 +3,8 @@
 ghost use Rattle.std.specs.Prelude.{◌≡◌, ◌↔◌, IsSome, IfSome};
 ghost use Rattle.statebook.specs.Limits.{AreLimits};
 
-/// How far an explorer goes: at most `depart` departures, 0 to 4 (the bound of a delay-bounded
-/// search); at most `steps` steps of one run, and no further job from `entries` entries on, both 1
-/// to 1,000,000.
+/// How far an explorer goes: at most `depart` departures, 0 to 4; at most `steps` steps of one run,
+/// and no further job from `entries` entries on, both 1 to 1,000,000.
 #[derive(Clone, Copy, Debug)]
 pub struct Limits {
     pub depart: u32,
