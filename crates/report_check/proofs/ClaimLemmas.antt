@@ -15,18 +15,18 @@ use Rattle.vmachine.specs.Reads.{slot_in}
 use Rattle.racebook.proofs.FoundLemmas.{slot_ends, ends_slot}
 use Rattle.report_text.specs.Report.{LineRace, Race, Report}
 use Rattle.vreport.specs.Truth.{IsTrueLineRace, IsTrueLines, IsTrueRace, IsTrueWitness}
-use Rattle.vreport.specs.Values.{report_digits}
 use Rattle.report_check.specs.Claims.{AreTrueAt, Claim, HasClaims, HasValue, IsClaimAt, IsSightAt, IsTrueAt, IsTrueClaim, TellsState}
 use Rattle.report_check.specs.Claims.{claim_in, claim_of, claims, lines_claim, lines_claims, value_claim, value_claims}
+use Rattle.value_text.specs.ValueText.{binary}
 
 -- ---- what is seen of a state
 
 -- a value that stands there is seen where its digits are those that are told
 pub value_when : (t : State) (variable : ℕ) (digits : List ℕ) (value : Vector) (answer : Bool) → slice_get t.values variable ≡ Some value →
-    Decides answer (report_digits value ≡ digits) → Decides answer (HasValue variable digits t)
+    Decides answer (binary value ≡ digits) → Decides answer (HasValue variable digits t)
 value_when t variable digits value answer at same = (
   λ h. record { value = value; value_is = at; digits_are = sym (same.0 h) },
-  λ s. same.1 (ap report_digits (same_Some value s.value (sym at ∙ s.value_is)) ∙ sym s.digits_are),
+  λ s. same.1 (ap binary (same_Some value s.value (sym at ∙ s.value_is)) ∙ sym s.digits_are),
 )
 
 -- a claim of the slot that ends there is shown where what it claims is seen

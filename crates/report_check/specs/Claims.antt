@@ -8,9 +8,9 @@ use Rattle.vmachine.specs.declared.machine_state.MachineState.{MachineState}
 use Rattle.vmachine.specs.Machines.{Stands}
 use Rattle.vmachine.specs.Reads.{slot_in}
 use Rattle.report_text.specs.Report.{LineRace, Race, Report}
-use Rattle.vreport.specs.Values.{report_digits}
 use Rattle.report_check.specs.declared.claim.Seen.{Seen}
 use Rattle.report_check.specs.declared.claim.Seen.TheVariants as seen
+use Rattle.value_text.specs.ValueText.{binary}
 
 -- what is seen at the end of a slot: the variable of this number has the value of these digits; or these lines were printed
 pub data Sight : Type 0 where
@@ -60,7 +60,7 @@ claim_in report place = claim_of (slice_get (claims report) place.0) place.1
 pub record HasValue (variable : ℕ) (digits : List ℕ) (t : State) : Type 0 where
   pub value : Vector
   pub value_is : slice_get t.values variable ≡ Some value
-  pub digits_are : digits ≡ report_digits value
+  pub digits_are : digits ≡ binary value
 
 abbrev pub IsSightAt : Sight → State → Type 0
 IsSightAt (value variable digits) t = HasValue variable digits t

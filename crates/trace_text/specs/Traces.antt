@@ -27,7 +27,8 @@ use Rattle.vmodel.specs.Holding.{held_by_choice}
 use Rattle.vmodel.specs.Parts.{value_in, with_parts}
 use Rattle.vmodel.specs.Step.{Transition, place_of, continuation_of, next}
 use Rattle.vmodel.specs.Run.{Setting, rules_of, opening_of, state_after, is_mark, end_of}
-use Rattle.vcd_text.specs.DumpText.{line, dump_digits}
+use Rattle.vcd_text.specs.DumpText.{line}
+use Rattle.value_text.specs.ValueText.{binary}
 
 -- a word and a number behind it
 abbrev pub counted : List ℕ → ℕ → List ℕ
@@ -84,7 +85,7 @@ abbrev pub name_text : Design → ℕ → List ℕ
 name_text design n = codes " " ++ name_of (slice_get design.variables n)
 
 abbrev pub value_text : List Vector → ℕ → List ℕ
-value_text values n = codes " " ++ dump_digits (value_in values n)
+value_text values n = codes " " ++ binary (value_in values n)
 
 -- variable n gets a value in place of the one before
 abbrev pub write_text : Design → List Vector → List Part → ℕ → List ℕ

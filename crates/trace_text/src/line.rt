@@ -1,9 +1,10 @@
 // The lines of a trace, word by word.
 
+ghost use Rattle.value_text.specs.ValueText.{binary};
 ghost use Rattle.std.specs.Prelude.{◌≡◌, ◌++◌, ◌∷◌, ◌<◌, ◌≤◌, List, ℕ, [], Some, None, length, slice_get, cond, codes, decimal, option_map, IfOk, IfSome, IfNone, OnOk};
 ghost use Rattle.vmodel.specs.Choices.{choices};
 ghost use Rattle.std.specs.Option.{option_to_list};
-ghost use Rattle.vcd_text.specs.DumpText.{dump_digits, line};
+ghost use Rattle.vcd_text.specs.DumpText.{line};
 ghost use Rattle.vmodel.specs.InnerStep.{continuation_in};
 ghost use Rattle.vmodel.specs.Step.{next};
 ghost use Rattle.trace_text.specs.Traces as spec;
@@ -14,7 +15,7 @@ use sched_core::end::{Cause, End};
 use std::alloc::Global;
 use std::marker::Model;
 use vbits::Vec4;
-use vcd_text::put_digits;
+use value_text::put_binary;
 use vdesign::design::Design;
 use vdesign::dump::DumpCommand;
 use vmodel::State;
@@ -203,10 +204,10 @@ fn put_name(text: &mut Vec<u8>, design: &Design, variable: u32) -> Result<(), No
 }
 
 fn put_value(text: &mut Vec<u8>, value: Vec4) -> Result<(), NoMemory>
-    ensures { OnOk result (text.new.items ≡ text.old.items ++ codes " " ++ dump_digits value) }
+    ensures { OnOk result (text.new.items ≡ text.old.items ++ codes " " ++ binary value) }
 {
     text.push(b' ')?;
-    put_digits(text, value)
+    put_binary(text, value)
 }
 
 // A written variable, its value before and its value after the parts are written.

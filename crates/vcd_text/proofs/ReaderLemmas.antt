@@ -13,8 +13,9 @@ use Rattle.vbits.specs.Letters.{is_same}
 use Rattle.vbits.specs.Vectors.{Vector, same_letters}
 use Rattle.vdesign.specs.declared.dump.DumpCommand.{DumpCommand}
 use Rattle.vdesign.specs.declared.dump.DumpCommand.TheVariants.{Vars, Off, On, All as AllValues}
-use Rattle.vcd_text.specs.DumpText.{Part, Piece, DumpSlot, all_at, change, changed_part, changes, selected_values, code, command_part, command_parts, digit, text_in_frame, is_kept, is_news, is_nothing, later_parts, later_pieces, line, on_after, on_by, part_text, parts_text, piece_text, pieces, nonempty_pieces, start, value_lines}
+use Rattle.vcd_text.specs.DumpText.{Part, Piece, DumpSlot, all_at, change, changed_part, changes, selected_values, code, command_part, command_parts, text_in_frame, is_kept, is_news, is_nothing, later_parts, later_pieces, line, on_after, on_by, part_text, parts_text, piece_text, pieces, nonempty_pieces, start, value_lines}
 use Rattle.vcd_text.specs.Readers.{AllHave, TellsValues, values_after_pieces, values_after_parts, letters_of, on_over, values_after_changes, items_at}
+use Rattle.value_text.specs.ValueText.{binary_digit as digit}
 
 -- ---- values that are kept
 

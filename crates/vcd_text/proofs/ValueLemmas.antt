@@ -8,8 +8,9 @@ use Rattle.vbits.specs.declared.bit4.Bit4.{Bit4}
 use Rattle.vbits.specs.declared.bit4.Bit4.TheVariants.{Zero, One}
 use Rattle.vbits.specs.Vectors.{Vector, case_eq, single, same_letters}
 use Rattle.vbits.specs.Numbers.{number}
-use Rattle.vcd_text.specs.DumpText.{digit, following, short_digits, is_kept}
+use Rattle.vcd_text.specs.DumpText.{following, short_digits, is_kept}
 use Rattle.vcd_text.proofs.CodeLemmas.{following_less}
+use Rattle.value_text.specs.ValueText.{binary_digit as digit}
 
 set_parts : (xs : List ℕ) (i v : ℕ) → i < length xs → set xs i v ≡ take i xs ++ v ∷ drop (suc i) xs
 set_parts [] i v lt = absurd (omega arith)
@@ -31,24 +32,6 @@ pub shortened_short : (ds : List ℕ) → length ds ≤ 1 → short_digits ds �
 shortened_short [] le = refl
 shortened_short (d ∷ []) le = refl
 shortened_short (d ∷ e ∷ ds) le = absurd (omega arith)
-
--- the digits of one letter more
-pub digits_more : (letters : List Bit4) (i : ℕ) (letter : Bit4) (d : ℕ) (before text now whole : List ℕ) → 0 < i →
-    slice_get letters (i - 1) ≡ Some letter → d ≡ digit letter → now ≡ text ++ d ∷ [] →
-    text ++ map digit (reverse (take i letters)) ≡ before ++ whole →
-    now ++ map digit (reverse (take (i - 1) letters)) ≡ before ++ whole
-digits_more letters i letter d before text now whole some is d_is pushed so_far =
-    let j_less : i - 1 < length letters = slice_get_within letters (i - 1) letter is in
-    let i_is : i ≡ (i - 1) + 1 = omega arith in
-    let front : List Bit4 = take (i - 1) letters in
-    let taken : take i letters ≡ front ++ letter ∷ [] =
-    ap (λ (k : ℕ). take k letters) i_is ∙ take_more letters (i - 1) letter j_less
-    ∙ ap (λ (x : Bit4). front ++ x ∷ []) (get_or_from_slice_get letters (i - 1) letter letter is) in
-    ap (λ (xs : List ℕ). xs ++ map digit (reverse front)) pushed
-    ∙ append_assoc text (d ∷ []) (map digit (reverse front))
-    ∙ ap (λ (c : ℕ). text ++ c ∷ map digit (reverse front)) d_is
-    ∙ ap (λ (xs : List Bit4). text ++ map digit xs) (sym (ap reverse taken ∙ reverse-append front (letter ∷ [])))
-    ∙ so_far
 
 -- what `===` says of two values of one length, as a number
 by_test : (same : Bool) (n : ℕ) → Some n ≡ number (cond same One Zero ∷ []) → (n == 1) ≡ same

@@ -1,9 +1,9 @@
 -- *trusted*: `DumpText` (IEEE 1364-2005, clause 18; docs/FORMATS.md): the value change dump of a design and a history.
 use Rattle.std.specs.Prelude.{ℕ, zero, suc, ◌+◌, ◌-◌, ◌==◌, nat_lt, ◌&&◌, ◌||◌, not, length, Bool, true, false, if◌then◌else◌, List, [], ◌∷◌, ◌++◌, Option, Some, None, map, replicate, reverse, take, drop, slice_get, codes, decimal}
 use Rattle.std.specs.List.{after_last, list_any}
-use Rattle.vbits.specs.declared.bit4.Bit4.{Bit4}
-use Rattle.vbits.specs.declared.bit4.Bit4.TheVariants.{Zero, One, X, Z}
+use Rattle.vbits.specs.declared.bit4.Bit4.TheVariants.{X}
 use Rattle.vbits.specs.Vectors.{Vector, filled, same_letters}
+use Rattle.value_text.specs.ValueText.{binary}
 use Rattle.basis.specs.declared.timescale.Span.{Span}
 use Rattle.basis.specs.Timescales.{count_number, unit_word}
 use Rattle.vdesign.specs.declared.expression.Bounds.{Bounds}
@@ -33,13 +33,7 @@ abbrev pub code : ℕ → List ℕ
 code zero = 33 ∷ []
 code (suc n) = following (code n)
 
--- ---- values (18.2.2)
-
-abbrev pub digit : Bit4 → ℕ
-digit Zero = 48
-digit One = 49
-digit X = 120
-digit Z = 122
+-- ---- values (18.2.2), by their binary digits, leftmost first
 
 -- what a digit is extended with on the left: 0 and 1 with 0, x with x, z with z
 abbrev pub extension : ℕ → ℕ
@@ -57,13 +51,9 @@ change [] name = name
 change (d ∷ []) name = d ∷ name
 change (d ∷ e ∷ ds) name = 98 ∷ (short_digits (d ∷ e ∷ ds) ++ 32 ∷ name)
 
--- the digits of a value, leftmost first
-abbrev pub dump_digits : Vector → List ℕ
-dump_digits v = map digit (reverse v.letters)
-
 -- the line that says what the variable of a code is worth
 abbrev pub named_line : List ℕ → Vector → List ℕ
-named_line name v = line (change (dump_digits v) name)
+named_line name v = line (change (binary v) name)
 
 abbrev pub value_line : ℕ → Vector → List ℕ
 value_line n = named_line (code n)

@@ -20,5 +20,4 @@ pub use byte_sinks::{
 pub use law::{dumps_are_readable, sinks_complete_dumps};
 pub use progress::Progress;
 pub use sink::DumpSink;
-pub use values::put_digits;
 pub use write::write_vcd;

@@ -1,11 +1,13 @@
 // The lines that say what variables are worth (18.2.2).
 
+ghost use Rattle.value_text.specs.ValueText.{binary};
 ghost use Rattle.std.specs.Prelude.{◌≡◌, ◌<◌, ◌++◌, OnOk, true, false, length, drop, map};
-ghost use Rattle.vcd_text.specs.DumpText.{all_lines, unknown_of, change, changes, digit as digit_code, dump_digits, extension as extension_code, following, is_kept as is_kept_vector, is_news as is_news_of, named_line, short_digits, value_lines};
+ghost use Rattle.vcd_text.specs.DumpText.{all_lines, unknown_of, change, changes, extension as extension_code, following, is_kept as is_kept_vector, is_news as is_news_of, named_line, short_digits, value_lines};
 
 use basis::NoMemory;
 use std::alloc::Global;
-use vbits::{Bit4, Vec4};
+use value_text::put_binary;
+use vbits::Vec4;
 
 // The code of the next variable, in place.
 pub(crate) fn follow(name: &mut Vec<u8>) -> Result<(), NoMemory>
@@ -21,17 +23,6 @@ pub(crate) fn follow(name: &mut Vec<u8>) -> Result<(), NoMemory>
     }
     name.push(b'!')?;
     Ok(())
-}
-
-fn digit(letter: Bit4) -> u8
-    ensures { result ≡ digit_code letter }
-{
-    match letter {
-        Bit4::Zero => b'0',
-        Bit4::One => b'1',
-        Bit4::X => b'x',
-        Bit4::Z => b'z',
-    }
 }
 
 fn extension(digit: u8) -> u8
@@ -60,18 +51,6 @@ fn short_form(digits: &[u8]) -> &[u8]
     rest
 }
 
-/// Puts the digits of a value last, all of them, leftmost first. The error is want of memory, E901.
-pub fn put_digits(text: &mut Vec<u8>, value: Vec4) -> Result<(), NoMemory>
-    ensures { OnOk result (text.new.items ≡ text.old.items ++ dump_digits value) }
-{
-    let mut i = value.len();
-    while i > 0 {
-        i -= 1;
-        text.push(digit(value.bit(i)))?;
-    }
-    Ok(())
-}
-
 // One digit and the code, or b, digits, a space and the code.
 fn put_change(text: &mut Vec<u8>, digits: &[u8], name: &[u8]) -> Result<(), NoMemory>
     ensures { OnOk result (text.new.items ≡ text.old.items ++ change digits.now name.now) }
@@ -97,7 +76,7 @@ fn put_value(
     ensures { OnOk result (text.new.items ≡ text.old.items ++ named_line name.now value) }
 {
     scratch.clear();
-    put_digits(scratch, value)?;
+    put_binary(scratch, value)?;
     put_change(text, scratch, name)?;
     text.push(b'\n')?;
     Ok(())

@@ -28,7 +28,8 @@ use Rattle.report_text.specs.Report.{LineRace, Race, Report}
 use Rattle.vreport.specs.Agreement.{ExhaustedAgree, HasEnd, HasEndOf, HasPrinted, HasRaced, HoldingListsAll, IsPartButForLines, IsPartOf, LinesRefine}
 use Rattle.vreport.specs.Ends.{IsEndAfter}
 use Rattle.vreport.specs.Reports.{IsExploration, report_line_race, report_race, report_value}
-use Rattle.vreport.specs.Values.{report_digits, values_line}
+use Rattle.vreport.specs.Values.{values_line}
+use Rattle.value_text.specs.ValueText.{binary}
 
 -- a bag that is less than another isn't that one
 less_differs : (a b : List (List ℕ)) → IsBagLess a b → a ≢ b
@@ -174,7 +175,7 @@ module _ (from to : Setting) (carries : Carries from to) (limits others : Limits
         value_place = listed.value_place;
         seen = report_value listed.witness;
         value_at = slice_get-map report_value listed.race.values listed.value_place ∙ ap (option_map report_value) listed.value_at;
-        digits_are = ap report_digits listed.value_is ∙ ap (λ (v : List ℕ × List (ℕ × ℕ)). v.0) seen.2 ∙ has.digits_are;
+        digits_are = ap binary listed.value_is ∙ ap (λ (v : List ℕ × List (ℕ × ℕ)). v.0) seen.2 ∙ has.digits_are;
       }
 
   part_lines : PrintsSame from to → (time : ℕ) (texts : List (List ℕ)) → HasPrinted one time texts → HasPrinted other time texts

@@ -12,9 +12,8 @@ use Rattle.vbits.specs.declared.bit4.Bit4.TheVariants.{Zero, One, X, Z}
 use Rattle.vbits.specs.Vectors.{Vector}
 use Rattle.racebook.specs.Order.{IsTextBefore, digit_of, shape_of, text_number}
 use Rattle.racebook.proofs.KeyLemmas.{digit_small, text_tells}
-use Rattle.vcd_text.specs.DumpText.{digit}
 use Rattle.report_text.specs.WellFormed.{IsTextLess}
-use Rattle.vreport.specs.Values.{report_digits}
+use Rattle.value_text.specs.ValueText.{binary, binary_digit as digit}
 
 then_assoc : (o p q : Ordering) → ordering_then o (ordering_then p q) ≡ ordering_then (ordering_then o p) q
 then_assoc Less p q = refl
@@ -91,7 +90,7 @@ less_text (x ∷ xs) (y ∷ ys) l h =
     ]
 
 -- of values of one shape the earlier one has the lesser text
-pub text_less : (v w : Vector) → length v.letters ≡ length w.letters → v.signed ≡ w.signed → IsTextBefore v w → IsTextLess (report_digits v) (report_digits w)
+pub text_less : (v w : Vector) → length v.letters ≡ length w.letters → v.signed ≡ w.signed → IsTextBefore v w → IsTextLess (binary v) (binary w)
 text_less v w long sign (inr (same, less)) = less_text v.letters w.letters long less
 text_less v w long sign (inl apart) =
     let same : shape_of v ≡ shape_of w = λ i. 2 * long i + cond (sign i) 1 0 in

@@ -27,9 +27,9 @@ use Rattle.report_text.specs.WellFormed.{Each, EachTwo, IsEndBefore}
 use Rattle.vreport.specs.Ends.{HasBytes, IsTrueEnd, ListsEveryEnd}
 use Rattle.vreport.specs.Formed.{IsFormed}
 use Rattle.vreport.specs.Truth.{IsTrueHead}
-use Rattle.vreport.specs.Values.{report_digits}
 use Rattle.vreport.specs.Written.{AreHeld}
 use Rattle.vreport.specs.declared.explored.Explored.{Explored}
+use Rattle.value_text.specs.ValueText.{binary}
 
 -- how the exploration went
 abbrev pub outcome_of : Status → Outcome
@@ -58,7 +58,7 @@ pub record IsHeadOf (setting : Setting) (limits : Limits) (report : Report) : Ty
 
 -- a value as its digits, with its log
 abbrev pub report_value : Vector × List (ℕ × ℕ) → List ℕ × List (ℕ × ℕ)
-report_value seen = (report_digits seen.0, seen.1)
+report_value seen = (binary seen.0, seen.1)
 
 abbrev pub report_race : found.Race → Race
 report_race race = record { time = race.time; variable = race.variable; values = map report_value race.values }

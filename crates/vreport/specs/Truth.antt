@@ -11,7 +11,7 @@ use Rattle.report_text.specs.Report.{Column, End, LineRace, Race, Report}
 use Rattle.report_text.specs.WellFormed.{Each}
 use Rattle.vreport.specs.Dumps.{IsRunDump}
 use Rattle.vreport.specs.Ends.{IsEndAfter}
-use Rattle.vreport.specs.Values.{report_digits}
+use Rattle.value_text.specs.ValueText.{binary}
 
 -- a variable, by its name and its width
 abbrev pub column_of : Variable → Column
@@ -45,7 +45,7 @@ AreTrueEnds setting report (end ∷ ends) (dump ∷ dumps) = IsTrueEndOf setting
 -- value of the variable, and takes all that the log names, both within the steps that the head allows.
 pub record IsTrueWitness (setting : Setting) (report : Report) (time variable : ℕ) (seen : List ℕ × List (ℕ × ℕ)) : Type 0 where
   pub value : Vector
-  pub text_is : seen.0 ≡ report_digits value
+  pub text_is : seen.0 ≡ binary value
   pub steps : ℕ
   pub run : IsRun (rules_of setting) seen.1 steps
   pub names : NamesBelow seen.1 steps

@@ -1,19 +1,20 @@
 // Values as a report tells them.
 
+ghost use Rattle.value_text.specs.ValueText.{binary};
 ghost use Rattle.std.specs.Prelude.{◌≡◌, ◌++◌, IfOk, OnOk};
-ghost use Rattle.vreport.specs.Values.{more_values, report_digits, values_line};
+ghost use Rattle.vreport.specs.Values.{more_values, values_line};
 
 use basis::NoMemory;
 use std::alloc::Global;
 use vbits::Vec4;
-use vcd_text::put_digits;
+use value_text::put_binary;
 
 /// The digits of a value, leftmost first.
 pub fn text_of_value(alloc: Global, value: Vec4) -> Result<Vec<u8>, NoMemory>
-    ensures { IfOk result (λ text. text.items ≡ report_digits value) }
+    ensures { IfOk result (λ text. text.items ≡ binary value) }
 {
     let mut text = Vec::with_capacity(alloc, value.len() as usize)?;
-    put_digits(&mut text, value)?;
+    put_binary(&mut text, value)?;
     Ok(text)
 }
 
@@ -23,7 +24,7 @@ fn put_more(line: &mut Vec<u8>, values: &[Vec4]) -> Result<(), NoMemory>
 {
     for value in values {
         line.push(b' ')?;
-        put_digits(line, *value)?;
+        put_binary(line, *value)?;
     }
     Ok(())
 }
@@ -34,7 +35,7 @@ pub fn line_of_values(alloc: Global, values: &[Vec4]) -> Result<Vec<u8>, NoMemor
 {
     let mut line = Vec::new(alloc);
     if let Some((first, more)) = values.split_first() {
-        put_digits(&mut line, *first)?;
+        put_binary(&mut line, *first)?;
         put_more(&mut line, more)?;
     }
     Ok(line)
