@@ -1,6 +1,6 @@
 // The trace of a run: a line for each step, a line for each slot end, and a line for the run's end (docs/FORMATS.md,
-// "Traces"). In go a machine, a log and the places of the statements; out come bytes in a writer.
-// No clause says which bytes: a trace is for people, and cases compare it.
+// "Traces"). In go a machine, a log and the places of the statements; out come bytes in a writer, and a fault where they don't.
+// The law: the bytes are those of specs/Traces.antt, and after a fault a prefix of them.
 #![tactic(auto)]
 
 mod line;

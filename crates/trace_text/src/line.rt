@@ -1,67 +1,105 @@
 // The lines of a trace, word by word.
 
+ghost use Rattle.std.specs.Prelude.{◌≡◌, ◌++◌, ◌∷◌, ◌<◌, ◌≤◌, List, ℕ, [], Some, None, length, slice_get, cond, codes, decimal, option_map, IfOk, IfSome, IfNone, OnOk};
+ghost use Rattle.vmodel.specs.Choices.{choices};
+ghost use Rattle.std.specs.Option.{option_to_list};
+ghost use Rattle.vcd_text.specs.DumpText.{dump_digits, line};
+ghost use Rattle.vmodel.specs.InnerStep.{continuation_in};
+ghost use Rattle.vmodel.specs.Step.{next};
+ghost use Rattle.trace_text.specs.Traces as spec;
+
 use basis::NoMemory;
 use itoa::Buffer;
 use sched_core::end::{Cause, End};
 use std::alloc::Global;
+use std::marker::Model;
 use vbits::Vec4;
 use vcd_text::put_digits;
 use vdesign::design::Design;
 use vdesign::dump::DumpCommand;
 use vmodel::State;
 use vmodel::choice::Choice;
-use vmodel::effect::{Disposition, Effect, Shown};
-use vmodel::part::{Kept, Part};
+use vmodel::effect::{Disposition, Effect, Post, Shown};
+use vmodel::part::{Kept, Part, Parts};
 use vmodel::process_set::ProcessSet;
 use vmodel::values::value_after;
 use vsrc::Place;
 
-/// Where the statement of each action of a design begins, by its place in the design's table.
+/// Where the statement of each action of a design begins, by its place in the design's table. A clause sees the list.
 #[derive(Drop)]
 pub struct Origins {
     places: Vec<Option<Place>>,
 }
 
+impl Model for Origins {
+    ghost use Rattle.std.specs.Prelude.{List, Option};
+    ghost use Rattle.vsrc.specs.declared.expanded.Place.{Place};
+
+    ghost Value = { List (Option Place) };
+
+    ghost view = { λ origins. origins.places.items };
+}
+
 impl Origins {
     /// These places, none where one isn't known.
-    pub fn new(places: Vec<Option<Place>>) -> Origins {
+    pub fn new(places: Vec<Option<Place>>) -> Origins
+        ensures { result ≡ places.items }
+    {
         Origins { places }
     }
 
     // The place of the action of this number, if it is known.
-    fn place(&self, action: Option<usize>) -> Option<Place> {
-        *self.places.get(action?)?
+    fn place(&self, action: usize) -> Option<Place>
+        ensures { result ≡ spec.known_place (slice_get self.now action) }
+    {
+        match self.places.get(action) {
+            None => None,
+            Some(place) => *place,
+        }
+    }
+
+    // The place of the action that a process comes to first, if it is known.
+    fn first(&self, state: &State, process: u32) -> Option<Place>
+        ensures { result ≡ spec.first_origin self.now (continuation_in state.now.processes process) }
+    {
+        match state.place_of(process) {
+            None => None,
+            Some(action) => self.place(action),
+        }
+    }
+
+    // The same of a choice, which may be of no process.
+    fn origin(&self, state: &State, choice: Choice) -> Option<Place>
+        ensures { result ≡ spec.origin_of self.now state.now choice }
+    {
+        match choice {
+            Choice::Run(process) => self.first(state, process),
+            Choice::Update => None,
+            Choice::Advance => None,
+        }
     }
 }
 
-// What a line tells of a step before what the step did.
-#[derive(Drop)]
-struct Taken {
-    number: u32,
-    time: u64,
-    index: u32,
-    width: u32,
-    // The processes that the choice holds back.
-    held: ProcessSet,
-    choice: Choice,
-    // The place in the design's table of the action that its process came to.
-    action: Option<usize>,
-}
-
-fn put_number(text: &mut Vec<u8>, n: u64) -> Result<(), NoMemory> {
+fn put_number(text: &mut Vec<u8>, n: u64) -> Result<(), NoMemory>
+    ensures { OnOk result (text.new.items ≡ text.old.items ++ decimal n) }
+{
     let mut buffer = Buffer::new();
     text.extend_from_slice(buffer.format(n).as_bytes())?;
     Ok(())
 }
 
 // A word, and a number behind it.
-fn put_counted(text: &mut Vec<u8>, word: &[u8], n: u64) -> Result<(), NoMemory> {
+fn put_counted(text: &mut Vec<u8>, word: &[u8], n: u64) -> Result<(), NoMemory>
+    ensures { OnOk result (text.new.items ≡ text.old.items ++ spec.counted word.now n) }
+{
     text.extend_from_slice(word)?;
     put_number(text, n)
 }
 
 // ` delay D`, in units of the precision.
-fn put_delay(text: &mut Vec<u8>, amount: u128) -> Result<(), NoMemory> {
+fn put_delay(text: &mut Vec<u8>, amount: u128) -> Result<(), NoMemory>
+    ensures { OnOk result (text.new.items ≡ text.old.items ++ spec.counted (codes " delay ") amount) }
+{
     let mut digits = Buffer::new();
     text.extend_from_slice(b" delay ")?;
     text.extend_from_slice(digits.format(amount).as_bytes())?;
@@ -69,7 +107,9 @@ fn put_delay(text: &mut Vec<u8>, amount: u128) -> Result<(), NoMemory> {
 }
 
 // ` at F:L`, where the place is known.
-fn put_place(text: &mut Vec<u8>, place: Option<Place>) -> Result<(), NoMemory> {
+fn put_place(text: &mut Vec<u8>, place: Option<Place>) -> Result<(), NoMemory>
+    ensures { OnOk result (text.new.items ≡ text.old.items ++ spec.place_text place) }
+{
     match place {
         None => Ok(()),
         Some(place) => {
@@ -80,7 +120,9 @@ fn put_place(text: &mut Vec<u8>, place: Option<Place>) -> Result<(), NoMemory> {
 }
 
 // Who takes the step.
-fn put_choice(text: &mut Vec<u8>, choice: Choice, place: Option<Place>) -> Result<(), NoMemory> {
+fn put_choice(text: &mut Vec<u8>, choice: Choice, place: Option<Place>) -> Result<(), NoMemory>
+    ensures { OnOk result (text.new.items ≡ text.old.items ++ spec.choice_text choice place) }
+{
     match choice {
         Choice::Run(process) => {
             put_counted(text, b" process ", process as u64)?;
@@ -94,32 +136,62 @@ fn put_choice(text: &mut Vec<u8>, choice: Choice, place: Option<Place>) -> Resul
     }
 }
 
-// ` holding P ..`, where the choice holds anybody back.
-fn put_held(text: &mut Vec<u8>, held: &ProcessSet) -> Result<(), NoMemory> {
-    if held.is_empty() {
-        return Ok(());
+// ` P`, if there is such a process.
+fn put_process(text: &mut Vec<u8>, process: Option<u32>) -> Result<(), NoMemory>
+    ensures { OnOk result (text.new.items
+        ≡ text.old.items ++ spec.numbers_text (option_to_list process)) }
+{
+    match process {
+        None => Ok(()),
+        Some(process) => put_counted(text, b" ", process as u64),
     }
-    text.extend_from_slice(b" holding")?;
-    for i in 0..held.len() {
-        if let Some(process) = held.get(i) {
-            put_counted(text, b" ", process as u64)?;
-        }
+}
+
+// ` P ..`, the members of a set.
+fn put_members(text: &mut Vec<u8>, set: &ProcessSet) -> Result<(), NoMemory>
+    ensures { OnOk result (text.new.items ≡ text.old.items ++ spec.numbers_text set.now) }
+{
+    for i in 0..set.len() {
+        put_process(text, set.get(i))?;
     }
     Ok(())
 }
 
-// The front of a step's line.
-fn put_taken(text: &mut Vec<u8>, taken: &Taken, origins: &Origins) -> Result<(), NoMemory> {
-    put_counted(text, b"step ", taken.number as u64)?;
-    put_counted(text, b" time ", taken.time)?;
-    put_counted(text, b" choice ", taken.index as u64)?;
-    put_counted(text, b" of ", taken.width as u64)?;
-    put_held(text, &taken.held)?;
-    put_choice(text, taken.choice, origins.place(taken.action))
+// ` holding P ..`, where the choice holds anybody back.
+fn put_held(text: &mut Vec<u8>, held: &ProcessSet) -> Result<(), NoMemory>
+    ensures { OnOk result (text.new.items ≡ text.old.items ++ spec.held_text held.now) }
+{
+    if held.is_empty() {
+        return Ok(());
+    }
+    text.extend_from_slice(b" holding")?;
+    put_members(text, held)
+}
+
+// The front of a step's line, of the state before it.
+fn put_front(
+    text: &mut Vec<u8>,
+    origins: &Origins,
+    number: u32,
+    state: &State,
+    index: u32,
+    choice: Choice,
+) -> Result<(), NoMemory>
+    ensures { OnOk result (text.new.items
+        ≡ text.old.items ++ spec.front_text origins.now number state.now index choice) }
+{
+    put_counted(text, b"step ", number as u64)?;
+    put_counted(text, b" time ", state.time())?;
+    put_counted(text, b" choice ", index as u64)?;
+    put_counted(text, b" of ", state.width() as u64)?;
+    put_held(text, &state.holding(index))?;
+    put_choice(text, choice, origins.origin(state, choice))
 }
 
 // The name of a variable.
-fn put_name(text: &mut Vec<u8>, design: &Design, variable: u32) -> Result<(), NoMemory> {
+fn put_name(text: &mut Vec<u8>, design: &Design, variable: u32) -> Result<(), NoMemory>
+    ensures { OnOk result (text.new.items ≡ text.old.items ++ spec.name_text design.now variable) }
+{
     text.push(b' ')?;
     match design.variables.get(variable as usize) {
         None => Ok(()),
@@ -130,7 +202,9 @@ fn put_name(text: &mut Vec<u8>, design: &Design, variable: u32) -> Result<(), No
     }
 }
 
-fn put_value(text: &mut Vec<u8>, value: Vec4) -> Result<(), NoMemory> {
+fn put_value(text: &mut Vec<u8>, value: Vec4) -> Result<(), NoMemory>
+    ensures { OnOk result (text.new.items ≡ text.old.items ++ codes " " ++ dump_digits value) }
+{
     text.push(b' ')?;
     put_digits(text, value)
 }
@@ -139,33 +213,39 @@ fn put_value(text: &mut Vec<u8>, value: Vec4) -> Result<(), NoMemory> {
 fn put_write(
     text: &mut Vec<u8>,
     design: &Design,
-    old: &[Vec4],
+    values: &[Vec4],
     parts: &[Part],
     variable: u32,
-) -> Result<(), NoMemory> {
+) -> Result<(), NoMemory>
+    ensures { OnOk result (text.new.items
+        ≡ text.old.items ++ spec.write_text design.now values.now parts.now variable) }
+{
     text.extend_from_slice(b" write")?;
     put_name(text, design, variable)?;
-    if let Some(before) = old.get(variable as usize) {
-        put_value(text, *before)?;
-    }
-    put_value(text, value_after(old, parts, variable))
+    put_value(text, value_after(values, &[], variable))?;
+    put_value(text, value_after(values, parts, variable))
 }
 
 // A variable of an update that is posted, and the value that it would get now.
 fn put_post(
     text: &mut Vec<u8>,
     design: &Design,
-    old: &[Vec4],
+    values: &[Vec4],
     parts: &[Part],
     variable: u32,
-) -> Result<(), NoMemory> {
+) -> Result<(), NoMemory>
+    ensures { OnOk result (text.new.items
+        ≡ text.old.items ++ spec.post_text design.now values.now parts.now variable) }
+{
     text.extend_from_slice(b" post")?;
     put_name(text, design, variable)?;
-    put_value(text, value_after(old, parts, variable))
+    put_value(text, value_after(values, parts, variable))
 }
 
 // Whether one of these parts is of the variable.
-fn is_named(parts: &[Part], variable: u32) -> bool {
+fn has_part(parts: &[Part], variable: u32) -> bool
+    ensures { result ≡ spec.has_part parts.now variable }
+{
     for part in parts {
         if part.variable() == variable {
             return true;
@@ -178,13 +258,16 @@ fn is_named(parts: &[Part], variable: u32) -> bool {
 fn put_writes(
     text: &mut Vec<u8>,
     design: &Design,
-    old: &[Vec4],
+    values: &[Vec4],
     parts: &[Part],
-) -> Result<(), NoMemory> {
+) -> Result<(), NoMemory>
+    ensures { OnOk result (text.new.items
+        ≡ text.old.items ++ spec.writes_text design.now values.now parts.now) }
+{
     for place in 0..parts.len() {
         let variable = parts[place].variable();
-        if !is_named(parts.split_at(place).0, variable) {
-            put_write(text, design, old, parts, variable)?;
+        if !has_part(parts.split_at(place).0, variable) {
+            put_write(text, design, values, parts, variable)?;
         }
     }
     Ok(())
@@ -194,20 +277,73 @@ fn put_writes(
 fn put_posts(
     text: &mut Vec<u8>,
     design: &Design,
-    old: &[Vec4],
+    values: &[Vec4],
     parts: &[Part],
-) -> Result<(), NoMemory> {
+) -> Result<(), NoMemory>
+    ensures { OnOk result (text.new.items
+        ≡ text.old.items ++ spec.posts_text design.now values.now parts.now) }
+{
     for place in 0..parts.len() {
         let variable = parts[place].variable();
-        if !is_named(parts.split_at(place).0, variable) {
-            put_post(text, design, old, parts, variable)?;
+        if !has_part(parts.split_at(place).0, variable) {
+            put_post(text, design, values, parts, variable)?;
         }
     }
     Ok(())
 }
 
+// What was written.
+fn put_written(
+    text: &mut Vec<u8>,
+    design: &Design,
+    values: &[Vec4],
+    wrote: &Parts,
+) -> Result<(), NoMemory>
+    ensures { OnOk result (text.new.items
+        ≡ text.old.items ++ spec.writes_text design.now values.now wrote.now) }
+{
+    match wrote.kept() {
+        Kept::One(part) => put_writes(text, design, values, &[part]),
+        Kept::Many(parts) => put_writes(text, design, values, parts),
+    }
+}
+
+// What was posted.
+fn put_update(
+    text: &mut Vec<u8>,
+    design: &Design,
+    values: &[Vec4],
+    posted: &Parts,
+) -> Result<(), NoMemory>
+    ensures { OnOk result (text.new.items
+        ≡ text.old.items ++ spec.posts_text design.now values.now posted.now) }
+{
+    match posted.kept() {
+        Kept::One(part) => put_posts(text, design, values, &[part]),
+        Kept::Many(parts) => put_posts(text, design, values, parts),
+    }
+}
+
+// The same, if an update was posted.
+fn put_posted(
+    text: &mut Vec<u8>,
+    design: &Design,
+    values: &[Vec4],
+    posted: &Option<Post>,
+) -> Result<(), NoMemory>
+    ensures { OnOk result (text.new.items
+        ≡ text.old.items ++ spec.posted_text design.now values.now posted.now) }
+{
+    match posted {
+        None => Ok(()),
+        Some(post) => put_update(text, design, values, &post.parts),
+    }
+}
+
 // The task that commanded the dump.
-fn command_word(command: DumpCommand) -> &'static [u8] {
+fn command_word(command: DumpCommand) -> &'static [u8]
+    ensures { result.now ≡ spec.command_word command }
+{
     match command {
         DumpCommand::Vars(_) => b" dumpvars",
         DumpCommand::Off => b" dumpoff",
@@ -217,7 +353,9 @@ fn command_word(command: DumpCommand) -> &'static [u8] {
 }
 
 // The task that showed something at once.
-fn shown_word(shown: Shown) -> &'static [u8] {
+fn shown_word(shown: Shown) -> &'static [u8]
+    ensures { result.now ≡ spec.shown_word shown }
+{
     match shown {
         Shown::Commands(command) => command_word(command),
         Shown::Prints(_) => b" display",
@@ -225,35 +363,62 @@ fn shown_word(shown: Shown) -> &'static [u8] {
     }
 }
 
-// The task that shows something now, or at the end of the slot.
-fn put_shown(text: &mut Vec<u8>, effect: &Effect) -> Result<(), NoMemory> {
-    if let Some(shown) = effect.shown {
-        text.extend_from_slice(shown_word(shown))?;
+// The task that shows something now.
+fn put_shown(text: &mut Vec<u8>, shown: Option<Shown>) -> Result<(), NoMemory>
+    ensures { OnOk result (text.new.items ≡ text.old.items ++ spec.shown_text shown) }
+{
+    match shown {
+        None => Ok(()),
+        Some(shown) => {
+            text.extend_from_slice(shown_word(shown))?;
+            Ok(())
+        }
     }
-    if effect.strobed.is_some() {
-        text.extend_from_slice(b" strobe")?;
+}
+
+// ` strobe`, where a task shows something at the end of the slot.
+fn put_strobed(text: &mut Vec<u8>, strobed: Option<usize>) -> Result<(), NoMemory>
+    ensures { OnOk result (text.new.items ≡ text.old.items ++ spec.strobed_text strobed) }
+{
+    match strobed {
+        None => Ok(()),
+        Some(_) => {
+            text.extend_from_slice(b" strobe")?;
+            Ok(())
+        }
     }
-    Ok(())
 }
 
 // ` trigger`, where a named event is triggered.
-fn put_trigger(text: &mut Vec<u8>, triggered: Option<usize>) -> Result<(), NoMemory> {
-    if triggered.is_some() {
-        text.extend_from_slice(b" trigger")?;
+fn put_triggered(text: &mut Vec<u8>, triggered: Option<usize>) -> Result<(), NoMemory>
+    ensures { OnOk result (text.new.items ≡ text.old.items ++ spec.triggered_text triggered) }
+{
+    match triggered {
+        None => Ok(()),
+        Some(_) => {
+            text.extend_from_slice(b" trigger")?;
+            Ok(())
+        }
     }
-    Ok(())
 }
 
-fn put_fate(text: &mut Vec<u8>, disposition: Disposition) -> Result<(), NoMemory> {
+// What becomes of the process.
+fn put_disposition(text: &mut Vec<u8>, disposition: Disposition) -> Result<(), NoMemory>
+    ensures { OnOk result (text.new.items ≡ text.old.items ++ spec.disposition_text disposition) }
+{
     match disposition {
-        Disposition::Runnable => {}
-        Disposition::Delayed(amount) => put_delay(text, amount)?,
-        Disposition::Waiting(_) => text.extend_from_slice(b" wait")?,
+        Disposition::Runnable => Ok(()),
+        Disposition::Delayed(amount) => put_delay(text, amount),
+        Disposition::Waiting(_) => {
+            text.extend_from_slice(b" wait")?;
+            Ok(())
+        }
     }
-    Ok(())
 }
 
-fn cause_word(cause: Cause) -> &'static [u8] {
+fn cause_word(cause: Cause) -> &'static [u8]
+    ensures { result.now ≡ spec.cause_word cause }
+{
     match cause {
         Cause::Finish => b" finish",
         Cause::Stop => b" stop",
@@ -262,112 +427,84 @@ fn cause_word(cause: Cause) -> &'static [u8] {
     }
 }
 
-// What a step did.
-fn put_deed(
-    text: &mut Vec<u8>,
-    design: &Design,
-    old: &[Vec4],
-    effect: &Effect,
-) -> Result<(), NoMemory> {
-    match effect.wrote.kept() {
-        Kept::One(part) => put_writes(text, design, old, &[part])?,
-        Kept::Many(parts) => put_writes(text, design, old, parts)?,
-    }
-    if let Some(post) = &effect.posted {
-        match post.parts.kept() {
-            Kept::One(part) => put_posts(text, design, old, &[part])?,
-            Kept::Many(parts) => put_posts(text, design, old, parts)?,
+// Why the run ends, if it does.
+fn put_cause(text: &mut Vec<u8>, cause: Option<Cause>) -> Result<(), NoMemory>
+    ensures { OnOk result (text.new.items ≡ text.old.items ++ spec.cause_text cause) }
+{
+    match cause {
+        None => Ok(()),
+        Some(cause) => {
+            text.extend_from_slice(cause_word(cause))?;
+            Ok(())
         }
     }
-    put_trigger(text, effect.triggered)?;
-    put_fate(text, effect.disposition)?;
-    put_shown(text, effect)?;
-    if let Some(cause) = effect.cause {
-        text.extend_from_slice(cause_word(cause))?;
-    }
-    Ok(())
 }
 
-// What the step did, or how far the time went on.
+// What a step did, from these values on.
+fn put_effect(
+    text: &mut Vec<u8>,
+    design: &Design,
+    values: &[Vec4],
+    effect: &Effect,
+) -> Result<(), NoMemory>
+    ensures { OnOk result (text.new.items
+        ≡ text.old.items ++ spec.effect_text design.now values.now effect.now) }
+{
+    put_written(text, design, values, &effect.wrote)?;
+    put_posted(text, design, values, &effect.posted)?;
+    put_triggered(text, effect.triggered)?;
+    put_disposition(text, effect.disposition)?;
+    put_shown(text, effect.shown)?;
+    put_strobed(text, effect.strobed)?;
+    put_cause(text, effect.cause)
+}
+
+// The same of an advance: the time from here on.
 fn put_done(
     text: &mut Vec<u8>,
     design: &Design,
-    old: &[Vec4],
-    taken: &Taken,
+    values: &[Vec4],
+    choice: Choice,
     effect: &Effect,
     time: u64,
-) -> Result<(), NoMemory> {
-    match taken.choice {
+) -> Result<(), NoMemory>
+    ensures { OnOk result (text.new.items
+        ≡ text.old.items ++ spec.done_text design.now values.now choice effect.now time) }
+{
+    match choice {
+        Choice::Run(_) => put_effect(text, design, values, effect),
+        Choice::Update => put_effect(text, design, values, effect),
         Choice::Advance => put_counted(text, b" advance ", time),
-        Choice::Run(_) => put_deed(text, design, old, effect),
-        Choice::Update => put_deed(text, design, old, effect),
     }
-}
-
-// Puts the line of a step last: what was taken, of the values before it, and what it did; the time is that after it.
-fn put_step(
-    text: &mut Vec<u8>,
-    design: &Design,
-    origins: &Origins,
-    old: &[Vec4],
-    taken: &Taken,
-    effect: &Effect,
-    time: u64,
-) -> Result<(), NoMemory> {
-    put_taken(text, taken, origins)?;
-    put_done(text, design, old, taken, effect, time)?;
-    text.push(b'\n')?;
-    Ok(())
-}
-
-// Puts the line of a slot end last.
-fn put_slot_end(text: &mut Vec<u8>, time: u64) -> Result<(), NoMemory> {
-    put_counted(text, b"slot ", time)?;
-    text.push(b'\n')?;
-    Ok(())
 }
 
 // The line of a slot end, where the state is one.
-fn put_mark(text: &mut Vec<u8>, state: &State) -> Result<(), NoMemory> {
-    if state.cause().is_none() && state.is_mark() {
-        put_slot_end(text, state.time())?;
+fn put_slot(text: &mut Vec<u8>, state: &State) -> Result<(), NoMemory>
+    ensures { OnOk result (text.new.items ≡ text.old.items ++ spec.slot_line state.now) }
+{
+    if state.is_mark() && state.cause().is_none() {
+        put_counted(text, b"slot ", state.time())?;
+        text.push(b'\n')?;
     }
     Ok(())
 }
 
-// What is told of the step of this number before it is taken, if there is such a choice.
-fn taken_of(state: &State, number: u32, index: u32) -> Option<Taken> {
-    let choice = state.choice(index)?;
-    let action = match choice {
-        Choice::Run(process) => state.place_of(process),
-        Choice::Update => None,
-        Choice::Advance => None,
-    };
-    Some(Taken {
-        number,
-        time: state.time(),
-        index,
-        width: state.width(),
-        held: state.holding(index),
-        choice,
-        action,
-    })
-}
-
-// The lines of a step that was taken.
-fn lines_of(
-    alloc: Global,
+// What the step did, behind the front of its line, and the line of the slot end after it.
+fn put_rest(
+    text: &mut Vec<u8>,
     design: &Design,
-    origins: &Origins,
-    old: &[Vec4],
-    taken: &Taken,
+    values: &[Vec4],
+    choice: Choice,
     effect: &Effect,
     state: &State,
-) -> Result<Vec<u8>, NoMemory> {
-    let mut text = Vec::new(alloc);
-    put_step(&mut text, design, origins, old, taken, effect, state.time())?;
-    put_mark(&mut text, state)?;
-    Ok(text)
+) -> Result<(), NoMemory>
+    ensures { OnOk result (text.new.items
+        ≡ text.old.items ++ (line (spec.done_text design.now values.now choice effect.now state.now.queue.time)
+        ++ spec.slot_line state.now)) }
+{
+    put_done(text, design, values, choice, effect, state.time())?;
+    text.push(b'\n')?;
+    put_slot(text, state)
 }
 
 /// Takes a step. The answer is its line, and that of the slot end after it; none where there is no such choice. The values
@@ -379,30 +516,40 @@ pub(crate) fn step(
     state: &mut State,
     number: u32,
     index: u32,
-) -> Result<Option<Vec<u8>>, NoMemory> {
-    let Some(taken) = taken_of(state, number, index) else {
+) -> Result<Option<Vec<u8>>, NoMemory>
+    ensures none { IfOk result (λ told. IfNone told (length (choices state.old) ≤ index)) }
+    ensures kept { IfOk result (λ told. IfNone told (state.new ≡ state.old)) }
+    ensures some { IfOk result (λ told. IfSome told (λ text. index < length (choices state.old))) }
+    ensures state { IfOk result (λ told. IfSome told (λ text.
+        state.new ≡ (next design.now state.old index).state)) }
+    ensures lines { IfOk result (λ told. IfSome told (λ text.
+        text.items ≡ spec.step_lines design.now origins.now number state.old index)) }
+{
+    let Some(choice) = state.choice(index) else {
         return Ok(None);
     };
+    let mut text = Vec::new(alloc);
+    put_front(&mut text, origins, number, state, index, choice)?;
     let values = Vec::from_slice(alloc, state.values())?;
     let mut monitors = Vec::new(alloc);
-    match state.step(design, index, &mut monitors) {
-        Ok(effect) => {
-            let text = lines_of(alloc, design, origins, &values, &taken, &effect, state)?;
-            Ok(Some(text))
-        }
-        Err(refused) => Err(refused),
-    }
+    let effect = state.step(design, index, &mut monitors)?;
+    put_rest(&mut text, design, &values, choice, &effect, state)?;
+    Ok(Some(text))
 }
 
 /// The line of the opening state, where it is a slot end.
-pub(crate) fn opening_line(alloc: Global, state: &State) -> Result<Vec<u8>, NoMemory> {
+pub(crate) fn opening_line(alloc: Global, state: &State) -> Result<Vec<u8>, NoMemory>
+    ensures { IfOk result (λ text. text.items ≡ spec.slot_line state.now) }
+{
     let mut text = Vec::new(alloc);
-    put_mark(&mut text, state)?;
+    put_slot(&mut text, state)?;
     Ok(text)
 }
 
 /// The line of the run's end.
-pub(crate) fn end_line(alloc: Global, end: End) -> Result<Vec<u8>, NoMemory> {
+pub(crate) fn end_line(alloc: Global, end: End) -> Result<Vec<u8>, NoMemory>
+    ensures { IfOk result (λ text. text.items ≡ spec.end_line end) }
+{
     let mut text = Vec::new(alloc);
     put_counted(&mut text, b"end ", end.time)?;
     text.extend_from_slice(cause_word(end.cause))?;

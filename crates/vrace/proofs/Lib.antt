@@ -10,3 +10,4 @@ mod LawLemmas
 mod CheckLawLemmas
 mod AgreementLemmas
 mod SeenLemmas
+mod TraceLemmas

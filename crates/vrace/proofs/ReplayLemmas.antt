@@ -24,7 +24,7 @@ use Rattle.vrace.specs.RunDumps.{IsRunFault, IsRunShown, Ends, fault_of, failure
 use Rattle.vrace.specs.declared.fault.Fault.{Fault}
 use Rattle.vrace.specs.declared.fault.Fault.TheVariants.{NotEnded, BadToken, Directive, NoMacro, TooLarge, LeftOpen, Timescales, NoTree, Outside, TooDeep, NoDesign, BadLog, NoSuchChoice, TooManySteps, OutOfLimit, BadReport, FalseEnd, FalseRace, FalseHead, Memory, Write, Read, TooLong}
 
-of_writing : (cause : OrMemory WriteFault) → IsOfWriting (fault_of cause)
+pub of_writing : (cause : OrMemory WriteFault) → IsOfWriting (fault_of cause)
 of_writing (or.Memory m) = tt
 of_writing (or.Fault write.Write) = tt
 
@@ -32,7 +32,7 @@ reason_of_writing : (files : List (List ℕ)) (asked : Request) (log dump : List
 reason_of_writing files asked log dump (or.Memory m) is = tt
 reason_of_writing files asked log dump (or.Fault write.Write) is = (dump, is)
 
-count_of_writing : (cause : OrMemory WriteFault) (n : ℕ) → count_after cause n ≡ failures_after (fault_of cause) n
+pub count_of_writing : (cause : OrMemory WriteFault) (n : ℕ) → count_after cause n ≡ failures_after (fault_of cause) n
 count_of_writing (or.Memory m) n = refl
 count_of_writing (or.Fault write.Write) n = refl
 

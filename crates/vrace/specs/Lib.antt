@@ -2,6 +2,7 @@
 pub mod Request
 pub mod Refusals
 pub mod Replays
+pub mod FileTraces
 pub mod Unique
 pub mod RunLines
 pub mod RunDumps

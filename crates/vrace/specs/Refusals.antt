@@ -134,7 +134,3 @@ pub record IsBegun (show : Show) (files : List (List ℕ)) (asked : Request) (lo
 abbrev pub Leaves : {W : Type 0} → (W → Option (List ℕ)) → Show → List (List ℕ) → Request → List ℕ → Fault → Metered W → Metered W → Type 0
 Leaves contents show files asked log fault old new =
     (new ≡ old) ⊎ (IsOfWriting fault × IsBegun show files asked log (contents old.inner) (contents new.inner))
-
--- what a refused trace leaves: the writer as it was, unless memory or the writer failed as it went out
-abbrev pub LeavesTrace : {W : Type 0} → Fault → Metered W → Metered W → Type 0
-LeavesTrace fault old new = (new ≡ old) ⊎ IsOfWriting fault

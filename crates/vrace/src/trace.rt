@@ -3,9 +3,9 @@
 ghost use Rattle.std.specs.Prelude.{◌≡◌, ℕ, List, IfErr, OnOk};
 ghost use Rattle.vsrc.specs.Source.{file_bytes};
 ghost use Rattle.vrace.specs.Request.{request_of};
-ghost use Rattle.trace_text.specs.Traces.{HasGrown};
-ghost use Rattle.vrace.specs.Replays.{IsDump};
-ghost use Rattle.vrace.specs.Refusals.{IsReason, LeavesTrace};
+ghost use Rattle.byte_sinks.specs.Metered.{Grows};
+ghost use Rattle.vrace.specs.FileTraces.{IsTrace, LeavesTrace};
+ghost use Rattle.vrace.specs.Refusals.{IsReason};
 ghost use Rattle.vrace.specs.RunDumps.{failures_after};
 
 use crate::fault::Fault;
@@ -17,7 +17,7 @@ use std::io::Write;
 use trace_text::write_trace;
 
 /// Writes the trace of the run of the files under the log to the writer, step by step: a line for each step, each slot end
-/// and the run's end (docs/FORMATS.md, "Traces"). No clause says which bytes.
+/// and the run's end (docs/FORMATS.md, "Traces").
 ///
 /// Refusals are those of `replay_text`, in the same order: nothing is written but on E901 and E902, as the run is seen to
 /// end before its first line goes out.
@@ -28,12 +28,14 @@ pub fn trace_text<W: Write>(
     log: &[u8],
     writer: &mut Metered<W>,
 ) -> Result<(), Fault>
-    ensures ran { OnOk result ((dump : List ℕ) ×
-        IsDump (file_bytes files.now) (request_of options.now) log.now dump) }
-    ensures grown { OnOk result (HasGrown W.contents writer.old writer.new) }
+    ensures traced { OnOk result ((text : List ℕ) ×
+        IsTrace (file_bytes files.now) (request_of options.now) log.now text ×
+        Grows W.contents writer.old writer.new text) }
     ensures reason { IfErr result (λ fault.
         IsReason (file_bytes files.now) (request_of options.now) log.now fault) }
-    ensures left { IfErr result (λ fault. LeavesTrace fault writer.old writer.new) }
+    ensures left { IfErr result (λ fault.
+        LeavesTrace W.contents (file_bytes files.now) (request_of options.now) log.now fault
+        writer.old writer.new) }
     ensures failures { IfErr result (λ fault.
         writer.new.failures ≡ failures_after fault writer.old.failures) }
 {

@@ -183,10 +183,7 @@ pub fn write_from<O: ByteSink>(
         progress,
         mut run,
     } = front;
-    match put(byte_sink, text.text()) {
-        Ok(()) => {}
-        Err(fault) => return Err(fault),
-    }
+    put(byte_sink, text.text())?;
     let mut sink = DumpSink::resumed(alloc, machine.design(), byte_sink, progress);
     let result = fill_on(machine, &mut run, steps, &mut sink);
     let byte_sink = sink.into_byte_sink();

@@ -35,10 +35,8 @@ fn dump_len(
     ensures long { IfFault result (λ _. HasLongDump machine.now log.now steps) }
 {
     let mut counter = Counter::new();
-    match write_dump(alloc, machine, log, steps, &mut counter) {
-        Ok(()) => Ok(counter.count()),
-        Err(fault) => Err(fault),
-    }
+    write_dump(alloc, machine, log, steps, &mut counter)?;
+    Ok(counter.count())
 }
 
 // How many bytes a dump has, and the dump itself where it is held.
@@ -61,10 +59,8 @@ fn dump_len_on(
     ensures long { IfFault result (λ _. HasLongDump machine.now front.entry.run.log.now steps) }
 {
     let mut counter = Counter::new();
-    match write_from(alloc, machine, steps, front, &mut counter) {
-        Ok(()) => Ok(counter.count()),
-        Err(fault) => Err(fault),
-    }
+    write_from(alloc, machine, steps, front, &mut counter)?;
+    Ok(counter.count())
 }
 
 // The dump of the run: held where it fits into so many bytes; else its bytes are counted, as they are made.
@@ -161,10 +157,7 @@ fn end_of(
     let Some((_, log)) = findings.marks.get_index(row.place) else {
         unreachable!()
     };
-    let dump = match measure_dump(alloc, machine, log, limits.steps, room) {
-        Ok(dump) => dump,
-        Err(fault) => return Err(fault),
-    };
+    let dump = measure_dump(alloc, machine, log, limits.steps, room)?;
     Ok(HeldEnd {
         end: End {
             time: time_of(row),

@@ -47,10 +47,7 @@ fn report_found(
     ensures long { IfFault result (λ _. HasSomeLongDump machine.now limits.now) }
 {
     machine_law();
-    let told = match hold_report(alloc, machine, findings, limits) {
-        Ok(told) => told,
-        Err(fault) => return Err(fault),
-    };
+    let told = hold_report(alloc, machine, findings, limits)?;
     Ok(Explored {
         report: told.report,
         status: findings.status,

@@ -179,10 +179,7 @@ pub fn hold_report(
     ensures long { IfFault result (λ _. HasSomeLongDump machine.now limits.now) }
 {
     run_law();
-    let HeldEnds { ends, held } = match ends_of(alloc, machine, findings, limits) {
-        Ok(ends) => ends,
-        Err(fault) => return Err(fault),
-    };
+    let HeldEnds { ends, held } = ends_of(alloc, machine, findings, limits)?;
     let found = races(alloc, machine, findings)?;
     let printed = line_races(alloc, machine, findings)?;
     let design = machine.design();
@@ -236,8 +233,5 @@ pub fn report_of(
         IfOk result (IsFormed machine.now) }
     ensures long { IfFault result (λ _. HasSomeLongDump machine.now limits.now) }
 {
-    match hold_report(alloc, machine, findings, limits) {
-        Ok(with_dumps) => Ok(with_dumps.report),
-        Err(fault) => Err(fault),
-    }
+    Ok(hold_report(alloc, machine, findings, limits)?.report)
 }

@@ -72,10 +72,8 @@ fn put_end<O: ByteSink>(
     ensures err { IfErr result (λ fault.
         StopsEnd O.takes O.fails machine.now steps end.now byte_sink.old fault byte_sink.new) }
 {
-    match put_made(byte_sink, end_lines(alloc, end)) {
-        Ok(()) => put_dump(alloc, machine, steps, end, held, byte_sink),
-        Err(fault) => Err(fault),
-    }
+    put_made(byte_sink, end_lines(alloc, end))?;
+    put_dump(alloc, machine, steps, end, held, byte_sink)
 }
 
 // The ends, each with its dump.
@@ -94,10 +92,7 @@ fn put_ends<O: ByteSink>(
         StopsEnds O.takes O.fails machine.now steps ends.now byte_sink.old fault byte_sink.new) }
 {
     for place in 0..ends.len() {
-        match put_end(alloc, machine, steps, &ends[place], &held[place], byte_sink) {
-            Ok(()) => {}
-            Err(fault) => return Err(fault),
-        }
+        put_end(alloc, machine, steps, &ends[place], &held[place], byte_sink)?;
     }
     Ok(())
 }
@@ -114,10 +109,7 @@ fn put_races<O: ByteSink>(
         Stopped O.takes O.fails byte_sink.old (races_text columns.now races.now) fault byte_sink.new) }
 {
     for race in races {
-        match put_made(byte_sink, race_lines(alloc, columns, race)) {
-            Ok(()) => {}
-            Err(fault) => return Err(fault),
-        }
+        put_made(byte_sink, race_lines(alloc, columns, race))?;
     }
     Ok(())
 }
@@ -133,10 +125,7 @@ fn put_line_races<O: ByteSink>(
         Stopped O.takes O.fails byte_sink.old (line_races_text races.now) fault byte_sink.new) }
 {
     for race in races {
-        match put_made(byte_sink, line_race_lines(alloc, race)) {
-            Ok(()) => {}
-            Err(fault) => return Err(fault),
-        }
+        put_made(byte_sink, line_race_lines(alloc, race))?;
     }
     Ok(())
 }
@@ -155,10 +144,8 @@ fn put_lines_part<O: ByteSink>(
     if let Looked::Values = report.looked {
         return Ok(());
     }
-    match put_made(byte_sink, line_race_count_line(alloc, report)) {
-        Ok(()) => put_line_races(alloc, &report.line_races, byte_sink),
-        Err(fault) => Err(fault),
-    }
+    put_made(byte_sink, line_race_count_line(alloc, report))?;
+    put_line_races(alloc, &report.line_races, byte_sink)
 }
 
 /// Writes the text of a report to the byte sink, and after each end its dump: the one that is held, else that of the run under
@@ -177,20 +164,9 @@ pub fn write_report<O: ByteSink>(
     ensures err { IfErr result (λ fault.
         StopsReport O.takes O.fails machine.now report.now byte_sink.old fault byte_sink.new) }
 {
-    match put_made(byte_sink, head_lines(alloc, report)) {
-        Ok(()) => {}
-        Err(fault) => return Err(fault),
-    }
-    match put_ends(alloc, machine, report.steps, &report.ends, held, byte_sink) {
-        Ok(()) => {}
-        Err(fault) => return Err(fault),
-    }
-    match put_made(byte_sink, race_count_line(alloc, report)) {
-        Ok(()) => {}
-        Err(fault) => return Err(fault),
-    }
-    match put_races(alloc, &report.variables, &report.races, byte_sink) {
-        Ok(()) => put_lines_part(alloc, report, byte_sink),
-        Err(fault) => Err(fault),
-    }
+    put_made(byte_sink, head_lines(alloc, report))?;
+    put_ends(alloc, machine, report.steps, &report.ends, held, byte_sink)?;
+    put_made(byte_sink, race_count_line(alloc, report))?;
+    put_races(alloc, &report.variables, &report.races, byte_sink)?;
+    put_lines_part(alloc, report, byte_sink)
 }

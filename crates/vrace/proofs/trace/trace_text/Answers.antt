@@ -1,11 +1,12 @@
-use Rattle.std.proofs.Common.{inr, subst, sym}
+use Rattle.std.proofs.Common.{inr, subst, sym, ap, ◌∙◌}
 use Rattle.vsrc.specs.Source.{file_bytes}
 use Rattle.vmodel.specs.RunProgress.{Finishes}
 use Rattle.vrace.specs.Request.{request_of}
 use Rattle.vrace.specs.Refusals.{IsReason}
-use Rattle.vrace.specs.RunDumps.{IsRunFault}
-use Rattle.vrace.proofs.ReplayLemmas.{dumped, run_reason, writing_reason}
-use Rattle.vrace.proofs.DumpLemmas.{the_dump}
+use Rattle.vrace.specs.RunDumps.{IsRunFault, failures_after}
+use Rattle.vrace.specs.declared.fault.Fault.{Fault}
+use Rattle.vrace.proofs.ReplayLemmas.{run_reason, writing_reason, count_of_writing}
+use Rattle.vrace.proofs.TraceLemmas.{traced, left_in_trace}
 use Rattle.vrace.proofs.trace.trace_text.Goals as goal
 
 pub returns-in-Err-see_end-clause-reason : goal.returns-in-Err-see_end-clause-reason
@@ -24,10 +25,25 @@ returns-in-Err-write_trace-clause-reason g c =
     (writing_reason (file_bytes c.args.files.now) (request_of c.args.options.now) c.args.log.now replayed machine same n end
     (subst (λ log. Finishes machine log c.args.options.now.limits.steps n end) members finishes) c.in-Err-write_trace.fault)
 
-pub returns-clause-ran : goal.returns-clause-ran
-returns-clause-ran g c =
-    let machine = c.in-Ok.input.machine in
+pub returns-in-Err-write_trace-clause-left : goal.returns-in-Err-write_trace-clause-left
+returns-in-Err-write_trace-clause-left g c =
+    let input = c.in-Ok.input in
     let (replayed, same, members) = c.in-Ok.ensures.ok in
-    let (n, end, finishes) = c.in-Ok-see_end.ensures.ends in
-    let there : Finishes machine replayed.members c.args.options.now.limits.steps n end = subst (λ log. Finishes machine log c.args.options.now.limits.steps n end) members finishes in
-    (_, dumped (file_bytes c.args.files.now) (request_of c.args.options.now) c.args.log.now replayed machine same _ (the_dump machine replayed.members c.args.options.now.limits.steps n end there))
+    let (end_at, end, finishes) = c.in-Ok-see_end.ensures.ends in
+    let (n, told, stops) = c.in-Err-write_trace.ensures.err in
+    left_in_trace (file_bytes c.args.files.now) (request_of c.args.options.now) c.args.log.now replayed input.machine same input.members members input.origins n end_at end
+    told finishes g.W.Write.contents c.args.writer.now c.write_trace.new.writer c.in-Err-write_trace.fault c.of_writing.result c.of_writing.ensures stops
+
+pub returns-clause-traced : goal.returns-clause-traced
+returns-clause-traced g c =
+    let input = c.in-Ok.input in
+    let (replayed, same, members) = c.in-Ok.ensures.ok in
+    let (end_at, end, finishes) = c.in-Ok-see_end.ensures.ends in
+    let (n, told, grown) = c.in-Ok-write_trace.ensures.ok in
+    (_, traced (file_bytes c.args.files.now) (request_of c.args.options.now) c.args.log.now replayed input.machine same input.members members input.origins n end_at end told finishes, grown)
+
+pub returns-in-Err-write_trace-clause-failures : goal.returns-in-Err-write_trace-clause-failures
+returns-in-Err-write_trace-clause-failures g c =
+    let (n, told, stops) = c.in-Err-write_trace.ensures.err in
+    let failures = c.args.writer.now.failures in
+    stops.1 ∙ count_of_writing c.in-Err-write_trace.fault failures ∙ ap (λ (fault : Fault). failures_after fault failures) (sym c.of_writing.ensures)

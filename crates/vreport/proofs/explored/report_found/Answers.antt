@@ -15,5 +15,5 @@ returns-clause-exploration c =
       one = law.one c.args.machine.now;
       only = law.only c.args.machine.now;
     } in
-    exploration c.args.machine.now known c.args.limits.now c.args.findings.now c.in-Ok.told.report c.requires.exhausted c.requires.steps c.in-Ok.ensures.head c.in-Ok.ensures.outcome
-    c.in-Ok.ensures.true_ends c.in-Ok.ensures.ends_order c.in-Ok.ensures.every_end c.in-Ok.ensures.races c.in-Ok.ensures.line_races
+    exploration c.args.machine.now known c.args.limits.now c.args.findings.now c.in_ok-told.told.report c.requires.exhausted c.requires.steps c.in_ok-told.ensures.head c.in_ok-told.ensures.outcome
+    c.in_ok-told.ensures.true_ends c.in_ok-told.ensures.ends_order c.in_ok-told.ensures.every_end c.in_ok-told.ensures.races c.in_ok-told.ensures.line_races

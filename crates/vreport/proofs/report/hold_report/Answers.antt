@@ -37,5 +37,5 @@ returns-clause-line_races c =
 
 pub returns-clause-formed : goal.returns-clause-formed
 returns-clause-formed c = λ named until dumps are.
-    formed c.args.machine.now (c.run_law.ensures.shapes c.args.machine.now) (c.run_law.ensures.printed c.args.machine.now) c.args.limits.now c.args.findings.now _ named until (returns-clause-head c) c.in_ok-columns_of.ensures.widths c.in-Ok.ensures.true_ends
-    c.in-Ok.ensures.kept c.in-Ok.ensures.order (returns-clause-races c) c.in_ok-report_races.ensures.kept (returns-clause-line_races c) c.in_ok-report_line_races.ensures.kept dumps are
+    formed c.args.machine.now (c.run_law.ensures.shapes c.args.machine.now) (c.run_law.ensures.printed c.args.machine.now) c.args.limits.now c.args.findings.now _ named until (returns-clause-head c) c.in_ok-columns_of.ensures.widths c.in_ok-ends.ensures.true_ends
+    c.in_ok-ends.ensures.kept c.in_ok-ends.ensures.order (returns-clause-races c) c.in_ok-report_races.ensures.kept (returns-clause-line_races c) c.in_ok-report_line_races.ensures.kept dumps are

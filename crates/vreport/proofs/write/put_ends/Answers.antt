@@ -1,6 +1,7 @@
 use Rattle.std.proofs.Common.{arith, refl}
 use Rattle.std.proofs.lemmas.List.{drop_all}
 use Rattle.std.proofs.lemmas.Option.{slice_get_read}
+use Rattle.std.proofs.lemmas.Result.{err_from_is_err_and}
 use Rattle.vreport.proofs.HeldLemmas.{held_at, held_len}
 use Rattle.vreport.proofs.WriteLemmas.{ends_first, ends_on, ends_over, ends_stop}
 use Rattle.vreport.proofs.write.put_ends.Goals as goal
@@ -23,15 +24,16 @@ put_end-requires-clause-held g c =
 pub loop-place-init : goal.loop-place-init
 loop-place-init g c = ends_first g.O.ByteSink.takes g.O.ByteSink.fails g.met.O.ByteSink.lawful c.args.machine.now c.args.steps c.args.ends.now c.args.byte_sink.now
 
-pub returns-in-Err-clause-err : goal.returns-in-Err-clause-err
-returns-in-Err-clause-err g c =
-    ends_stop g.O.ByteSink.takes g.O.ByteSink.fails g.met.O.ByteSink.lawful c.args.machine.now c.args.steps c.args.ends.now c.loop-place.place c.index-ends-place.result c.args.byte_sink.now c.loop-place.byte_sink c.put_end.new.byte_sink c.in-Err.fault
-    (slice_get_read c.args.ends.now _ c.loop-place.place c.index-ends-place.result refl c.loop-place-test.true c.index-ends-place.is) c.loop-place.invariant c.in-Err.ensures.err
+pub returns-in_err-put_end-clause-err : goal.returns-in_err-put_end-clause-err
+returns-in_err-put_end-clause-err g c =
+    let p = err_from_is_err_and c.from_residual.result c.from_residual.ensures.1 in
+    rw (p.1, p.2) (ends_stop g.O.ByteSink.takes g.O.ByteSink.fails g.met.O.ByteSink.lawful c.args.machine.now c.args.steps c.args.ends.now c.loop-place.place c.index-ends-place.result c.args.byte_sink.now c.loop-place.byte_sink c.put_end.new.byte_sink c.in_err-put_end.field-0.0
+    (slice_get_read c.args.ends.now _ c.loop-place.place c.index-ends-place.result refl c.loop-place-test.true c.index-ends-place.is) c.loop-place.invariant c.in_err-put_end.ensures.err)
 
 pub loop-place-preserved : goal.loop-place-preserved
 loop-place-preserved g c =
     ends_on g.O.ByteSink.takes g.O.ByteSink.fails g.met.O.ByteSink.lawful c.args.machine.now c.args.steps c.args.ends.now c.loop-place.place c.index-ends-place.result c.args.byte_sink.now c.loop-place.byte_sink c.put_end.new.byte_sink
-    (slice_get_read c.args.ends.now _ c.loop-place.place c.index-ends-place.result refl c.loop-place-test.true c.index-ends-place.is) c.loop-place.invariant c.in-Ok.ensures.ok
+    (slice_get_read c.args.ends.now _ c.loop-place.place c.index-ends-place.result refl c.loop-place-test.true c.index-ends-place.is) c.loop-place.invariant c.in_ok-put_end.ensures.ok
 
 pub returns-clause-ok : goal.returns-clause-ok
 returns-clause-ok g c =

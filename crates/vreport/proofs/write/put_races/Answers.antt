@@ -1,5 +1,6 @@
 use Rattle.std.proofs.Common.{arith, refl}
 use Rattle.std.proofs.lemmas.List.{drop_all}
+use Rattle.std.proofs.lemmas.Result.{err_from_is_err_and}
 use Rattle.report_text.specs.ReportText.{race_text, races_text}
 use Rattle.vreport.proofs.WriteLemmas.{items_first, items_on, items_over, items_stop}
 use Rattle.vreport.proofs.write.put_races.Goals as goal
@@ -7,17 +8,18 @@ use Rattle.vreport.proofs.write.put_races.Goals as goal
 pub loop-race-init : goal.loop-race-init
 loop-race-init g c = items_first g.O.ByteSink.takes g.O.ByteSink.fails g.met.O.ByteSink.lawful (race_text c.args.columns.now) (races_text c.args.columns.now) (λ x xs. refl) c.args.races.now c.args.byte_sink.now
 
-pub returns-in-Err-clause-err : goal.returns-in-Err-clause-err
-returns-in-Err-clause-err g c =
-    let text = race_text c.args.columns.now c.race-item.result in
-    items_stop g.O.ByteSink.takes g.O.ByteSink.fails g.met.O.ByteSink.lawful (race_text c.args.columns.now) (races_text c.args.columns.now) (λ x xs. refl) c.args.races.now c.loop-race.race-index c.race-item.result text c.args.byte_sink.now c.loop-race.byte_sink c.put_made.new.byte_sink c.in-Err.fault
-    c.race-item.is c.loop-race-test.true refl c.loop-race.invariant (c.in-Err.ensures.err text c.race_lines.ensures)
+pub returns-in_err-put_made-clause-err : goal.returns-in_err-put_made-clause-err
+returns-in_err-put_made-clause-err g c =
+    let p = err_from_is_err_and c.from_residual.result c.from_residual.ensures.1 in
+    rw (p.1, p.2) (let text = race_text c.args.columns.now c.race-item.result in
+    items_stop g.O.ByteSink.takes g.O.ByteSink.fails g.met.O.ByteSink.lawful (race_text c.args.columns.now) (races_text c.args.columns.now) (λ x xs. refl) c.args.races.now c.loop-race.race-index c.race-item.result text c.args.byte_sink.now c.loop-race.byte_sink c.put_made.new.byte_sink c.in_err-put_made.field-0.0
+    c.race-item.is c.loop-race-test.true refl c.loop-race.invariant (c.in_err-put_made.ensures.err text c.race_lines.ensures))
 
 pub loop-race-preserved : goal.loop-race-preserved
 loop-race-preserved g c =
     let text = race_text c.args.columns.now c.race-item.result in
     items_on g.O.ByteSink.takes g.O.ByteSink.fails g.met.O.ByteSink.lawful (race_text c.args.columns.now) (races_text c.args.columns.now) (λ x xs. refl) c.args.races.now c.loop-race.race-index c.race-item.result text c.args.byte_sink.now c.loop-race.byte_sink c.put_made.new.byte_sink
-    c.race-item.is c.loop-race-test.true refl c.loop-race.invariant (c.in-Ok.ensures.ok text c.race_lines.ensures)
+    c.race-item.is c.loop-race-test.true refl c.loop-race.invariant (c.in_ok-put_made.ensures.ok text c.race_lines.ensures)
 
 pub returns-clause-ok : goal.returns-clause-ok
 returns-clause-ok g c =
