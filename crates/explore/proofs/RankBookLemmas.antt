@@ -4,12 +4,12 @@ use Rattle.std.specs.Cmp.{IsEquivalence}
 use Rattle.std.proofs.lemmas.Bool.{cases_lt}
 use Rattle.std.proofs.lemmas.Option.{same_Some, slice_get_within}
 use Rattle.basis.proofs.Lists.{last_or_before, listed_place, stands_in_front, stands_last}
-use Rattle.statebook.specs.Books.{Book, Dominates, Inserts, no_entries}
+use Rattle.statebook.specs.Books.{Book, Inserts, no_entries}
 use Rattle.statebook.specs.declared.book.Met.TheVariants.{New, Known}
 use Rattle.statebook.specs.declared.entry.Entry.{Entry}
 use Rattle.statebook.proofs.CoreLemmas.{slice_get-set}
 use Rattle.explore.specs.Inner.Exploring.{IsSameOrAdded}
-use Rattle.explore.specs.Inner.RankedSearches.{AreAfter, AreFrom, AreInOrder, HasDominator, HasNone, IsFromBook, IsIn, IsNoRankAt, IsRankAt, IsWaiting, IsWaitingAt, Keeps, KeepsAt, Opens}
+use Rattle.explore.specs.Inner.RankedSearches.{AreAfter, AreFrom, AreInOrder, IsFromBook, IsIn, IsNoRankAt, IsRankAt, IsWaiting, IsWaitingAt, Keeps, KeepsAt, Opens}
 use Rattle.explore.specs.declared.rank_book.RankBook.{RankBook}
 use Rattle.explore.proofs.AloneLemmas.{nothing_there}
 use Rattle.explore.proofs.VisitLemmas.{set_at, true_not_false}

@@ -1,24 +1,23 @@
 -- From the first rank to the last.
-use Rattle.std.proofs.Common.{◌≡◌, ℕ, ◌+◌, ◌-◌, ◌^◌, ◌<◌, ◌≤◌, zero, suc, Bool, true, false, List, [], ◌∷◌, ◌++◌, length, slice_get, Some, None, IfSome, Result, Ok, Err, OnOk, OnErr, Option, arith, ap, refl, sym, ◌∙◌, subst, inl, inr}
-use Rattle.std.specs.Cmp.{IsEquivalence}
+use Rattle.std.proofs.Common.{◌≡◌, ℕ, ◌-◌, ◌^◌, ◌<◌, ◌≤◌, zero, suc, Bool, List, [], ◌∷◌, ◌++◌, slice_get, Some, IfSome, Result, Ok, Err, OnErr, Option, arith, sym, ◌∙◌, subst, inl}
 use Rattle.std.proofs.lemmas.Option.{same_Some}
-use Rattle.sched_core.specs.Ranks.{IsRanked}
-use Rattle.sched_core.specs.Rules.{Rules, IsLawful, stands, IsRun}
+use Rattle.sched_core.specs.Rules.{Rules}
 use Rattle.statebook.specs.Books.{no_entries}
-use Rattle.statebook.specs.Covered.{IsCovered}
 use Rattle.statebook.specs.declared.entry.Entry.{Entry}
 use Rattle.statebook.specs.declared.limits.Limits.{Limits}
 use Rattle.statebook.specs.Inner.Forced.{IsFirst, MayBeAdded}
 use Rattle.statebook.proofs.FrontierLemmas.{root_frontier}
 use Rattle.explore.specs.Found.{Differ}
-use Rattle.explore.specs.Ranked.{ArePartOf, Closing, HandsOnAllTo, WasHandedOn}
+use Rattle.explore.specs.Ranked.{Closing, CollectsMore, HandsOn, HandsOnAllTo, StaysAs}
 use Rattle.explore.specs.Inner.Ways.{IsSearching}
-use Rattle.explore.specs.Inner.RankedSearches.{AreHeld, HasHandedOn, HasOpened, IsAFrontier, IsIn, IsKeptIn, IsOfRank, IsRankedSearch, NoneAbove, Opens}
+use Rattle.explore.specs.Inner.RankedSearches.{AreHeld, GoesFrom, HasClosed, HasCollected, IsIn, IsRankedSearch, IsUnderWay, NoneAbove, Opens}
 use Rattle.explore.specs.declared.rank_book.RankBook.{RankBook}
+use Rattle.explore.specs.declared.ranked_findings.RankedFindings.{RankedFindings}
+use Rattle.explore.specs.declared.ranked_findings.RankedReason.{RankedReason}
+use Rattle.explore.specs.declared.ranked_findings.RankedStatus.TheVariants.{Cut}
 use Rattle.explore.specs.declared.ranked_search.RankedSearch.{RankedSearch}
 use Rattle.explore.proofs.AloneLemmas.{nothing_there, root_entry}
 use Rattle.explore.proofs.RankBookLemmas.{opened_alone}
-use Rattle.explore.proofs.RankedLemmas.{still_handed, whole_is_part}
 
 -- what a search begins with
 pub record Begins {S : Type 0} (r : Rules S) (limits : Limits) (rank : S → ℕ) (eq : S → S → Bool) (root : Entry S) (s : RankedSearch S) : Type 0 where
@@ -80,19 +79,52 @@ begins {S} r limits rank eq root s b =
       );
     }
 
--- what was handed on, whether or not all of it was taken
-pub either_part : {S U E : Type 0} (least : ℕ) (marks : List (S × List (ℕ × ℕ))) (old new : List (Closing S)) (result : Result U E) → OnOk result (new ≡ old ++ record { rank = least; marks = marks } ∷ []) → OnErr result (ArePartOf least marks old new) → ArePartOf least marks old new
-either_part least marks old new (Ok u) ok err = whole_is_part least marks old new ok
-either_part least marks old new (Err e) ok err = err
+-- ---- what the collector has
 
--- what was handed on of the closed ranks stays so
-pub still_all_to : {S : Type 0} (r : Rules S) (limits : Limits) (rank : S → ℕ) (old new : List (Closing S)) (closed : Option ℕ) → IsKeptIn old new → IfSome closed (HandsOnAllTo r limits rank old) → IfSome closed (HandsOnAllTo r limits rank new)
-still_all_to r limits rank old new None kept to = tt
-still_all_to r limits rank old new (Some top) kept to = λ log n short run mark le. still_handed r old new kept (stands r log n) (length log) (to log n short run mark le)
+-- where the collector is as it was, it has collected no more
+pub stays_so : {C S U E : Type 0} (collects : C → List (Closing S) → C → Type 0) (now : C) (result : Result U E) → OnErr result (StaysAs collects now now)
+stays_so collects now (Ok u) = tt
+stays_so collects now (Err e) = λ first closings has. has
 
--- where no mark stands above, all were handed on
-pub all_handed : {S : Type 0} (r : Rules S) (limits : Limits) (rank : S → ℕ) (closings : List (Closing S)) (least : ℕ) → HandsOnAllTo r limits rank closings least → NoneAbove r limits.depart rank least → IsCovered r limits.depart (WasHandedOn r closings)
-all_handed r limits rank closings least to none log n short run mark = to log n short run mark (none log n short run mark)
+-- of one kind, and so of another
+pub collected_so : {S : Type 0} (Collected P Q : List (Closing S) → Type 0) → ((closings : List (Closing S)) → P closings → Q closings) → HasCollected Collected P → HasCollected Collected Q
+collected_so Collected P Q from has = record { closings = has.closings; collected = has.collected; so = from has.closings has.so }
+
+-- behind what was collected
+pub collected_more : {C S : Type 0} (collects : C → List (Closing S) → C → Type 0) (P Q : List (Closing S) → Type 0) (old new : C) (closing : Closing S) → ((closings : List (Closing S)) → P closings → Q (closings ++ closing ∷ [])) → CollectsMore collects old closing new → GoesFrom collects P Q old new
+collected_more collects P Q old new closing from more = λ first has. record {
+  closings = has.closings ++ closing ∷ [];
+  collected = more first has.closings has.collected;
+  so = from has.closings has.so;
+}
+
+-- where no mark stands above the closed rank, all were handed on
+pub all_handed : {S : Type 0} (r : Rules S) (limits : Limits) (rank : S → ℕ) (Collected : List (Closing S) → Type 0) (least : ℕ) (findings : RankedFindings) → findings.closed ≡ Some least → HasCollected Collected (HasClosed r limits rank least) → NoneAbove r limits.depart rank least → HandsOn r limits rank Collected findings
+all_handed r limits rank Collected least findings is has none = record {
+  closings = has.closings;
+  collected = has.collected;
+  found = has.so.lawful.found;
+  ranks = has.so.lawful.ranks;
+  rise = has.so.lawful.rise;
+  last = λ i c at. (least, is, has.so.up_to i c at);
+  fewest = has.so.lawful.fewest;
+  covered = (let P : Option ℕ → Type 0 = λ o. IfSome o (HandsOnAllTo r limits rank has.closings) in subst P (sym is) has.so.all);
+  exhausted = λ t log n short run mark. has.so.all log n short run mark (none log n short run mark);
+}
+
+-- where the search was cut, those of the closed ranks were
+pub some_handed : {S : Type 0} (r : Rules S) (limits : Limits) (rank : S → ℕ) (Old New : List (Closing S) → Type 0) (least : ℕ) (closed : Option ℕ) (reason : RankedReason) → ((closings : List (Closing S)) → Old closings → New closings) → HasCollected Old (IsUnderWay r limits rank least closed) → HandsOn r limits rank New (record { status = Cut reason; closed = closed })
+some_handed r limits rank Old New least closed reason stays has = record {
+  closings = has.closings;
+  collected = stays has.closings has.collected;
+  found = has.so.handed.lawful.found;
+  ranks = has.so.handed.lawful.ranks;
+  rise = has.so.handed.lawful.rise;
+  last = has.so.last;
+  fewest = has.so.handed.lawful.fewest;
+  covered = has.so.covered;
+  exhausted = λ e. absurd cc;
+}
 
 -- ranks are counted by 64 bits, so a higher one is nearer to their end
 pub rank_nearer : (old read new : ℕ) → read ≡ old → read < 2 ^ 64 → old < new → 2 ^ 64 - new < 2 ^ 64 - old

@@ -1,13 +1,12 @@
 -- What a search that goes by rank keeps as it meets entries, and as it closes a rank.
-use Rattle.std.proofs.Common.{◌≡◌, ◌≢◌, ℕ, ◌+◌, ◌<◌, ◌≤◌, zero, suc, Bool, true, false, List, [], ◌∷◌, ◌++◌, length, slice_get, Some, arith, ap, refl, sym, ◌∙◌, subst, ◌⊎◌, inl, inr, append-nil, length-append}
+use Rattle.std.proofs.Common.{◌≡◌, ℕ, ◌+◌, ◌<◌, ◌≤◌, Bool, true, false, List, [], ◌∷◌, ◌++◌, length, slice_get, Some, None, arith, ap, refl, sym, ◌∙◌, subst, inl, inr, length-append}
 use Rattle.std.proofs.lemmas.Bool.{cases_lt}
 use Rattle.std.proofs.lemmas.Option.{same_Some, slice_get_within}
 use Rattle.basis.proofs.Lists.{last_or_before, stands_in_front, stands_last}
 use Rattle.sched_core.specs.Ranks.{IsRanked}
 use Rattle.sched_core.specs.Rules.{Rules, IsLawful, stands, IsRun}
 use Rattle.statebook.specs.Books.{Dominates}
-use Rattle.statebook.specs.Covered.{IsCovered}
-use Rattle.statebook.specs.ExplorerCore.{IsEntry, budget_after, choices_of}
+use Rattle.statebook.specs.ExplorerCore.{choices_of}
 use Rattle.statebook.specs.Stations.{forced_state}
 use Rattle.statebook.specs.declared.entry.Entry.{Entry}
 use Rattle.statebook.specs.declared.limits.Limits.{Limits}
@@ -17,10 +16,10 @@ use Rattle.statebook.proofs.RunLemmas.{is_station_same, used-le}
 use Rattle.statebook.proofs.FrontierLemmas.{IsWorkedOff, ends_now, later_frontier, none_between, rank_rises}
 use Rattle.explore.specs.Found.{AllFewest, AreFound, Differ, HasEntries, IsListedMark}
 use Rattle.explore.specs.BookFindings.{ListsExactly}
-use Rattle.explore.specs.Ranked.{ArePartOf, Closing, HandsOnAllTo, HasItsRank, IsPartOf, OfEach, WasHandedOn}
+use Rattle.explore.specs.Ranked.{Closing, HasItsRank, OfEach, RanksRise, WasHandedOn}
 use Rattle.explore.specs.Inner.Exploring.{AreEntries, BookGrows}
 use Rattle.explore.specs.Inner.Ways.{AllComeTo, IsSearching}
-use Rattle.explore.specs.Inner.RankedSearches.{AllAreLedOn, AreHeld, AreLawful, AreLedOnWith, GoesOnTo, HasDominator, HasHandedOn, HasOpened, HasOpenedSome, IsAFrontier, IsHeld, IsIn, IsKeptIn, IsLedOn, IsMetAt, IsOfRank, IsRankedSearch, IsWaiting, Keeps, Meets, NoneAbove, NoneBelow, NoneBetween, Opens, RankGrows, RankGrowsFrom}
+use Rattle.explore.specs.Inner.RankedSearches.{AllAreLedOn, AreHeld, AreLedOnWith, GoesOnTo, HasClosed, HasDominator, HasHandedOn, HasOpened, HasOpenedSome, IsAFrontier, IsHeld, IsIn, IsLedOn, IsMetAt, IsOfRank, IsRankedSearch, IsUnderWay, IsWaiting, Keeps, Meets, NoneAbove, NoneBelow, NoneBetween, Opens, RankGrows, RankGrowsFrom}
 use Rattle.explore.specs.declared.rank_book.RankBook.{RankBook}
 use Rattle.explore.specs.declared.ranked_search.RankedSearch.{RankedSearch}
 use Rattle.explore.specs.declared.search.Checkpoint.{Checkpoint}
@@ -386,99 +385,81 @@ rank_listed r law limits rank ranked s marks h all lists log n short run mark he
       departures = omega (arith, m.departures, ends_short r limits rank s.current log n h.held.current on);
     }
 
-in_either : {X : Type 0} (xs ys : List X) (i : ℕ) (z : X) → slice_get (xs ++ ys) i ≡ Some z → (slice_get xs i ≡ Some z) ⊎ ((j : ℕ) × (slice_get ys j ≡ Some z))
-in_either [] ys i z h = inr (i, h)
-in_either (x ∷ xs) ys zero z h = inl h
-in_either (x ∷ xs) ys (suc i) z h = in_either xs ys i z h
+-- what is so of each closing of before and of the one that was put behind them is so of all
+of_pushed : {S : Type 0} (P : Closing S → Type 0) (old : List (Closing S)) (closing : Closing S) → OfEach old P → P closing → OfEach (old ++ closing ∷ []) P
+of_pushed P old closing before last i c at = elim (last_or_before old closing i c at) [
+  | inl there ↦ before i c there
+  | inr here ↦ subst P here.1 last
+]
 
--- what is so of each closing of before and of each that was put behind them is so of all
-of_both : {S : Type 0} (P : Closing S → Type 0) (old more new : List (Closing S)) → new ≡ old ++ more → OfEach old P → OfEach more P → OfEach new P
-of_both {S} P old more new is before behind i c at =
-    let Q : List (Closing S) → Type 0 = λ l. slice_get l i ≡ Some c in
-    elim (in_either old more i c (subst Q is at)) [
-      | inl there ↦ before i c there
-      | inr later ↦ behind later.0 c later.1
-    ]
-
--- what is known of the marks of a rank as it is closed
-pub record AreOfRank {S : Type 0} (r : Rules S) (limits : Limits) (rank : S → ℕ) (least : ℕ) (marks : List (S × List (ℕ × ℕ))) : Type 0 where
-  pub found : AreFound r limits marks
-  pub ranks : HasItsRank rank (record { rank = least; marks = marks })
-  pub fewest : AllFewest r marks
-
-pub are_of_rank : {S : Type 0} (r : Rules S) → IsLawful r → (limits : Limits) (rank : S → ℕ) → IsRanked r rank → (s : RankedSearch S) (marks : List (S × List (ℕ × ℕ))) → IsRankedSearch r limits rank s → AllAreLedOn r s → AreFound r limits marks → ListsExactly r s.current.book marks → AreOfRank r limits rank s.current.rank marks
-are_of_rank r law limits rank ranked s marks h all found lists = record {
-  found = found;
-  ranks = marks_rank r limits rank ranked s.current marks h.held.current lists;
-  fewest = rank_fewest r law limits rank ranked s marks h all found lists;
-}
-
--- whatever part of them was handed on, what was handed on is lawful
-pub part_lawful : {S : Type 0} (r : Rules S) (limits : Limits) (rank : S → ℕ) (least : ℕ) (marks : List (S × List (ℕ × ℕ))) (old new : List (Closing S)) → AreLawful r limits rank old → AreOfRank r limits rank least marks → ArePartOf least marks old new → AreLawful r limits rank new
-part_lawful {S} r limits rank least marks old new lawful m (more, is, parts) = record {
-  found = of_both (λ c. AreFound r limits c.marks) old more new is lawful.found (λ i c at j p listed.
-      (let there = (parts i c at).1 j p listed in m.found there.0 p there.1));
-  ranks = of_both (HasItsRank rank) old more new is lawful.ranks (λ i c at j p listed.
-      (let there = (parts i c at).1 j p listed in m.ranks there.0 p there.1 ∙ sym (parts i c at).0));
-  fewest = of_both (λ c. AllFewest r c.marks) old more new is lawful.fewest (λ i c at j p listed.
-      (let there = (parts i c at).1 j p listed in m.fewest there.0 p there.1));
-}
-
-is_whole : {S : Type 0} (least : ℕ) (marks : List (S × List (ℕ × ℕ))) → OfEach (record { rank = least; marks = marks } ∷ []) (IsPartOf least marks)
-is_whole {S} least marks zero c at =
-    let P : Closing S → Type 0 = λ x. IsPartOf least marks x in
-    subst P (same_Some (record { rank = least; marks = marks }) c at) (refl, λ i p there. (i, there))
-is_whole least marks (suc i) c at = absurd cc
-
--- the whole is a part too
-pub whole_is_part : {S : Type 0} (least : ℕ) (marks : List (S × List (ℕ × ℕ))) (old new : List (Closing S)) → new ≡ old ++ record { rank = least; marks = marks } ∷ [] → ArePartOf least marks old new
-whole_is_part least marks old new is = (record { rank = least; marks = marks } ∷ [], is, is_whole least marks)
-
-pub part_kept : {S : Type 0} (least : ℕ) (marks : List (S × List (ℕ × ℕ))) (old new : List (Closing S)) → ArePartOf least marks old new → IsKeptIn old new
-part_kept least marks old new (more, is, parts) = (more, is)
-
-pub kept_same : {S : Type 0} (old : List (Closing S)) → IsKeptIn old old
-kept_same old = ([], sym (append-nil old))
+rise_on : {S : Type 0} (old : List (Closing S)) (closing : Closing S) → RanksRise old → OfEach old (λ c. c.rank < closing.rank) → RanksRise (old ++ closing ∷ [])
+rise_on {S} old closing rise earlier i j c d lt at at' = elim (last_or_before old closing j d at') [
+  | inl there ↦ elim (last_or_before old closing i c at) [
+    | inl here ↦ rise i j c d lt here there
+    | inr last ↦ absurd (let n = last.0 in let m = slice_get_within old j d there in omega arith)
+  ]
+  | inr last ↦ elim (last_or_before old closing i c at) [
+    | inl here ↦ (let P : Closing S → Type 0 = λ x. c.rank < x.rank in subst P last.1 (earlier i c here))
+    | inr also ↦ absurd (let n = last.0 in let m = also.0 in omega arith)
+  ]
+]
 
 -- what was handed on stays so
-pub still_handed : {S : Type 0} (r : Rules S) (old new : List (Closing S)) → IsKeptIn old new → (s : S) (d : ℕ) → WasHandedOn r old s d → WasHandedOn r new s d
-still_handed {S} r old new (more, is) s d (i, c, at, listed) =
-    let P : List (Closing S) → Type 0 = λ l. WasHandedOn r l s d in
-    subst P (sym is) (i, c, stands_in_front old more i c at, listed)
+still_handed : {S : Type 0} (r : Rules S) (old more : List (Closing S)) (s : S) (d : ℕ) → WasHandedOn r old s d → WasHandedOn r (old ++ more) s d
+still_handed r old more s d (i, c, at, listed) = (i, c, stands_in_front old more i c at, listed)
 
 -- once the marks of the rank were handed on, all of this rank and below were
-pub handed_to : {S : Type 0} (r : Rules S) → IsLawful r → (limits : Limits) (rank : S → ℕ) → IsRanked r rank → (s : RankedSearch S) (marks : List (S × List (ℕ × ℕ))) (old new : List (Closing S)) → IsRankedSearch r limits rank s → AllAreLedOn r s → ListsExactly r s.current.book marks → HasHandedOn r limits rank old s.current.rank → new ≡ old ++ record { rank = s.current.rank; marks = marks } ∷ [] → HandsOnAllTo r limits rank new s.current.rank
-handed_to {S} r law limits rank ranked s marks old new h all lists so_far is log n short run mark le = elim (cases_lt (rank (stands r log n)) s.current.rank) [
-  | inl lower ↦ still_handed r old new (part_kept s.current.rank marks old new (whole_is_part s.current.rank marks old new is)) (stands r log n) (length log) (so_far.below log n short run mark lower)
-  | inr ge ↦ (
-      let closing : Closing S = record { rank = s.current.rank; marks = marks } in
-      let P : List (Closing S) → Type 0 = λ l. WasHandedOn r l (stands r log n) (length log) in
-      subst P (sym is) (length old, closing, stands_last old closing, rank_listed r law limits rank ranked s marks h all lists log n short run mark (omega (arith, le, ge))))
-]
+pub closes_rank : {S : Type 0} (r : Rules S) → IsLawful r → (limits : Limits) (rank : S → ℕ) → IsRanked r rank → (s : RankedSearch S) (marks : List (S × List (ℕ × ℕ))) (old : List (Closing S)) → IsRankedSearch r limits rank s → AllAreLedOn r s → AreFound r limits marks → ListsExactly r s.current.book marks → HasHandedOn r limits rank s.current.rank old → HasClosed r limits rank s.current.rank (old ++ record { rank = s.current.rank; marks = marks } ∷ [])
+closes_rank {S} r law limits rank ranked s marks old h all found lists so_far =
+    let closing : Closing S = record { rank = s.current.rank; marks = marks } in
+    record {
+      lawful = record {
+        found = of_pushed (λ c. AreFound r limits c.marks) old closing so_far.lawful.found found;
+        ranks = of_pushed (HasItsRank rank) old closing so_far.lawful.ranks (marks_rank r limits rank ranked s.current marks h.held.current lists);
+        rise = rise_on old closing so_far.lawful.rise so_far.earlier;
+        fewest = of_pushed (λ c. AllFewest r c.marks) old closing so_far.lawful.fewest (rank_fewest r law limits rank ranked s marks h all found lists);
+      };
+      up_to = of_pushed (λ c. c.rank ≤ s.current.rank) old closing (λ i c at. omega (arith, so_far.earlier i c at)) (omega arith);
+      all = λ log n short run mark le. elim (cases_lt (rank (stands r log n)) s.current.rank) [
+        | inl lower ↦ still_handed r old (closing ∷ []) (stands r log n) (length log) (so_far.below log n short run mark lower)
+        | inr ge ↦ (length old, closing, stands_last old closing, rank_listed r law limits rank ranked s marks h all lists log n short run mark (omega (arith, le, ge)))
+      ];
+    }
 
 -- no state has a lower rank than the opening one
 pub none_below : {S : Type 0} (r : Rules S) (rank : S → ℕ) → IsRanked r rank → (s : S) (least : ℕ) → r.same s r.first ≡ true → least ≡ rank s → NoneBelow r rank least
 none_below r rank ranked s least same is log n run = omega (arith, is, ranked.rank_same s r.first same, rank_rises r rank ranked log 0 n run (omega arith))
 
-pub nothing_lawful : {S : Type 0} (r : Rules S) (limits : Limits) (rank : S → ℕ) (closings : List (Closing S)) → closings ≡ [] → AreLawful r limits rank closings
-nothing_lawful {S} r limits rank closings none =
-    let P : List (Closing S) → Type 0 = λ l. AreLawful r limits rank l in
-    subst P (sym none) (record { found = λ i c at. absurd (nothing_there i c at); ranks = λ i c at. absurd (nothing_there i c at); fewest = λ i c at. absurd (nothing_there i c at) })
-
-pub nothing_handed : {S : Type 0} (r : Rules S) (limits : Limits) (rank : S → ℕ) (closings : List (Closing S)) (least : ℕ) → closings ≡ [] → NoneBelow r rank least → HasHandedOn r limits rank closings least
-nothing_handed r limits rank closings least none lowest = record {
-  lawful = nothing_lawful r limits rank closings none;
-  below = λ log n short run mark lower. absurd (omega (arith, lowest log n run, lower));
+-- as the first rank is under way nothing was handed on
+pub nothing_handed : {S : Type 0} (r : Rules S) (limits : Limits) (rank : S → ℕ) (least : ℕ) → NoneBelow r rank least → IsUnderWay r limits rank least None []
+nothing_handed r limits rank least lowest = record {
+  handed = record {
+    lawful = record {
+      found = λ i c at. absurd (nothing_there i c at);
+      ranks = λ i c at. absurd (nothing_there i c at);
+      rise = λ i j c d lt at at'. absurd (nothing_there i c at);
+      fewest = λ i c at. absurd (nothing_there i c at);
+    };
+    earlier = λ i c at. absurd (nothing_there i c at);
+    below = λ log n short run mark lower. absurd (omega (arith, lowest log n run, lower));
+  };
+  last = λ i c at. absurd (nothing_there i c at);
+  covered = tt;
 }
 
 -- at the next rank, all of the ranks below were handed on
-pub handed_below : {S : Type 0} (r : Rules S) (limits : Limits) (rank : S → ℕ) (closings : List (Closing S)) (least above : ℕ) → AreLawful r limits rank closings → HandsOnAllTo r limits rank closings least → NoneBetween r limits.depart rank least above → HasHandedOn r limits rank closings above
-handed_below r limits rank closings least above lawful to none = record {
-  lawful = lawful;
-  below = λ log n short run mark lower. elim (cases_lt least (rank (stands r log n))) [
-    | inl higher ↦ absurd (omega (arith, none log n short run mark higher, lower))
-    | inr ge ↦ to log n short run mark ge
-  ];
+pub handed_below : {S : Type 0} (r : Rules S) (limits : Limits) (rank : S → ℕ) (closings : List (Closing S)) (least above : ℕ) → HasClosed r limits rank least closings → least < above → NoneBetween r limits.depart rank least above → IsUnderWay r limits rank above (Some least) closings
+handed_below r limits rank closings least above closed higher none = record {
+  handed = record {
+    lawful = closed.lawful;
+    earlier = λ i c at. omega (arith, closed.up_to i c at, higher);
+    below = λ log n short run mark lower. elim (cases_lt least (rank (stands r log n))) [
+      | inl between ↦ absurd (omega (arith, none log n short run mark between, lower))
+      | inr ge ↦ closed.all log n short run mark ge
+    ];
+  };
+  last = λ i c at. (least, refl, closed.up_to i c at);
+  covered = closed.all;
 }
 
 -- the first choices of the entry at the place lead on

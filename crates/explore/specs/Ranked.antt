@@ -1,7 +1,7 @@
 -- *product rule*: What a search that goes by rank hands on: the marks of one rank after another, each under the log of a run that
 -- reaches it; and of which marks it has handed on all. The rank of a state is the time of a simulation, or another number that no
 -- step lowers.
-use Rattle.std.specs.Prelude.{◌≡◌, ℕ, List, ◌++◌, length, slice_get, map, Some}
+use Rattle.std.specs.Prelude.{◌≡◌, ℕ, ◌<◌, ◌≤◌, List, [], ◌∷◌, ◌++◌, slice_get, map, Option, Some, IfSome}
 use Rattle.sched_core.specs.Rules.{Rules}
 use Rattle.statebook.specs.Covered.{IsCovered, IsCoveredTo}
 use Rattle.statebook.specs.declared.limits.Limits.{Limits}
@@ -45,6 +45,14 @@ HandsOnFewest r closings = OfEach closings (λ c. AllFewest r c.marks)
 abbrev pub HandsOnAllTo : {S : Type 0} → Rules S → Limits → (S → ℕ) → List (Closing S) → ℕ → Type 0
 HandsOnAllTo r limits rank closings top = IsCoveredTo r limits.depart rank top (WasHandedOn r closings)
 
+-- Each rank was closed once, a lower one before a higher.
+abbrev pub RanksRise : {S : Type 0} → List (Closing S) → Type 0
+RanksRise {S} closings = (i j : ℕ) (c d : Closing S) → i < j → slice_get closings i ≡ Some c → slice_get closings j ≡ Some d → c.rank < d.rank
+
+-- None was closed beyond this rank; where there is none, none at all.
+abbrev pub NoneBeyond : {S : Type 0} → Option ℕ → List (Closing S) → Type 0
+NoneBeyond closed closings = OfEach closings (λ c. (top : ℕ) × (closed ≡ Some top) × (c.rank ≤ top))
+
 -- `Exhausted` is said only where that is so of all marks
 abbrev pub HandsOnAll : {S : Type 0} → Rules S → Limits → List (Closing S) → RankedFindings → Type 0
 HandsOnAll r limits closings findings = findings.status ≡ Exhausted → IsCovered r limits.depart (WasHandedOn r closings)
@@ -57,14 +65,26 @@ TellsOfEntries r limits findings = findings.status ≡ Cut Entries → HasEntrie
 abbrev pub TellsOfSteps : {S : Type 0} → Rules S → Limits → RankedFindings → Type 0
 TellsOfSteps r limits findings = findings.status ≡ Cut Steps → SomeRunExceeds r limits
 
--- Each of these marks is in the list, under the same log.
-abbrev pub AreAmong : {S : Type 0} → List (S × List (ℕ × ℕ)) → List (S × List (ℕ × ℕ)) → Type 0
-AreAmong {S} these list = (i : ℕ) (found : S × List (ℕ × ℕ)) → slice_get these i ≡ Some found → (j : ℕ) × (slice_get list j ≡ Some found)
+-- The marks of a rank were collected behind whatever was before.
+abbrev pub CollectsMore : {C S : Type 0} → (C → List (Closing S) → C → Type 0) → C → Closing S → C → Type 0
+CollectsMore {C} {S} collects old closing new = (first : C) (closings : List (Closing S)) → collects first closings old → collects first (closings ++ closing ∷ []) new
 
--- The closing is of this rank, and its marks are among these.
-abbrev pub IsPartOf : {S : Type 0} → ℕ → List (S × List (ℕ × ℕ)) → Closing S → Type 0
-IsPartOf rank marks c = (c.rank ≡ rank) × AreAmong c.marks marks
+-- No more was collected than before.
+abbrev pub StaysAs : {C S : Type 0} → (C → List (Closing S) → C → Type 0) → C → C → Type 0
+StaysAs {C} {S} collects old new = (first : C) (closings : List (Closing S)) → collects first closings old → collects first closings new
 
--- What was handed on before was kept, and what was put behind it is of these marks, of this rank.
-abbrev pub ArePartOf : {S : Type 0} → ℕ → List (S × List (ℕ × ℕ)) → List (Closing S) → List (Closing S) → Type 0
-ArePartOf {S} rank marks old new = (more : List (Closing S)) × (new ≡ old ++ more) × OfEach more (IsPartOf rank marks)
+-- What was handed on in the end: closings, rank by rank, of which it is known what collecting them made of the collector.
+-- [found] Each mark that was handed on is one, under its log; [ranks] under its own rank. [rise] Each rank was closed once, in
+-- rising order, and [last] none beyond `closed`. [fewest] No run at all that reaches a mark has fewer departures than its log.
+-- [covered] Every mark of the rank `closed` and below that a run within the limit of departures reaches was handed on, and
+-- [exhausted] where the status says so every mark.
+pub record HandsOn {S : Type 0} (r : Rules S) (limits : Limits) (rank : S → ℕ) (Collected : List (Closing S) → Type 0) (findings : RankedFindings) : Type 0 where
+  pub closings : List (Closing S)
+  pub collected : Collected closings
+  pub found : HandsOnFound r limits closings
+  pub ranks : OfEach closings (HasItsRank rank)
+  pub rise : RanksRise closings
+  pub last : NoneBeyond findings.closed closings
+  pub fewest : HandsOnFewest r closings
+  pub covered : IfSome findings.closed (HandsOnAllTo r limits rank closings)
+  pub exhausted : HandsOnAll r limits closings findings

@@ -1,20 +1,24 @@
 // Who takes what a search that goes by rank finds, and who is asked whether it is to go on.
 
-ghost use Rattle.std.specs.Prelude.{◌≡◌, List, [], ◌∷◌, ◌++◌, OnOk, OnErr};
-ghost use Rattle.explore.specs.Ranked.{Closing, ArePartOf, pairs_of};
+ghost use Rattle.std.specs.Prelude.{List, [], OnOk, OnErr};
+ghost use Rattle.explore.specs.Ranked.{Closing, CollectsMore, StaysAs, pairs_of};
 
 use crate::rank_marks::RankMarks;
 use basis::NoMemory;
 
-/// Takes the marks of one rank after another.
+/// Takes the marks of one rank after another. It needn't keep them: what it makes of them is its own.
 pub trait Collector<S> {
-    ghost collected: { Self → List (Closing S) };
+    /// What collecting these, one after another, makes of the collector.
+    ghost collects: { Self → List (Closing S) → Self → Type 0 };
 
-    /// Takes the marks of a rank that is closed. After want of memory it may have taken part of them.
+    /// Takes the marks of a rank that is closed; after want of memory none of them.
     fn collect(&mut self, closed: RankMarks<S>) -> Result<(), NoMemory>
         ensures ok { OnOk result
-            (collected self.new ≡ collected self.old ++ record { rank = closed.rank; marks = pairs_of closed.marks.items } ∷ []) }
-        ensures err { OnErr result (ArePartOf closed.rank (pairs_of closed.marks.items) (collected self.old) (collected self.new)) };
+            (CollectsMore collects self.old (record { rank = closed.rank; marks = pairs_of closed.marks.items }) self.new) }
+        ensures err { OnErr result (StaysAs collects self.old self.new) };
+
+    /// To collect nothing changes nothing.
+    ghost none: { (me : Self) → collects me [] me };
 }
 
 /// How far a search that goes by rank has come: the rank under way, how many entries were opened in all, how

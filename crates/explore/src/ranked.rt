@@ -1,10 +1,10 @@
 // The call that goes by rank: it opens the first rank, goes through one after another, and hands on the marks of each.
 
-ghost use Rattle.std.specs.Prelude.{◌≡◌, [], IfOk, IfSome, OnOk};
+ghost use Rattle.std.specs.Prelude.{◌≡◌, IfOk, OnErr, OnOk};
 ghost use Rattle.basis.specs.Reasons.{IfFault};
 ghost use Rattle.basis.specs.declared.memory.OrMemory.TheVariants.{Fault};
-ghost use Rattle.explore.specs.Ranked.{HandsOnAll, HandsOnAllTo, HandsOnFewest, HandsOnFound, HasItsRank, OfEach, TellsOfEntries, TellsOfSteps};
-ghost use Rattle.explore.specs.Inner.RankedSearches.{AllAreLedOn, AreLawful, HasHandedOn, IsFollowed, IsKeptIn, IsRankedSearch, IsWhy, NoneBelow};
+ghost use Rattle.explore.specs.Ranked.{HandsOn, StaysAs, TellsOfEntries, TellsOfSteps};
+ghost use Rattle.explore.specs.Inner.RankedSearches.{AllAreLedOn, GoesFrom, HasClosed, HasHandedOn, IsFollowed, IsRankedSearch, IsWhy, NoneBelow};
 
 use crate::alone::open_search;
 use crate::collector::{Collector, Watcher};
@@ -79,11 +79,11 @@ fn hand_on<P: Ranked, C: Collector<P::State>>(
 ) -> Result<(), NoMemory>
     requires searching { IsRankedSearch (P.rules space.now) limits.now (P.ranks space.now) search.now }
     requires all { AllAreLedOn (P.rules space.now) search.now }
-    requires so_far { HasHandedOn (P.rules space.now) limits.now (P.ranks space.now) (C.collected collector.old) search.now.current.rank }
-    ensures lawful { AreLawful (P.rules space.now) limits.now (P.ranks space.now) (C.collected collector.new) }
-    ensures kept { IsKeptIn (C.collected collector.old) (C.collected collector.new) }
-    ensures closed { OnOk result
-        (HandsOnAllTo (P.rules space.now) limits.now (P.ranks space.now) (C.collected collector.new) search.now.current.rank) }
+    ensures kept { OnErr result (StaysAs C.collects collector.old collector.new) }
+    ensures closed { OnOk result (GoesFrom C.collects
+        (HasHandedOn (P.rules space.now) limits.now (P.ranks space.now) search.now.current.rank)
+        (HasClosed (P.rules space.now) limits.now (P.ranks space.now) search.now.current.rank)
+        collector.old collector.new) }
 {
     let listed = list_marks(alloc, space, limits, &search.current.book)?;
     let marks = found_marks(alloc, listed)?;
@@ -118,12 +118,12 @@ fn close_rank<P: Ranked, C: Collector<P::State>, W: Watcher>(
     watcher: &mut W,
 ) -> Result<bool, OrMemory<Halt>>
     requires searching { IsRankedSearch (P.rules space.now) limits.now (P.ranks space.now) search.old }
-    requires so_far { HasHandedOn (P.rules space.now) limits.now (P.ranks space.now) (C.collected collector.old) search.old.current.rank }
     ensures why { IfFault result (IsWhy (P.rules space.now) limits.now) }
-    ensures lawful { AreLawful (P.rules space.now) limits.now (P.ranks space.now) (C.collected collector.new) }
-    ensures kept { IsKeptIn (C.collected collector.old) (C.collected collector.new) }
-    ensures closed { OnOk result
-        (HandsOnAllTo (P.rules space.now) limits.now (P.ranks space.now) (C.collected collector.new) search.old.current.rank) }
+    ensures kept { OnErr result (StaysAs C.collects collector.old collector.new) }
+    ensures closed { OnOk result (GoesFrom C.collects
+        (HasHandedOn (P.rules space.now) limits.now (P.ranks space.now) search.old.current.rank)
+        (HasClosed (P.rules space.now) limits.now (P.ranks space.now) search.old.current.rank)
+        collector.old collector.new) }
     ensures followed { IfOk result
         (IsFollowed (P.rules space.now) limits.now (P.ranks space.now) search.old.current.rank search.new) }
 {
@@ -163,11 +163,9 @@ fn go_through<P: Ranked, C: Collector<P::State>, W: Watcher>(
     watcher: &mut W,
 ) -> RankedFindings
     requires searching { IsRankedSearch (P.rules space.now) limits.now (P.ranks space.now) search }
-    requires so_far { HasHandedOn (P.rules space.now) limits.now (P.ranks space.now) (C.collected collector.old) search.current.rank }
-    ensures lawful { AreLawful (P.rules space.now) limits.now (P.ranks space.now) (C.collected collector.new) }
-    ensures covered { IfSome result.closed
-        (HandsOnAllTo (P.rules space.now) limits.now (P.ranks space.now) (C.collected collector.new)) }
-    ensures exhausted { HandsOnAll (P.rules space.now) limits.now (C.collected collector.new) result }
+    requires lowest { NoneBelow (P.rules space.now) (P.ranks space.now) search.current.rank }
+    ensures handed { HandsOn (P.rules space.now) limits.now (P.ranks space.now)
+        (λ closings. C.collects collector.old closings collector.new) result }
     ensures entries { TellsOfEntries (P.rules space.now) limits.now result }
     ensures steps { TellsOfSteps (P.rules space.now) limits.now result }
 {
@@ -197,9 +195,10 @@ fn go_through<P: Ranked, C: Collector<P::State>, W: Watcher>(
 /// fewest departures, and its entries are forgotten. The watcher is asked before each entry that is taken.
 ///
 /// Proved: each mark that was handed on is reached under its log, by a run within both limits, and no run at all
-/// that reaches it has fewer departures than its log. However the search ended, every mark of the rank `closed` or
-/// a lower one that a run of at most `limits.depart` departures reaches was handed on, after however many steps;
-/// where the status is `Exhausted`, that is so of every mark. Where it is `Cut(Entries)`, there are at least
+/// that reaches it has fewer departures than its log. Each rank was handed on once, a lower one before a higher, and
+/// none beyond the rank `closed`. However the search ended, every mark of that rank or a lower one that a run of at
+/// most `limits.depart` departures reaches was handed on, after however many steps; where the status is `Exhausted`,
+/// that is so of every mark. Where it is `Cut(Entries)`, there are at least
 /// `limits.entries` entries; where `Cut(Steps)`, some run of at most `limits.depart` departures takes more than
 /// `limits.steps` steps. A rank in which some way takes more steps than the limit isn't closed.
 ///
@@ -211,13 +210,8 @@ pub fn explore_ranked<P: Ranked, C: Collector<P::State>, W: Watcher>(
     collector: &mut C,
     watcher: &mut W,
 ) -> RankedFindings
-    requires { C.collected collector.old ≡ [] }
-    ensures found { HandsOnFound (P.rules space.now) limits.now (C.collected collector.new) }
-    ensures ranks { OfEach (C.collected collector.new) (HasItsRank (P.ranks space.now)) }
-    ensures fewest { HandsOnFewest (P.rules space.now) (C.collected collector.new) }
-    ensures covered { IfSome result.closed
-        (HandsOnAllTo (P.rules space.now) limits.now (P.ranks space.now) (C.collected collector.new)) }
-    ensures exhausted { HandsOnAll (P.rules space.now) limits.now (C.collected collector.new) result }
+    ensures handed { HandsOn (P.rules space.now) limits.now (P.ranks space.now)
+        (λ closings. C.collects collector.old closings collector.new) result }
     ensures entries { TellsOfEntries (P.rules space.now) limits.now result }
     ensures steps { TellsOfSteps (P.rules space.now) limits.now result }
 {

@@ -1,12 +1,18 @@
 -- What the collector that keeps all has taken.
-use Rattle.std.proofs.Common.{◌≡◌, ℕ, List, [], Result, Ok, Err, OnErr, ap, sym, ◌∙◌, append-nil}
+use Rattle.std.proofs.Common.{◌≡◌, [], ◌∷◌, ◌++◌, Result, Ok, Err, OnErr, ap, ◌∙◌, append_assoc}
+use Rattle.std.proofs.lemmas.List.{map-append}
 use Rattle.sched_core.specs.declared.grid.Square.{Square}
-use Rattle.explore.specs.Ranked.{ArePartOf}
-use Rattle.explore.proofs.AloneLemmas.{nothing_there}
-use Rattle.explore_bench.specs.Kept.{closings_of}
+use Rattle.explore.specs.Ranked.{CollectsMore, StaysAs}
+use Rattle.explore_bench.specs.Kept.{CollectsAll, closing_of, closings_of}
 use Rattle.explore.specs.declared.rank_marks.RankMarks.{RankMarks}
+use Rattle.explore_bench.specs.declared.kept.KeptMarks.{KeptMarks}
 
--- of a rank's marks none was taken
-pub nothing_taken : {U E : Type 0} (least : ℕ) (marks : List (Square × List (ℕ × ℕ))) (old new : List (RankMarks Square)) (result : Result U E) → new ≡ old → OnErr result (ArePartOf least marks (closings_of old) (closings_of new))
-nothing_taken least marks old new (Ok u) same = tt
-nothing_taken least marks old new (Err e) same = ([], ap closings_of same ∙ sym (append-nil (closings_of old)), λ i c at. absurd (nothing_there i c at))
+-- one rank more
+pub collects_more : (old new : KeptMarks) (closed : RankMarks Square) → new.ranks.items ≡ old.ranks.items ++ closed ∷ [] → CollectsMore CollectsAll old (closing_of closed) new
+collects_more old new closed is = λ first closings kept.
+    ap closings_of is ∙ map-append closing_of old.ranks.items (closed ∷ []) ∙ ap (λ l. l ++ closing_of closed ∷ []) kept ∙ append_assoc (closings_of first.ranks.items) closings (closing_of closed ∷ [])
+
+-- no more was kept
+pub collects_same : {U E : Type 0} (old new : KeptMarks) (result : Result U E) → new.ranks.items ≡ old.ranks.items → OnErr result (StaysAs CollectsAll old new)
+collects_same old new (Ok u) same = tt
+collects_same old new (Err e) same = λ first closings kept. ap closings_of same ∙ kept

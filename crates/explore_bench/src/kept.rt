@@ -1,9 +1,5 @@
 // A collector that keeps all the marks of a board.
 
-ghost use Rattle.std.specs.Prelude.{◌≡◌, [], ◌∷◌, ◌++◌, OnOk, OnErr};
-ghost use Rattle.explore.specs.Ranked.{ArePartOf, pairs_of};
-ghost use Rattle.explore_bench.specs.Kept.{closings_of};
-
 use basis::NoMemory;
 use explore::{Collector, RankMarks};
 use sched_core::Square;
@@ -17,28 +13,28 @@ pub struct KeptMarks {
 
 impl KeptMarks {
     /// No marks yet.
-    pub fn new(alloc: Global) -> KeptMarks
-        ensures { closings_of result.ranks.items ≡ [] }
-    {
+    pub fn new(alloc: Global) -> KeptMarks {
         KeptMarks {
             ranks: Vec::new(alloc),
         }
     }
 }
 
-/// After want of memory it has taken none of the marks.
+/// It keeps them as they come.
 impl Collector<Square> for KeptMarks {
-    ghost use Rattle.explore_bench.specs.Kept.{closings_of};
+    ghost use Rattle.std.specs.Prelude.{OnErr, OnOk};
+    ghost use Rattle.explore.specs.Ranked.{CollectsMore, StaysAs, pairs_of};
+    ghost use Rattle.explore_bench.specs.Kept.{CollectsAll, collects_none};
 
-    ghost collected = { λ kept. closings_of kept.ranks.items };
+    ghost collects = { CollectsAll };
 
     fn collect(&mut self, closed: RankMarks<Square>) -> Result<(), NoMemory>
-        ensures ok { OnOk result (closings_of self.new.ranks.items
-            ≡ closings_of self.old.ranks.items ++ record { rank = closed.rank; marks = pairs_of closed.marks.items } ∷ []) }
-        ensures err { OnErr result (ArePartOf closed.rank (pairs_of closed.marks.items)
-            (closings_of self.old.ranks.items) (closings_of self.new.ranks.items)) }
+        ensures ok { OnOk result (CollectsMore CollectsAll self.old (record { rank = closed.rank; marks = pairs_of closed.marks.items }) self.new) }
+        ensures err { OnErr result (StaysAs CollectsAll self.old self.new) }
     {
         self.ranks.push(closed)?;
         Ok(())
     }
+
+    ghost none = { collects_none };
 }

@@ -1,17 +1,19 @@
 -- Slot states and the runs that they are of.
-use Rattle.std.proofs.Common.{◌≡◌, ◌≢◌, ℕ, ◌+◌, ◌<◌, ◌≤◌, ◌⊎◌, ◌==◌, ◌&&◌, ◌||◌, Bool, true, false, cond, is_some, is_none, List, [], ◌∷◌, ◌++◌, length, slice_get, get_or, Option, Some, None, refl, sym, ap, ◌∙◌, subst, inl, inr, arith}
+use Rattle.std.proofs.Common.{◌≡◌, ◌≢◌, ℕ, ◌+◌, ◌<◌, ◌≤◌, ◌⊎◌, ◌==◌, ◌&&◌, ◌||◌, Bool, true, false, cond, is_some, is_none, List, [], ◌∷◌, ◌++◌, length, slice_get, get_or, Option, Some, None, option_map, refl, sym, ap, ◌∙◌, subst, inl, inr, arith}
 use Rattle.std.specs.List.{Contains}
-use Rattle.std.specs.List.Sorted.{IsNonDecreasingBy, IsPermutation}
+use Rattle.std.specs.List.Sorted.{IsNonDecreasingBy}
 use Rattle.std.proofs.lemmas.Bool.{cases_lt}
 use Rattle.std.proofs.lemmas.List.Elements.{Contains-append_left, Contains-push, Contains-push_cases}
-use Rattle.std.proofs.lemmas.List.Sorted.{Contains-permutation, IsPermutation-sym}
-use Rattle.std.proofs.lemmas.Option.{slice_get_within, get_or_from_slice_get, same_Some}
+use Rattle.std.proofs.lemmas.List.{length-map}
+use Rattle.std.proofs.lemmas.Option.{slice_get-map, slice_get_within, get_or_from_slice_get, same_Some}
 use Rattle.basis.proofs.Lists.{empty_from_test}
 use Rattle.vbits.specs.Vectors.{Vector}
 use Rattle.sched_core.specs.Rules.{IsRun, NamesBelow, stands}
 use Rattle.statebook.specs.Covered.{IsCovered}
 use Rattle.statebook.specs.declared.limits.Limits.{Limits}
 use Rattle.explore.specs.Found.{AreFound, IsListedMark}
+use Rattle.explore.specs.Ranked.{pairs_of}
+use Rattle.explore.specs.declared.rank_marks.FoundMark.{FoundMark}
 use Rattle.sched_core.specs.declared.end.Cause.{Cause}
 use Rattle.vmodel.specs.State.{State}
 use Rattle.vmodel.specs.Run.{Setting, rules_of, state_after, is_mark}
@@ -21,9 +23,9 @@ use Rattle.vmachine.specs.Machines.{Stands, machine_rules}
 use Rattle.vmachine.specs.Reads.{slot_in}
 use Rattle.racebook.specs.declared.slot_state.SlotState.{SlotState}
 use Rattle.racebook.specs.Order.{AreInTextOrder, IsEarlier, IsTextBefore}
-use Rattle.racebook.specs.Races.{Race, EachRace, HasFewest, IsRace, ShowsValue, IsWitness, ListsEveryValue, ListsValue}
-use Rattle.racebook.specs.LineRaces.{LineRace, Texts, AreAllSidesInOrder, AreLineRacesInOrder, EachLineRace, HasFewestOfLines, IsLineRace, IsLinesWitness, ListsAllLines, ListsLines, ShowsLines}
-use Rattle.racebook.specs.Inner.{AreAllLineRaces, AreAllRaces, AreShown, AreSlotStates, AreSlotStatesBelow, AreInTime, AreWide, Disagree, IsSlotState, IsNoSlot, IsOfSome, IsSeen, printed_of, value_of}
+use Rattle.racebook.specs.Races.{Race, EachRace, HasFewest, IsRace, ShowsValue, SomeRunShows, TwoRunsDiffer, IsWitness, ListsValue}
+use Rattle.racebook.specs.LineRaces.{LineRace, Texts, AreAllSidesInOrder, AreLineRacesInOrder, EachLineRace, HasFewestOfLines, IsLineRace, IsLinesWitness, ListsLines, ShowsLines, SomeRunPrints, TwoRunsPrint}
+use Rattle.racebook.specs.Inner.{AreAllLineRaces, AreAllRaces, AreShown, AreSlotStates, AreSlotStatesBelow, AreInTime, AreWide, Disagree, GoesOnBy, IsSlotState, IsNoSlot, IsOfSome, IsSeen, printed_of, value_of}
 
 -- ---- what stands at the end of a slot
 
@@ -93,7 +95,7 @@ slot_states_none setting marks gs new place is none below = subst (λ (xs : List
 same_found : (marks : List (MachineState × List (ℕ × ℕ))) (i place : ℕ) (f g : MachineState × List (ℕ × ℕ)) → i ≡ place → slice_get marks i ≡ Some f → slice_get marks place ≡ Some g → g ≡ f
 same_found marks i place f g here at at' = same_Some g f (sym at' ∙ ap (slice_get marks) (sym here) ∙ at)
 
-pub slot_states_skip : (setting : Setting) (marks : List (MachineState × List (ℕ × ℕ))) (gs new : List SlotState) (place : ℕ) (mark : MachineState × List (ℕ × ℕ)) → new ≡ gs →
+slot_states_skip : (setting : Setting) (marks : List (MachineState × List (ℕ × ℕ))) (gs new : List SlotState) (place : ℕ) (mark : MachineState × List (ℕ × ℕ)) → new ≡ gs →
     slice_get marks place ≡ Some mark → IsNoSlot setting mark.0 → AreSlotStatesBelow setting marks place gs → AreSlotStatesBelow setting marks (place + 1) new
 slot_states_skip setting marks gs new place mark is mark_at plain below = subst (λ (xs : List SlotState). AreSlotStatesBelow setting marks (place + 1) xs) (sym is) (record {
   each = below.each;
@@ -105,7 +107,7 @@ slot_states_skip setting marks gs new place mark is mark_at plain below = subst 
   ];
 })
 
-pub slot_states_more : (setting : Setting) (marks : List (MachineState × List (ℕ × ℕ))) (gs new : List SlotState) (place : ℕ) (mark : MachineState × List (ℕ × ℕ)) (g : SlotState) →
+slot_states_more : (setting : Setting) (marks : List (MachineState × List (ℕ × ℕ))) (gs new : List SlotState) (place : ℕ) (mark : MachineState × List (ℕ × ℕ)) (g : SlotState) →
     new ≡ gs ++ g ∷ [] → slice_get marks place ≡ Some mark → IsSlotState setting mark g → AreSlotStatesBelow setting marks place gs →
     AreSlotStatesBelow setting marks (place + 1) new
 slot_states_more setting marks gs new place mark g is mark_at of below = subst (λ (xs : List SlotState). AreSlotStatesBelow setting marks (place + 1) xs) (sym is) (record {
@@ -121,16 +123,25 @@ slot_states_more setting marks gs new place mark g is mark_at of below = subst (
   ];
 })
 
--- in any order
-pub slot_states_moved : (setting : Setting) (marks : List (MachineState × List (ℕ × ℕ))) (gs hs : List SlotState) → IsPermutation gs hs → AreSlotStates setting marks gs → AreSlotStates setting marks hs
-slot_states_moved setting marks gs hs moved are = record {
-  each = λ g has. are.each g (Contains-permutation hs gs g (IsPermutation-sym gs hs moved) has);
-  whole = λ i found t time lt at st wide slot. (let h = are.whole i found t time lt at st wide slot in
-      record { slot_state = h.slot_state; among = Contains-permutation gs hs h.slot_state moved h.among; of = h.of });
+-- by one mark more
+pub slot_states_on : (setting : Setting) (marks : List (MachineState × List (ℕ × ℕ))) (gs got new : List SlotState) (place : ℕ) (mark : MachineState × List (ℕ × ℕ)) → new ≡ got →
+    slice_get marks place ≡ Some mark → GoesOnBy setting mark gs got → AreSlotStatesBelow setting marks place gs → AreSlotStatesBelow setting marks (place + 1) new
+slot_states_on setting marks gs got new place mark same at (inl (is, plain)) below = slot_states_skip setting marks gs new place mark (same ∙ is) at plain below
+slot_states_on setting marks gs got new place mark same at (inr (g, is, of)) below = slot_states_more setting marks gs new place mark g (same ∙ is) at of below
+
+-- a mark of a list, and all of them
+pub pair_at : (marks : List (FoundMark MachineState)) (place : ℕ) (found : FoundMark MachineState) → slice_get marks place ≡ Some found → slice_get (pairs_of marks) place ≡ Some (found.state, found.log)
+pair_at marks place found at = slice_get-map (λ (f : FoundMark MachineState). (f.state, f.log)) marks place ∙ ap (option_map (λ (f : FoundMark MachineState). (f.state, f.log))) at
+
+pub slot_states_all : (setting : Setting) (marks : List (FoundMark MachineState)) (gs : List SlotState) (count : ℕ) → length marks ≤ count → AreSlotStatesBelow setting (pairs_of marks) count gs →
+    AreSlotStates setting (pairs_of marks) gs
+slot_states_all setting marks gs count le below = record {
+  each = below.each;
+  whole = λ i found t time lt at st wide slot. (let long : length (pairs_of marks) ≡ length marks = length-map marks (λ (f : FoundMark MachineState). (f.state, f.log)) in below.whole i found t time (omega arith) at st wide slot);
 }
 
-pub slot_states_wide : (setting : Setting) (marks : List (MachineState × List (ℕ × ℕ))) (gs : List SlotState) → AreSlotStates setting marks gs → AreWide (length setting.design.variables) gs
-slot_states_wide setting marks gs are = λ g has. (are.each g has).of.wide
+pub slot_states_wide : (setting : Setting) (marks : List (MachineState × List (ℕ × ℕ))) (count : ℕ) (gs : List SlotState) → AreSlotStatesBelow setting marks count gs → AreWide (length setting.design.variables) gs
+slot_states_wide setting marks count gs below = λ g has. (below.each g has).of.wide
 
 pub in_time : (gs : List SlotState) → IsNonDecreasingBy (λ (g : SlotState). g.time) gs → AreInTime gs
 in_time gs rise = λ i j g h le at at'.
@@ -246,15 +257,31 @@ record ShowsState (gs : List SlotState) (time : ℕ) (t : State) (departures : �
   printed_are : printed_of slot_state ≡ t.printed
   short : length slot_state.log.now ≤ departures
 
--- so does one of each slot end of a run
-end_shown : (setting : Setting) (depart : ℕ) (marks : List (MachineState × List (ℕ × ℕ))) (gs : List SlotState) → Alike setting → AllStand setting → RunHere setting → MarkAlike setting → HasVariables setting →
-    IsCovered (machine_rules setting) depart (IsListedMark (machine_rules setting) marks) → AreSlotStates setting marks gs → (time : ℕ) (values : List Vector) (log : List (ℕ × ℕ)) (steps : ℕ) →
+-- every slot end of this time that a run within the limit of departures comes to is listed
+abbrev pub AreEndsListed : Setting → ℕ → List (MachineState × List (ℕ × ℕ)) → ℕ → Type 0
+AreEndsListed setting depart marks time = (values : List Vector) (log : List (ℕ × ℕ)) (steps : ℕ) → length log ≤ depart → IsRun (rules_of setting) log steps →
+    IsSlotEnd time values (state_after setting log steps) → IsListedMark (machine_rules setting) marks (stands (machine_rules setting) log steps) (length log)
+
+-- a slot end is a mark of the machine's run
+pub end_marked : (setting : Setting) → AllStand setting → MarkAlike setting → (time : ℕ) (values : List Vector) (log : List (ℕ × ℕ)) (steps : ℕ) →
+    IsSlotEnd time values (state_after setting log steps) → (machine_rules setting).mark (stands (machine_rules setting) log steps) ≡ true
+end_marked setting all mark_alike time values log steps is =
+    mark_alike (stands (machine_rules setting) log steps) (state_after setting log steps) (all log steps) ∙ mark_of setting (state_after setting log steps) ∙ ends_mark (state_after setting log steps) time values is
+
+-- where all marks are listed, so are the slot ends of each time
+pub ends_listed : (setting : Setting) (depart : ℕ) (marks : List (MachineState × List (ℕ × ℕ))) → AllStand setting → RunHere setting → MarkAlike setting →
+    IsCovered (machine_rules setting) depart (IsListedMark (machine_rules setting) marks) → (time : ℕ) → AreEndsListed setting depart marks time
+ends_listed setting depart marks all here mark_alike covered time = λ values log steps short run is.
+    covered log steps short (here log steps run) (end_marked setting all mark_alike time values log steps is)
+
+-- a slot state shows what such a slot end does
+end_shown : (setting : Setting) (depart : ℕ) (marks : List (MachineState × List (ℕ × ℕ))) (gs : List SlotState) → Alike setting → AllStand setting → HasVariables setting → (time : ℕ) →
+    AreEndsListed setting depart marks time → AreSlotStates setting marks gs → (values : List Vector) (log : List (ℕ × ℕ)) (steps : ℕ) →
     length log ≤ depart → IsRun (rules_of setting) log steps → IsSlotEnd time values (state_after setting log steps) → ShowsState gs time (state_after setting log steps) (length log)
-end_shown setting depart marks gs alike all here mark_alike wide covered are time values log steps short run is =
+end_shown setting depart marks gs alike all wide time listed are values log steps short run is =
     let s = stands (machine_rules setting) log steps in
     let t = state_after setting log steps in
-    let mark : (machine_rules setting).mark s ≡ true = mark_alike s t (all log steps) ∙ mark_of setting t ∙ ends_mark t time values is in
-    let l = covered log steps short (here log steps run) mark in
+    let l = listed values log steps short run is in
     let st : Stands setting l.found.0 t = alike s l.found.0 t (all log steps) l.same in
     let slot : slot_in t ≡ Some time = ends_slot t time values is in
     let h = are.whole l.place l.found t time (slice_get_within marks l.place l.found l.at) l.at st (wide log steps) slot in
@@ -267,11 +294,11 @@ end_shown setting depart marks gs alike all here mark_alike wide covered are tim
       short = subst (λ (x : List (ℕ × ℕ)). length x ≤ length log) (sym h.of.log_is) l.departures;
     }
 
-pub shown_seen : (setting : Setting) (depart : ℕ) (marks : List (MachineState × List (ℕ × ℕ))) (gs : List SlotState) → Alike setting → AllStand setting → RunHere setting → MarkAlike setting → HasVariables setting →
-    IsCovered (machine_rules setting) depart (IsListedMark (machine_rules setting) marks) → AreSlotStates setting marks gs →
-    (time variable : ℕ) (v : Vector) (log : List (ℕ × ℕ)) (steps : ℕ) → length log ≤ depart → ShowsValue setting time variable v log steps → IsSeenWithin (value_of variable) gs time v (length log)
-shown_seen setting depart marks gs alike all here mark_alike wide covered are time variable v log steps short shown =
-    let e = end_shown setting depart marks gs alike all here mark_alike wide covered are time shown.values log steps short shown.run shown.slot in
+pub shown_seen : (setting : Setting) (depart : ℕ) (marks : List (MachineState × List (ℕ × ℕ))) (gs : List SlotState) → Alike setting → AllStand setting → HasVariables setting → (time : ℕ) →
+    AreEndsListed setting depart marks time → AreSlotStates setting marks gs →
+    (variable : ℕ) (v : Vector) (log : List (ℕ × ℕ)) (steps : ℕ) → length log ≤ depart → ShowsValue setting time variable v log steps → IsSeenWithin (value_of variable) gs time v (length log)
+shown_seen setting depart marks gs alike all wide time listed are variable v log steps short shown =
+    let e = end_shown setting depart marks gs alike all wide time listed are shown.values log steps short shown.run shown.slot in
     let values : e.slot_state.values.now ≡ shown.values = e.values_are ∙ shown.slot.values_are in
     record {
       log = e.slot_state.log.now;
@@ -285,11 +312,11 @@ shown_seen setting depart marks gs alike all here mark_alike wide covered are ti
       short = e.short;
     }
 
-pub lines_seen : (setting : Setting) (depart : ℕ) (marks : List (MachineState × List (ℕ × ℕ))) (gs : List SlotState) → Alike setting → AllStand setting → RunHere setting → MarkAlike setting → HasVariables setting →
-    IsCovered (machine_rules setting) depart (IsListedMark (machine_rules setting) marks) → AreSlotStates setting marks gs →
-    (time : ℕ) (lines : Texts) (log : List (ℕ × ℕ)) (steps : ℕ) → length log ≤ depart → ShowsLines setting time lines log steps → IsSeenWithin printed_of gs time lines (length log)
-lines_seen setting depart marks gs alike all here mark_alike wide covered are time lines log steps short shown =
-    let e = end_shown setting depart marks gs alike all here mark_alike wide covered are time shown.values log steps short shown.run shown.slot in
+pub lines_seen : (setting : Setting) (depart : ℕ) (marks : List (MachineState × List (ℕ × ℕ))) (gs : List SlotState) → Alike setting → AllStand setting → HasVariables setting → (time : ℕ) →
+    AreEndsListed setting depart marks time → AreSlotStates setting marks gs →
+    (lines : Texts) (log : List (ℕ × ℕ)) (steps : ℕ) → length log ≤ depart → ShowsLines setting time lines log steps → IsSeenWithin printed_of gs time lines (length log)
+lines_seen setting depart marks gs alike all wide time listed are lines log steps short shown =
+    let e = end_shown setting depart marks gs alike all wide time listed are shown.values log steps short shown.run shown.slot in
     record {
       log = e.slot_state.log.now;
       seen = record {
@@ -367,24 +394,27 @@ listed gs races book time variable value log two seen =
       value_is = v.3;
     }
 
-pub races_all : (setting : Setting) (depart : ℕ) (marks : List (MachineState × List (ℕ × ℕ))) (gs : List SlotState) (races : List Race) → Alike setting → AllStand setting → RunHere setting → MarkAlike setting → HasVariables setting →
-    IsCovered (machine_rules setting) depart (IsListedMark (machine_rules setting) marks) → AreSlotStates setting marks gs → AreAllRaces gs races → ListsEveryValue setting depart races
-races_all setting depart marks gs races alike all here mark_alike wide covered are book = λ time variable value differ shows.
-    let see = shown_seen setting depart marks gs alike all here mark_alike wide covered are time variable in
+-- where the slot ends of a time are listed, so are its races
+pub races_at : (setting : Setting) (depart : ℕ) (marks : List (MachineState × List (ℕ × ℕ))) (gs : List SlotState) (races : List Race) → Alike setting → AllStand setting → HasVariables setting → (time : ℕ) →
+    AreEndsListed setting depart marks time → AreSlotStates setting marks gs → AreAllRaces gs races → (variable : ℕ) (value : Vector) →
+    TwoRunsDiffer setting depart time variable → SomeRunShows setting depart time variable value → ListsValue races time variable value
+races_at setting depart marks gs races alike all wide time ends are book variable value differ shows =
+    let see = shown_seen setting depart marks gs alike all wide time ends are variable in
     let one = see differ.one differ.shows_one.log differ.shows_one.steps differ.shows_one.short differ.shows_one.shown in
     let other = see differ.other differ.shows_other.log differ.shows_other.steps differ.shows_other.short differ.shows_other.shown in
     let third = see value shows.log shows.steps shows.short shows.shown in
     let two = disagreement (value_of variable) gs time differ.one differ.other (length differ.shows_one.log) (length differ.shows_other.log) one other differ.differ in
     listed gs races book time variable value third.log two third.seen
 
-pub races_fewest : (setting : Setting) (limits : Limits) (marks : List (MachineState × List (ℕ × ℕ))) (gs : List SlotState) (races : List Race) → Alike setting → AllStand setting → RunThere setting → RunHere setting → MarkAlike setting → HasVariables setting →
-    AreFound (machine_rules setting) limits marks → IsCovered (machine_rules setting) limits.depart (IsListedMark (machine_rules setting) marks) →
-    AreSlotStates setting marks gs → AreAllRaces gs races → EachRace (HasFewest setting) races
-races_fewest setting limits marks gs races alike all there here mark_alike wide found covered are book = λ i race at j s log steps at' shown.
+-- and each value has the fewest departures
+pub races_fewest : (setting : Setting) (limits : Limits) (marks : List (MachineState × List (ℕ × ℕ))) (gs : List SlotState) (races : List Race) → Alike setting → AllStand setting → RunThere setting → HasVariables setting →
+    AreFound (machine_rules setting) limits marks → AreSlotStates setting marks gs → AreAllRaces gs races →
+    ((i : ℕ) (race : Race) → slice_get races i ≡ Some race → AreEndsListed setting limits.depart marks race.time) → EachRace (HasFewest setting) races
+races_fewest setting limits marks gs races alike all there wide found are book ends = λ i race at j s log steps at' shown.
     let r = book.each i race at in
     let witness = seen_witness setting limits marks gs alike all there found are race.time race.variable s.0 s.1 (r.seen j s at') in
     fewest_by (value_of race.variable) gs race.time limits.depart race.values j s log r at' witness.short
-    (λ short. shown_seen setting limits.depart marks gs alike all here mark_alike wide covered are race.time race.variable s.0 log steps short shown)
+    (λ short. shown_seen setting limits.depart marks gs alike all wide race.time (ends i race at) are race.variable s.0 log steps short shown)
 
 pub races_order : (gs : List SlotState) (races : List Race) → AreAllRaces gs races → EachRace (λ race. AreInTextOrder race.values) races
 races_order gs races book = λ i race at. (book.each i race at).order
@@ -419,24 +449,25 @@ lines_listed gs races book time lines log two seen =
       lines_are = v.3;
     }
 
-pub lines_all : (setting : Setting) (depart : ℕ) (marks : List (MachineState × List (ℕ × ℕ))) (gs : List SlotState) (races : List LineRace) → Alike setting → AllStand setting → RunHere setting → MarkAlike setting → HasVariables setting →
-    IsCovered (machine_rules setting) depart (IsListedMark (machine_rules setting) marks) → AreSlotStates setting marks gs → AreAllLineRaces gs races → ListsAllLines setting depart races
-lines_all setting depart marks gs races alike all here mark_alike wide covered are book = λ time lines differ prints.
-    let see = lines_seen setting depart marks gs alike all here mark_alike wide covered are time in
+pub lines_at : (setting : Setting) (depart : ℕ) (marks : List (MachineState × List (ℕ × ℕ))) (gs : List SlotState) (races : List LineRace) → Alike setting → AllStand setting → HasVariables setting → (time : ℕ) →
+    AreEndsListed setting depart marks time → AreSlotStates setting marks gs → AreAllLineRaces gs races → (lines : Texts) →
+    TwoRunsPrint setting depart time → SomeRunPrints setting depart time lines → ListsLines races time lines
+lines_at setting depart marks gs races alike all wide time ends are book lines differ prints =
+    let see = lines_seen setting depart marks gs alike all wide time ends are in
     let one = see differ.one differ.prints_one.log differ.prints_one.steps differ.prints_one.short differ.prints_one.shown in
     let other = see differ.other differ.prints_other.log differ.prints_other.steps differ.prints_other.short differ.prints_other.shown in
     let third = see lines prints.log prints.steps prints.short prints.shown in
     let two = disagreement printed_of gs time differ.one differ.other (length differ.prints_one.log) (length differ.prints_other.log) one other differ.differ in
     lines_listed gs races book time lines third.log two third.seen
 
-pub lines_fewest : (setting : Setting) (limits : Limits) (marks : List (MachineState × List (ℕ × ℕ))) (gs : List SlotState) (races : List LineRace) → Alike setting → AllStand setting → RunThere setting → RunHere setting → MarkAlike setting → HasVariables setting →
-    AreFound (machine_rules setting) limits marks → IsCovered (machine_rules setting) limits.depart (IsListedMark (machine_rules setting) marks) →
-    AreSlotStates setting marks gs → AreAllLineRaces gs races → EachLineRace (HasFewestOfLines setting) races
-lines_fewest setting limits marks gs races alike all there here mark_alike wide found covered are book = λ i race at j s log steps at' shown.
+pub lines_fewest : (setting : Setting) (limits : Limits) (marks : List (MachineState × List (ℕ × ℕ))) (gs : List SlotState) (races : List LineRace) → Alike setting → AllStand setting → RunThere setting → HasVariables setting →
+    AreFound (machine_rules setting) limits marks → AreSlotStates setting marks gs → AreAllLineRaces gs races →
+    ((i : ℕ) (race : LineRace) → slice_get races i ≡ Some race → AreEndsListed setting limits.depart marks race.time) → EachLineRace (HasFewestOfLines setting) races
+lines_fewest setting limits marks gs races alike all there wide found are book ends = λ i race at j s log steps at' shown.
     let r = book.each i race at in
     let witness = lines_witness setting limits marks gs alike all there found are race.time s.0 s.1 (r.seen j s at') in
     fewest_by printed_of gs race.time limits.depart race.sides j s log r at' witness.short
-    (λ short. lines_seen setting limits.depart marks gs alike all here mark_alike wide covered are race.time s.0 log steps short shown)
+    (λ short. lines_seen setting limits.depart marks gs alike all wide race.time (ends i race at) are s.0 log steps short shown)
 
 -- by time alone
 later_time : (t u : ℕ) → IsEarlier t 0 u 0 → t < u

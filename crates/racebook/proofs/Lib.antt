@@ -6,4 +6,7 @@ pub mod SlotLemmas
 pub mod FoundLemmas
 pub mod PrintingLemmas
 pub mod LookedLemmas
+pub mod EndLemmas
+pub mod ClosedLemmas
+pub mod InTimeLemmas
 mod MarkedLemmas

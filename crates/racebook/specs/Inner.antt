@@ -1,22 +1,26 @@
 -- *internal*: Words for the contracts of calls within: states of slot ends, gone through by time and variable. Those for the values of a
 -- variable serve the lines of a slot too: they take the type of what is compared, and its order, as parameters.
-use Rattle.std.specs.Prelude.{◌≡◌, ◌≢◌, Bool, ℕ, ◌<◌, ◌≤◌, List, [], length, slice_get, map, is_some, Option, Some, None, option_map, unwrap_or}
+use Rattle.std.specs.Prelude.{◌≡◌, ◌≢◌, Bool, ℕ, ◌<◌, ◌≤◌, ◌⊎◌, List, [], ◌∷◌, ◌++◌, length, slice_get, map, is_some, Option, Some, None, option_map, unwrap_or}
 use Rattle.std.specs.List.{Contains, filter}
-use Rattle.std.specs.List.Sorted.{IsPermutation}
+use Rattle.std.proofs.Common.{append-nil, refl, subst, sym}
 use Rattle.std.specs.Option.{IsSome}
 use Rattle.std.specs.declared.cmp.Ordering.{Ordering}
 use Rattle.std.specs.Ordering.{nat_cmp, ordering_then}
 use Rattle.std.specs.BTreeMap.{BTreeMap, get}
 use Rattle.std.specs.Bool.{MatchBool}
 use Rattle.explore.specs.declared.findings.Findings.{Findings}
+use Rattle.explore.specs.Ranked.{Closing, OfEach, RanksRise, pairs_of}
+use Rattle.explore.specs.declared.rank_marks.FoundMark.{FoundMark}
 use Rattle.vbits.specs.Vectors.{Vector, filled}
 use Rattle.vbits.specs.declared.bit4.Bit4.TheVariants.{X}
 use Rattle.vmodel.specs.State.{State}
 use Rattle.vmodel.specs.Run.{Setting}
 use Rattle.vmachine.specs.declared.machine_state.MachineState.{MachineState}
 use Rattle.vmachine.specs.Machines.{Stands}
-use Rattle.vmachine.specs.Reads.{slot_in}
+use Rattle.vmachine.specs.Reads.{end_in, slot_in}
 use Rattle.racebook.specs.declared.slot_state.SlotState.{SlotState}
+use Rattle.racebook.specs.declared.slots.ClosedSlots.{ClosedSlots}
+use Rattle.racebook.specs.declared.slots.FoundInSlot.{FoundInSlot}
 use Rattle.racebook.specs.Order.{IsEarlier, shape_of, text_number, AreInTextOrder}
 use Rattle.racebook.specs.Races.{Race}
 use Rattle.racebook.specs.LineRaces.{LineRace, Texts, AreSidesInOrder}
@@ -38,6 +42,11 @@ pub record IsSlotState (setting : Setting) (found : MachineState × List (ℕ ×
 -- the mark is the end of no slot
 abbrev pub IsNoSlot : Setting → MachineState → Type 0
 IsNoSlot setting s = (t : State) → Stands setting s t → length t.values ≡ length setting.design.variables → slot_in t ≡ None
+
+-- what is seen of one mark more stands last, or the mark is the end of no slot
+abbrev pub GoesOnBy : Setting → MachineState × List (ℕ × ℕ) → List SlotState → List SlotState → Type 0
+GoesOnBy setting found old new =
+    ((new ≡ old) × IsNoSlot setting found.0) ⊎ ((slot_state : SlotState) × (new ≡ old ++ slot_state ∷ []) × IsSlotState setting found slot_state)
 
 pub record HasSlotState (setting : Setting) (found : MachineState × List (ℕ × ℕ)) (slot_states : List SlotState) : Type 0 where
   pub slot_state : SlotState
@@ -84,12 +93,6 @@ HavePrinted slot_states = (slot_state : SlotState) → Contains slot_states slot
 -- those that have lines
 abbrev pub printing_among : List SlotState → List SlotState
 printing_among slot_states = filter (λ slot_state. is_some slot_state.printed) slot_states
-
--- they are those that have lines among what is seen of all marks of the findings
-pub record ArePrintingStatesOf (setting : Setting) (findings : Findings MachineState) (printing : List SlotState) : Type 0 where
-  pub all : List SlotState
-  pub are : AreSlotStatesOf setting findings all
-  pub moved : IsPermutation (printing_among all) printing
 
 -- ---- what the states of one slot show
 
@@ -302,3 +305,93 @@ pub record IsSlotEndAt (slot_states : List SlotState) (start end : ℕ) : Type 0
   pub within : end ≤ length slot_states
   pub same : (k : ℕ) (g h : SlotState) → start ≤ k → k < end → slice_get slot_states start ≡ Some g → slice_get slot_states k ≡ Some h → h.time ≡ g.time
   pub next : (g h : SlotState) → slice_get slot_states start ≡ Some g → slice_get slot_states end ≡ Some h → h.time ≢ g.time
+
+-- ---- what is kept of closed slots
+
+-- the marks of all closings
+abbrev pub marks_of : List (Closing MachineState) → List (MachineState × List (ℕ × ℕ))
+marks_of [] = []
+marks_of (c ∷ closings) = c.marks ++ marks_of closings
+
+-- the machine's state is one of a run, at this time
+abbrev pub StandsAt : Setting → MachineState → ℕ → Type 0
+StandsAt setting s time = (t : State) × Stands setting s t × (t.queue.time ≡ time)
+
+-- each of the marks is of the time of the closing
+abbrev pub IsOfItsTime : Setting → Closing MachineState → Type 0
+IsOfItsTime setting c = (i : ℕ) (found : MachineState × List (ℕ × ℕ)) → slice_get c.marks i ≡ Some found → StandsAt setting found.0 c.rank
+
+-- each time was closed once, an earlier one before a later, with marks of that time
+pub record AreInTurn (setting : Setting) (closings : List (Closing MachineState)) : Type 0 where
+  pub rise : RanksRise closings
+  pub times : OfEach closings (IsOfItsTime setting)
+
+-- the races are all that the marks show
+pub record AreRacesOf (setting : Setting) (marks : List (MachineState × List (ℕ × ℕ))) (races : List Race) : Type 0 where
+  pub slot_states : List SlotState
+  pub are : AreSlotStates setting marks slot_states
+  pub all : AreAllRaces slot_states races
+
+-- the races of lines are
+pub record AreLineRacesOf (setting : Setting) (marks : List (MachineState × List (ℕ × ℕ))) (races : List LineRace) : Type 0 where
+  pub slot_states : List SlotState
+  pub are : AreSlotStates setting marks slot_states
+  pub all : AreAllLineRaces slot_states races
+
+-- a run has ended in the machine's state
+abbrev pub HasEnded : Setting → MachineState → Type 0
+HasEnded setting s = (t : State) → Stands setting s t → IsSome (end_in t)
+
+-- none has
+abbrev pub GoesOn : Setting → MachineState → Type 0
+GoesOn setting s = (t : State) → Stands setting s t → end_in t ≡ None
+
+-- the mark stands last, or no run has ended there
+abbrev pub GoesOnByEnd : Setting → FoundMark MachineState → List (FoundMark MachineState) → List (FoundMark MachineState) → Type 0
+GoesOnByEnd setting found old new = ((new ≡ old) × GoesOn setting found.state) ⊎ ((new ≡ old ++ found ∷ []) × HasEnded setting found.state)
+
+-- the ends are those of the marks in which a run has ended
+pub record AreEndsOf (setting : Setting) (marks ends : List (MachineState × List (ℕ × ℕ))) : Type 0 where
+  pub each : (end : MachineState × List (ℕ × ℕ)) → Contains ends end → Contains marks end × HasEnded setting end.0
+  pub whole : (found : MachineState × List (ℕ × ℕ)) → Contains marks found → Contains ends found ⊎ GoesOn setting found.0
+
+-- so it is of what the marks of one slot gave
+pub record IsFoundIn (setting : Setting) (marks : List (MachineState × List (ℕ × ℕ))) (found : FoundInSlot) : Type 0 where
+  pub races : AreRacesOf setting marks found.races.items
+  pub line_races : AreLineRacesOf setting marks found.line_races.items
+  pub ends : AreEndsOf setting marks (pairs_of found.ends.items)
+
+-- it stands behind what was kept
+pub record IsPutBehind (old : ClosedSlots) (found : FoundInSlot) (new : ClosedSlots) : Type 0 where
+  pub machine : new.machine.now ≡ old.machine.now
+  pub races : new.races.items ≡ old.races.items ++ found.races.items
+  pub line_races : new.line_races.items ≡ old.line_races.items ++ found.line_races.items
+  pub ends : new.ends.items ≡ old.ends.items ++ found.ends.items
+
+-- no more is kept than was
+pub record KeepsSame (old new : ClosedSlots) : Type 0 where
+  pub machine : new.machine.now ≡ old.machine.now
+  pub races : new.races.items ≡ old.races.items
+  pub line_races : new.line_races.items ≡ old.line_races.items
+  pub ends : new.ends.items ≡ old.ends.items
+
+-- what is kept of closings, where these were in turn
+pub record AreKept (setting : Setting) (races : List Race) (line_races : List LineRace) (ends : List (MachineState × List (ℕ × ℕ))) (closings : List (Closing MachineState)) : Type 0 where
+  pub of_values : AreInTurn setting closings → AreRacesOf setting (marks_of closings) races
+  pub of_lines : AreInTurn setting closings → AreLineRacesOf setting (marks_of closings) line_races
+  pub of_ends : AreEndsOf setting (marks_of closings) ends
+
+-- so it is of what these slots keep
+abbrev pub KeepsSlots : Setting → ClosedSlots → List (Closing MachineState) → Type 0
+KeepsSlots setting slots closings = AreKept setting slots.races.items slots.line_races.items (pairs_of slots.ends.items) closings
+
+-- what collecting these closings makes of slots that kept what there was before
+pub record CollectsSlots (first : ClosedSlots) (closings : List (Closing MachineState)) (now : ClosedSlots) : Type 0 where
+  pub machine : now.machine.now ≡ first.machine.now
+  pub kept : (before : List (Closing MachineState)) → KeepsSlots first.machine.now first before → KeepsSlots first.machine.now now (before ++ closings)
+
+pub collects_nothing : (slots : ClosedSlots) → CollectsSlots slots [] slots
+collects_nothing slots = record {
+  machine = refl;
+  kept = λ before kept. subst (KeepsSlots slots.machine.now slots) (sym (append-nil before)) kept;
+}

@@ -8,7 +8,7 @@ ghost use Rattle.racebook.specs.Inner.{AreAllLineRaces, AreAllRaces, AreInTime, 
 use crate::line_race::LineRace;
 use crate::race::Race;
 use crate::slot::{put_line_race, put_races};
-use crate::slot_state::{SlotState, printing_states_in_time, slot_states_in_time};
+use crate::slot_state::{SlotState, printing_of, states_of_findings};
 use basis::NoMemory;
 use explore::Findings;
 use std::alloc::Global;
@@ -49,6 +49,19 @@ fn races_among(
     Ok(races)
 }
 
+/// The races among slot states, in whichever order these are.
+pub fn races_in(
+    alloc: Global,
+    mut slot_states: Vec<SlotState>,
+    count: usize,
+) -> Result<Vec<Race>, NoMemory>
+    requires { AreWide count slot_states.items }
+    ensures { IfOk result (λ races. AreAllRaces slot_states.entry.items races.items) }
+{
+    slot_states.sort_by_key(|slot_state| slot_state.time)?;
+    races_among(alloc, &slot_states, count)
+}
+
 /// The races that an explorer's findings show: the times and variables at which two marks that are ends of slots have
 /// different values, each value with the log of the fewest departures among them, whatever the status.
 ///
@@ -73,8 +86,8 @@ pub fn races(
 {
     machine_law();
     run_law();
-    let slot_states = slot_states_in_time(alloc, machine, findings)?;
-    races_among(alloc, &slot_states, machine.design().variables.len())
+    let slot_states = states_of_findings(alloc, machine, findings)?;
+    races_in(alloc, slot_states, machine.design().variables.len())
 }
 
 // The races of lines among slot states that stand in the order of their times.
@@ -92,6 +105,15 @@ fn line_races_among(alloc: Global, slot_states: &[SlotState]) -> Result<Vec<Line
         start = end;
     }
     Ok(races)
+}
+
+/// The races of lines among slot states, in whichever order these are.
+pub fn line_races_in(alloc: Global, slot_states: &[SlotState]) -> Result<Vec<LineRace>, NoMemory>
+    ensures { IfOk result (λ races. AreAllLineRaces slot_states.now races.items) }
+{
+    let mut printing = printing_of(alloc, slot_states)?;
+    printing.sort_by_key(|slot_state| slot_state.time)?;
+    line_races_among(alloc, &printing)
 }
 
 /// The races of lines that an explorer's findings show: the times at which two marks that are ends of slots have different
@@ -121,6 +143,6 @@ pub fn line_races(
 {
     machine_law();
     run_law();
-    let printing = printing_states_in_time(alloc, machine, findings)?;
-    line_races_among(alloc, &printing)
+    let slot_states = states_of_findings(alloc, machine, findings)?;
+    line_races_in(alloc, &slot_states)
 }

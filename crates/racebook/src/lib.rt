@@ -5,14 +5,19 @@
 #![tactic(auto)]
 
 mod book;
+mod in_time;
 mod key;
 mod line_race;
 mod lines;
 mod race;
 mod slot;
 mod slot_state;
+mod slots;
+mod timed_findings;
 mod values;
 
 pub use book::{line_races, races};
+pub use in_time::explore_in_time;
 pub use line_race::{LineRace, Side};
 pub use race::{Race, Witness};
+pub use timed_findings::TimedFindings;

@@ -1,10 +1,11 @@
 // What is seen of a mark that is the end of a slot.
 
-ghost use Rattle.std.specs.Prelude.{◌≡◌, IfSome, IfNone, IfOk};
-ghost use Rattle.racebook.specs.Inner.{ArePrintingStatesOf, AreSlotStatesOf, AreInTime, HaveAllValues, HavePrinted, IsSlotState, IsNoSlot, printing_among};
+ghost use Rattle.std.specs.Prelude.{◌≡◌, IfSome, IfNone, IfOk, OnOk};
+ghost use Rattle.explore.specs.Ranked.{pairs_of};
+ghost use Rattle.racebook.specs.Inner.{AreSlotStates, AreSlotStatesOf, GoesOnBy, HaveAllValues, IsSlotState, IsNoSlot, printing_among};
 
 use basis::NoMemory;
-use explore::Findings;
+use explore::{Findings, FoundMark};
 use sched_core::Log;
 use sched_core::bag::Bag;
 use std::alloc::Global;
@@ -44,42 +45,58 @@ fn slot_state_of<'f>(
     })
 }
 
-// What is seen of all marks, in their order.
-fn all_slot_states<'f>(
-    alloc: Global,
+// Puts what is seen of the mark last, if it is the end of a slot.
+fn put_slot_state<'f>(
     machine: &Machine,
-    findings: &'f Findings<MachineState>,
-) -> Result<Vec<SlotState<'f>>, NoMemory>
-    ensures { IfOk result (λ slot_states. AreSlotStatesOf machine.now findings.now slot_states.items) }
+    slot_states: &mut Vec<SlotState<'f>>,
+    machine_state: &'f MachineState,
+    log: &'f Log,
+) -> Result<(), NoMemory>
+    ensures { OnOk result (GoesOnBy machine.now (machine_state.now, log.now) slot_states.old.items slot_states.new.items) }
 {
-    let mut slot_states = Vec::new(alloc);
-    for place in 0..findings.marks.len() {
-        if let Some((machine_state, log)) = findings.marks.get_index(place) {
-            if let Some(slot_state) = slot_state_of(machine, machine_state, log) {
-                slot_states.push(slot_state)?;
-            }
-        }
+    if let Some(slot_state) = slot_state_of(machine, machine_state, log) {
+        slot_states.push(slot_state)?;
     }
-    Ok(slot_states)
+    Ok(())
 }
 
-/// What is seen of all marks that are ends of slots, in the order of their times.
-pub fn slot_states_in_time<'f>(
+/// What is seen of the findings' marks that are ends of slots.
+pub fn states_of_findings<'f>(
     alloc: Global,
     machine: &Machine,
     findings: &'f Findings<MachineState>,
 ) -> Result<Vec<SlotState<'f>>, NoMemory>
     ensures of { IfOk result (λ slot_states. AreSlotStatesOf machine.now findings.now slot_states.items) }
     ensures wide { IfOk result (λ slot_states. HaveAllValues machine.now slot_states.items) }
-    ensures order { IfOk result (λ slot_states. AreInTime slot_states.items) }
 {
-    let mut slot_states = all_slot_states(alloc, machine, findings)?;
-    slot_states.sort_by_key(|slot_state| slot_state.time)?;
+    let mut slot_states = Vec::new(alloc);
+    for place in 0..findings.marks.len() {
+        if let Some((machine_state, log)) = findings.marks.get_index(place) {
+            put_slot_state(machine, &mut slot_states, machine_state, log)?;
+        }
+    }
     Ok(slot_states)
 }
 
-// Those that have lines.
-fn printing_of<'f>(
+/// What is seen of these marks that are ends of slots.
+pub fn states_of_marks<'f>(
+    alloc: Global,
+    machine: &Machine,
+    marks: &'f [FoundMark<MachineState>],
+) -> Result<Vec<SlotState<'f>>, NoMemory>
+    ensures of { IfOk result (λ slot_states. AreSlotStates machine.now (pairs_of marks.now) slot_states.items) }
+    ensures wide { IfOk result (λ slot_states. HaveAllValues machine.now slot_states.items) }
+{
+    let mut slot_states = Vec::new(alloc);
+    for place in 0..marks.len() {
+        let found = &marks[place];
+        put_slot_state(machine, &mut slot_states, &found.state, &found.log)?;
+    }
+    Ok(slot_states)
+}
+
+/// Those that have lines.
+pub fn printing_of<'f>(
     alloc: Global,
     slot_states: &[SlotState<'f>],
 ) -> Result<Vec<SlotState<'f>>, NoMemory>
@@ -92,21 +109,5 @@ fn printing_of<'f>(
             printing.push(slot_state)?;
         }
     }
-    Ok(printing)
-}
-
-/// What is seen of all marks that are ends of slots and have lines, in the order of their times.
-pub fn printing_states_in_time<'f>(
-    alloc: Global,
-    machine: &Machine,
-    findings: &'f Findings<MachineState>,
-) -> Result<Vec<SlotState<'f>>, NoMemory>
-    ensures of { IfOk result (λ printing. ArePrintingStatesOf machine.now findings.now printing.items) }
-    ensures printed { IfOk result (λ printing. HavePrinted printing.items) }
-    ensures order { IfOk result (λ printing. AreInTime printing.items) }
-{
-    let slot_states = all_slot_states(alloc, machine, findings)?;
-    let mut printing = printing_of(alloc, &slot_states)?;
-    printing.sort_by_key(|slot_state| slot_state.time)?;
     Ok(printing)
 }

@@ -1,7 +1,7 @@
 -- *internal*: What a search that goes by rank keeps, and what it leaves behind.
-use Rattle.std.specs.Prelude.{◌≡◌, ◌≢◌, ℕ, ◌<◌, ◌≤◌, ◌⊎◌, Bool, true, false, List, ◌++◌, length, slice_get, insert, Some}
+use Rattle.std.specs.Prelude.{◌≡◌, ◌≢◌, ℕ, ◌<◌, ◌≤◌, ◌⊎◌, Bool, true, false, List, length, slice_get, insert, Option, Some, IfSome}
 use Rattle.sched_core.specs.Rules.{Rules, stands, IsRun}
-use Rattle.statebook.specs.Books.{Book, Dominates}
+use Rattle.statebook.specs.Books.{Dominates}
 use Rattle.statebook.specs.Covered.{IsCovered}
 use Rattle.statebook.specs.declared.entry.Entry.{Entry}
 use Rattle.statebook.specs.declared.limits.Limits.{Limits}
@@ -9,7 +9,7 @@ use Rattle.statebook.specs.Ways.{SomeRunExceeds}
 use Rattle.statebook.specs.Inner.Forced.{MayBeAdded}
 use Rattle.statebook.specs.Inner.Frontiers.{HasSuccessorIn, IsFrontier, LeadsInto}
 use Rattle.explore.specs.Found.{Differ, HasEntries}
-use Rattle.explore.specs.Ranked.{Closing, HandsOnFewest, HandsOnFound, HasItsRank, OfEach, WasHandedOn}
+use Rattle.explore.specs.Ranked.{Closing, HandsOnAllTo, HandsOnFewest, HandsOnFound, HasItsRank, NoneBeyond, OfEach, RanksRise, WasHandedOn}
 use Rattle.explore.specs.Inner.Exploring.{BookGrows, EachWith, IsSameOrAdded, OfEntry}
 use Rattle.explore.specs.Inner.Ways.{IsSearching}
 use Rattle.explore.specs.declared.halt.Halt.{Halt}
@@ -186,17 +186,37 @@ abbrev pub IsFollowed : {S : Type 0} → Rules S → Limits → (S → ℕ) → 
 IsFollowed r limits rank least s true = GoesOnTo r limits rank least s
 IsFollowed r limits rank least s false = NoneAbove r limits.depart rank least
 
--- Each closing is of marks under their logs, of its rank, and no run reaches one of them with fewer departures.
+-- Each closing is of marks under their logs, of its rank, and no run reaches one of them with fewer departures; and ranks rise.
 pub record AreLawful {S : Type 0} (r : Rules S) (limits : Limits) (rank : S → ℕ) (closings : List (Closing S)) : Type 0 where
   pub found : HandsOnFound r limits closings
   pub ranks : OfEach closings (HasItsRank rank)
+  pub rise : RanksRise closings
   pub fewest : HandsOnFewest r closings
 
--- So it is, and all marks of ranks below this one were handed on.
-pub record HasHandedOn {S : Type 0} (r : Rules S) (limits : Limits) (rank : S → ℕ) (closings : List (Closing S)) (least : ℕ) : Type 0 where
+-- So it is, all are of ranks below this one, and all marks of ranks below it were handed on.
+pub record HasHandedOn {S : Type 0} (r : Rules S) (limits : Limits) (rank : S → ℕ) (least : ℕ) (closings : List (Closing S)) : Type 0 where
   pub lawful : AreLawful r limits rank closings
+  pub earlier : OfEach closings (λ c. c.rank < least)
   pub below : IsCovered r limits.depart (λ s d. rank s < least → WasHandedOn r closings s d)
 
--- What was handed on is kept.
-abbrev pub IsKeptIn : {S : Type 0} → List (Closing S) → List (Closing S) → Type 0
-IsKeptIn {S} old new = (more : List (Closing S)) × (new ≡ old ++ more)
+-- The same up to this rank.
+pub record HasClosed {S : Type 0} (r : Rules S) (limits : Limits) (rank : S → ℕ) (top : ℕ) (closings : List (Closing S)) : Type 0 where
+  pub lawful : AreLawful r limits rank closings
+  pub up_to : OfEach closings (λ c. c.rank ≤ top)
+  pub all : HandsOnAllTo r limits rank closings top
+
+-- The rank is under way, and those up to `closed` were closed.
+pub record IsUnderWay {S : Type 0} (r : Rules S) (limits : Limits) (rank : S → ℕ) (least : ℕ) (closed : Option ℕ) (closings : List (Closing S)) : Type 0 where
+  pub handed : HasHandedOn r limits rank least closings
+  pub last : NoneBeyond closed closings
+  pub covered : IfSome closed (HandsOnAllTo r limits rank closings)
+
+-- What was collected is of this kind.
+pub record HasCollected {S : Type 0} (Collected : List (Closing S) → Type 0) (P : List (Closing S) → Type 0) : Type 0 where
+  pub closings : List (Closing S)
+  pub collected : Collected closings
+  pub so : P closings
+
+-- Whatever was collected before: it was of the one kind, and is of the other.
+abbrev pub GoesFrom : {C S : Type 0} → (C → List (Closing S) → C → Type 0) → (List (Closing S) → Type 0) → (List (Closing S) → Type 0) → C → C → Type 0
+GoesFrom {C} collects P Q old new = (first : C) → HasCollected (λ closings. collects first closings old) P → HasCollected (λ closings. collects first closings new) Q

@@ -1,6 +1,5 @@
-use Rattle.std.proofs.Common.{◌≡◌, ◌≤◌, List, ℕ, length, sym, ◌∙◌, subst, IfOk, Some}
-use Rattle.std.specs.Prelude.{slice_get}
-use Rattle.explore.specs.Inner.RankedSearches.{AreAfter, AreFrom, IsNoRankAt, IsRankAt, Opens}
+use Rattle.std.proofs.Common.{◌≤◌, List, length, subst}
+use Rattle.explore.specs.Inner.RankedSearches.{AreAfter, AreFrom, IsNoRankAt, IsRankAt}
 use Rattle.explore.specs.declared.rank_book.RankBook.{RankBook}
 use Rattle.explore.proofs.RankBookLemmas.{HasPlaceFor, all_keep_in, all_keep_put}
 use Rattle.explore.proofs.rank_book.keep_later.Goals as goal

@@ -1,13 +1,11 @@
-use Rattle.std.proofs.Common.{◌-◌, ◌^◌, IfSome}
-use Rattle.explore.specs.Ranked.{HandsOnAllTo}
-use Rattle.explore.specs.Inner.RankedSearches.{HasHandedOn, IsRankedSearch}
+use Rattle.std.proofs.Common.{◌-◌, ◌^◌}
+use Rattle.explore.specs.Inner.RankedSearches.{HasCollected, IsRankedSearch, IsUnderWay}
 use Rattle.explore.proofs.ranked.go_through.Given as goal
 
 abbrev pub invariant-loop-closed : goal.invariant-loop-closed
 invariant-loop-closed g l = record {
   searching : IsRankedSearch (g.P.Space.rules l.space) l.limits (g.P.Ranked.ranks l.space) l.search;
-  handed : HasHandedOn (g.P.Space.rules l.space) l.limits (g.P.Ranked.ranks l.space) (g.C.Collector.collected l.collector) l.search.current.rank;
-  closed : IfSome l.closed (HandsOnAllTo (g.P.Space.rules l.space) l.limits (g.P.Ranked.ranks l.space) (g.C.Collector.collected l.collector));
+  collected : HasCollected (λ closings. g.C.Collector.collects l.fn.collector closings l.collector) (IsUnderWay (g.P.Space.rules l.space) l.limits (g.P.Ranked.ranks l.space) l.search.current.rank l.closed);
 }
 
 abbrev pub decreases-loop-closed : goal.decreases-loop-closed

@@ -1,7 +1,7 @@
 use Rattle.std.proofs.Common.{arith}
 use Rattle.explore.specs.Inner.RankedSearches.{IsLedOn}
 use Rattle.explore.proofs.ClassLemmas.{one_other}
-use Rattle.explore.proofs.RankedLemmas.{led_more, led_to_end, rank_grows_not, rank_grows_twice, rank_grows_wider}
+use Rattle.explore.proofs.RankedLemmas.{led_more, led_to_end, rank_grows_twice, rank_grows_wider}
 use Rattle.explore.proofs.ranked_classes.visit_budget.Goals as goal
 use Rattle.explore.proofs.ranked_classes.visit_budget.Goals.{then-read-budget+in_ok-may_go_on+in_ok-visit_entry, else-read-budget}
 

@@ -1,4 +1,4 @@
-use Rattle.std.proofs.Common.{◌≡◌, ◌+◌, Some, sym, subst, arith, length}
+use Rattle.std.proofs.Common.{◌+◌, Some, sym, subst, arith, length}
 use Rattle.statebook.specs.Books.{Book}
 use Rattle.explore.specs.Inner.Exploring.{IsUnderWay}
 use Rattle.explore.specs.Inner.Ways.{AllLead, IsSearching}
