@@ -191,11 +191,8 @@ def read_line_race(lines):
 
 
 def read_views(lines):
-    """Which departures there are, and what is looked at; not what version 2 tells."""
-    views = *lines.take("departures (taking|holding)"), *lines.take("looked (values|lines)")
-    if views == ("taking", "values"):
-        raise IllFormed
-    return views
+    """Which departures there are, and what is looked at."""
+    return *lines.take("departures (taking|holding)"), *lines.take("looked (values|lines)")
 
 
 def read(text):
@@ -206,7 +203,9 @@ def read(text):
     until, depart, steps = lines.number("until", 0, 2**62 - 1), lines.number("depart", 0, 4), lines.number("steps", 1, 10**6)
     grain, = lines.take("grain (process|statement)") if version != "1" else ("process",)
     departures, looked = read_views(lines) if version == "3" else ("taking", "values")
-    state, = lines.take("state (exhausted|cut memory|cut entries|cut steps)")
+    state, = lines.take("state (exhausted|cut memory|cut entries|cut steps|cut time)")
+    if (version == "3") == (departures == "taking" and looked == "values" and state != "cut time"):
+        raise IllFormed
     told = [lines.take(f"({NAME}(?:[.]{NAME})*) {NUMBER}") for _ in range(lines.number("vars"))]
     variables = [(name, number_of(width, 1, 64)) for name, width in told]
     ends = [read_end(lines, variables, looked) for _ in range(lines.number("ends"))]

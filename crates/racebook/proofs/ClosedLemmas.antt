@@ -1,5 +1,5 @@
 -- What is kept of closed slots, once one more was closed.
-use Rattle.std.proofs.Common.{◌≡◌, ℕ, zero, suc, ◌+◌, ◌<◌, ◌≤◌, ◌⊎◌, List, [], ◌∷◌, ◌++◌, length, slice_get, Option, Some, None, Result, Ok, Err, OnErr, refl, sym, ap, ◌∙◌, subst, inl, inr, append-nil, append_assoc, arith}
+use Rattle.std.proofs.Common.{◌≡◌, ℕ, zero, suc, ◌+◌, ◌<◌, ◌⊎◌, List, [], ◌∷◌, ◌++◌, length, slice_get, Option, Some, Result, Ok, Err, OnErr, refl, sym, ap, ◌∙◌, subst, inl, inr, append-nil, append_assoc, arith}
 use Rattle.std.specs.List.{Contains}
 use Rattle.std.proofs.lemmas.List.{map-append}
 use Rattle.std.proofs.lemmas.List.Elements.{Contains-append_left, Contains-append_right, Contains-append_cases}
@@ -17,7 +17,7 @@ use Rattle.racebook.specs.LineRaces.{LineRace}
 use Rattle.racebook.specs.Inner.{AreAll, AreAllLineRaces, AreAllRaces, AreEndsOf, AreInTurn, AreKept, AreLineRacesOf, AreRacesOf, AreShown, AreSlotStates, CollectsSlots, DifferIn, DifferInLines, Disagree, IsFoundIn, IsLineRaceAmong, IsPutBehind, IsRaceAmong, IsSeen, IsSlotState, KeepsSame, StandsAt, marks_of, place_of, place_of_lines, printed_of, value_of}
 use Rattle.racebook.proofs.EndLemmas.{ends_of_both, no_ends}
 use Rattle.racebook.proofs.FoundLemmas.{slot_ends}
-use Rattle.racebook.proofs.ListLemmas.{at_second, contains_at, in_either}
+use Rattle.racebook.proofs.ListLemmas.{at_second, in_either}
 
 -- ---- slot states of earlier times, and of one time
 

@@ -1,5 +1,5 @@
 -- What a search that goes by time tells, by what it was handed on.
-use Rattle.std.proofs.Common.{◌≡◌, ℕ, ◌<◌, ◌≤◌, ◌==◌, Bool, true, false, cond, List, [], length, slice_get, is_some, Option, Some, None, IfSome, refl, sym, ap, ◌∙◌, subst, inl, inr, arith}
+use Rattle.std.proofs.Common.{◌≡◌, ℕ, ◌≤◌, ◌==◌, Bool, true, false, cond, List, [], length, Option, Some, None, IfSome, refl, sym, ap, ◌∙◌, subst, inl, inr, arith}
 use Rattle.std.specs.List.{Contains}
 use Rattle.std.specs.Option.{IsSome}
 use Rattle.std.proofs.lemmas.Bool.Decides.{nat_tests}
@@ -7,7 +7,6 @@ use Rattle.basis.proofs.Lists.{at_contains, listed_place}
 use Rattle.sched_core.specs.Replay.{EndsAfter}
 use Rattle.sched_core.specs.Rules.{stands}
 use Rattle.sched_core.specs.declared.end.End.{End}
-use Rattle.statebook.specs.Covered.{IsCovered}
 use Rattle.statebook.specs.declared.limits.Limits.{Limits}
 use Rattle.explore.specs.Found.{AreFound, IsListedMark}
 use Rattle.explore.specs.Ranked.{HandsOn, HandsOnAllTo, WasHandedOn, pairs_of}
@@ -36,9 +35,6 @@ if_some : {X : Type 0} (o : Option X) (P Q : X → Type 0) → ((x : X) → P x 
 if_some None P Q from p = tt
 if_some (Some x) P Q from p = from x p
 
-at_some : {X : Type 0} (o : Option X) (x : X) (P : X → Type 0) → o ≡ Some x → IfSome o P → P x
-at_some {X = X} o x P is p = let Q : Option X → Type 0 = λ q. IfSome q P in subst Q is p
-
 -- no choice is left where a run has ended
 no_choice : (n : ℕ) (b : Bool) (end : End) → (n == 0) ≡ b → IsSome (cond b (Some end) None) → n ≡ 0
 no_choice n true end e is = grind (arith, nat_tests)
@@ -47,8 +43,8 @@ no_choice n false end e is = absurd (cc)
 ended_here : (t : State) → IsSome (end_in t) → length (choices t) ≡ 0
 ended_here t is = no_choice (length (choices t)) (length (choices t) == 0) (end_of t) refl is
 
-told_there : (t : State) → length (choices t) ≡ 0 → end_in t ≡ Some (end_of t)
-told_there t none = ap (λ (n : ℕ). cond (n == 0) (Some (end_of t)) None) none
+pub told_where_ended : (t : State) → length (choices t) ≡ 0 → end_in t ≡ Some (end_of t)
+told_where_ended t none = ap (λ (n : ℕ). cond (n == 0) (Some (end_of t)) None) none
 
 -- a state's rank is its time
 abbrev pub RankIsTime : Setting → Type 0
@@ -126,7 +122,7 @@ module _ (setting : Setting) (alike : Alike setting) (all : AllStand setting) (t
       let is = slot_time setting o.found g c.closing.rank o.of (in_turn.times c.place c.closing c.at c.mark_place o.found c.mark_at) in
       let l = hands.last c.place c.closing c.at in
       let le = l.2 in
-      listed_to l.0 (at_some findings.closed l.0 AllTo l.1 hands.covered) g.time (omega arith)
+      listed_to l.0 (subst (λ (closed : Option ℕ). IfSome closed AllTo) l.1 hands.covered) g.time (omega arith)
 
   -- ---- races
 
@@ -215,7 +211,7 @@ module _ (setting : Setting) (alike : Alike setting) (all : AllStand setting) (t
       let st : Stands setting l.found.0 t = alike (stands (machine_rules setting) log steps) l.found.0 t (all log steps) l.same in
       elim (hands.collected.of_ends.whole l.found (contains_at marks l.place l.found l.at)) [
         | inl kept ↦ (let p = at_contains ends l.found kept in record { place = p.0; end = l.found; at = p.1; stands = st; fewest = l.departures })
-        | inr on ↦ absurd (let none = on t st in let told = told_there t (sym (width_is setting t) ∙ after.end) in cc)
+        | inr on ↦ absurd (let none = on t st in let told = told_where_ended t (sym (width_is setting t) ∙ after.end) in cc)
       ]
 
   end_marks : (log : List (ℕ × ℕ)) (steps : ℕ) → EndsAfter (rules_of setting) log steps → (machine_rules setting).mark (stands (machine_rules setting) log steps) ≡ true

@@ -8,7 +8,7 @@ use Rattle.std.proofs.lemmas.Option.{same_Some}
 use Rattle.basis.proofs.Lists.{at_contains}
 use Rattle.racebook.specs.declared.slot_state.SlotState.{SlotState}
 use Rattle.racebook.specs.Races.{Race}
-use Rattle.racebook.specs.LineRaces.{LineRace, Texts}
+use Rattle.racebook.specs.LineRaces.{LineRace}
 use Rattle.racebook.specs.Inner.{AreAllLineRaces, AreAllRaces, AreShown, AreWide, Disagree, HavePrinted, IsSeen, printed_of, printing_among, value_of}
 
 -- ---- all that print

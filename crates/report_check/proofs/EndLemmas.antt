@@ -13,7 +13,8 @@ use Rattle.vreport.specs.Dumps.{HasDump}
 use Rattle.vreport.specs.Ends.{IsEndAfter}
 use Rattle.vreport.specs.RunLaws.{same_end}
 use Rattle.vreport.proofs.DumpLemmas.{the_dump}
-use Rattle.vreport.proofs.EndLemmas.{Alike, AllStand, RunThere, ended, told_where_ended}
+use Rattle.racebook.proofs.InTimeLemmas.{told_where_ended}
+use Rattle.vreport.proofs.EndLemmas.{Alike, AllStand, RunThere, ended}
 use Rattle.vreport.proofs.WholeLemmas.{RunHere}
 use Rattle.report_check.specs.Inner.{EndsSo, IsToldAt, TellsStanding}
 

@@ -7,12 +7,15 @@ use Rattle.basis.proofs.Bools.{and_left, and_right, and_both}
 use Rattle.basis.specs.Letters.{begins_name, is_in_name}
 use Rattle.sched_core.specs.declared.setting.Departures.{Departures}
 use Rattle.sched_core.specs.declared.setting.Departures.TheVariants.{Taking, Holding}
+use Rattle.sched_core.specs.declared.setting.Looked.{Looked}
 use Rattle.report_text.specs.declared.report.Version.{Version}
 use Rattle.report_text.specs.declared.report.Version.TheVariants.{One, Two, Three}
 use Rattle.report_text.specs.ReportText.{version_number, departures_word}
+use Rattle.report_text.specs.declared.report.Outcome.{Outcome}
+use Rattle.report_text.specs.WellFormed.{HasViews}
 use Rattle.vast.specs.Names.{has_letters_of_name}
 use Rattle.report_text.specs.Inner.Fronts.{lacks}
-use Rattle.report_text.specs.Inner.Headings.{IsNumberLine, label_line_before}
+use Rattle.report_text.specs.Inner.Headings.{AreViewsIn, IsNumberLine, label_line_before}
 use Rattle.report_text.proofs.LineLemmas.{lacks_by}
 
 begins_in : (c : ℕ) → begins_name c ≡ true → is_in_name c ≡ true
@@ -44,6 +47,12 @@ pub is_three : (v : Version) (n : ℕ) → n ≡ version_number v → n ≢ 1 �
 is_three One n e h k = absurd (h e)
 is_three Two n e h k = absurd (k e)
 is_three Three n e h k = refl
+
+-- what a version tells it has lines for, or it is what a version without them tells
+pub views_in : (v : Version) (d : Departures) (l : Looked) (o : Outcome) → HasViews v d l o → AreViewsIn v (d, l)
+views_in One d l o h = (h.0, h.1)
+views_in Two d l o h = (h.0, h.1)
+views_in Three d l o h = tt
 
 pub departures_lacks : (d : Departures) → lacks 10 (departures_word d) ≡ true
 departures_lacks Taking = refl

@@ -21,7 +21,7 @@ use Rattle.sched_core.specs.declared.end.Cause.TheVariants.{Finish, Stop, Quiet,
 use Rattle.report_text.specs.declared.report.Version.{Version}
 use Rattle.report_text.specs.declared.report.Version.TheVariants.{One, Two, Three}
 use Rattle.report_text.specs.declared.report.Outcome.{Outcome}
-use Rattle.report_text.specs.declared.report.Outcome.TheVariants.{Exhausted, CutMemory, CutEntries, CutSteps}
+use Rattle.report_text.specs.declared.report.Outcome.TheVariants.{Exhausted, CutMemory, CutEntries, CutSteps, CutTime}
 use Rattle.report_text.specs.Report.{Column, Race, LineRace, Report}
 use Rattle.report_text.specs.ReportText.{version_number, grain_word, departures_word, looked_word, cause_word, outcome_words, column_line, counted_text, counted_texts, printed_lines, race_text, side_text, line_race_text, line_races_part, report_text}
 use Rattle.report_text.specs.WellFormed.{Each, EachTwo, HasViews, IsColumn, IsReport, IsValue}
@@ -29,13 +29,13 @@ use Rattle.report_text.specs.Inner.Columns.{Differ}
 use Rattle.report_text.specs.Inner.Ends.{Ended, ended_text, IsEnded}
 use Rattle.report_text.specs.Inner.Fronts.{lacks}
 use Rattle.report_text.specs.Inner.Lines.{IsCountable, ArePrinted}
-use Rattle.report_text.specs.Inner.Headings.{Heading, IsHeading, heading_before, grain_before, views_before, label_line_before}
+use Rattle.report_text.specs.Inner.Headings.{AreViewsIn, Heading, IsHeading, heading_before, grain_before, views_before, label_line_before}
 use Rattle.report_text.specs.Inner.LineRaces.{Side, IsSide, IsCountedLines, AreLast}
 use Rattle.report_text.specs.Inner.Races.{Shown, shown_line, IsShown, IsCounted}
 use Rattle.report_text.specs.Inner.Wholes.{IsBodyTaken}
 use Rattle.report_text.proofs.FrontLemmas.{cut_unique}
 use Rattle.report_text.proofs.LineLemmas.{decimal_lacks}
-use Rattle.report_text.proofs.HeadingLemmas.{name_lacks, departures_lacks}
+use Rattle.report_text.proofs.HeadingLemmas.{name_lacks, departures_lacks, views_in}
 use Rattle.report_text.proofs.BagLemmas.{text_spelled, texts_spelled, bag_spelled}
 use Rattle.report_text.proofs.ColumnLemmas.{path_lacks, column_spelled, columns_spelled}
 use Rattle.report_text.proofs.LogLemmas.{log_lacks, value_lacks, feed_outside, is_spelling, end_spelled}
@@ -78,6 +78,7 @@ outcome_lacks Exhausted = refl
 outcome_lacks CutMemory = refl
 outcome_lacks CutEntries = refl
 outcome_lacks CutSteps = refl
+outcome_lacks CutTime = refl
 
 cause_lacks : (c : Cause) → lacks 32 (cause_word c) ≡ true
 cause_lacks Finish = refl
@@ -90,7 +91,7 @@ grain_one One g h x y p q e = (p refl ∙ sym (q refl), e)
 grain_one Two g h x y p q e = let l = labelled_one (codes "grain ") (grain_word g) (grain_word h) x y e (grain_lacks g) (grain_lacks h) in (grain_injective g h l.0, l.1)
 grain_one Three g h x y p q e = let l = labelled_one (codes "grain ") (grain_word g) (grain_word h) x y e (grain_lacks g) (grain_lacks h) in (grain_injective g h l.0, l.1)
 
-views_one : (v : Version) (d e : Departures) (l m : Looked) (x y : List ℕ) → HasViews v d l → HasViews v e m → views_before v (d, l) x ≡ views_before v (e, m) y → (d ≡ e) × (l ≡ m) × (x ≡ y)
+views_one : (v : Version) (d e : Departures) (l m : Looked) (x y : List ℕ) → AreViewsIn v (d, l) → AreViewsIn v (e, m) → views_before v (d, l) x ≡ views_before v (e, m) y → (d ≡ e) × (l ≡ m) × (x ≡ y)
 views_one One d e l m x y p q same = (p.0 ∙ sym q.0, p.1 ∙ sym q.1, same)
 views_one Two d e l m x y p q same = (p.0 ∙ sym q.0, p.1 ∙ sym q.1, same)
 views_one Three d e l m x y p q same =
@@ -110,7 +111,8 @@ heading_one h k x y p q e =
     let below : List ℕ = label_line_before (codes "state ") (outcome_words k.outcome) y in
     let g = grain_one h.version h.grain k.grain (views_before h.version (h.departures, h.looked) above) (views_before h.version (k.departures, k.looked) below) p.grain (λ one. q.grain (sym version ∙ one))
     (s.1 ∙ ap (λ w. grain_before w k.grain (views_before w (k.departures, k.looked) below)) (sym version)) in
-    let w = views_one h.version h.departures k.departures h.looked k.looked above below p.views (subst (λ v. HasViews v k.departures k.looked) (sym version) q.views) g.1 in
+    let w = views_one h.version h.departures k.departures h.looked k.looked above below (views_in h.version h.departures h.looked h.outcome p.views)
+    (views_in h.version k.departures k.looked k.outcome (subst (λ v. HasViews v k.departures k.looked k.outcome) (sym version) q.views)) g.1 in
     let o = labelled_one (codes "state ") (outcome_words h.outcome) (outcome_words k.outcome) x y w.2 (outcome_lacks h.outcome) (outcome_lacks k.outcome) in
     let outcome = outcome_injective h.outcome k.outcome o.0 in (
       λ i. record { version = version i; top = t.0 i; until = u.0 i; depart = d.0 i; steps = s.0 i; grain = g.0 i; departures = w.0 i; looked = w.1 i; outcome = outcome i },

@@ -12,7 +12,7 @@ use Rattle.sched_core.specs.declared.setting.Looked.TheVariants.{Values, Lines}
 use Rattle.report_text.specs.declared.report.Version.{Version}
 use Rattle.report_text.specs.declared.report.Version.TheVariants.{One, Two, Three}
 use Rattle.report_text.specs.declared.report.Outcome.{Outcome}
-use Rattle.report_text.specs.declared.report.Outcome.TheVariants.{Exhausted, CutMemory, CutEntries, CutSteps}
+use Rattle.report_text.specs.declared.report.Outcome.TheVariants.{Exhausted, CutMemory, CutEntries, CutSteps, CutTime}
 use Rattle.report_text.specs.ReportText.{version_number, grain_word, departures_word, looked_word, cause_word, outcome_words}
 
 pub no_grain : (w : List ℕ) → w ≢ codes "process" → w ≢ codes "statement" → (x : Grain) → w ≢ grain_word x
@@ -33,11 +33,12 @@ no_cause w a b c d Stop e = b e
 no_cause w a b c d Quiet e = c e
 no_cause w a b c d Limit e = d e
 
-pub no_outcome : (w : List ℕ) → w ≢ codes "exhausted" → w ≢ codes "cut memory" → w ≢ codes "cut entries" → w ≢ codes "cut steps" → (x : Outcome) → w ≢ outcome_words x
-no_outcome w a b c d Exhausted e = a e
-no_outcome w a b c d CutMemory e = b e
-no_outcome w a b c d CutEntries e = c e
-no_outcome w a b c d CutSteps e = d e
+pub no_outcome : (w : List ℕ) → w ≢ codes "exhausted" → w ≢ codes "cut memory" → w ≢ codes "cut entries" → w ≢ codes "cut steps" → w ≢ codes "cut time" → (x : Outcome) → w ≢ outcome_words x
+no_outcome w a b c d k Exhausted e = a e
+no_outcome w a b c d k CutMemory e = b e
+no_outcome w a b c d k CutEntries e = c e
+no_outcome w a b c d k CutSteps e = d e
+no_outcome w a b c d k CutTime e = k e
 
 letter : (k : ℕ) (a b : List ℕ) → a ≡ b → get_or a k 0 ≡ get_or b k 0
 letter k a b e = ap (λ t. get_or t k 0) e
@@ -106,3 +107,12 @@ outcome_injective CutSteps Exhausted e = let differ : 115 ≡ 117 = letter 4 (co
 outcome_injective CutSteps CutMemory e = let differ : 115 ≡ 109 = letter 4 (codes "cut steps") (codes "cut memory") e in absurd (omega (arith, differ))
 outcome_injective CutSteps CutEntries e = let differ : 115 ≡ 101 = letter 4 (codes "cut steps") (codes "cut entries") e in absurd (omega (arith, differ))
 outcome_injective CutSteps CutSteps e = refl
+outcome_injective Exhausted CutTime e = let differ : 117 ≡ 116 = letter 4 (codes "exhausted") (codes "cut time") e in absurd (omega (arith, differ))
+outcome_injective CutTime Exhausted e = let differ : 116 ≡ 117 = letter 4 (codes "cut time") (codes "exhausted") e in absurd (omega (arith, differ))
+outcome_injective CutMemory CutTime e = let differ : 109 ≡ 116 = letter 4 (codes "cut memory") (codes "cut time") e in absurd (omega (arith, differ))
+outcome_injective CutTime CutMemory e = let differ : 116 ≡ 109 = letter 4 (codes "cut time") (codes "cut memory") e in absurd (omega (arith, differ))
+outcome_injective CutEntries CutTime e = let differ : 101 ≡ 116 = letter 4 (codes "cut entries") (codes "cut time") e in absurd (omega (arith, differ))
+outcome_injective CutTime CutEntries e = let differ : 116 ≡ 101 = letter 4 (codes "cut time") (codes "cut entries") e in absurd (omega (arith, differ))
+outcome_injective CutSteps CutTime e = let differ : 115 ≡ 116 = letter 4 (codes "cut steps") (codes "cut time") e in absurd (omega (arith, differ))
+outcome_injective CutTime CutSteps e = let differ : 116 ≡ 115 = letter 4 (codes "cut time") (codes "cut steps") e in absurd (omega (arith, differ))
+outcome_injective CutTime CutTime e = refl

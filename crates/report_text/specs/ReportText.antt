@@ -13,7 +13,7 @@ use Rattle.sched_core.specs.declared.setting.Looked.TheVariants.{Values, Lines}
 use Rattle.report_text.specs.declared.report.Version.{Version}
 use Rattle.report_text.specs.declared.report.Version.TheVariants.{One, Two, Three}
 use Rattle.report_text.specs.declared.report.Outcome.{Outcome}
-use Rattle.report_text.specs.declared.report.Outcome.TheVariants.{Exhausted, CutMemory, CutEntries, CutSteps}
+use Rattle.report_text.specs.declared.report.Outcome.TheVariants.{Exhausted, CutMemory, CutEntries, CutSteps, CutTime}
 use Rattle.report_text.specs.Report.{Column, End, Race, LineRace, Report}
 
 abbrev pub line : List ℕ → List ℕ
@@ -57,6 +57,7 @@ outcome_words Exhausted = codes "exhausted"
 outcome_words CutMemory = codes "cut memory"
 outcome_words CutEntries = codes "cut entries"
 outcome_words CutSteps = codes "cut steps"
+outcome_words CutTime = codes "cut time"
 
 -- ---- the head
 

@@ -16,6 +16,8 @@ use Rattle.sched_core.specs.declared.setting.Looked.TheVariants.{Values, Lines}
 use Rattle.sched_core.specs.Bags.{IsBagLess, AreLinesInOrder, HasLines}
 use Rattle.report_text.specs.declared.report.Version.{Version}
 use Rattle.report_text.specs.declared.report.Version.TheVariants.{One, Two, Three}
+use Rattle.report_text.specs.declared.report.Outcome.{Outcome}
+use Rattle.report_text.specs.declared.report.Outcome.TheVariants.{CutTime}
 use Rattle.report_text.specs.declared.report.ReportFault.{ReportFault}
 use Rattle.report_text.specs.Report.{Column, End, Race, LineRace, Report}
 use Rattle.report_text.specs.ReportText.{joined_by_space, cause_word, report_text}
@@ -97,11 +99,11 @@ pub record IsLineRaceForm (race : LineRace) : Type 0 where
 abbrev pub IsLineRaceBefore : LineRace → LineRace → Type 0
 IsLineRaceBefore a b = a.time < b.time
 
--- which departures there are, and what is looked at, as this version can tell
-abbrev pub HasViews : Version → Departures → Looked → Type 0
-HasViews One departures looked = (departures ≡ Taking) × (looked ≡ Values)
-HasViews Two departures looked = (departures ≡ Taking) × (looked ≡ Values)
-HasViews Three departures looked = (departures ≡ Holding) ⊎ (looked ≡ Lines)
+-- which departures there are, what is looked at, and how the exploration went, as this version tells
+abbrev pub HasViews : Version → Departures → Looked → Outcome → Type 0
+HasViews One departures looked outcome = (departures ≡ Taking) × (looked ≡ Values) × (outcome ≢ CutTime)
+HasViews Two departures looked outcome = (departures ≡ Taking) × (looked ≡ Values) × (outcome ≢ CutTime)
+HasViews Three departures looked outcome = (departures ≡ Holding) ⊎ ((looked ≡ Lines) ⊎ (outcome ≡ CutTime))
 
 -- the numbers of the head are within their limits
 pub record IsHead (r : Report) : Type 0 where
@@ -111,7 +113,7 @@ pub record IsHead (r : Report) : Type 0 where
   pub some_steps : 1 ≤ r.steps
   pub few_steps : r.steps ≤ 1000000
   pub grain : r.version ≡ One → r.grain ≡ Process
-  pub views : HasViews r.version r.departures r.looked
+  pub views : HasViews r.version r.departures r.looked r.outcome
 
 -- so many bytes as the dump has
 abbrev pub HaveBytes : List End → List (List ℕ) → Type 0

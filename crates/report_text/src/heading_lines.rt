@@ -2,14 +2,14 @@
 
 ghost use Rattle.std.specs.Prelude.{◌≡◌, ℕ, ◌≤◌, List, true, IsTrue, ◌↔◌, codes, decimal};
 ghost use Rattle.report_text.specs.Inner.Headings.{IsGrainIn, IsHeading, IsLabelLine, IsNumberLine, IsTop};
-ghost use Rattle.report_text.specs.Inner.Headings.{AreViewsIn, named_views_before, views_before};
+ghost use Rattle.report_text.specs.Inner.Headings.{AreViewsIn, IsToldIn, named_views_before, told_before, views_before};
 ghost use Rattle.report_text.specs.Inner.Headings.{grain_before, heading_before, label_line_before};
 ghost use Rattle.report_text.specs.Inner.Headings as headings;
 ghost use Rattle.report_text.specs.Inner.Places.{HasSpelled, HasTaken, Stands, TakesEach, TakesSpelled, Took};
 ghost use Rattle.report_text.specs.ReportText as spelled;
 ghost use Rattle.vast.specs.Names.{has_letters_of_name};
 ghost use Rattle.report_text.specs.declared.report.Version as versions;
-ghost use Rattle.report_text.specs.declared.report.Version.TheVariants.{One, Three};
+ghost use Rattle.report_text.specs.declared.report.Version.TheVariants.{One, Two, Three};
 ghost use Rattle.report_text.specs.declared.report.Outcome as outcomes;
 ghost use Rattle.sched_core.specs.declared.setting.Grain as grains;
 ghost use Rattle.sched_core.specs.declared.setting.Grain.TheVariants.{Process};
@@ -171,13 +171,6 @@ fn looked_line(reader: &mut Reader) -> Looked
     }
 }
 
-// Whether a version before the third couldn't tell these.
-fn are_new(departures: Departures, looked: Looked) -> bool
-    ensures { IsTrue result ↔ HasViews Three departures looked }
-{
-    departures == Departures::Holding || looked == Looked::Lines
-}
-
 // Takes the lines that tell which departures there are and what is looked at.
 fn named_views(reader: &mut Reader) -> (Departures, Looked)
     ensures read { HasSpelled reader.old reader.new (AreViewsIn Three) named_views_before result }
@@ -185,7 +178,6 @@ fn named_views(reader: &mut Reader) -> (Departures, Looked)
 {
     let departures = departures_line(reader);
     let looked = looked_line(reader);
-    reader.require(are_new(departures, looked));
     (departures, looked)
 }
 
@@ -217,6 +209,44 @@ fn outcome_line(reader: &mut Reader) -> Outcome
     }
 }
 
+// Whether a version before the third couldn't tell these.
+fn are_new(departures: Departures, looked: Looked, outcome: Outcome) -> bool
+    ensures { IsTrue result ↔ HasViews Three departures looked outcome }
+{
+    departures == Departures::Holding || looked == Looked::Lines || outcome == Outcome::CutTime
+}
+
+// Whether each version before the third tells these.
+fn are_old(departures: Departures, looked: Looked, outcome: Outcome) -> bool
+    ensures { IsTrue result ↔ HasViews Two departures looked outcome }
+{
+    departures == Departures::Taking && looked == Looked::Values && outcome != Outcome::CutTime
+}
+
+// Whether this version tells these.
+fn are_told(version: Version, departures: Departures, looked: Looked, outcome: Outcome) -> bool
+    ensures { IsTrue result ↔ HasViews version departures looked outcome }
+{
+    match version {
+        Version::One => are_old(departures, looked, outcome),
+        Version::Two => are_old(departures, looked, outcome),
+        Version::Three => are_new(departures, looked, outcome),
+    }
+}
+
+// Takes the lines that tell which departures there are, what is looked at and how the exploration went.
+fn told_lines(reader: &mut Reader, version: Version) -> (Departures, Looked, Outcome)
+    ensures read { HasSpelled reader.old reader.new (IsToldIn version) (told_before version)
+        result }
+    ensures each { TakesSpelled reader.old reader.new (IsToldIn version) (told_before version)
+        result }
+{
+    let (departures, looked) = view_lines(reader, version);
+    let outcome = outcome_line(reader);
+    reader.require(are_told(version, departures, looked, outcome));
+    (departures, looked, outcome)
+}
+
 /// Takes the lines of the head before its variables.
 pub fn read_heading<'a>(reader: &mut Reader<'a>) -> Heading<'a>
     ensures read { HasSpelled reader.old reader.new IsHeading heading_before result }
@@ -228,8 +258,7 @@ pub fn read_heading<'a>(reader: &mut Reader<'a>) -> Heading<'a>
     let depart = number_line(reader, b"depart ", 0, MOST_DEPARTURES);
     let steps = number_line(reader, b"steps ", 1, MOST_STEPS);
     let grain = grain_line(reader, version);
-    let (departures, looked) = view_lines(reader, version);
-    let outcome = outcome_line(reader);
+    let (departures, looked, outcome) = told_lines(reader, version);
     Heading {
         version,
         top,

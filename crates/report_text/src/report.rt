@@ -7,7 +7,8 @@ use sched_core::setting::{Departures, Grain, Looked};
 use std::marker::Model;
 
 /// The version of a report's text. Version 1 has no line for the grain, which is process. Version 3 tells which departures
-/// there are and what is looked at; in the others departures take and values are looked at.
+/// there are and what is looked at, and is that of an exploration that was cut for time; in the others departures take and
+/// values are looked at.
 #[derive(Clone, Copy, Debug, PartialEq, Eq)]
 pub enum Version {
     One,
@@ -22,6 +23,7 @@ pub enum Outcome {
     CutMemory,
     CutEntries,
     CutSteps,
+    CutTime,
 }
 
 /// A variable: its name, with the names of its scopes before it, joined by dots; and its width in bits.

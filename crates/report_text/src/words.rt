@@ -74,6 +74,7 @@ pub fn outcome_words(outcome: Outcome) -> &'static [u8]
         Outcome::CutMemory => b"cut memory",
         Outcome::CutEntries => b"cut entries",
         Outcome::CutSteps => b"cut steps",
+        Outcome::CutTime => b"cut time",
     }
 }
 
@@ -155,6 +156,9 @@ pub fn outcome_of(word: &[u8]) -> Option<Outcome>
     }
     if word == b"cut steps".as_slice() {
         return Some(Outcome::CutSteps);
+    }
+    if word == b"cut time".as_slice() {
+        return Some(Outcome::CutTime);
     }
     None
 }

@@ -1,5 +1,4 @@
 -- Two explorations that miss nothing list the same ends and the same races; and one lists what another does whose runs are its own.
-use Rattle.std.specs.declared.cmp.Ordering.{Ordering}
 use Rattle.std.specs.declared.cmp.Ordering.TheVariants.{Less, Equal}
 use Rattle.std.proofs.lemmas.Cmp.{tied_itself}
 use Rattle.sched_core.specs.Bags.{bag_cmp, IsBagLess}
@@ -12,8 +11,6 @@ use Rattle.vbits.specs.Vectors.{Vector}
 use Rattle.sched_core.specs.declared.end.Cause.{Cause}
 use Rattle.sched_core.specs.Rules.{IsRun, choice_at}
 use Rattle.sched_core.specs.Replay.{EndsAfter}
-use Rattle.sched_core.specs.declared.end.End.{End}
-use Rattle.sched_core.specs.declared.setting.Departures.TheVariants.{Taking}
 use Rattle.vmodel.specs.Choices.{choices}
 use Rattle.vmodel.specs.Kept.{IsIdle, IsSlotEnd}
 use Rattle.vmodel.specs.Queue.{Queue}

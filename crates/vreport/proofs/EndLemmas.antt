@@ -61,9 +61,6 @@ ended_when false n one end e h = absurd (cc)
 pub ended : (t : State) (end : End) → end_in t ≡ Some end → Ended t end
 ended t end h = let p = ended_when (length (choices t) == 0) (length (choices t)) (end_of t) end refl h in record { none = p.0; is = p.1 }
 
-pub told_where_ended : (t : State) → length (choices t) ≡ 0 → end_in t ≡ Some (end_of t)
-told_where_ended t none = ap (λ (n : ℕ). cond (n == 0) (Some (end_of t)) None) none
-
 -- a reason that follows from another one
 pub because : {F : Type 0} (e : OrMemory F) {P Q : F → Type 0} → ((f : F) → P f → Q f) → Because P e → Because Q e
 because (Fault f) g p = g f p

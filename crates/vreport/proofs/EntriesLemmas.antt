@@ -1,10 +1,9 @@
 -- The entries of a machine's exploration are entries of the rules of its setting.
-use Rattle.std.proofs.Common.{◌≡◌, ℕ, ◌<◌, ◌≤◌, ◌==◌, ◌||◌, Bool, true, false, not, List, slice_get, map, Some, refl, sym, ap, ◌∙◌, subst}
+use Rattle.std.proofs.Common.{◌≡◌, ℕ, ◌<◌, ◌≤◌, ◌==◌, ◌||◌, Bool, true, false, not, slice_get, map, Some, refl, sym, ap, ◌∙◌, subst}
 use Rattle.std.proofs.lemmas.List.{length-map}
 use Rattle.basis.proofs.Lists.{of_mapped}
 use Rattle.sched_core.specs.Rules.{stands}
 use Rattle.statebook.specs.ExplorerCore.{IsEntry}
-use Rattle.statebook.specs.Stations.{is_station}
 use Rattle.statebook.specs.declared.entry.Entry.{Entry}
 use Rattle.statebook.specs.declared.limits.Limits.{Limits}
 use Rattle.explore.specs.Found.{HasEntries}

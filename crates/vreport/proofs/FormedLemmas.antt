@@ -17,6 +17,8 @@ use Rattle.racebook.specs.Races as found
 use Rattle.racebook.specs.Order.{AreInTextOrder}
 use Rattle.report_text.specs.declared.report.Version.{Version}
 use Rattle.report_text.specs.declared.report.Version.TheVariants.{One}
+use Rattle.report_text.specs.declared.report.Outcome.{Outcome}
+use Rattle.report_text.specs.declared.report.Outcome.TheVariants.{Exhausted, CutMemory, CutEntries, CutSteps, CutTime}
 use Rattle.sched_core.specs.declared.setting.Departures.{Departures}
 use Rattle.sched_core.specs.declared.setting.Departures.TheVariants.{Taking, Holding}
 use Rattle.sched_core.specs.declared.setting.Looked.{Looked}
@@ -27,8 +29,9 @@ use Rattle.vreport.specs.Ends.{IsTrueEnd}
 use Rattle.vreport.specs.Formed.{IsFormed}
 use Rattle.vreport.specs.Inner.{HasTimeAndLogs, HasTimeAndSideLogs, HasWidth, IsWritable}
 use Rattle.sched_core.specs.Bags.{AreLinesInOrder, HasLines}
-use Rattle.vreport.specs.Reports.{IsHeadOf, ShowsLineRaces, ShowsRaces, version_for, report_line_race, report_race, report_value}
+use Rattle.vreport.specs.Reports.{IsHeadOf, ShowsLineRaces, ShowsRaces, report_line_race, report_race, report_value}
 use Rattle.vreport.specs.Truth.{column_of}
+use Rattle.vreport.specs.Versions.{version_for}
 use Rattle.vreport.specs.Written.{AreDumps}
 use Rattle.vreport.proofs.LineLemmas.{its_variable, shaped_line, shaped_value}
 use Rattle.vreport.proofs.MappedLemmas.{each_mapped, two_mapped}
@@ -41,15 +44,23 @@ AllShaped setting = (log : List (ℕ × ℕ)) (n : ℕ) → AreShaped setting.de
 -- ---- the head
 
 -- no report of an exploration is of the first version, and the version that it has tells its setting
-never_one : (departures : Departures) (looked : Looked) → version_for departures looked ≢ One
-never_one Taking Values e = cc
-never_one Taking Lines e = cc
-never_one Holding looked e = cc
+never_one : (departures : Departures) (looked : Looked) (outcome : Outcome) → version_for departures looked outcome ≢ One
+never_one Taking Values Exhausted e = cc
+never_one Taking Values CutMemory e = cc
+never_one Taking Values CutEntries e = cc
+never_one Taking Values CutSteps e = cc
+never_one Taking Values CutTime e = cc
+never_one Taking Lines outcome e = cc
+never_one Holding looked outcome e = cc
 
-its_views : (departures : Departures) (looked : Looked) → HasViews (version_for departures looked) departures looked
-its_views Taking Values = (refl, refl)
-its_views Taking Lines = inr refl
-its_views Holding looked = inl refl
+its_views : (departures : Departures) (looked : Looked) (outcome : Outcome) → HasViews (version_for departures looked outcome) departures looked outcome
+its_views Taking Values Exhausted = (refl, refl, λ e. absurd (cc))
+its_views Taking Values CutMemory = (refl, refl, λ e. absurd (cc))
+its_views Taking Values CutEntries = (refl, refl, λ e. absurd (cc))
+its_views Taking Values CutSteps = (refl, refl, λ e. absurd (cc))
+its_views Taking Values CutTime = inr (inr refl)
+its_views Taking Lines outcome = inr (inl refl)
+its_views Holding looked outcome = inl refl
 
 formed_head : (setting : Setting) (limits : Limits) (report : Report) → IsHeadOf setting limits report → has_letters_of_name setting.design.top ≡ true →
     setting.until ≤ 4611686018427387903 → IsHead report
@@ -59,10 +70,11 @@ formed_head setting limits report head top until = record {
   depart = (let e = head.depart_is in let few = limits.within.few_departures in omega (arith, e, few));
   some_steps = (let e = head.steps_is in let some = limits.within.some_steps in omega (arith, e, some));
   few_steps = (let e = head.steps_is in let few = limits.within.few_steps in omega (arith, e, few));
-  grain = λ one. absurd (never_one setting.departures setting.looked (sym head.version_is ∙ one));
-  views = subst (λ (version : Version). HasViews version report.departures report.looked) (sym head.version_is)
-      (subst (λ (departures : Departures). HasViews (version_for setting.departures setting.looked) departures report.looked) (sym head.setting_is.departures_are)
-      (subst (HasViews (version_for setting.departures setting.looked) setting.departures) (sym head.setting_is.looked_is) (its_views setting.departures setting.looked)));
+  grain = λ one. absurd (never_one setting.departures setting.looked report.outcome (sym head.version_is ∙ one));
+  views = subst (λ (version : Version). HasViews version report.departures report.looked report.outcome) (sym head.version_is)
+      (subst (λ (departures : Departures). HasViews (version_for setting.departures setting.looked report.outcome) departures report.looked report.outcome) (sym head.setting_is.departures_are)
+      (subst (λ (looked : Looked). HasViews (version_for setting.departures setting.looked report.outcome) setting.departures looked report.outcome) (sym head.setting_is.looked_is)
+      (its_views setting.departures setting.looked report.outcome)));
 }
 
 -- ---- the names

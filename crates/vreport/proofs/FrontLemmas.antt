@@ -4,7 +4,6 @@ use Rattle.basis.specs.declared.memory.NoMemory.{NoMemory}
 use Rattle.basis.specs.declared.memory.OrMemory.{OrMemory}
 use Rattle.basis.specs.declared.memory.OrMemory.TheVariants as or
 use Rattle.vdesign.specs.Design.{Design}
-use Rattle.vmodel.specs.History.{History}
 use Rattle.vmodel.specs.declared.history.Item.{Item}
 use Rattle.vmodel.specs.Run.{Setting, rules_of, items_after, history_after}
 use Rattle.vmachine.specs.Runs.{AllWaits, IsHandedSo, IsRunAt}
@@ -14,7 +13,7 @@ use Rattle.vcd_text.specs.DumpText.{vcd}
 use Rattle.vcd_text.specs.DumpLaws.{front_of_dump}
 use Rattle.byte_sinks.specs.ByteSinks.{IsByteSink, Stopped}
 use Rattle.byte_sinks.specs.ByteSinkLaws.{stopped_before}
-use Rattle.byte_sinks.specs.Held.{Appended, held_laws}
+use Rattle.byte_sinks.specs.Held.{Appended}
 use Rattle.vcd_text.specs.Sinks.{Fails, IsSameDump, Takes, items_text, progress_over}
 use Rattle.vmachine.specs.Handed.{LeavesSink}
 use Rattle.vmachine.specs.declared.run.RunFault.{RunFault}
@@ -24,7 +23,7 @@ use Rattle.vcd_text.specs.declared.progress.Progress.{Progress}
 use Rattle.vcd_text.specs.declared.progress.Progress.TheVariants.{Waiting}
 use Rattle.vcd_text.specs.declared.sink.DumpSink.{DumpSink}
 use Rattle.vreport.specs.declared.dump.DumpFront.{DumpFront}
-use Rattle.vreport.specs.Dumps.{HasDump, IsDumpFront, IsFrontOf, IsRunDump, StopsDump}
+use Rattle.vreport.specs.Dumps.{HasDump, IsDumpFront, IsFrontOf, StopsDump}
 use Rattle.vreport.specs.RunLaws.{not_behind, given_front}
 use Rattle.vreport.proofs.DumpLemmas.{the_dump}
 

@@ -7,7 +7,7 @@ use Rattle.byte_sinks.specs.Held.{Appended}
 use Rattle.report_text.specs.Report.{End}
 use Rattle.vreport.specs.Dumps.{IsRunDump, TakesDump}
 use Rattle.vreport.specs.Inner.{IsCounted}
-use Rattle.vreport.specs.Written.{AreHeld, IsDumpOf, IsHeld}
+use Rattle.vreport.specs.Written.{AreHeld, IsHeld}
 
 module _ (setting : Setting) (steps : ℕ) where
   -- a dump that was counted is that of the end that is told so

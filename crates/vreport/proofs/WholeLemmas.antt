@@ -22,7 +22,8 @@ use Rattle.vreport.specs.declared.row.Row.{Row}
 use Rattle.vreport.specs.Ends.{HasBytes, IsEndAfter, IsTrueEnd, ListsEnd, ListsEveryEnd}
 use Rattle.vreport.specs.Values.{values_line}
 use Rattle.vreport.specs.Inner.{AreEnds, AreRows, HasRow, IsEndOfRow, IsNoEnd, IsWritable, order_of}
-use Rattle.vreport.proofs.EndLemmas.{Alike, AllStand, RunThere, row_finishes, told_where_ended}
+use Rattle.racebook.proofs.InTimeLemmas.{told_where_ended}
+use Rattle.vreport.proofs.EndLemmas.{Alike, AllStand, RunThere, row_finishes}
 use Rattle.vreport.proofs.ListingLemmas.{cause_exact}
 
 abbrev pub RunHere : Setting → Type 0

@@ -2,9 +2,7 @@
 use Rattle.std.proofs.Common.{◌≡◌, ℕ, zero, suc, ◌+◌, ◌<◌, List, [], ◌∷◌, ◌++◌, length, codes, slice_get, get_or, drop, Some, refl, sym, ap, subst, ◌∙◌, arith}
 use Rattle.std.proofs.lemmas.Option.{same_Some}
 use Rattle.basis.proofs.Lists.{left_from}
-use Rattle.basis.specs.declared.memory.NoMemory.{NoMemory}
 use Rattle.basis.specs.declared.memory.OrMemory.{OrMemory}
-use Rattle.basis.specs.declared.memory.OrMemory.TheVariants.{Memory}
 use Rattle.vmodel.specs.Run.{Setting, rules_of, history_after}
 use Rattle.vcd_text.specs.DumpText.{vcd}
 use Rattle.byte_sinks.specs.ByteSinks.{IsByteSink, Stopped}

@@ -1,5 +1,6 @@
 -- *internal*: The list of these files; the first word of each says whether it has to be believed.
 pub mod Values
+pub mod Versions
 pub mod Ends
 pub mod Truth
 pub mod Reports

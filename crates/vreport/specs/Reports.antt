@@ -14,12 +14,6 @@ use Rattle.racebook.specs.LineRaces as lines
 use Rattle.racebook.specs.Races as found
 use Rattle.report_text.specs.declared.report.Outcome.{Outcome}
 use Rattle.report_text.specs.declared.report.Outcome.TheVariants as outcome
-use Rattle.report_text.specs.declared.report.Version.{Version}
-use Rattle.report_text.specs.declared.report.Version.TheVariants.{Two, Three}
-use Rattle.sched_core.specs.declared.setting.Departures.{Departures}
-use Rattle.sched_core.specs.declared.setting.Departures.TheVariants.{Taking, Holding}
-use Rattle.sched_core.specs.declared.setting.Looked.{Looked}
-use Rattle.sched_core.specs.declared.setting.Looked.TheVariants.{Values, Lines}
 use Rattle.report_text.specs.Report.{LineRace, Race, Report}
 use Rattle.statebook.specs.Ways.{SomeRunExceeds}
 use Rattle.explore.specs.Found.{HasEntries}
@@ -27,6 +21,7 @@ use Rattle.report_text.specs.WellFormed.{Each, EachTwo, IsEndBefore}
 use Rattle.vreport.specs.Ends.{HasBytes, IsTrueEnd, ListsEveryEnd}
 use Rattle.vreport.specs.Formed.{IsFormed}
 use Rattle.vreport.specs.Truth.{IsTrueHead}
+use Rattle.vreport.specs.Versions.{version_for}
 use Rattle.vreport.specs.Written.{AreHeld}
 use Rattle.vreport.specs.declared.explored.Explored.{Explored}
 use Rattle.value_text.specs.ValueText.{binary}
@@ -41,15 +36,9 @@ outcome_of (Cut Steps) = outcome.CutSteps
 abbrev pub HasOutcome : Status → Report → Type 0
 HasOutcome status report = report.outcome ≡ outcome_of status
 
--- the version of a report: the third where departures hold back or lines are looked at
-abbrev pub version_for : Departures → Looked → Version
-version_for Taking Values = Two
-version_for Taking Lines = Three
-version_for Holding looked = Three
-
 -- the head is that of the setting and of the limits
 pub record IsHeadOf (setting : Setting) (limits : Limits) (report : Report) : Type 0 where
-  pub version_is : report.version ≡ version_for setting.departures setting.looked
+  pub version_is : report.version ≡ version_for setting.departures setting.looked report.outcome
   pub setting_is : IsTrueHead setting report
   pub depart_is : report.depart ≡ limits.depart
   pub steps_is : report.steps ≡ limits.steps

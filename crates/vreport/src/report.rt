@@ -9,7 +9,8 @@ ghost use Rattle.vmachine.specs.Machines.{machine_rules};
 ghost use Rattle.vreport.specs.Ends.{GivesEveryEnd, HasBytes, HasSomeLongDump, IsTrueEnd, ListsEveryMarkedEnd};
 ghost use Rattle.vreport.specs.Formed.{IsFormed};
 ghost use Rattle.vreport.specs.Inner.{HasLog, HasSideLog, HasTimeAndLogs, HasTimeAndSideLogs, HasWidth};
-ghost use Rattle.vreport.specs.Reports.{HasOutcome, IsHeadOf, ShowsLineRaces, ShowsRaces, outcome_of as outcome_by_status, version_for as version_by, report_line_race, report_race, report_value};
+ghost use Rattle.vreport.specs.Reports.{HasOutcome, IsHeadOf, ShowsLineRaces, ShowsRaces, outcome_of as outcome_by_status, report_line_race, report_race, report_value};
+ghost use Rattle.vreport.specs.Versions.{version_for as version_by, version_of_outcome};
 ghost use Rattle.vreport.specs.Truth.{column_of};
 ghost use Rattle.vreport.specs.Written.{AreHeld};
 
@@ -81,12 +82,25 @@ fn report_races(alloc: Global, races: &[racebook::Race]) -> Result<Vec<Race>, No
     Ok(listed)
 }
 
-// The version of a report: the third where departures hold back or lines are looked at.
-fn version_for(departures: Departures, looked: Looked) -> Version
-    ensures { result ≡ version_by departures looked }
+// The version where departures take and values are looked at: the third where time was short.
+fn version_of(outcome: Outcome) -> Version
+    ensures { result ≡ version_of_outcome outcome }
+{
+    match outcome {
+        Outcome::Exhausted => Version::Two,
+        Outcome::CutMemory => Version::Two,
+        Outcome::CutEntries => Version::Two,
+        Outcome::CutSteps => Version::Two,
+        Outcome::CutTime => Version::Three,
+    }
+}
+
+// The version of a report: the third where departures hold back, lines are looked at, or time was short.
+fn version_for(departures: Departures, looked: Looked, outcome: Outcome) -> Version
+    ensures { result ≡ version_by departures looked outcome }
 {
     match (departures, looked) {
-        (Departures::Taking, Looked::Values) => Version::Two,
+        (Departures::Taking, Looked::Values) => version_of(outcome),
         (Departures::Taking, Looked::Lines) => Version::Three,
         (Departures::Holding, _) => Version::Three,
     }
@@ -183,8 +197,9 @@ pub fn hold_report(
     let found = races(alloc, machine, findings)?;
     let printed = line_races(alloc, machine, findings)?;
     let design = machine.design();
+    let outcome = outcome_of(findings.status);
     let report = Report {
-        version: version_for(machine.departures(), machine.looked()),
+        version: version_for(machine.departures(), machine.looked(), outcome),
         top: Vec::from_slice(alloc, &design.top)?,
         until: machine.until(),
         depart: limits.depart,
@@ -192,7 +207,7 @@ pub fn hold_report(
         grain: machine.grain(),
         departures: machine.departures(),
         looked: machine.looked(),
-        outcome: outcome_of(findings.status),
+        outcome,
         variables: columns_of(alloc, &design.variables)?,
         ends,
         races: report_races(alloc, &found)?,

@@ -3,7 +3,9 @@ use Rattle.std.specs.Prelude.{◌≡◌, ℕ, ◌<◌, ◌≤◌, ◌^◌, true,
 use Rattle.sched_core.specs.declared.setting.Grain.{Grain}
 use Rattle.sched_core.specs.declared.setting.Grain.TheVariants.{Process}
 use Rattle.sched_core.specs.declared.setting.Departures.{Departures}
+use Rattle.sched_core.specs.declared.setting.Departures.TheVariants.{Taking}
 use Rattle.sched_core.specs.declared.setting.Looked.{Looked}
+use Rattle.sched_core.specs.declared.setting.Looked.TheVariants.{Values}
 use Rattle.report_text.specs.declared.report.Version.{Version}
 use Rattle.report_text.specs.declared.report.Version.TheVariants.{One, Two, Three}
 use Rattle.report_text.specs.declared.report.Outcome.{Outcome}
@@ -76,7 +78,7 @@ pub record IsHeading (h : Heading) : Type 0 where
   pub some_steps : 1 ≤ h.steps
   pub few_steps : h.steps ≤ 1000000
   pub grain : h.version ≡ One → h.grain ≡ Process
-  pub views : HasViews h.version h.departures h.looked
+  pub views : HasViews h.version h.departures h.looked h.outcome
 
 abbrev pub IsVersionLine : List ℕ → Version → List ℕ → Type 0
 IsVersionLine text version rest = text ≡ label_line_before (codes "vrace report ") (decimal (version_number version)) rest
@@ -101,6 +103,18 @@ IsDeparturesLine text departures rest = text ≡ label_line_before (codes "depar
 abbrev pub IsLookedLine : List ℕ → Looked → List ℕ → Type 0
 IsLookedLine text looked rest = text ≡ label_line_before (codes "looked ") (looked_word looked) rest
 
--- this version can tell these
+-- what a version without lines for them tells
 abbrev pub AreViewsIn : Version → Views → Type 0
-AreViewsIn version views = HasViews version views.0 views.1
+AreViewsIn One views = (views.0 ≡ Taking) × (views.1 ≡ Values)
+AreViewsIn Two views = (views.0 ≡ Taking) × (views.1 ≡ Values)
+AreViewsIn Three views = Unit {0}
+
+-- which departures there are, what is looked at, and how the exploration went
+abbrev pub Told : Type 0
+Told = Departures × Looked × Outcome
+
+abbrev pub IsToldIn : Version → Told → Type 0
+IsToldIn version told = HasViews version told.0 told.1 told.2
+
+abbrev pub told_before : Version → Told → List ℕ → List ℕ
+told_before version told rest = views_before version (told.0, told.1) (label_line_before (codes "state ") (outcome_words told.2) rest)

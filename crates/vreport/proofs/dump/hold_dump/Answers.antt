@@ -1,4 +1,4 @@
-use Rattle.std.proofs.Common.{rules, ◌≡◌, ℕ, List, ◌∙◌, subst}
+use Rattle.std.proofs.Common.{rules, ℕ, List, ◌∙◌, subst}
 use Rattle.std.specs.Prelude.{⊤}
 use Rattle.byte_sinks.specs.Held.{Appended, held_laws}
 use Rattle.vcd_text.specs.Sinks.{Takes}

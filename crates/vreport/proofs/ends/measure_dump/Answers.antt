@@ -4,7 +4,7 @@ use Rattle.basis.specs.Reasons.{Because, IfFault}
 use Rattle.basis.specs.declared.memory.OrMemory.{OrMemory}
 use Rattle.byte_sinks.specs.declared.fault.TooMany.{TooMany}
 use Rattle.vmodel.specs.Run.{Setting}
-use Rattle.vreport.specs.Dumps.{IsDumpFront, IsHeldDump}
+use Rattle.vreport.specs.Dumps.{IsHeldDump}
 use Rattle.vreport.specs.Ends.{HasLongDump}
 use Rattle.vreport.specs.Inner.{CountsDump}
 use Rattle.vreport.specs.declared.dump.DumpFront.{DumpFront}

@@ -1,4 +1,4 @@
-use Rattle.std.proofs.Common.{ap, ◌∙◌, subst, sym}
+use Rattle.std.proofs.Common.{ap, ◌∙◌}
 use Rattle.racebook.specs.LineRaces as lines
 use Rattle.vreport.specs.Inner.{HasTimeAndSideLogs}
 use Rattle.vreport.specs.Reports.{report_line_race}

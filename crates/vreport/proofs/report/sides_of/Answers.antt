@@ -1,4 +1,4 @@
-use Rattle.std.proofs.Common.{arith, sym, ap, subst, ◌∙◌}
+use Rattle.std.proofs.Common.{arith, sym, subst, ◌∙◌}
 use Rattle.sched_core.specs.Logs.{IsLog}
 use Rattle.racebook.specs.LineRaces.{Side}
 use Rattle.vreport.specs.Inner.{HasSideLog}
