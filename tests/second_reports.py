@@ -248,12 +248,14 @@ def is_printed(made, report, time, bag, log):
     return run is not None and any(at == time and printed == bag for (at, _), printed in zip(slots(run), run.bags))
 
 
-def verdict(made, text):
-    """What a check of the text answers."""
+def verdict(made, text, until=2**62 - 1, steps=1_000_000):
+    """What a check of the text answers that allows its head so much."""
     try:
         report = read(text)
     except IllFormed:
         return "vrace: E501"
+    if report.until > until or report.steps > steps:
+        return "vrace: E404"
     if report.top != made.top:
         return "vrace: E301"
     if report.variables != list(zip(made.names(), made.lengths)):

@@ -7,7 +7,9 @@ use std::alloc::Global;
 use std::io;
 use std::io::{ErrorKind, Read, Write};
 use std::test::Fail;
-use vrace::{Fault, Options, Show, check_text, explore_text_alone, read_text, replay_text};
+use vrace::{
+    Allowed, Fault, Options, Show, check_text, explore_text_alone, read_text, replay_text,
+};
 
 const DUMPING: &[u8] =
     b"module tb; reg a; initial begin $dumpvars; a = 0; #5 a = 1; #5 $finish; end endmodule\n";
@@ -206,9 +208,9 @@ fn readers_that_fail(rt: HostRuntime) -> Result<(), Fail> {
 fn reports_cut_short(rt: HostRuntime) -> Result<(), Fail> {
     let files = files(rt.alloc(), RACING)?;
     for length in 0..REPORT.len() {
-        let answer = check_text(rt.alloc(), &files, &REPORT[..length]);
+        let answer = check_text(rt.alloc(), &files, &REPORT[..length], Allowed::all());
         assert!(rt; answer == Err(Fault::BadReport), "{length} bytes");
     }
-    assert!(rt; check_text(rt.alloc(), &files, REPORT) == Ok(()));
+    assert!(rt; check_text(rt.alloc(), &files, REPORT, Allowed::all()) == Ok(()));
     Ok(())
 }

@@ -6,7 +6,7 @@ use explore;
 use sched_core::setting::Grain;
 use std::alloc::Global;
 use std::test::Fail;
-use vrace::{Options, Status, check_text, explore_text_alone};
+use vrace::{Allowed, Options, Status, check_text, explore_text_alone};
 
 // The order of the first two writes decides what `x` is to the end, and `n` at each time from 1 on.
 const TWO_LOGS: &[u8] = b"module tb; reg x; reg [15:0] n;
@@ -37,6 +37,6 @@ fn many_races_of_two_logs(rt: HostRuntime) -> Result<(), Fail> {
     let (status, report) = explored(rt.alloc(), &files)?;
     assert!(rt; status == Status::Raced(explore::Status::Exhausted));
     assert!(rt; report.len() > 400_000);
-    assert!(rt; check_text(rt.alloc(), &files, &report) == Ok(()));
+    assert!(rt; check_text(rt.alloc(), &files, &report, Allowed::all()) == Ok(()));
     Ok(())
 }

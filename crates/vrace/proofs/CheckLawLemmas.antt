@@ -1,5 +1,5 @@
 -- One text, one report, one answer to whether it is true.
-use Rattle.std.proofs.Common.{◌≡◌, ℕ, zero, suc, ◌-◌, ◌<◌, ◌^◌, List, [], ◌∷◌, length, slice_get, Some, inl, inr, sym, subst, ◌∙◌}
+use Rattle.std.proofs.Common.{◌≡◌, ℕ, zero, suc, ◌-◌, ◌<◌, ◌^◌, List, [], ◌∷◌, length, slice_get, Some, inl, inr, sym, subst, ◌∙◌, arith}
 use Rattle.std.proofs.lemmas.Option.{same_Some}
 use Rattle.vsrc.specs.Expansion.{expanded_text, expanded_timescale}
 use Rattle.vmodel.specs.Run.{Setting}
@@ -9,7 +9,7 @@ use Rattle.vreport.specs.Truth.{AreTrueEnds, IsTrueEndOf, IsTrueReport}
 use Rattle.report_check.specs.FirstBad.{IsFirstBad}
 use Rattle.report_check.specs.declared.check.FirstBad.{FirstBad}
 use Rattle.report_check.specs.declared.check.FirstBad.TheVariants as bad
-use Rattle.vrace.specs.Checks.{Checked, HasNoSetting, IsCheckReason, IsFalseAt, IsReportReason, IsTrueText, setting_by}
+use Rattle.vrace.specs.Checks.{AsksTooMuch, Checked, HasNoSetting, IsCheckReason, IsFalseAt, IsReportReason, IsTrueText, all_allowed, setting_by}
 use Rattle.vrace.specs.Refusals.{IsOfMemory}
 use Rattle.vrace.specs.Replays.{IsDesignOfFiles}
 use Rattle.vrace.specs.declared.fault.Fault.{Fault}
@@ -99,3 +99,10 @@ module _ (laws : Laws) (one_report : OneReportForText) (files : List (List ℕ))
     pub not_refused : (fault : Fault) → IsCheckReason files text fault → IsOfMemory fault
     not_refused fault (inl r) = not_for_report fault r
     not_refused fault (inr r) = not_for_files fault r
+
+-- no head asks for more than whatever a head may ask for
+pub all_within : (text : List ℕ) → AsksTooMuch all_allowed text → ⊥
+all_within text much = elim much.more [
+  | inl later ↦ omega (arith, later, much.is_report_text.0.head.until)
+  | inr longer ↦ omega (arith, longer, much.is_report_text.0.head.few_steps)
+]

@@ -1,16 +1,17 @@
--- From the check of a machine to that of files.
+-- From the check of a machine to that of files, where the head of the report asks for no more than is allowed.
 use Rattle.std.proofs.Common.{◌≡◌, inl, ℕ, List, [], ◌∷◌, length, Some, refl, sym, ap, subst, ◌∙◌, suc}
 use Rattle.report_text.specs.Report.{End, Report}
-use Rattle.report_text.specs.WellFormed.{HaveBytes, IsReportText}
+use Rattle.report_text.specs.ReportText.{report_text}
+use Rattle.report_text.specs.WellFormed.{HaveBytes, IsNoReportText, IsReport, IsReportText}
 use Rattle.vreport.specs.Truth.{IsTrueReport}
 use Rattle.report_check.specs.FirstBad.{IsFirstBad}
 use Rattle.report_check.specs.declared.check.FirstBad.{FirstBad}
 use Rattle.report_check.specs.declared.check.FirstBad.TheVariants.{Head, End as BadEnd, Race as BadRace}
 use Rattle.vdesign.specs.Design.{Design}
-use Rattle.sched_core.specs.declared.setting.Grain.{Grain}
 use Rattle.vrace.specs.Replays.{AreRead, IsDesignOfFiles}
 use Rattle.vmodel.specs.Run.{Setting}
-use Rattle.vrace.specs.Checks.{IsCheckReason, IsMachineOf, IsReportReason, IsTrueText, fault_by}
+use Rattle.vrace.specs.Checks.{AsksMore, AsksTooMuch, IsCheckReason, IsMachineOf, IsReportReason, IsTrueText, fault_by}
+use Rattle.vrace.specs.declared.allowed.Allowed.{Allowed}
 use Rattle.vrace.specs.declared.fault.Fault.{Fault}
 
 -- a dump for each end
@@ -56,3 +57,15 @@ machine_made files report told top design machine told_is top_is read of is = re
   };
   machine_is = is ∙ ap (λ (r : Report). record { design = design; until = r.until; grain = r.grain; departures = r.departures; looked = r.looked }) told_is;
 }
+
+module _ (allowed : Allowed) (text : List ℕ) where
+  -- a text of no report asks for nothing
+  pub no_report : IsNoReportText text → AsksTooMuch allowed text → ⊥
+  no_report none much = none much.report much.dumps much.is_report_text.0 much.is_report_text.1
+
+  -- the one report that the text is of asks for no more
+  pub no_more : (report : Report) (dumps : List (List ℕ)) →
+      ((r : Report) (others : List (List ℕ)) → IsReport r others → text ≡ report_text r others → (report ≡ r) × (dumps ≡ others)) →
+      (AsksMore allowed report → ⊥) → AsksTooMuch allowed text → ⊥
+  no_more report dumps only less much =
+      less (subst (AsksMore allowed) (sym (only much.report much.dumps much.is_report_text.0 much.is_report_text.1).0) much.more)

@@ -1,5 +1,5 @@
--- *product rule*: When the text of a report is true of files; and when a check is refused.
-use Rattle.std.specs.Prelude.{◌≡◌, ℕ, ◌⊎◌, List, Some, map}
+-- *product rule*: When the text of a report is true of files; how much its head may ask for; and when a check is refused.
+use Rattle.std.specs.Prelude.{◌≡◌, ℕ, ◌<◌, ◌≤◌, ◌⊎◌, List, Some, map}
 use Rattle.std.specs.Borrow.{Bor}
 use Rattle.report_text.specs.Report.{Report}
 use Rattle.report_text.specs.WellFormed.{IsNoReportText, IsReportText}
@@ -12,7 +12,8 @@ use Rattle.vrace.specs.Request.{Request}
 use Rattle.vrace.specs.Explores.{Searched, setting_for}
 use Rattle.vrace.specs.Refusals.{IsDesignFault}
 use Rattle.vrace.specs.declared.fault.Fault.{Fault}
-use Rattle.vrace.specs.declared.fault.Fault.TheVariants.{BadReport, FalseEnd, FalseHead, FalseRace, Memory}
+use Rattle.vrace.specs.declared.fault.Fault.TheVariants.{BadReport, FalseEnd, FalseHead, FalseRace, Memory, OutOfLimit}
+use Rattle.vrace.specs.declared.allowed.Allowed.{Allowed}
 
 -- what the head of a report asks for
 abbrev pub asked_by : Report → Request
@@ -44,6 +45,29 @@ pub record IsMachineOf (files : List (List ℕ)) (report : Report) (machine : Se
 pub record IsTrueText (files : List (List ℕ)) (text : List ℕ) : Type 0 where
   pub checked : Checked files text
   pub truth : IsTrueReport (setting_by files text checked) checked.report checked.dumps
+
+-- ---- how much the head may ask for
+
+-- each number is one that the head of some report has
+pub record MayBeAllowed (until steps : ℕ) : Type 0 where
+  pub not_too_late : until ≤ 4611686018427387903
+  pub some_steps : 1 ≤ steps
+  pub few_steps : steps ≤ 1000000
+
+-- whatever a head asks for is allowed
+abbrev pub all_allowed : Allowed
+all_allowed = record { until = 4611686018427387903; steps = 1000000 }
+
+-- the head asks for a later time, or for more steps of a run, than is allowed
+abbrev pub AsksMore : Allowed → Report → Type 0
+AsksMore allowed report = (allowed.until < report.until) ⊎ (allowed.steps < report.steps)
+
+-- the text is that of a report whose head asks for more than is allowed
+pub record AsksTooMuch (allowed : Allowed) (text : List ℕ) : Type 0 where
+  pub report : Report
+  pub dumps : List (List ℕ)
+  pub is_report_text : IsReportText text (report, dumps)
+  pub more : AsksMore allowed report
 
 -- ---- refusals
 
@@ -77,6 +101,21 @@ pub record HasNoSetting (files : List (List ℕ)) (text : List ℕ) (fault : Fau
 -- why a check is refused: for the report, or for the files
 abbrev pub IsCheckReason : List (List ℕ) → List ℕ → Fault → Type 0
 IsCheckReason files text fault = IsReportReason files text fault ⊎ HasNoSetting files text fault
+
+-- E404 says that the head asks for more than is allowed
+abbrev pub IsLimitReason : Allowed → List ℕ → Fault → Type 0
+IsLimitReason allowed text OutOfLimit = AsksTooMuch allowed text
+IsLimitReason allowed text other = ⊥
+
+-- why a check that allows so much is refused
+abbrev pub IsCheckReasonUnder : Allowed → List (List ℕ) → List ℕ → Fault → Type 0
+IsCheckReasonUnder allowed files text fault = IsLimitReason allowed text fault ⊎ IsCheckReason files text fault
+
+-- where the head asks for too much, no other fault comes
+abbrev pub IsOfLimit : Fault → Type 0
+IsOfLimit OutOfLimit = Unit {0}
+IsOfLimit (Memory m) = Unit {0}
+IsOfLimit other = ⊥
 
 -- so it is of each text that tells this report with these dumps
 abbrev pub OfItsText : Report → List (Bor (List ℕ)) → (List ℕ → Type 0) → Type 0

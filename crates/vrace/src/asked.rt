@@ -13,7 +13,7 @@ use sched_core::setting::{Departures, Grain, Looked};
 use statebook::Limits;
 
 /// The latest time to which a run may go, 2^62 - 1.
-const UNTIL_MAX: u64 = 4_611_686_018_427_387_903;
+pub(crate) const UNTIL_MAX: u64 = 4_611_686_018_427_387_903;
 
 impl<'a> Options<'a> {
     /// The options, if each number is within its limit: `until` 0 to 2^62 - 1, `depart` 0 to 4, `steps` and `entries` 1 to

@@ -197,18 +197,9 @@ fn design_of_text(alloc: Global, text: &Expanded, top: Option<&[u8]>) -> Result<
         IsDesignOf text.now.text text.now.timescale (named_text top.entry) placed.design) }
     ensures err { IfErr result (IsTextReason text.now (named_text top.entry)) }
 {
-    let tokens = match tokens_of(alloc, text) {
-        Ok(tokens) => tokens,
-        Err(fault) => return Err(fault),
-    };
-    let tree = match tree_of(alloc, &tokens) {
-        Ok(tree) => tree,
-        Err(fault) => return Err(fault),
-    };
-    let design = match design_of_tree(alloc, &tokens, &tree, top, text.timescale()) {
-        Ok(design) => design,
-        Err(fault) => return Err(fault),
-    };
+    let tokens = tokens_of(alloc, text)?;
+    let tree = tree_of(alloc, &tokens)?;
+    let design = design_of_tree(alloc, &tokens, &tree, top, text.timescale())?;
     with_places(alloc, &tokens, design)
 }
 
@@ -229,10 +220,7 @@ pub fn placed_design_of(
     if is_too_long(files) {
         return Err(Fault::TooLong);
     }
-    let text = match text_of(alloc, files) {
-        Ok(text) => text,
-        Err(fault) => return Err(fault),
-    };
+    let text = text_of(alloc, files)?;
     design_of_text(alloc, &text, top)
 }
 
@@ -244,10 +232,7 @@ pub fn design_of(alloc: Global, files: &[Vec<u8>], top: Option<&[u8]>) -> Result
     ensures err { IfErr result (λ fault.
         IsDesignFault (file_bytes files.now) (named_text top.entry) fault) }
 {
-    match placed_design_of(alloc, files, top) {
-        Ok(placed) => Ok(placed.design),
-        Err(fault) => Err(fault),
-    }
+    Ok(placed_design_of(alloc, files, top)?.design)
 }
 
 // Whether the files together are too long.

@@ -78,21 +78,15 @@ fn machine_of(alloc: Global, files: &[Vec<u8>], options: &Options<'_>) -> Result
     ensures unwritten { IfErr result IsUnwritten }
 {
     elaboration_law();
-    let design = match design_of(alloc, files, options.top) {
-        Ok(design) => design,
-        Err(fault) => return Err(fault),
-    };
-    match machine_in(
+    let design = design_of(alloc, files, options.top)?;
+    Ok(machine_in(
         alloc,
         design,
         options.until,
         options.grain,
         options.departures,
         options.looked,
-    ) {
-        Ok(machine) => Ok(machine),
-        Err(refused) => Err(Fault::Memory(refused)),
-    }
+    )?)
 }
 
 // Writes the report of what was explored.
@@ -202,10 +196,7 @@ pub fn explore_text_alone<W: Write>(
     ensures failures { IfErr result (λ fault.
         writer.new.failures ≡ failures_after fault writer.old.failures) }
 {
-    let machine = match machine_of(alloc, files, options) {
-        Ok(machine) => machine,
-        Err(fault) => return Err(fault),
-    };
+    let machine = machine_of(alloc, files, options)?;
     explore_machine_alone(alloc, &machine, &options.limits, writer)
 }
 
@@ -240,10 +231,7 @@ pub fn explore_text<R: Threads + Wait + Sync, G: Gate, W: Write>(
     if workers < 1 || 64 < workers {
         return Err(Fault::OutOfLimit);
     }
-    let machine = match machine_of(alloc, files, options) {
-        Ok(machine) => machine,
-        Err(fault) => return Err(fault),
-    };
+    let machine = machine_of(alloc, files, options)?;
     let limits = &options.limits;
     explore_machine_shared(rt, alloc, &machine, limits, workers as usize, gate, writer)
 }

@@ -78,7 +78,7 @@ pub enum Fault {
     NoSuchChoice,
     /// The run takes more steps than allowed.
     TooManySteps,
-    /// A number is out of its limit.
+    /// A number is out of its limit, or the head of a report asks for more than is allowed.
     OutOfLimit,
     /// The report is ill formed.
     BadReport,

@@ -3,7 +3,7 @@
 
 ghost use Rattle.std.specs.Prelude.{◌≡◌, ℕ, ◌<◌, ◌^◌, List, length};
 ghost use Rattle.vrace.specs.Request.{Request};
-ghost use Rattle.vrace.specs.Checks.{IsCheckReason, IsTrueText};
+ghost use Rattle.vrace.specs.Checks.{AsksTooMuch, IsCheckReason, IsTrueText, all_allowed};
 ghost use Rattle.vrace.specs.Explores.{ExploredFilesAgree, HoldingFilesListAll, LinesOfFilesRefine};
 ghost use Rattle.vrace.specs.Replays.{IsShown};
 ghost use Rattle.vrace.specs.Refusals.{IsReason, IsOfMemory, IsOfWriting};
@@ -32,12 +32,14 @@ pub fn replay_law()
     log_text_law();
 }
 
-/// Where all that a text lists is true of files, no fault has its reason but want of memory. So the answers Ok and a refusal
-/// of `check_text` rule each other out, for a text whose bytes can be counted in 64 bits.
+/// Where all that a text lists is true of files, no fault has its reason but want of memory, or that the head asks for more than
+/// is allowed. So the answer Ok and any other refusal of `check_text` rule each other out, for a text whose bytes can be counted
+/// in 64 bits. No report asks for more than `Allowed::all`.
 pub fn check_law()
     ensures refused { (files : List (List ℕ)) (text : List ℕ) (fault : Fault) →
         length text < 2 ^ 64 → IsTrueText files text → IsCheckReason files text fault →
         IsOfMemory fault }
+    ensures all { (text : List ℕ) → ¬ AsksTooMuch all_allowed text }
 {
     lexing_law();
     source_law();

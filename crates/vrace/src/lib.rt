@@ -4,6 +4,7 @@
 // `IsTrueText` of specs/Checks.antt; and each fault has its reason (specs/Refusals.antt).
 #![tactic(auto)]
 
+mod allowed;
 mod asked;
 mod checking;
 mod design;
@@ -17,6 +18,7 @@ mod read;
 mod replay;
 mod trace;
 
+pub use allowed::Allowed;
 pub use checking::check_text;
 pub use explore::Reason;
 pub use exploring::{Status, explore_text, explore_text_alone};

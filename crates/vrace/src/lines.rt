@@ -176,10 +176,7 @@ pub(crate) fn write_lines_from<O: ByteSink>(
         in_force,
         mut run,
     } = front;
-    match put(byte_sink, text.text()) {
-        Ok(()) => {}
-        Err(fault) => return Err(fault),
-    }
+    put(byte_sink, text.text())?;
     let mut sink = LinesSink::resumed(alloc, machine.design(), byte_sink, in_force);
     let result = fill_on(machine, &mut run, steps, &mut sink);
     let byte_sink = sink.into_byte_sink();

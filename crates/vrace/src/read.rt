@@ -60,10 +60,7 @@ pub fn read_text<R: Read>(alloc: Global, reader: &mut Metered<R>) -> Result<Vec<
     let mut text = Vec::new(alloc);
     let mut piece = [0; PIECE];
     'reads: loop {
-        let count = match read_more(reader, &mut piece, &mut text) {
-            Ok(count) => count,
-            Err(fault) => return Err(fault),
-        };
+        let count = read_more(reader, &mut piece, &mut text)?;
         if count == 0 {
             return Ok(text);
         }

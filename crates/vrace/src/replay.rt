@@ -135,10 +135,7 @@ fn dump_run<W: Write>(
         Ends W.contents (IsRunDump machine.now log.now steps)
         machine.now log.now steps writer.old writer.new fault) }
 {
-    match see_end(machine, log, steps) {
-        Ok(()) => {}
-        Err(fault) => return Err(fault),
-    }
+    see_end(machine, log, steps)?;
     write_run(alloc, machine, log, steps, writer)
 }
 
@@ -176,10 +173,7 @@ fn print_run<W: Write>(
         Ends W.contents (IsRunLines machine.now log.now steps) machine.now log.now steps writer.old
         writer.new fault) }
 {
-    match see_end(machine, log, steps) {
-        Ok(()) => {}
-        Err(fault) => return Err(fault),
-    }
+    see_end(machine, log, steps)?;
     write_run_lines(alloc, machine, log, steps, writer)
 }
 
@@ -381,31 +375,23 @@ pub(crate) fn replay_input_of(
         IsReason (file_bytes files.now) (request_of options.now) log.now fault) }
     ensures unwritten { IfErr result IsUnwritten }
 {
-    let placed = match placed_design_of(alloc, files, options.top) {
-        Ok(placed) => placed,
-        Err(fault) => return Err(fault),
-    };
-    let (head, members) = match named_log_of(alloc, log) {
-        Ok(named) => named,
-        Err(fault) => return Err(fault),
-    };
+    let placed = placed_design_of(alloc, files, options.top)?;
+    let (head, members) = named_log_of(alloc, log)?;
     let grain = grain_under(head, options.grain);
     let departures = departures_under(head, options.departures);
-    match machine_in(
+    let machine = machine_in(
         alloc,
         placed.design,
         options.until,
         grain,
         departures,
         Looked::Values,
-    ) {
-        Ok(machine) => Ok(ReplayInput {
-            machine,
-            origins: placed.origins,
-            members,
-        }),
-        Err(refused) => Err(Fault::Memory(refused)),
-    }
+    )?;
+    Ok(ReplayInput {
+        machine,
+        origins: placed.origins,
+        members,
+    })
 }
 
 /// Writes what is to be shown of the run of the files under the log to the writer: its value change dump, or its printed lines.
@@ -437,10 +423,7 @@ pub fn replay_text<W: Write>(
     ensures failures { IfErr result (λ fault.
         writer.new.failures ≡ failures_after fault writer.old.failures) }
 {
-    let input = match replay_input_of(alloc, files, options, log) {
-        Ok(input) => input,
-        Err(fault) => return Err(fault),
-    };
+    let input = replay_input_of(alloc, files, options, log)?;
     let steps = options.limits.steps;
     show_run(alloc, &input.machine, &input.members, steps, show, writer)
 }

@@ -39,15 +39,9 @@ pub fn trace_text<W: Write>(
     ensures failures { IfErr result (λ fault.
         writer.new.failures ≡ failures_after fault writer.old.failures) }
 {
-    let input = match replay_input_of(alloc, files, options, log) {
-        Ok(input) => input,
-        Err(fault) => return Err(fault),
-    };
+    let input = replay_input_of(alloc, files, options, log)?;
     let steps = options.limits.steps;
-    match see_end(&input.machine, &input.members, steps) {
-        Ok(()) => {}
-        Err(fault) => return Err(fault),
-    }
+    see_end(&input.machine, &input.members, steps)?;
     match write_trace(
         alloc,
         &input.machine,

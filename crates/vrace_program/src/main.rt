@@ -20,12 +20,12 @@ use std::sync::Wait;
 use std::thread::Threads;
 use std::{env, io};
 use vrace::{
-    Fault, Options, Status, check_text, explore_text, explore_text_alone, read_text, replay_text,
-    trace_text,
+    Allowed, Fault, Options, Status, check_text, explore_text, explore_text_alone, read_text,
+    replay_text, trace_text,
 };
 use words::{
     Request, Search, Wanted, commands, files_of, has_dashed_log, has_dashed_report, has_dashed_top,
-    has_joined_letters, log_of, report_of, request_of, search_of, wanted_of,
+    has_joined_letters, log_of, report_of, request_of, search_of, steps_of, until_of, wanted_of,
 };
 use workpool::OpenGate;
 
@@ -194,11 +194,16 @@ fn explore<R: Threads + Wait + Sync>(
     Ok(status_code(status))
 }
 
-// Checks the report against the files, and says ok where all of it is true.
-fn check(rt: &HostRuntime, report: &str, files: &[&str]) -> Result<ExitCode, Stop> {
+// Checks the report, if it asks for no more than is allowed, against the files, and says ok where all of it is true.
+fn check(
+    rt: &HostRuntime,
+    report: &str,
+    files: &[&str],
+    allowed: Allowed,
+) -> Result<ExitCode, Stop> {
     let report = read_file(rt, report)?;
     let texts = texts(rt, files)?;
-    check_text(rt.alloc(), &texts, &report)?;
+    check_text(rt.alloc(), &texts, &report, allowed)?;
     match println!(rt; "ok") {
         Ok(()) => Ok(ExitCode::SUCCESS),
         Err(_) => Err(Stop::Refused(Fault::Write)),
@@ -293,10 +298,11 @@ fn check_by<'a>(rt: &HostRuntime, matches: &ArgMatches<'a>) -> Result<ExitCode, 
     if has_dashed_report(matches) {
         return Err(Stop::Usage);
     }
+    let allowed = Allowed::new(until_of(matches), steps_of(matches))?;
     let Ok(files) = files_of(rt.alloc(), matches) else {
         return Err(Stop::NoMemory);
     };
-    check(rt, report_of(matches), &files)
+    check(rt, report_of(matches), &files, allowed)
 }
 
 // The exit status of a refusal: 1 where an item of a report isn't true.

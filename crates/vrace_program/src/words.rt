@@ -139,9 +139,23 @@ fn explore_command<'a>(alloc: Global) -> Result<Command<'a>, NoMemory> {
 
 fn check_command<'a>(alloc: Global) -> Result<Command<'a>, NoMemory> {
     let report = option(alloc, "report", "REPORT", "The file of the report").required(true);
+    let until = number(
+        alloc,
+        "until",
+        "The greatest time limit that the report may ask for, in units of the precision",
+        "4611686018427387903",
+    );
+    let steps = number(
+        alloc,
+        "steps",
+        "The most steps of one run that the report may ask for",
+        "1000000",
+    );
     let command = Command::new(alloc, "check")
         .about("Runs each log of a report; says ok, or the first item that isn't true")
         .arg(report)?
+        .arg(until)?
+        .arg(steps)?
         .arg(files(alloc))?;
     Ok(command)
 }
@@ -242,6 +256,16 @@ pub fn report_of<'a>(matches: &ArgMatches<'a>) -> &'a str {
     matches.get_str("report").unwrap_or("")
 }
 
+/// The value of `--until`.
+pub fn until_of(matches: &ArgMatches<'_>) -> u64 {
+    matches.get_one::<u64>("until").unwrap_or(0)
+}
+
+/// The value of `--steps`.
+pub fn steps_of(matches: &ArgMatches<'_>) -> u64 {
+    matches.get_one::<u64>("steps").unwrap_or(0)
+}
+
 /// The files of Verilog.
 pub fn files_of<'a>(alloc: Global, matches: &ArgMatches<'a>) -> Result<Vec<&'a str>, NoMemory> {
     match matches.get_strs("FILE") {
@@ -296,8 +320,8 @@ pub fn request_of<'a>(alloc: Global, matches: &ArgMatches<'a>) -> Result<Request
     };
     Ok(Request {
         top: matches.get_str("top"),
-        until: matches.get_one::<u64>("until").unwrap_or(0),
-        steps: matches.get_one::<u64>("steps").unwrap_or(0),
+        until: until_of(matches),
+        steps: steps_of(matches),
         grain,
         departures: departures_of(matches),
         files,

@@ -5,5 +5,5 @@ use Rattle.vrace.proofs.design.placed_design_of.Goals as goal
 
 pub returns-clause-err : goal.returns-clause-err
 returns-clause-err c =
-    err_of_text c.design_of_text.result (file_bytes c.args.files.now) c.in-Ok.text (option_map (λ name. name.now) c.args.top)
-    c.in-Ok.ensures.read c.in-Ok.ensures.ok c.design_of_text.ensures.err
+    err_of_text c.design_of_text.result (file_bytes c.args.files.now) c.in_ok-text.text (option_map (λ name. name.now) c.args.top)
+    c.in_ok-text.ensures.read c.in_ok-text.ensures.ok c.design_of_text.ensures.err

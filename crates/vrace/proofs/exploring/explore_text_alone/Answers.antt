@@ -1,5 +1,5 @@
 use Rattle.std.proofs.Common.{◌≡◌}
-use Rattle.std.proofs.lemmas.Result.{IfErr-weaker, IfOk-weaker}
+use Rattle.std.proofs.lemmas.Result.{err_from_is_err_and, IfErr-weaker, IfOk-weaker}
 use Rattle.vsrc.specs.Source.{file_bytes}
 use Rattle.vrace.specs.Request.{request_of}
 use Rattle.vrace.specs.Explores.{FilesHaveEntriesWhereCut, HasEntriesWhereCut, EndsSearch, Explores, IsExploreReason, LeavesReport, Reports}
@@ -7,34 +7,36 @@ use Rattle.vrace.specs.RunDumps.{failures_after}
 use Rattle.vrace.proofs.ExploreLemmas.{explore_failures, explore_left, explore_reason, explores, files_have}
 use Rattle.vrace.proofs.exploring.explore_text_alone.Goals as goal
 
-pub returns-in-Err-clause-failures : goal.returns-in-Err-clause-failures
-returns-in-Err-clause-failures g c = c.in-Err.ensures.unwritten c.args.writer.now.failures
+pub returns-in_err-machine-clause-failures : goal.returns-in_err-machine-clause-failures
+returns-in_err-machine-clause-failures g c =
+    let p = err_from_is_err_and c.from_residual.result c.from_residual.ensures.1 in
+    rw (p.1, p.2) (c.in_err-machine.ensures.unwritten c.args.writer.now.failures)
 
 pub returns-clause-report : goal.returns-clause-report
 returns-clause-report g c =
-    IfOk-weaker c.explore_machine_alone.result (λ status. Reports g.W.Write.contents c.in-Ok.machine c.args.options.now.limits status c.args.writer.now c.explore_machine_alone.new.writer)
+    IfOk-weaker c.explore_machine_alone.result (λ status. Reports g.W.Write.contents c.in_ok-machine.machine c.args.options.now.limits status c.args.writer.now c.explore_machine_alone.new.writer)
     (λ status. Explores g.W.Write.contents (file_bytes c.args.files.now) (request_of c.args.options.now) c.args.options.now.limits status c.args.writer.now c.explore_machine_alone.new.writer)
-    (explores (file_bytes c.args.files.now) (request_of c.args.options.now) c.in-Ok.ensures.ok.searched c.args.options.now.limits c.in-Ok.machine c.in-Ok.ensures.ok.setting_is g.W.Write.contents c.args.writer.now c.explore_machine_alone.new.writer) c.explore_machine_alone.ensures.ok
+    (explores (file_bytes c.args.files.now) (request_of c.args.options.now) c.in_ok-machine.ensures.ok.searched c.args.options.now.limits c.in_ok-machine.machine c.in_ok-machine.ensures.ok.setting_is g.W.Write.contents c.args.writer.now c.explore_machine_alone.new.writer) c.explore_machine_alone.ensures.ok
 
 pub returns-clause-entries : goal.returns-clause-entries
 returns-clause-entries g c =
-    IfOk-weaker c.explore_machine_alone.result (HasEntriesWhereCut c.in-Ok.machine c.args.options.now.limits) (FilesHaveEntriesWhereCut (file_bytes c.args.files.now) (request_of c.args.options.now) c.args.options.now.limits)
-    (files_have (file_bytes c.args.files.now) (request_of c.args.options.now) c.in-Ok.ensures.ok.searched c.args.options.now.limits c.in-Ok.machine c.in-Ok.ensures.ok.setting_is) c.explore_machine_alone.ensures.entries
+    IfOk-weaker c.explore_machine_alone.result (HasEntriesWhereCut c.in_ok-machine.machine c.args.options.now.limits) (FilesHaveEntriesWhereCut (file_bytes c.args.files.now) (request_of c.args.options.now) c.args.options.now.limits)
+    (files_have (file_bytes c.args.files.now) (request_of c.args.options.now) c.in_ok-machine.ensures.ok.searched c.args.options.now.limits c.in_ok-machine.machine c.in_ok-machine.ensures.ok.setting_is) c.explore_machine_alone.ensures.entries
 
 pub returns-clause-reason : goal.returns-clause-reason
 returns-clause-reason g c =
-    IfErr-weaker c.explore_machine_alone.result (λ fault. EndsSearch g.W.Write.contents c.in-Ok.machine c.args.options.now.limits c.args.writer.now c.explore_machine_alone.new.writer fault)
+    IfErr-weaker c.explore_machine_alone.result (λ fault. EndsSearch g.W.Write.contents c.in_ok-machine.machine c.args.options.now.limits c.args.writer.now c.explore_machine_alone.new.writer fault)
     (λ fault. IsExploreReason (file_bytes c.args.files.now) (request_of c.args.options.now) c.args.options.now.limits fault)
-    (explore_reason (file_bytes c.args.files.now) (request_of c.args.options.now) c.in-Ok.ensures.ok.searched c.args.options.now.limits c.in-Ok.machine c.in-Ok.ensures.ok.setting_is g.W.Write.contents c.args.writer.now c.explore_machine_alone.new.writer) c.explore_machine_alone.ensures.err
+    (explore_reason (file_bytes c.args.files.now) (request_of c.args.options.now) c.in_ok-machine.ensures.ok.searched c.args.options.now.limits c.in_ok-machine.machine c.in_ok-machine.ensures.ok.setting_is g.W.Write.contents c.args.writer.now c.explore_machine_alone.new.writer) c.explore_machine_alone.ensures.err
 
 pub returns-clause-left : goal.returns-clause-left
 returns-clause-left g c =
-    IfErr-weaker c.explore_machine_alone.result (λ fault. EndsSearch g.W.Write.contents c.in-Ok.machine c.args.options.now.limits c.args.writer.now c.explore_machine_alone.new.writer fault)
+    IfErr-weaker c.explore_machine_alone.result (λ fault. EndsSearch g.W.Write.contents c.in_ok-machine.machine c.args.options.now.limits c.args.writer.now c.explore_machine_alone.new.writer fault)
     (λ fault. LeavesReport g.W.Write.contents (file_bytes c.args.files.now) (request_of c.args.options.now) c.args.options.now.limits fault c.args.writer.now c.explore_machine_alone.new.writer)
-    (explore_left (file_bytes c.args.files.now) (request_of c.args.options.now) c.in-Ok.ensures.ok.searched c.args.options.now.limits c.in-Ok.machine c.in-Ok.ensures.ok.setting_is g.W.Write.contents c.args.writer.now c.explore_machine_alone.new.writer) c.explore_machine_alone.ensures.err
+    (explore_left (file_bytes c.args.files.now) (request_of c.args.options.now) c.in_ok-machine.ensures.ok.searched c.args.options.now.limits c.in_ok-machine.machine c.in_ok-machine.ensures.ok.setting_is g.W.Write.contents c.args.writer.now c.explore_machine_alone.new.writer) c.explore_machine_alone.ensures.err
 
 pub returns-clause-failures : goal.returns-clause-failures
 returns-clause-failures g c =
-    IfErr-weaker c.explore_machine_alone.result (λ fault. EndsSearch g.W.Write.contents c.in-Ok.machine c.args.options.now.limits c.args.writer.now c.explore_machine_alone.new.writer fault)
+    IfErr-weaker c.explore_machine_alone.result (λ fault. EndsSearch g.W.Write.contents c.in_ok-machine.machine c.args.options.now.limits c.args.writer.now c.explore_machine_alone.new.writer fault)
     (λ fault. c.explore_machine_alone.new.writer.failures ≡ failures_after fault c.args.writer.now.failures)
-    (explore_failures (file_bytes c.args.files.now) (request_of c.args.options.now) c.in-Ok.ensures.ok.searched c.args.options.now.limits c.in-Ok.machine c.in-Ok.ensures.ok.setting_is g.W.Write.contents c.args.writer.now c.explore_machine_alone.new.writer) c.explore_machine_alone.ensures.err
+    (explore_failures (file_bytes c.args.files.now) (request_of c.args.options.now) c.in_ok-machine.ensures.ok.searched c.args.options.now.limits c.in_ok-machine.machine c.in_ok-machine.ensures.ok.setting_is g.W.Write.contents c.args.writer.now c.explore_machine_alone.new.writer) c.explore_machine_alone.ensures.err

@@ -6,7 +6,7 @@ use Rattle.vrace.proofs.replay.dump_run.Goals as goal
 
 pub write_run-requires : goal.write_run-requires
 write_run-requires g c =
-    let known = c.in-Ok.ensures.ends in
+    let known = c.in_ok-see_end.ensures.ends in
     record {
       ends = (
         vcd c.args.machine.now.design (history_after c.args.machine.now c.args.log.now known.0),

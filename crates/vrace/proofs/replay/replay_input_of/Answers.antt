@@ -8,22 +8,22 @@ use Rattle.vrace.specs.Request.{request_of}
 use Rattle.vrace.specs.Replays.{Replayed}
 use Rattle.vrace.proofs.replay.replay_input_of.Goals as goal
 
-pub returns-in-Ok-machine_in-clause-ok : goal.returns-in-Ok-machine_in-clause-ok
-returns-in-Ok-machine_in-clause-ok c =
+pub returns-clause-ok : goal.returns-clause-ok
+returns-clause-ok c =
     let replayed : Replayed (file_bytes c.args.files.now) (request_of c.args.options.now) c.args.log.now = record {
-      are_read = c.in-Ok.ensures.read;
-      design = c.in-Ok.placed.design;
-      is_design = c.in-Ok.ensures.ok;
-      head = c.in-Ok-named_log_of.named.0;
-      members = c.in-Ok-named_log_of.named.1;
-      is_log = c.in-Ok-named_log_of.ensures.ok.0;
-      written = c.in-Ok-named_log_of.ensures.ok.1;
+      are_read = c.in_ok-placed.ensures.read;
+      design = c.in_ok-placed.placed.design;
+      is_design = c.in_ok-placed.ensures.ok;
+      head = c.in_ok-head.head;
+      members = c.in_ok-head.members;
+      is_log = c.in_ok-head.ensures.ok.0;
+      written = c.in_ok-head.ensures.ok.1;
     } in
     let named : Grain → Departures → Setting = λ grain departures. record {
-      design = c.in-Ok.placed.design;
+      design = c.in_ok-placed.placed.design;
       until = c.args.options.now.until;
       grain = grain;
       departures = departures;
       looked = Values;
     } in
-    (replayed, c.in-Ok-machine_in.ensures ∙ (λ i. named (c.grain_under-grain.ensures i) (c.departures_under-departures.ensures i)), refl)
+    (replayed, c.in_ok-machine.ensures ∙ (λ i. named (c.grain_under-grain.ensures i) (c.departures_under-departures.ensures i)), refl)

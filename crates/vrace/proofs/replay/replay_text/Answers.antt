@@ -1,4 +1,5 @@
 use Rattle.std.proofs.Common.{IfErr, subst}
+use Rattle.std.proofs.lemmas.Result.{err_from_is_err_and}
 use Rattle.vsrc.specs.Source.{file_bytes}
 use Rattle.vrace.specs.Request.{request_of}
 use Rattle.vrace.specs.RunDumps.{Ends, IsRunShown}
@@ -6,13 +7,15 @@ use Rattle.vrace.proofs.DumpLemmas.{on_ok, if_err}
 use Rattle.vrace.proofs.ReplayLemmas.{shown_so, reason, left}
 use Rattle.vrace.proofs.replay.replay_text.Goals as goal
 
-pub returns-in-Err-clause-failures : goal.returns-in-Err-clause-failures
-returns-in-Err-clause-failures g c = c.in-Err.ensures.unwritten c.args.writer.now.failures
+pub returns-in_err-input-clause-failures : goal.returns-in_err-input-clause-failures
+returns-in_err-input-clause-failures g c =
+    let p = err_from_is_err_and c.from_residual.result c.from_residual.ensures.1 in
+    rw (p.1, p.2) (c.in_err-input.ensures.unwritten c.args.writer.now.failures)
 
 pub returns-clause-shown : goal.returns-clause-shown
 returns-clause-shown g c =
-    let machine = c.in-Ok.input.machine in
-    let (replayed, same, members) = c.in-Ok.ensures.ok in
+    let machine = c.in_ok-input.input.machine in
+    let (replayed, same, members) = c.in_ok-input.ensures.ok in
     on_ok c.show_run.result
     (λ done. (
       done.0,
@@ -24,8 +27,8 @@ returns-clause-shown g c =
 
 pub returns-clause-reason : goal.returns-clause-reason
 returns-clause-reason g c =
-    let machine = c.in-Ok.input.machine in
-    let (replayed, same, members) = c.in-Ok.ensures.ok in
+    let machine = c.in_ok-input.input.machine in
+    let (replayed, same, members) = c.in_ok-input.ensures.ok in
     if_err c.show_run.result
     (reason (file_bytes c.args.files.now) (request_of c.args.options.now) c.args.log.now replayed machine same g.W.Write.contents c.args.show
     c.args.writer.now c.show_run.new.writer)
@@ -34,8 +37,8 @@ returns-clause-reason g c =
 
 pub returns-clause-left : goal.returns-clause-left
 returns-clause-left g c =
-    let machine = c.in-Ok.input.machine in
-    let (replayed, same, members) = c.in-Ok.ensures.ok in
+    let machine = c.in_ok-input.input.machine in
+    let (replayed, same, members) = c.in_ok-input.ensures.ok in
     if_err c.show_run.result
     (left (file_bytes c.args.files.now) (request_of c.args.options.now) c.args.log.now replayed machine same g.W.Write.contents c.args.show
     c.args.writer.now c.show_run.new.writer)

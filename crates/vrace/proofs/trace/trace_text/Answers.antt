@@ -1,4 +1,5 @@
 use Rattle.std.proofs.Common.{inr, subst, sym, ap, ◌∙◌}
+use Rattle.std.proofs.lemmas.Result.{err_from_is_err_and}
 use Rattle.vsrc.specs.Source.{file_bytes}
 use Rattle.vmodel.specs.RunProgress.{Finishes}
 use Rattle.vrace.specs.Request.{request_of}
@@ -9,41 +10,47 @@ use Rattle.vrace.proofs.ReplayLemmas.{run_reason, writing_reason, count_of_writi
 use Rattle.vrace.proofs.TraceLemmas.{traced, left_in_trace}
 use Rattle.vrace.proofs.trace.trace_text.Goals as goal
 
-pub returns-in-Err-see_end-clause-reason : goal.returns-in-Err-see_end-clause-reason
-returns-in-Err-see_end-clause-reason g c =
-    let machine = c.in-Ok.input.machine in
-    let (replayed, same, members) = c.in-Ok.ensures.ok in
-    inr (run_reason (file_bytes c.args.files.now) (request_of c.args.options.now) c.args.log.now replayed machine same c.in-Err-see_end.fault
-    (subst (λ log. IsRunFault machine log c.args.options.now.limits.steps c.in-Err-see_end.fault) members c.in-Err-see_end.ensures.reason))
+pub returns-in_err-input-clause-failures : goal.returns-in_err-input-clause-failures
+returns-in_err-input-clause-failures g c =
+    let p = err_from_is_err_and c.from_residual.result c.from_residual.ensures.1 in
+    rw (p.1, p.2) (c.in_err-input.ensures.unwritten c.args.writer.now.failures)
 
-pub returns-in-Err-write_trace-clause-reason : goal.returns-in-Err-write_trace-clause-reason
-returns-in-Err-write_trace-clause-reason g c =
-    let machine = c.in-Ok.input.machine in
-    let (replayed, same, members) = c.in-Ok.ensures.ok in
-    let (n, end, finishes) = c.in-Ok-see_end.ensures.ends in
+pub returns-in_err-see_end-clause-reason : goal.returns-in_err-see_end-clause-reason
+returns-in_err-see_end-clause-reason g c =
+    let p = err_from_is_err_and c.from_residual-in_err-see_end.result c.from_residual-in_err-see_end.ensures.1 in
+    let machine = c.in_ok-input.input.machine in
+    let (replayed, same, members) = c.in_ok-input.ensures.ok in
+    rw (p.1, p.2) (inr (run_reason (file_bytes c.args.files.now) (request_of c.args.options.now) c.args.log.now replayed machine same c.in_err-see_end.field-0.0
+    (subst (λ log. IsRunFault machine log c.args.options.now.limits.steps c.in_err-see_end.field-0.0) members c.in_err-see_end.ensures.reason)))
+
+pub returns-in-Err-clause-reason : goal.returns-in-Err-clause-reason
+returns-in-Err-clause-reason g c =
+    let machine = c.in_ok-input.input.machine in
+    let (replayed, same, members) = c.in_ok-input.ensures.ok in
+    let (n, end, finishes) = c.in_ok-see_end.ensures.ends in
     subst (IsReason (file_bytes c.args.files.now) (request_of c.args.options.now) c.args.log.now) (sym c.of_writing.ensures)
     (writing_reason (file_bytes c.args.files.now) (request_of c.args.options.now) c.args.log.now replayed machine same n end
-    (subst (λ log. Finishes machine log c.args.options.now.limits.steps n end) members finishes) c.in-Err-write_trace.fault)
+    (subst (λ log. Finishes machine log c.args.options.now.limits.steps n end) members finishes) c.in-Err.fault)
 
-pub returns-in-Err-write_trace-clause-left : goal.returns-in-Err-write_trace-clause-left
-returns-in-Err-write_trace-clause-left g c =
-    let input = c.in-Ok.input in
-    let (replayed, same, members) = c.in-Ok.ensures.ok in
-    let (end_at, end, finishes) = c.in-Ok-see_end.ensures.ends in
-    let (n, told, stops) = c.in-Err-write_trace.ensures.err in
+pub returns-in-Err-clause-left : goal.returns-in-Err-clause-left
+returns-in-Err-clause-left g c =
+    let input = c.in_ok-input.input in
+    let (replayed, same, members) = c.in_ok-input.ensures.ok in
+    let (end_at, end, finishes) = c.in_ok-see_end.ensures.ends in
+    let (n, told, stops) = c.in-Err.ensures.err in
     left_in_trace (file_bytes c.args.files.now) (request_of c.args.options.now) c.args.log.now replayed input.machine same input.members members input.origins n end_at end
-    told finishes g.W.Write.contents c.args.writer.now c.write_trace.new.writer c.in-Err-write_trace.fault c.of_writing.result c.of_writing.ensures stops
+    told finishes g.W.Write.contents c.args.writer.now c.write_trace.new.writer c.in-Err.fault c.of_writing.result c.of_writing.ensures stops
 
 pub returns-clause-traced : goal.returns-clause-traced
 returns-clause-traced g c =
-    let input = c.in-Ok.input in
-    let (replayed, same, members) = c.in-Ok.ensures.ok in
-    let (end_at, end, finishes) = c.in-Ok-see_end.ensures.ends in
-    let (n, told, grown) = c.in-Ok-write_trace.ensures.ok in
+    let input = c.in_ok-input.input in
+    let (replayed, same, members) = c.in_ok-input.ensures.ok in
+    let (end_at, end, finishes) = c.in_ok-see_end.ensures.ends in
+    let (n, told, grown) = c.in-Ok.ensures.ok in
     (_, traced (file_bytes c.args.files.now) (request_of c.args.options.now) c.args.log.now replayed input.machine same input.members members input.origins n end_at end told finishes, grown)
 
-pub returns-in-Err-write_trace-clause-failures : goal.returns-in-Err-write_trace-clause-failures
-returns-in-Err-write_trace-clause-failures g c =
-    let (n, told, stops) = c.in-Err-write_trace.ensures.err in
+pub returns-in-Err-clause-failures : goal.returns-in-Err-clause-failures
+returns-in-Err-clause-failures g c =
+    let (n, told, stops) = c.in-Err.ensures.err in
     let failures = c.args.writer.now.failures in
-    stops.1 ∙ count_of_writing c.in-Err-write_trace.fault failures ∙ ap (λ (fault : Fault). failures_after fault failures) (sym c.of_writing.ensures)
+    stops.1 ∙ count_of_writing c.in-Err.fault failures ∙ ap (λ (fault : Fault). failures_after fault failures) (sym c.of_writing.ensures)
