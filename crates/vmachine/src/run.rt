@@ -1,6 +1,6 @@
 // The run of a machine under a log, handed on slot by slot, or kept whole.
 
-ghost use Rattle.std.specs.Prelude.{◌≡◌, ◌++◌, ℕ, List, [], Decides, IfOk, IfErr, OnOk, IsSome, false};
+ghost use Rattle.std.specs.Prelude.{◌≡◌, ℕ, List, [], Decides, IfOk, IfErr, OnOk, IsSome, false};
 ghost use Rattle.basis.specs.Reasons.{IfFault};
 ghost use Rattle.basis.specs.declared.memory.OrMemory.TheVariants.{Fault};
 ghost use Rattle.vmachine.specs.declared.run.RunFault.TheVariants.{Replay};
@@ -11,8 +11,6 @@ ghost use Rattle.vmodel.specs.RunProgress.{Finishes};
 ghost use Rattle.sched_core.specs.Logs.{IsLogFrom};
 ghost use Rattle.sched_core.specs.Replay.{IsReplayReason};
 ghost use Rattle.vmodel.specs.Run.{Setting, rules_of};
-ghost use Rattle.vmodel.specs.Step.{items_of};
-ghost use Rattle.vmodel.specs.InnerStep.{transition_to};
 
 use crate::machine::Machine;
 use basis::{NoMemory, OrMemory};
@@ -109,20 +107,6 @@ fn choose<'l>(
     }
 }
 
-// Puts behind others what a step gave to the history. Nobody asks for what it did any more.
-fn note(
-    items: &mut Vec<Item>,
-    design: &Design,
-    state: &State,
-    effect: Effect,
-    monitors: &[usize],
-) -> Result<(), NoMemory>
-    ensures { OnOk result (items.new.items
-        ≡ items.old.items ++ items_of design.now (transition_to state.now effect monitors.now)) }
-{
-    put_items(items, design, state, &effect, monitors)
-}
-
 /// A run on its way: what its state is after so many steps, what is left of its log, and the items that wait to be handed on. Where it
 /// has paused none wait.
 #[derive(Drop)]
@@ -175,6 +159,7 @@ impl Machine {
             LeavesSink S.takes S.fails self.now run.old.log.now steps first fault sink.new) }
         ensures whole { may_pause ≡ false → IfOk result IsSome }
     {
+        let mut effect = Effect::quiet();
         let mut monitors = Vec::new(self.alloc);
         'walk: loop {
             hand(sink, &mut run.pending, run.state.is_mark())?;
@@ -186,12 +171,13 @@ impl Machine {
                 Ok(None) => return Ok(Some(run.state.end())),
                 Err(fault) => return Err(refused(fault)),
             };
-            let effect = run.state.step(&self.design, chosen.choice, &mut monitors)?;
-            note(
+            run.state
+                .step_into(&self.design, chosen.choice, &mut effect, &mut monitors)?;
+            put_items(
                 &mut run.pending,
                 &self.design,
                 &run.state,
-                effect,
+                &effect,
                 &monitors,
             )?;
             run.rest = chosen.later;
@@ -301,6 +287,7 @@ impl Machine {
         let mut state = self.opened()?;
         let mut items = Vec::new(self.alloc);
         put_slot_end(&mut items, &state)?;
+        let mut effect = Effect::quiet();
         let mut monitors = Vec::new(self.alloc);
         let mut rest = log.members();
         let mut n = 0;
@@ -314,8 +301,8 @@ impl Machine {
                 }
                 Err(fault) => return Err(OrMemory::Fault(fault)),
             };
-            let effect = state.step(&self.design, chosen.choice, &mut monitors)?;
-            note(&mut items, &self.design, &state, effect, &monitors)?;
+            state.step_into(&self.design, chosen.choice, &mut effect, &mut monitors)?;
+            put_items(&mut items, &self.design, &state, &effect, &monitors)?;
             rest = chosen.later;
             n += 1;
         }

@@ -100,8 +100,8 @@ fn end_effect(cause: Cause) -> Effect
     }
 }
 
-// A step that writes (6.2).
-fn write_effect(parts: Parts) -> Effect
+/// A step that writes (6.2).
+pub(crate) fn write_effect(parts: Parts) -> Effect
     ensures { result ≡ record spec.quiet { wrote = parts } }
 {
     Effect {

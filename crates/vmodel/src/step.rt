@@ -2,7 +2,7 @@
 
 ghost use Rattle.std.specs.Prelude.{◌≡◌, ℕ, List, ◌<◌, ◌++◌, [], IfOk, OnOk, OnErr, IfSome, IfNone, length, slice_get, slice_set, drop, true};
 ghost use Rattle.std.specs.Option.{option_to_list, ForSome};
-ghost use Rattle.vmodel.specs.Step.{frames, process_to_continue, process_by, reschedule, posts, with_woken, with_moves, monitors_of, complete, no_transition, continuation_of, environment_of, process_transition, transition_of, with_held_after, with_lines_after, with_views, next, slot_end_of, items_of};
+ghost use Rattle.vmodel.specs.Step.{frames, process_to_continue, process_by, reschedule, posts, with_woken, with_moves, monitors_of, complete, no_transition, continuation_of, environment_of, process_transition, first_of, without_update, transition_of, with_held_after, with_lines_after, with_views, next, slot_end_of, items_of};
 ghost use Rattle.vmodel.specs.Parts.{write, with_parts};
 ghost use Rattle.vmodel.specs.declared.process.Frame.{Frame};
 ghost use Rattle.vdesign.specs.Design.{Design};
@@ -16,7 +16,7 @@ ghost use Rattle.vmodel.specs.InnerStep.{state_with_move, with_cause, behind, co
 
 use crate::choice::Choice;
 use crate::continuation::Continuation;
-use crate::effect::{Disposition, Effect, Execution, effect_at};
+use crate::effect::{Disposition, Effect, effect_at, write_effect};
 use crate::history::Item;
 use crate::holding::{held_with, released};
 use crate::part::{Kept, Part, Parts};
@@ -131,6 +131,17 @@ fn move_one(
     move_process(process, queue, number, then, next, effect)
 }
 
+// The first activated update, which is taken out, or nothing where there is none (11.4.1).
+fn take_first(queue: &mut Queue) -> Parts
+    ensures first { result ≡ first_of queue.old.activated }
+    ensures goes { queue.new ≡ without_update queue.old.activated queue.old }
+{
+    match queue.take_update() {
+        None => Parts::none(),
+        Some(update) => update,
+    }
+}
+
 // Whether an action is a print task (17.1).
 fn is_print(action: &Action) -> bool
     ensures { result ≡ silent.is_print action.now }
@@ -175,11 +186,11 @@ impl State {
     }
 
     // Nothing happens.
-    fn stay(&self, monitors: &mut Vec<usize>) -> Effect
-        ensures { transition_to self.now result monitors.new.items ≡ no_transition self.now }
+    fn stay(&self, effect: &mut Effect, monitors: &mut Vec<usize>)
+        ensures { transition_to self.now effect.new monitors.new.items ≡ no_transition self.now }
     {
         monitors.clear();
-        Effect::quiet()
+        *effect = Effect::quiet();
     }
 
     // What a process comes to first, if something is left.
@@ -310,54 +321,54 @@ impl State {
         self.close(monitors);
     }
 
-    // A process takes one step. It is inlined, as each call that hands an effect on moves some 300 bytes.
+    // A process takes one step. Here and below it is told by a mutable borrow what a step did: a result would be moved at each call.
+    // After want of memory it may be anything.
     #[inline(always)]
     fn run(
         &mut self,
         design: &Design,
         number: u32,
+        effect: &mut Effect,
         monitors: &mut Vec<usize>,
-    ) -> Result<Effect, NoMemory>
+    ) -> Result<(), NoMemory>
         requires { number < 256 }
-        ensures ok { IfOk result (λ effect.
-            process_transition design.now number self.old ≡ transition_to self.new effect monitors.new.items) }
+        ensures ok { OnOk result
+            (process_transition design.now number self.old ≡ transition_to self.new effect.new monitors.new.items) }
         ensures err { OnErr result (self.new ≡ self.old) }
         ensures err_monitors { OnErr result (monitors.new.items ≡ monitors.old.items) }
     {
         let Some((frame, action)) = self.action_of(design, number) else {
-            return Ok(self.stay(monitors));
+            self.stay(effect, monitors);
+            return Ok(());
         };
         let alloc = *self.processes.allocator();
         let held = self.held_by(number);
         let execution = effect_at(alloc, frame, action, held, &self.environment(design))?;
-        let Execution { next, then, effect } = execution;
-        self.place(number, then, next, &effect)?;
-        self.finish(design, &effect, monitors);
-        Ok(effect)
+        self.place(number, execution.then, execution.next, &execution.effect)?;
+        self.finish(design, &execution.effect, monitors);
+        *effect = execution.effect;
+        Ok(())
     }
 
     // The first activated update is written (11.4.1).
-    fn update(&mut self, design: &Design, monitors: &mut Vec<usize>) -> Effect
+    fn update(&mut self, design: &Design, effect: &mut Effect, monitors: &mut Vec<usize>)
         ensures { transition_of design.now Choice.Update self.old
-            ≡ transition_to self.new result monitors.new.items }
+            ≡ transition_to self.new effect.new monitors.new.items }
     {
-        let mut effect = Effect::quiet();
-        if let Some(update) = self.queue.take_update() {
-            effect.wrote = update;
-        }
-        self.write(design, &effect.wrote, None);
+        let update = take_first(&mut self.queue);
+        self.write(design, &update, None);
         self.close(monitors);
-        effect
+        *effect = write_effect(update);
     }
 
     // The time goes on to the next future time.
-    fn advance(&mut self, monitors: &mut Vec<usize>) -> Effect
+    fn advance(&mut self, effect: &mut Effect, monitors: &mut Vec<usize>)
         ensures { (design : Design) → transition_of design Choice.Advance self.old
-            ≡ transition_to self.new result monitors.new.items }
+            ≡ transition_to self.new effect.new monitors.new.items }
     {
         self.queue.advance();
         self.close(monitors);
-        Effect::quiet()
+        *effect = Effect::quiet();
     }
 
     // The step of a choice, without what is held back from now on and the lines of the slot.
@@ -365,18 +376,25 @@ impl State {
         &mut self,
         design: &Design,
         choice: Choice,
+        effect: &mut Effect,
         monitors: &mut Vec<usize>,
-    ) -> Result<Effect, NoMemory>
+    ) -> Result<(), NoMemory>
         requires { IsWithin choice }
-        ensures ok { IfOk result (λ effect.
-            transition_of design.now choice self.old ≡ transition_to self.new effect monitors.new.items) }
+        ensures ok { OnOk result
+            (transition_of design.now choice self.old ≡ transition_to self.new effect.new monitors.new.items) }
         ensures err { OnErr result (self.new ≡ self.old) }
         ensures err_monitors { OnErr result (monitors.new.items ≡ monitors.old.items) }
     {
         match choice {
-            Choice::Run(process) => self.run(design, process, monitors),
-            Choice::Update => Ok(self.update(design, monitors)),
-            Choice::Advance => Ok(self.advance(monitors)),
+            Choice::Run(process) => self.run(design, process, effect, monitors),
+            Choice::Update => {
+                self.update(design, effect, monitors);
+                Ok(())
+            }
+            Choice::Advance => {
+                self.advance(effect, monitors);
+                Ok(())
+            }
         }
     }
 
@@ -386,21 +404,22 @@ impl State {
         design: &Design,
         i: u32,
         choice: Choice,
+        effect: &mut Effect,
         monitors: &mut Vec<usize>,
-    ) -> Result<Effect, NoMemory>
+    ) -> Result<(), NoMemory>
         requires { IsWithin choice }
-        ensures ok { IfOk result (λ effect. with_held_after self.old i choice (transition_of design.now choice self.old)
-            ≡ transition_to self.new effect monitors.new.items) }
+        ensures ok { OnOk result (with_held_after self.old i choice (transition_of design.now choice self.old)
+            ≡ transition_to self.new effect.new monitors.new.items) }
         ensures err { OnErr result (self.new ≡ self.old) }
         ensures err_monitors { OnErr result (monitors.new.items ≡ monitors.old.items) }
     {
         match &self.held_back {
-            None => self.take(design, choice, monitors),
+            None => self.take(design, choice, effect, monitors),
             Some(held) => {
                 let held = held_with(&self.queue, held, i, choice);
-                let effect = self.take(design, choice, monitors)?;
+                self.take(design, choice, effect, monitors)?;
                 self.held_back = Some(released(&self.queue, held));
-                Ok(effect)
+                Ok(())
             }
         }
     }
@@ -450,18 +469,19 @@ impl State {
         design: &Design,
         i: u32,
         choice: Choice,
+        effect: &mut Effect,
         monitors: &mut Vec<usize>,
-    ) -> Result<Effect, NoMemory>
+    ) -> Result<(), NoMemory>
         requires within { IsWithin choice }
         requires silent { IsSilent design.now choice self.old }
-        ensures ok { IfOk result (λ effect. with_views design.now self.old i choice (transition_of design.now choice self.old)
-            ≡ transition_to self.new effect monitors.new.items) }
+        ensures ok { OnOk result (with_views design.now self.old i choice (transition_of design.now choice self.old)
+            ≡ transition_to self.new effect.new monitors.new.items) }
         ensures err { OnErr result (self.new ≡ self.old) }
         ensures err_monitors { OnErr result (monitors.new.items ≡ monitors.old.items) }
     {
-        let effect = self.take_holding(design, i, choice, monitors)?;
+        self.take_holding(design, i, choice, effect, monitors)?;
         print_nothing(&mut self.printed, choice);
-        Ok(effect)
+        Ok(())
     }
 
     // The step of choice `i`, which is this one, with what is held back from now on and the lines of the slot, taken by a copy.
@@ -470,22 +490,23 @@ impl State {
         design: &Design,
         i: u32,
         choice: Choice,
+        effect: &mut Effect,
         monitors: &mut Vec<usize>,
-    ) -> Result<Effect, NoMemory>
+    ) -> Result<(), NoMemory>
         requires { IsWithin choice }
-        ensures ok { IfOk result (λ effect. with_views design.now self.old i choice (transition_of design.now choice self.old)
-            ≡ transition_to self.new effect monitors.new.items) }
+        ensures ok { OnOk result (with_views design.now self.old i choice (transition_of design.now choice self.old)
+            ≡ transition_to self.new effect.new monitors.new.items) }
         ensures err { OnErr result (self.new ≡ self.old) }
         ensures err_monitors { OnErr result (monitors.new.items ≡ monitors.old.items) }
     {
         let alloc = *self.processes.allocator();
         let mut after = self.copy(alloc)?;
         let mut ran = Vec::new(alloc);
-        let effect = after.take_holding(design, i, choice, &mut ran)?;
-        after.print(design, choice, &effect, &ran)?;
+        after.take_holding(design, i, choice, effect, &mut ran)?;
+        after.print(design, choice, effect, &ran)?;
         mem::swap(self, &mut after);
         mem::swap(monitors, &mut ran);
-        Ok(effect)
+        Ok(())
     }
 
     // Choice `i`, where departures only take and no lines are looked at.
@@ -505,29 +526,56 @@ impl State {
         &mut self,
         design: &Design,
         i: u32,
+        effect: &mut Effect,
         monitors: &mut Vec<usize>,
-    ) -> Result<Effect, NoMemory>
-        ensures ok { IfOk result (λ effect.
-            next design.now self.old i ≡ transition_to self.new effect monitors.new.items) }
+    ) -> Result<(), NoMemory>
+        ensures ok { OnOk result (next design.now self.old i ≡ transition_to self.new effect.new monitors.new.items) }
         ensures err { OnErr result (self.new ≡ self.old) }
         ensures err_monitors { OnErr result (monitors.new.items ≡ monitors.old.items) }
     {
         let Some(choice) = self.choice(i) else {
-            return Ok(self.stay(monitors));
+            self.stay(effect, monitors);
+            return Ok(());
         };
         match &self.printed {
-            None => self.take_holding(design, i, choice, monitors),
+            None => self.take_holding(design, i, choice, effect, monitors),
             Some(_) if self.is_silent(design, choice) => {
-                self.take_silent(design, i, choice, monitors)
+                self.take_silent(design, i, choice, effect, monitors)
             }
-            Some(_) => self.take_printing(design, i, choice, monitors),
+            Some(_) => self.take_printing(design, i, choice, effect, monitors),
         }
     }
 
     /// The step of choice `i`, in place: one step of a process, the write of an update or the advance of the time, and the
-    /// region moves after it (11.3, 11.4). The answer is what the step did, and the list is then that of the monitor events that ran:
-    /// the places of their print tasks, in order of creation (17.1.2). Where there is no such choice nothing happens. E901 is the
-    /// only refusal, and leaves the state and the list as they were.
+    /// region moves after it (11.3, 11.4). The effect is then what the step did, and the list that of the monitor events that ran: the
+    /// places of their print tasks, in order of creation (17.1.2). Where there is no such choice nothing happens. E901 is the only
+    /// refusal, and leaves the state and the list as they were; the effect may then be any.
+    pub fn step_into(
+        &mut self,
+        design: &Design,
+        i: u32,
+        effect: &mut Effect,
+        monitors: &mut Vec<usize>,
+    ) -> Result<(), NoMemory>
+        ensures ok { OnOk result (next design.now self.old i ≡ transition_to self.new effect.new monitors.new.items) }
+        ensures err { OnErr result (self.new ≡ self.old) }
+        ensures err_monitors { OnErr result (monitors.new.items ≡ monitors.old.items) }
+    {
+        match self.plain_choice(i) {
+            None => self.step_any(design, i, effect, monitors),
+            Some(Choice::Run(process)) => self.run(design, process, effect, monitors),
+            Some(Choice::Update) => {
+                self.update(design, effect, monitors);
+                Ok(())
+            }
+            Some(Choice::Advance) => {
+                self.advance(effect, monitors);
+                Ok(())
+            }
+        }
+    }
+
+    /// The same, where the answer is what the step did.
     pub fn step(
         &mut self,
         design: &Design,
@@ -539,12 +587,9 @@ impl State {
         ensures err { OnErr result (self.new ≡ self.old) }
         ensures err_monitors { OnErr result (monitors.new.items ≡ monitors.old.items) }
     {
-        match self.plain_choice(i) {
-            None => self.step_any(design, i, monitors),
-            Some(Choice::Run(process)) => self.run(design, process, monitors),
-            Some(Choice::Update) => Ok(self.update(design, monitors)),
-            Some(Choice::Advance) => Ok(self.advance(monitors)),
-        }
+        let mut effect = Effect::quiet();
+        self.step_into(design, i, &mut effect, monitors)?;
+        Ok(effect)
     }
 
     /// The same, where nobody asks what the step did.
@@ -552,11 +597,9 @@ impl State {
         ensures ok { OnOk result (self.new ≡ (next design.now self.old i).state) }
         ensures err { OnErr result (self.new ≡ self.old) }
     {
+        let mut effect = Effect::quiet();
         let mut monitors = Vec::new(*self.processes.allocator());
-        match self.step(design, i, &mut monitors) {
-            Ok(_) => Ok(()),
-            Err(refused) => Err(refused),
-        }
+        self.step_into(design, i, &mut effect, &mut monitors)
     }
 }
 

@@ -26,12 +26,12 @@ walk-preserved c =
     let chosen : IsChosen setting log c.args.steps c.walk.n c.walk.state c.walk.rest.now (Ok (Some c.in-Ok-Some.chosen)) =
     subst (IsChosen setting log c.args.steps c.walk.n c.walk.state c.walk.rest.now) (c.in-Ok-Some.is ∙ ap (λ (o : Option Chosen). Ok o) c.in-Ok-Some.field-0-is) (c.choose.ensures setting log here) in
     let design = ap (λ (s : Setting). s.design) c.self.view_is in
-    let transition_is : Transition = transition_to c.step.new.self c.in_ok-effect.effect c.deref.result.now in
+    let transition_is : Transition = transition_to c.step_into.new.self c.step_into.new.effect c.deref.result.now in
     let transition : next setting.design c.walk.state c.in-Ok-Some.chosen.choice ≡ transition_is =
-    ap (λ (d : Design). next d c.walk.state c.in-Ok-Some.chosen.choice) (sym design) ∙ c.in_ok-effect.ensures.ok ∙ ap (transition_to c.step.new.self c.in_ok-effect.effect) (sym c.deref.ensures.value) in (
+    ap (λ (d : Design). next d c.walk.state c.in-Ok-Some.chosen.choice) (sym design) ∙ c.in_ok-step_into.ensures.ok ∙ ap (transition_to c.step_into.new.self c.step_into.new.effect) (sym c.deref.ensures.value) in (
       at_next setting log c.walk.rest.now c.args.steps c.walk.n c.walk.state here c.in-Ok-Some.chosen.choice c.in-Ok-Some.chosen.later.now chosen.2
-          c.step.new.self (less_differs c.walk.n c.args.steps chosen.0) chosen.1 chosen.3 (ap (λ (t : Transition). t.state) transition),
-      c.in_ok-note.ensures
+          c.step_into.new.self (less_differs c.walk.n c.args.steps chosen.0) chosen.1 chosen.3 (ap (λ (t : Transition). t.state) transition),
+      c.in_ok-put_items.ensures.ok
           ∙ ap (λ (d : Design). c.walk.items.items ++ items_of d transition_is) design
           ∙ ap (λ (xs : List Item). xs ++ items_of setting.design transition_is) c.walk.invariant.1
           ∙ items_next setting log c.walk.rest.now c.args.steps c.walk.n c.walk.state here c.in-Ok-Some.chosen.choice c.in-Ok-Some.chosen.later.now chosen.2 transition_is transition,

@@ -104,8 +104,8 @@ returns-in-Err-clause-left g c = λ first start.
     (subst (λ (e : OrMemory (RunFault _)). LeavesSink g.S.HistorySink.takes g.S.HistorySink.fails setting log c.args.steps first e c.hand.new.sink) (sym c.refused.ensures)
     (handed_first g.S.HistorySink.takes setting log c.walk.run.rest.now c.args.steps c.walk.run.n c.walk.run.state first c.hand.new.sink after.handed c.hand.new.pending.items here after.taken (after.is ∙ given.is)))
 
-pub returns-in_err-effect-clause-left : goal.returns-in_err-effect-clause-left
-returns-in_err-effect-clause-left g c = λ first start.
+pub returns-in_err-step_into-clause-left : goal.returns-in_err-step_into-clause-left
+returns-in_err-step_into-clause-left g c = λ first start.
     let setting = c.args.self.now in
     let log = c.walk.run.log.now in
     let here = c.walk.invariant.0 in
@@ -114,13 +114,13 @@ returns-in_err-effect-clause-left g c = λ first start.
     subst (λ mark. HandsOn g.S.HistorySink.takes mark c.walk.sink c.walk.run.pending.items c.hand.new.sink c.hand.new.pending.items) c.is_mark.ensures c.in_ok-hand.ensures.ok in
     let after = taken_on g.S.HistorySink.takes g.met.S.HistorySink.joins (is_mark c.walk.run.state) first c.walk.sink c.hand.new.sink given.handed c.walk.run.pending.items
     c.hand.new.pending.items given.taken on in
-    left_by g.S.HistorySink.takes g.S.HistorySink.fails setting c.args.run.now.log.now c.args.steps first c.hand.new.sink c.from_residual-in_err-effect.result (Memory c.in_err-effect.field-0.0)
-    c.from_residual-in_err-effect.ensures.1
-    (subst (λ l. LeavesSink g.S.HistorySink.takes g.S.HistorySink.fails setting l c.args.steps first (Memory c.in_err-effect.field-0.0) c.hand.new.sink) c.walk.invariant.1
+    left_by g.S.HistorySink.takes g.S.HistorySink.fails setting c.args.run.now.log.now c.args.steps first c.hand.new.sink c.from_residual-in_err-step_into.result (Memory c.in_err-step_into.field-0.0)
+    c.from_residual-in_err-step_into.ensures.1
+    (subst (λ l. LeavesSink g.S.HistorySink.takes g.S.HistorySink.fails setting l c.args.steps first (Memory c.in_err-step_into.field-0.0) c.hand.new.sink) c.walk.invariant.1
     (handed_first g.S.HistorySink.takes setting log c.walk.run.rest.now c.args.steps c.walk.run.n c.walk.run.state first c.hand.new.sink after.handed c.hand.new.pending.items here after.taken (after.is ∙ given.is)))
 
-pub returns-in_err-note-clause-left : goal.returns-in_err-note-clause-left
-returns-in_err-note-clause-left g c = λ first start.
+pub returns-in_err-put_items-clause-left : goal.returns-in_err-put_items-clause-left
+returns-in_err-put_items-clause-left g c = λ first start.
     let setting = c.args.self.now in
     let log = c.walk.run.log.now in
     let here = c.walk.invariant.0 in
@@ -129,9 +129,9 @@ returns-in_err-note-clause-left g c = λ first start.
     subst (λ mark. HandsOn g.S.HistorySink.takes mark c.walk.sink c.walk.run.pending.items c.hand.new.sink c.hand.new.pending.items) c.is_mark.ensures c.in_ok-hand.ensures.ok in
     let after = taken_on g.S.HistorySink.takes g.met.S.HistorySink.joins (is_mark c.walk.run.state) first c.walk.sink c.hand.new.sink given.handed c.walk.run.pending.items
     c.hand.new.pending.items given.taken on in
-    left_by g.S.HistorySink.takes g.S.HistorySink.fails setting c.args.run.now.log.now c.args.steps first c.hand.new.sink c.from_residual-in_err-note.result (Memory c.in_err-note.field-0.0)
-    c.from_residual-in_err-note.ensures.1
-    (subst (λ l. LeavesSink g.S.HistorySink.takes g.S.HistorySink.fails setting l c.args.steps first (Memory c.in_err-note.field-0.0) c.hand.new.sink) c.walk.invariant.1
+    left_by g.S.HistorySink.takes g.S.HistorySink.fails setting c.args.run.now.log.now c.args.steps first c.hand.new.sink c.from_residual-in_err-put_items.result (Memory c.in_err-put_items.field-0.0)
+    c.from_residual-in_err-put_items.ensures.1
+    (subst (λ l. LeavesSink g.S.HistorySink.takes g.S.HistorySink.fails setting l c.args.steps first (Memory c.in_err-put_items.field-0.0) c.hand.new.sink) c.walk.invariant.1
     (handed_first g.S.HistorySink.takes setting log c.walk.run.rest.now c.args.steps c.walk.run.n c.walk.run.state first c.hand.new.sink after.handed c.hand.new.pending.items here after.taken (after.is ∙ given.is)))
 
 pub walk-preserved : goal.walk-preserved
@@ -144,16 +144,16 @@ walk-preserved g c =
     let chosen : IsChosen setting log c.args.steps c.walk.run.n c.walk.run.state c.walk.run.rest.now (Ok (Some c.in-Ok-Some.chosen)) =
     subst (IsChosen setting log c.args.steps c.walk.run.n c.walk.run.state c.walk.run.rest.now) (c.in-Ok-Some.is ∙ ap (λ (o : Option Chosen). Ok o) c.in-Ok-Some.field-0-is) (c.choose.ensures setting log here) in
     let design = ap (λ (s : Setting). s.design) c.self.view_is in
-    let transition_is : Transition = transition_to c.step.new.self c.in_ok-effect.effect c.deref-in-walk.result.now in
+    let transition_is : Transition = transition_to c.step_into.new.self c.step_into.new.effect c.deref-in-walk.result.now in
     let transition : next setting.design c.walk.run.state c.in-Ok-Some.chosen.choice ≡ transition_is =
-    ap (λ (d : Design). next d c.walk.run.state c.in-Ok-Some.chosen.choice) (sym design) ∙ c.in_ok-effect.ensures.ok ∙ ap (transition_to c.step.new.self c.in_ok-effect.effect) (sym c.deref-in-walk.ensures.value) in
+    ap (λ (d : Design). next d c.walk.run.state c.in-Ok-Some.chosen.choice) (sym design) ∙ c.in_ok-step_into.ensures.ok ∙ ap (transition_to c.step_into.new.self c.step_into.new.effect) (sym c.deref-in-walk.ensures.value) in
     let gave = items_next setting log c.walk.run.rest.now c.args.steps c.walk.run.n c.walk.run.state here c.in-Ok-Some.chosen.choice c.in-Ok-Some.chosen.later.now chosen.2
     transition_is transition in
     let goes_on : length (choices c.walk.run.state) ≢ 0 = λ none. absurd (omega (arith, none, chosen.1)) in
-    let more : c.note.new.items.items ≡ c.hand.new.pending.items ++ items_of setting.design transition_is =
-    c.in_ok-note.ensures ∙ ap (λ (d : Design). c.hand.new.pending.items ++ items_of d transition_is) design in (
+    let more : c.put_items.new.items.items ≡ c.hand.new.pending.items ++ items_of setting.design transition_is =
+    c.in_ok-put_items.ensures.ok ∙ ap (λ (d : Design). c.hand.new.pending.items ++ items_of d transition_is) design in (
       at_next setting log c.walk.run.rest.now c.args.steps c.walk.run.n c.walk.run.state here c.in-Ok-Some.chosen.choice c.in-Ok-Some.chosen.later.now chosen.2
-          c.step.new.self (less_differs c.walk.run.n c.args.steps chosen.0) chosen.1 chosen.3 (ap (λ (t : Transition). t.state) transition),
+          c.step_into.new.self (less_differs c.walk.run.n c.args.steps chosen.0) chosen.1 chosen.3 (ap (λ (t : Transition). t.state) transition),
       c.walk.invariant.1,
       λ first start.
           let given = c.walk.invariant.2 first start in
@@ -162,7 +162,7 @@ walk-preserved g c =
           record {
             handed = after.handed;
             taken = after.taken;
-            is = gave_more setting log c.walk.run.n (items_of setting.design transition_is) gave after.handed c.hand.new.pending.items c.note.new.items.items more (after.is ∙ given.is);
+            is = gave_more setting log c.walk.run.n (items_of setting.design transition_is) gave after.handed c.hand.new.pending.items c.put_items.new.items.items more (after.is ∙ given.is);
           },
       λ first start.
           let given = c.walk.invariant.3 first start in
@@ -173,11 +173,11 @@ walk-preserved g c =
             so = record {
               handed = after.handed;
               taken = after.taken;
-              is = gave_more setting log c.walk.run.n (items_of setting.design transition_is) gave after.handed c.hand.new.pending.items c.note.new.items.items more (after.is ∙ given.so.is);
+              is = gave_more setting log c.walk.run.n (items_of setting.design transition_is) gave after.handed c.hand.new.pending.items c.put_items.new.items.items more (after.is ∙ given.so.is);
             };
             each = after.each;
             cut = after.cut goes_on;
-            waits = subst (λ (xs : List Item). Waits xs c.step.new.self) (sym more)
-                (waits_more c.hand.new.pending.items (items_of setting.design transition_is) c.step.new.self (after.unended goes_on) (items_wait setting.design transition_is));
+            waits = subst (λ (xs : List Item). Waits xs c.step_into.new.self) (sym more)
+                (waits_more c.hand.new.pending.items (items_of setting.design transition_is) c.step_into.new.self (after.unended goes_on) (items_wait setting.design transition_is));
           },
     )

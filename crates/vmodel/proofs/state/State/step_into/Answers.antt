@@ -3,7 +3,7 @@ use Rattle.vmodel.specs.declared.choice.Choice.TheVariants.{Advance}
 use Rattle.vmodel.specs.Choices.{IsWithin}
 use Rattle.vmodel.specs.InnerStep.{transition_to}
 use Rattle.vmodel.proofs.ViewLemmas.{plain}
-use Rattle.vmodel.proofs.state.State.step.Goals as goal
+use Rattle.vmodel.proofs.state.State.step_into.Goals as goal
 
 pub run-requires : goal.run-requires
 run-requires c = subst IsWithin c.in-Some-Run.field-0-is (c.in-Some-Run.ensures.few c.in-Some-Run.field-0 refl)
@@ -11,5 +11,5 @@ run-requires c = subst IsWithin c.in-Some-Run.field-0-is (c.in-Some-Run.ensures.
 pub returns-in-Some-Advance-clause-ok : goal.returns-in-Some-Advance-clause-ok
 returns-in-Some-Advance-clause-ok c =
     let is = c.in-Some-Advance.ensures.plain in
-    plain c.args.design.now c.args.i Advance c.args.self.now (transition_to c.advance.new.self c.advance.result c.advance.new.monitors.items)
+    plain c.args.design.now c.args.i Advance c.args.self.now (transition_to c.advance.new.self c.advance.new.effect c.advance.new.monitors.items)
     is.0 is.1 (is.2 ∙ ap Some c.in-Some-Advance.field-0-is) (c.advance.ensures c.args.design.now)
