@@ -80,7 +80,7 @@ pub front_digits : (text : List ℕ) → all_ascii_digits (take (prefix_len is_a
 front_digits [] = refl
 front_digits (c ∷ cs) = elim (cases_Bool (is_ascii_digit c)) [
   | inl digit ↦
-    subst (λ n. all_ascii_digits (take n (c ∷ cs)) ≡ true) (sym (counted c cs digit)) (rw digit (front_digits cs))
+      subst (λ n. all_ascii_digits (take n (c ∷ cs)) ≡ true) (sym (counted c cs digit)) (rw digit (front_digits cs))
   | inr other ↦ rw other refl
 ]
 

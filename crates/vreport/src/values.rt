@@ -6,8 +6,8 @@ ghost use Rattle.vreport.specs.Values.{more_values, values_line};
 
 use basis::NoMemory;
 use std::alloc::Global;
-use vbits::Vec4;
 use value_text::put_binary;
+use vbits::Vec4;
 
 /// The digits of a value, leftmost first.
 pub fn text_of_value(alloc: Global, value: Vec4) -> Result<Vec<u8>, NoMemory>
