@@ -11,6 +11,8 @@ mod faults;
 #[cfg(test)]
 mod gates;
 #[cfg(test)]
+mod in_time;
+#[cfg(test)]
 mod long_reports;
 #[cfg(test)]
 mod report_texts;

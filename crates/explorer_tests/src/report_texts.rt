@@ -119,6 +119,23 @@ end 0 quiet - 0
 races 0
 ";
 
+// A report that was cut for time, which the third version alone tells.
+const CUT_FOR_TIME: &[u8] = b"vrace report 3
+top tb
+until 100
+depart 0
+steps 1000
+grain process
+departures taking
+looked values
+state cut time
+vars 0
+ends 1
+end 0 quiet - 0
+
+races 0
+";
+
 const VERSION_TWO: &[u8] = b"vrace report 2
 top tb
 until 100
@@ -226,6 +243,15 @@ const REFUSED_OF_MANY: [(&[u8], &[u8]); 4] = [
     (b"lines 1 2:1\nline 4\na\nb", b"lines 1 2:1\nline 2\na"),
 ];
 
+// With the third text in the place of the second, the first is no report.
+const REFUSED_OF_OTHERS: [(&[u8], &[u8], &[u8]); 5] = [
+    (CUT_FOR_TIME, b"cut time", b"exhausted"),
+    (CUT_FOR_TIME, b"cut time", b"cut steps"),
+    (CUT_FOR_TIME, b"cut time", b"cut times"),
+    (VERSION_TWO, b"exhausted", b"cut time"),
+    (VERSION_ONE, b"exhausted", b"cut time"),
+];
+
 // The text with the second in the place of the first, where it first stands.
 fn changed(alloc: Global, text: &[u8], old: &[u8], new: &[u8]) -> Result<Vec<u8>, NoMemory> {
     for start in 0..text.len() {
@@ -279,7 +305,14 @@ fn is_refused(alloc: Global, text: &[u8]) -> Result<bool, NoMemory> {
 
 #[test]
 fn reports_are_read_and_written_again(rt: HostRuntime) -> Result<(), Fail> {
-    let texts = [PASS_OR_FAIL, MANY_LINES, HOLDING, VERSION_TWO, VERSION_ONE];
+    let texts = [
+        PASS_OR_FAIL,
+        MANY_LINES,
+        HOLDING,
+        CUT_FOR_TIME,
+        VERSION_TWO,
+        VERSION_ONE,
+    ];
     for place in 0..texts.len() {
         assert!(rt; is_kept(rt.alloc(), texts[place])?, "{place}");
     }
@@ -297,6 +330,11 @@ fn texts_that_are_no_reports(rt: HostRuntime) -> Result<(), Fail> {
         let (old, new) = REFUSED_OF_MANY[place];
         let text = changed(rt.alloc(), MANY_LINES, old, new)?;
         assert!(rt; is_refused(rt.alloc(), &text)?, "of many {place}");
+    }
+    for place in 0..REFUSED_OF_OTHERS.len() {
+        let (whole, old, new) = REFUSED_OF_OTHERS[place];
+        let text = changed(rt.alloc(), whole, old, new)?;
+        assert!(rt; is_refused(rt.alloc(), &text)?, "of others {place}");
     }
     Ok(())
 }
