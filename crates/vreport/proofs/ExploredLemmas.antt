@@ -6,7 +6,8 @@ use Rattle.explore.specs.declared.findings.Status.{Status}
 use Rattle.explore.specs.declared.findings.Status.TheVariants.{Exhausted, Cut}
 use Rattle.statebook.specs.declared.reason.Reason.TheVariants.{Memory, Entries, Steps}
 use Rattle.explore.specs.Found.{ListsAll, TellsEntries, TellsSteps}
-use Rattle.vmodel.specs.Run.{Setting}
+use Rattle.statebook.specs.Ways.{SomeRunExceeds}
+use Rattle.vmodel.specs.Run.{Setting, rules_of}
 use Rattle.vmachine.specs.declared.machine_state.MachineState.{MachineState}
 use Rattle.vmachine.specs.Machines.{machine_rules}
 use Rattle.racebook.specs.Races.{IsWhole}
@@ -29,6 +30,10 @@ was_cut Exhausted e = absurd (cc)
 was_cut (Cut (Memory m)) e = absurd (cc)
 was_cut (Cut Entries) e = absurd (cc)
 was_cut (Cut Steps) e = refl
+
+-- a run that takes more steps, of the machine and of its setting
+pub steps_there : (setting : Setting) → KnowsMachine setting → (limits : Limits) → SomeRunExceeds (machine_rules setting) limits → SomeRunExceeds (rules_of setting) limits
+steps_there setting known limits more = record { log = more.log; steps = more.steps; short = more.short; run = known.there more.log more.steps more.run; more = more.more }
 
 pub exploration : (setting : Setting) → KnowsMachine setting → (limits : Limits) (findings : Findings MachineState) (report : Report) → ListsAll (machine_rules setting) limits findings →
     TellsSteps (machine_rules setting) limits findings → IsHeadOf setting limits report → HasOutcome findings.status report → Each (IsTrueEnd setting limits) report.ends → EachTwo IsEndBefore report.ends →
@@ -58,8 +63,7 @@ exploration setting known limits findings report all tells head outcome_is ends 
         every = λ e. lines.every (whole e);
         fewest = λ e. lines.fewest (whole e);
       };
-      cut_for_steps = λ e. (let more = tells (was_cut findings.status (sym outcome_is ∙ e)) in
-          record { log = more.log; steps = more.steps; short = more.short; run = known.there more.log more.steps more.run; more = more.more });
+      cut_for_steps = λ e. steps_there setting known limits (tells (was_cut findings.status (sym outcome_is ∙ e)));
     }
 
 -- a cut for entries, of findings that mean it

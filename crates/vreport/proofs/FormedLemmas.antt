@@ -1,17 +1,15 @@
--- What an explorer found makes a report that can be read.
+-- Ends and races that may be told make a report that can be read.
 use Rattle.std.proofs.Common.{◌≡◌, ◌≢◌, ℕ, ◌≤◌, true, List, [], ◌∷◌, map, slice_get, Option, Some, None, option_map, refl, inl, inr, sym, ap, ◌∙◌, subst, arith}
 use Rattle.std.proofs.lemmas.List.{length-map}
 use Rattle.std.proofs.lemmas.Option.{slice_get-map, same_Some}
 use Rattle.basis.proofs.Lists.{listed_place, of_mapped}
 use Rattle.statebook.specs.declared.limits.Limits.{Limits}
-use Rattle.explore.specs.declared.findings.Findings.{Findings}
 use Rattle.vbits.specs.Vectors.{Vector}
 use Rattle.vdesign.specs.Design.{Variable}
 use Rattle.vast.specs.Names.{has_letters_of_name, is_path}
 use Rattle.vdesign.specs.Named.{AreNamed}
 use Rattle.vmodel.specs.Kept.{AreShaped, HasShape}
 use Rattle.vmodel.specs.Run.{Setting, state_after}
-use Rattle.vmachine.specs.declared.machine_state.MachineState.{MachineState}
 use Rattle.racebook.specs.LineRaces as lines
 use Rattle.racebook.specs.Races as found
 use Rattle.racebook.specs.Order.{AreInTextOrder}
@@ -24,12 +22,12 @@ use Rattle.sched_core.specs.declared.setting.Departures.TheVariants.{Taking, Hol
 use Rattle.sched_core.specs.declared.setting.Looked.{Looked}
 use Rattle.sched_core.specs.declared.setting.Looked.TheVariants.{Values, Lines}
 use Rattle.report_text.specs.Report.{Column, End, Report}
-use Rattle.report_text.specs.WellFormed.{Each, EachTwo, HaveBytes, IsColumn, IsEnd, HasViews, IsEndBefore, IsHead, IsLineOf, IsLineRaceBefore, IsLineRaceForm, IsRaceForm, IsRaceBefore, IsTextLess, IsValue}
+use Rattle.report_text.specs.WellFormed.{Each, EachTwo, HaveBytes, IsColumn, IsEnd, HasViews, IsHead, IsLineOf, IsLineRaceBefore, IsLineRaceForm, IsRaceForm, IsRaceBefore, IsTextLess, IsValue}
 use Rattle.vreport.specs.Ends.{IsTrueEnd}
 use Rattle.vreport.specs.Formed.{IsFormed}
-use Rattle.vreport.specs.Inner.{HasTimeAndLogs, HasTimeAndSideLogs, HasWidth, IsWritable}
+use Rattle.vreport.specs.Inner.{HasTimeAndLogs, HasTimeAndSideLogs, HasWidth, IsWritable, MayBeTold}
 use Rattle.sched_core.specs.Bags.{AreLinesInOrder, HasLines}
-use Rattle.vreport.specs.Reports.{IsHeadOf, ShowsLineRaces, ShowsRaces, report_line_race, report_race, report_value}
+use Rattle.vreport.specs.Reports.{IsHeadOf, report_line_race, report_race, report_value}
 use Rattle.vreport.specs.Truth.{column_of}
 use Rattle.vreport.specs.Versions.{version_for}
 use Rattle.vreport.specs.Written.{AreDumps}
@@ -191,36 +189,41 @@ no_line_races setting limits looks (race ∷ races) each values =
     not_looked None texts has is = cc
     not_looked (Some bag) texts has is = has
 
+-- ---- what may be told
+
+-- lists that are read elsewhere
+pub told_as : (setting : Setting) (limits : Limits) (ends : List End) (races shown : List found.Race) (line_races printed : List lines.LineRace) → shown ≡ races → printed ≡ line_races →
+    MayBeTold setting limits ends races line_races → MayBeTold setting limits ends shown printed
+told_as setting limits ends races shown line_races printed same alike may =
+    subst (λ (xs : List found.Race). MayBeTold setting limits ends xs printed) (sym same) (subst (λ (xs : List lines.LineRace). MayBeTold setting limits ends races xs) (sym alike) may)
+
 -- ---- the whole
 
-pub formed : (setting : Setting) → AllShaped setting → LooksWhereAsked setting → (limits : Limits) (findings : Findings MachineState) (report : Report) → AreNamed setting.design → setting.until ≤ 4611686018427387903 →
-    IsHeadOf setting limits report → Each HasWidth report.variables → Each (IsTrueEnd setting limits) report.ends → Each (IsWritable setting.looked) report.ends →
-    EachTwo IsEndBefore report.ends → ShowsRaces setting limits findings report.races → Each HasTimeAndLogs report.races →
-    ShowsLineRaces setting limits findings report.line_races → Each HasTimeAndSideLogs report.line_races → IsFormed setting report
-formed setting shaped looks limits findings report named until head widths true_ends ends_kept ends_order races races_kept line_races lines_kept dumps are =
+pub formed : (setting : Setting) → AllShaped setting → LooksWhereAsked setting → (limits : Limits) (report : Report) (races : List found.Race) (line_races : List lines.LineRace) → AreNamed setting.design → setting.until ≤ 4611686018427387903 →
+    IsHeadOf setting limits report → Each HasWidth report.variables → MayBeTold setting limits report.ends races line_races →
+    report.races ≡ map report_race races → Each HasTimeAndLogs report.races → report.line_races ≡ map report_line_race line_races → Each HasTimeAndSideLogs report.line_races → IsFormed setting report
+formed setting shaped looks limits report races line_races named until head widths may told races_kept line_told lines_kept dumps are =
     let variables = setting.design.variables in
     let columns : report.variables ≡ map column_of variables = head.setting_is.variables_are in
-    let told : report.races ≡ map report_race races.races = races.told_are in
-    let kept : Each HasTimeAndLogs (map report_race races.races) = subst (Each HasTimeAndLogs) told races_kept in
-    let each : Each (IsRaceForm (map column_of variables)) (map report_race races.races) = each_mapped report_race (IsRaceForm (map column_of variables)) races.races (λ i race at.
-    formed_race setting limits shaped race (races.each i race at) (races.values_order i race at)
-    (kept i (report_race race) (slice_get-map report_race races.races i ∙ ap (option_map report_race) at))) in
-    let line_told : report.line_races ≡ map report_line_race line_races.races = line_races.told_are in
-    let line_kept : Each HasTimeAndSideLogs (map report_line_race line_races.races) = subst (Each HasTimeAndSideLogs) line_told lines_kept in
-    let line_each : Each IsLineRaceForm (map report_line_race line_races.races) = each_mapped report_line_race IsLineRaceForm line_races.races (λ i race at.
-    formed_line_race setting limits looks race (line_races.each i race at)
-    (line_kept i (report_line_race race) (slice_get-map report_line_race line_races.races i ∙ ap (option_map report_line_race) at))) in
+    let kept : Each HasTimeAndLogs (map report_race races) = subst (Each HasTimeAndLogs) told races_kept in
+    let each : Each (IsRaceForm (map column_of variables)) (map report_race races) = each_mapped report_race (IsRaceForm (map column_of variables)) races (λ i race at.
+    formed_race setting limits shaped race (may.true_races i race at) (may.values_order i race at)
+    (kept i (report_race race) (slice_get-map report_race races i ∙ ap (option_map report_race) at))) in
+    let line_kept : Each HasTimeAndSideLogs (map report_line_race line_races) = subst (Each HasTimeAndSideLogs) line_told lines_kept in
+    let line_each : Each IsLineRaceForm (map report_line_race line_races) = each_mapped report_line_race IsLineRaceForm line_races (λ i race at.
+    formed_line_race setting limits looks race (may.true_lines i race at)
+    (line_kept i (report_line_race race) (slice_get-map report_line_race line_races i ∙ ap (option_map report_line_race) at))) in
     record {
       head = formed_head setting limits report head named.top until;
       columns = subst (Each IsColumn) (sym columns) (formed_columns variables named.paths (subst (Each HasWidth) columns widths));
       names = subst (EachTwo (λ a b. a.name ≢ b.name)) (sym columns) (two_mapped column_of (λ a b. a.name ≢ b.name) variables named.distinct);
       ends = subst (λ (looked : Looked). Each (IsEnd looked report.variables) report.ends) (sym head.setting_is.looked_is)
-          (subst (λ cs. Each (IsEnd setting.looked cs) report.ends) (sym columns) (formed_ends setting limits shaped report.ends true_ends ends_kept));
-      ends_order = ends_order;
+          (subst (λ cs. Each (IsEnd setting.looked cs) report.ends) (sym columns) (formed_ends setting limits shaped report.ends may.true_ends may.writable));
+      ends_order = may.ends_order;
       bytes = formed_bytes setting report.steps report.ends dumps are;
       races = subst (λ cs. Each (IsRaceForm cs) report.races) (sym columns) (subst (Each (IsRaceForm (map column_of variables))) (sym told) each);
-      races_order = subst (EachTwo IsRaceBefore) (sym told) (two_mapped report_race IsRaceBefore races.races races.order);
+      races_order = subst (EachTwo IsRaceBefore) (sym told) (two_mapped report_race IsRaceBefore races may.races_order);
       line_races = subst (Each IsLineRaceForm) (sym line_told) line_each;
-      line_races_order = subst (EachTwo IsLineRaceBefore) (sym line_told) (two_mapped report_line_race IsLineRaceBefore line_races.races line_races.order);
-      no_lines = λ values. line_told ∙ no_line_races setting limits looks line_races.races line_races.each (sym head.setting_is.looked_is ∙ values);
+      line_races_order = subst (EachTwo IsLineRaceBefore) (sym line_told) (two_mapped report_line_race IsLineRaceBefore line_races may.lines_order);
+      no_lines = λ values. line_told ∙ no_line_races setting limits looks line_races may.true_lines (sym head.setting_is.looked_is ∙ values);
     }

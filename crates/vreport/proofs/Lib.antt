@@ -10,6 +10,7 @@ pub mod WriteLemmas
 pub mod HeldLemmas
 pub mod FrontLemmas
 pub mod ExploredLemmas
+pub mod TimedLemmas
 pub mod MappedLemmas
 pub mod TextOrderLemmas
 pub mod LineLemmas

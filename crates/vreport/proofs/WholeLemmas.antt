@@ -1,5 +1,5 @@
--- The ends that are listed are those of runs, and where the findings are all, they are all.
-use Rattle.std.proofs.Common.{◌≡◌, ℕ, ◌≤◌, ◌⊎◌, true, List, length, slice_get, Option, Some, refl, sym, ap, ◌∙◌, subst, inl, inr, le_refl, arith}
+-- The ends that are listed are those of runs, and where the marks are all, or all up to a time, so are they.
+use Rattle.std.proofs.Common.{◌≡◌, ℕ, ◌≤◌, ◌⊎◌, true, List, length, Option, Some, refl, sym, ap, ◌∙◌, subst, inl, inr, le_refl, arith}
 use Rattle.std.proofs.lemmas.Option.{same_Some}
 use Rattle.basis.proofs.Lists.{place_within, at_contains}
 use Rattle.sched_core.specs.Rules.{IsRun, stands}
@@ -19,10 +19,12 @@ use Rattle.vmachine.specs.Reads.{end_in}
 use Rattle.report_text.specs.Report.{End as ReportEnd}
 use Rattle.report_text.specs.WellFormed.{Each}
 use Rattle.vreport.specs.declared.row.Row.{Row}
-use Rattle.vreport.specs.Ends.{HasBytes, IsEndAfter, IsTrueEnd, ListsEnd, ListsEveryEnd}
+use Rattle.vreport.specs.Ends.{HasBytes, IsEndAfter, IsTrueEnd, ListsEnd, ListsEndsOf, ListsEveryEnd}
+use Rattle.vreport.specs.InTime.{ListsEveryEndTo}
 use Rattle.vreport.specs.Values.{values_line}
 use Rattle.vreport.specs.Inner.{AreEnds, AreRows, HasRow, IsEndOfRow, IsNoEnd, IsWritable, order_of}
 use Rattle.racebook.proofs.InTimeLemmas.{told_where_ended}
+use Rattle.racebook.specs.InTime.{KeepsEnd, KeepsEveryEnd, KeepsEveryEndTo}
 use Rattle.vreport.proofs.EndLemmas.{Alike, AllStand, RunThere, row_finishes}
 use Rattle.vreport.proofs.ListingLemmas.{cause_exact}
 
@@ -32,31 +34,31 @@ RunHere setting = (log : List (ℕ × ℕ)) (n : ℕ) → IsRun (rules_of settin
 abbrev pub MarkAlike : Setting → Type 0
 MarkAlike setting = (s : MachineState) (t : State) → Stands setting s t → (machine_rules setting).mark s ≡ (rules_of setting).mark t
 
-module _ (setting : Setting) (alike : Alike setting) (all : AllStand setting) (there : RunThere setting) (limits : Limits)
-    (marks : List (MachineState × List (ℕ × ℕ))) (rows : List Row) (ends : List ReportEnd) (are : AreEnds setting limits marks rows ends) where
-  true_end : AreFound (machine_rules setting) limits marks → (row : Row) (end : ReportEnd) → IsEndOfRow setting limits marks row end → IsTrueEnd setting limits end
-  true_end found row end of =
-      let f = found row.place of.found of.at in
-      let p = row_finishes setting alike all there limits of.found row.place row f of.of in
-      let t = state_after setting of.found.1 f.steps in
-      let time_is : end.time ≡ p.0.time = of.time_is ∙ p.2.time_is in
-      let cause_is : end.cause ≡ p.0.cause = cause_exact end.cause p.0.cause (sym of.cause_is ∙ p.2.cause_is) in
-      let told : p.0 ≡ record { time = end.time; cause = end.cause } = λ i. record { time = (sym time_is) i; cause = (sym cause_is) i } in
-      let here : IsEndAfter setting of.found.1 f.steps end.time end.cause end.line end.printed = record {
-        ends = p.1.ends;
-        end_is = sym p.1.end_is ∙ told;
-        line_is = of.line_is ∙ p.2.line_is;
-        printed_is = of.printed_is ∙ p.2.printed_is;
-      } in
-      record {
-        steps = f.steps;
-        after = subst (λ (l : List (ℕ × ℕ)). IsEndAfter setting l f.steps end.time end.cause end.line end.printed) (sym of.log_is) here;
-        within = f.within;
-        short = (let a = f.short in let b = ap length of.log_is in omega arith);
-      }
+module _ (setting : Setting) (limits : Limits) (marks : List (MachineState × List (ℕ × ℕ))) (rows : List Row) (ends : List ReportEnd) (are : AreEnds setting limits marks rows ends) where
+  module _ (alike : Alike setting) (all : AllStand setting) (there : RunThere setting) where
+    true_end : AreFound (machine_rules setting) limits marks → (row : Row) (end : ReportEnd) → IsEndOfRow setting limits marks row end → IsTrueEnd setting limits end
+    true_end found row end of =
+        let f = found row.place of.found of.at in
+        let p = row_finishes setting alike all there limits of.found row.place row f of.of in
+        let t = state_after setting of.found.1 f.steps in
+        let time_is : end.time ≡ p.0.time = of.time_is ∙ p.2.time_is in
+        let cause_is : end.cause ≡ p.0.cause = cause_exact end.cause p.0.cause (sym of.cause_is ∙ p.2.cause_is) in
+        let told : p.0 ≡ record { time = end.time; cause = end.cause } = λ i. record { time = (sym time_is) i; cause = (sym cause_is) i } in
+        let here : IsEndAfter setting of.found.1 f.steps end.time end.cause end.line end.printed = record {
+          ends = p.1.ends;
+          end_is = sym p.1.end_is ∙ told;
+          line_is = of.line_is ∙ p.2.line_is;
+          printed_is = of.printed_is ∙ p.2.printed_is;
+        } in
+        record {
+          steps = f.steps;
+          after = subst (λ (l : List (ℕ × ℕ)). IsEndAfter setting l f.steps end.time end.cause end.line end.printed) (sym of.log_is) here;
+          within = f.within;
+          short = (let a = f.short in let b = ap length of.log_is in omega arith);
+        }
 
-  pub ends_true : AreFound (machine_rules setting) limits marks → Each (IsTrueEnd setting limits) ends
-  ends_true found = λ i end at. (let o = are.each i end at in true_end found o.row end o.of)
+    pub ends_true : AreFound (machine_rules setting) limits marks → Each (IsTrueEnd setting limits) ends
+    ends_true found = λ i end at. (let o = are.each i end at in true_end found o.row end o.of)
 
   pub ends_bytes : Each (HasBytes setting limits.steps) ends
   ends_bytes = λ i end at. (are.each i end at).of.bytes
@@ -64,7 +66,7 @@ module _ (setting : Setting) (alike : Alike setting) (all : AllStand setting) (t
   pub ends_kept : Each (IsWritable setting.looked) ends
   ends_kept = λ i end at. (are.each i end at).of.kept
 
-  module _ (here : RunHere setting) (mark_alike : MarkAlike setting) (of_marks : AreRows setting marks rows) where
+  module _ (of_marks : AreRows setting marks rows) where
     row_listed : (found : MachineState × List (ℕ × ℕ)) (place : ℕ) (t : State) (time : ℕ) (cause : Cause) (line : List ℕ) (printed : Option (List (List ℕ))) (departures : ℕ) →
         Stands setting found.0 t → end_in t ≡ Some (record { time = time; cause = cause }) → line ≡ values_line t.values → printed ≡ t.printed → length found.1 ≤ departures →
         HasRow setting found place rows ⊎ IsNoEnd setting found.0 → ListsEnd ends time cause line printed departures
@@ -85,19 +87,46 @@ module _ (setting : Setting) (alike : Alike setting) (all : AllStand setting) (t
           fewest = (let a = listed.fewest in let b = has.of.departures_are in omega arith);
         }
 
-    -- every end among the marks
-    pub ends_marked : (place : ℕ) (found : MachineState × List (ℕ × ℕ)) (t : State) (time : ℕ) (cause : Cause) → slice_get marks place ≡ Some found → Stands setting found.0 t →
-        end_in t ≡ Some (record { time = time; cause = cause }) → ListsEnd ends time cause (values_line t.values) t.printed (length found.1)
-    ends_marked place found t time cause at st told =
+    -- each end among the marks
+    pub ends_marked : ListsEndsOf setting marks ends
+    ends_marked = λ place found t time cause at st told.
         row_listed found place t time cause (values_line t.values) t.printed (length found.1) st told refl refl (le_refl (length found.1)) (of_marks.whole place found (place_within marks place found at) at)
 
-    pub ends_all : (depart : ℕ) → IsCovered (machine_rules setting) depart (IsListedMark (machine_rules setting) marks) → ListsEveryEnd setting depart ends
-    ends_all depart covered = λ log steps time cause line printed short after.
-        let s = stands (machine_rules setting) log steps in
-        let t = state_after setting log steps in
-        let mark : (machine_rules setting).mark s ≡ true = mark_alike s t (all log steps) ∙ (lawful setting).end_is_mark t after.ends.end in
-        let l = covered log steps short (here log steps after.ends.run) mark in
-        let st : Stands setting l.found.0 t = alike s l.found.0 t (all log steps) l.same in
-        let none : length (choices t) ≡ 0 = sym (width_is setting t) ∙ after.ends.end in
-        row_listed l.found l.place t time cause line printed (length log) st (told_where_ended t none ∙ ap Some after.end_is) after.line_is after.printed_is l.departures
-        (of_marks.whole l.place l.found (place_within marks l.place l.found l.at) l.at)
+module _ (setting : Setting) (marks : List (MachineState × List (ℕ × ℕ))) (ends : List ReportEnd) (listed : ListsEndsOf setting marks ends) where
+  -- a run that ends in a state that is kept does so in an end that is listed
+  kept_listed : (log : List (ℕ × ℕ)) (steps time : ℕ) (cause : Cause) (line : List ℕ) (printed : Option (List (List ℕ))) → KeepsEnd setting marks (state_after setting log steps) (length log) →
+      IsEndAfter setting log steps time cause line printed → ListsEnd ends time cause line printed (length log)
+  kept_listed log steps time cause line printed kept after =
+      let t = state_after setting log steps in
+      let none : length (choices t) ≡ 0 = sym (width_is setting t) ∙ after.ends.end in
+      let l = listed kept.place kept.end t time cause kept.at kept.stands (told_where_ended t none ∙ ap Some after.end_is) in
+      record {
+        place = l.place;
+        end = l.end;
+        at = l.at;
+        time_is = l.time_is;
+        cause_is = l.cause_is;
+        line_is = l.line_is ∙ sym after.line_is;
+        printed_is = l.printed_is ∙ sym after.printed_is;
+        fewest = (let a = l.fewest in let b = kept.fewest in omega arith);
+      }
+
+  pub ends_all : Alike setting → AllStand setting → RunHere setting → MarkAlike setting → (depart : ℕ) → IsCovered (machine_rules setting) depart (IsListedMark (machine_rules setting) marks) → ListsEveryEnd setting depart ends
+  ends_all alike all here mark_alike depart covered = λ log steps time cause line printed short after.
+      let s = stands (machine_rules setting) log steps in
+      let t = state_after setting log steps in
+      let mark : (machine_rules setting).mark s ≡ true = mark_alike s t (all log steps) ∙ (lawful setting).end_is_mark t after.ends.end in
+      let l = covered log steps short (here log steps after.ends.run) mark in
+      kept_listed log steps time cause line printed
+      (record { place = l.place; end = l.found; at = l.at; stands = alike s l.found.0 t (all log steps) l.same; fewest = l.departures }) after
+
+  -- where every end is kept
+  pub ends_throughout : (depart : ℕ) → KeepsEveryEnd setting depart marks → ListsEveryEnd setting depart ends
+  ends_throughout depart kept = λ log steps time cause line printed short after.
+      kept_listed log steps time cause line printed (kept log steps short after.ends) after
+
+  -- or those of a time
+  pub ends_to : (depart top : ℕ) → KeepsEveryEndTo setting depart marks top → ListsEveryEndTo setting depart ends top
+  ends_to depart top kept = λ log steps time cause line printed le short after.
+      (let at : (state_after setting log steps).queue.time ≡ time = ap (λ (e : End). e.time) after.end_is in
+      kept_listed log steps time cause line printed (kept log steps short after.ends (omega (arith, at, le))) after)

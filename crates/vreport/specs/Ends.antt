@@ -60,11 +60,15 @@ abbrev pub ListsEveryEnd : Setting → ℕ → List End → Type 0
 ListsEveryEnd setting depart ends = (log : List (ℕ × ℕ)) (steps time : ℕ) (cause : Cause) (line : List ℕ) (printed : Option (List (List ℕ))) →
     length log ≤ depart → IsEndAfter setting log steps time cause line printed → ListsEnd ends time cause line printed (length log)
 
--- every mark at which a run has ended is listed, under no more departures than its own, whatever the status of the findings
-abbrev pub ListsEveryMarkedEnd : Setting → Findings MachineState → List End → Type 0
-ListsEveryMarkedEnd setting findings ends = (place : ℕ) (found : MachineState × List (ℕ × ℕ)) (t : State) (time : ℕ) (cause : Cause) →
-    slice_get findings.marks.entries place ≡ Some found → Stands setting found.0 t → end_in t ≡ Some (record { time = time; cause = cause }) →
+-- each of the marks at which a run has ended is listed, under no more departures than its own
+abbrev pub ListsEndsOf : Setting → List (MachineState × List (ℕ × ℕ)) → List End → Type 0
+ListsEndsOf setting marks ends = (place : ℕ) (found : MachineState × List (ℕ × ℕ)) (t : State) (time : ℕ) (cause : Cause) →
+    slice_get marks place ≡ Some found → Stands setting found.0 t → end_in t ≡ Some (record { time = time; cause = cause }) →
     ListsEnd ends time cause (values_line t.values) t.printed (length found.1)
+
+-- so it is of an explorer's findings, whatever their status
+abbrev pub ListsEveryMarkedEnd : Setting → Findings MachineState → List End → Type 0
+ListsEveryMarkedEnd setting findings ends = ListsEndsOf setting findings.marks.entries ends
 
 -- where the findings are all, so is every end
 abbrev pub GivesEveryEnd : Setting → Limits → Findings MachineState → List End → Type 0

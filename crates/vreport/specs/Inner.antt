@@ -1,4 +1,4 @@
--- *internal*: Words for the contracts of calls within: the marks at which runs end, as rows.
+-- *internal*: Words for the contracts of calls within: the marks at which runs end, as rows; and what a report is made of.
 use Rattle.std.specs.Prelude.{◌≡◌, ℕ, zero, suc, ◌+◌, ◌^◌, ◌<◌, ◌≤◌, ◌⊎◌, List, length, slice_get, Option, Some, None}
 use Rattle.std.specs.List.{Contains}
 use Rattle.std.specs.Option.{option_cmp}
@@ -22,7 +22,9 @@ use Rattle.statebook.specs.declared.limits.Limits.{Limits}
 use Rattle.report_text.specs.Report.{Column, End as ReportEnd, LineRace, Race}
 use Rattle.report_text.specs.WellFormed.{Each, EachTwo, IsEndBefore}
 use Rattle.vreport.specs.Dumps.{IsRunDump}
-use Rattle.vreport.specs.Ends.{HasBytes}
+use Rattle.racebook.specs.LineRaces.{LineRace as FoundLineRace, AreLineRacesInOrder, EachLineRace, IsLineRace}
+use Rattle.racebook.specs.Races.{Race as FoundRace, AreRacesInOrder, AreValuesInOrder, EachRace, IsRace}
+use Rattle.vreport.specs.Ends.{HasBytes, IsTrueEnd}
 use Rattle.vreport.specs.Values.{values_line}
 
 -- the place of a cause in the order of their words
@@ -181,3 +183,16 @@ pub record AreEndsBelow (setting : Setting) (limits : Limits) (marks : List (Mac
 
 abbrev pub AreEnds : Setting → Limits → List (MachineState × List (ℕ × ℕ)) → List Row → List ReportEnd → Type 0
 AreEnds setting limits marks rows ends = AreEndsBelow setting limits marks rows (length rows) ends
+
+-- ---- what a report is made of
+
+-- ends of runs, and races, each in their order
+pub record MayBeTold (setting : Setting) (limits : Limits) (ends : List ReportEnd) (races : List FoundRace) (line_races : List FoundLineRace) : Type 0 where
+  pub true_ends : Each (IsTrueEnd setting limits) ends
+  pub writable : Each (IsWritable setting.looked) ends
+  pub ends_order : EachTwo IsEndBefore ends
+  pub true_races : EachRace (IsRace setting limits) races
+  pub races_order : AreRacesInOrder races
+  pub values_order : AreValuesInOrder races
+  pub true_lines : EachLineRace (IsLineRace setting limits) line_races
+  pub lines_order : AreLineRacesInOrder line_races

@@ -4,6 +4,7 @@ pub mod Versions
 pub mod Ends
 pub mod Truth
 pub mod Reports
+pub mod InTime
 pub mod Written
 pub mod Formed
 pub mod Agreement

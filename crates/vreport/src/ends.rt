@@ -1,26 +1,26 @@
-// The ends that an explorer's findings show, each once.
+// The ends that the marks of a search show, each once.
 
 ghost use Rattle.std.specs.Prelude.{◌≡◌, ◌<◌, ◌^◌, length, IfOk, IfSome, Decides};
 ghost use Rattle.std.specs.declared.cmp.Ordering.TheVariants.{Equal};
 ghost use Rattle.basis.specs.Reasons.{IfFault};
-ghost use Rattle.explore.specs.Found.{ListsFound};
+ghost use Rattle.explore.specs.Found.{AreFound};
 ghost use Rattle.report_text.specs.WellFormed.{Each, EachTwo, IsEndBefore};
 ghost use Rattle.vmachine.specs.Machines.{machine_rules};
 ghost use Rattle.vreport.specs.Dumps.{HasDump, IsDumpFront};
-ghost use Rattle.vreport.specs.Ends.{GivesEveryEnd, HasBytes, HasLongDump, HasSomeLongDump, IsTrueEnd, ListsEveryMarkedEnd};
+ghost use Rattle.vreport.specs.Ends.{HasBytes, HasLongDump, HasSomeLongDump, IsTrueEnd, ListsEndsOf};
 ghost use Rattle.vreport.specs.Written.{AreHeld, IsHeld};
 ghost use Rattle.vreport.specs.Inner.{AreEnds, AreRows, AreSortedRows, CountsDump, IsCounted, IsWritable, IsEndOfRow, IsRowOfSome, Repeats, key_cmp};
 
 use crate::dump::{DumpFront, HeldDump, hold_dump, write_dump, write_from};
+use crate::marks::Marks;
 use crate::row::{Row, cause_of, copy_printed, rows_in_order};
 use basis::OrMemory;
 use byte_sinks::{Counter, HELD_BYTES, HeldText, TooMany};
-use explore::Findings;
 use report_text::End;
 use sched_core::Log;
 use statebook::Limits;
 use std::alloc::Global;
-use vmachine::{Machine, MachineState, machine_law};
+use vmachine::{Machine, machine_law};
 use vmodel::run_law;
 
 // How many bytes the dump of the run has.
@@ -137,24 +137,24 @@ struct HeldEnd {
 }
 
 // The end of a row. Its dump is held where it fits into so many bytes.
-fn end_of(
+fn end_of<M: Marks>(
     alloc: Global,
     machine: &Machine,
-    findings: &Findings<MachineState>,
+    marks: &M,
     limits: &Limits,
     row: &Row,
     room: usize,
 ) -> Result<HeldEnd, OrMemory<TooMany>>
-    requires found { ListsFound (machine_rules machine.now) limits.now findings.now }
-    requires of { IsRowOfSome machine.now findings.now.marks.entries row.now }
+    requires found { AreFound (machine_rules machine.now) limits.now (M.pairs marks.now) }
+    requires of { IsRowOfSome machine.now (M.pairs marks.now) row.now }
     ensures ok { IfOk result (λ one.
-        IsEndOfRow machine.now limits.now findings.now.marks.entries row.now one.end) }
+        IsEndOfRow machine.now limits.now (M.pairs marks.now) row.now one.end) }
     ensures held { IfOk result (λ one. IsHeld machine.now limits.now.steps one.end one.held) }
     ensures long { IfFault result (λ _. HasSomeLongDump machine.now limits.now) }
 {
     machine_law();
     run_law();
-    let Some((_, log)) = findings.marks.get_index(row.place) else {
+    let Some((_, log)) = marks.mark_at(row.place) else {
         unreachable!()
     };
     let dump = measure_dump(alloc, machine, log, limits.steps, room)?;
@@ -187,18 +187,18 @@ pub struct HeldEnds {
 }
 
 // The ends of rows that stand in order, each once. The dumps of the first are held, while they fit together.
-fn ends_of_rows(
+fn ends_of_rows<M: Marks>(
     alloc: Global,
     machine: &Machine,
-    findings: &Findings<MachineState>,
+    marks: &M,
     limits: &Limits,
     rows: &[Row],
 ) -> Result<HeldEnds, OrMemory<TooMany>>
-    requires found { ListsFound (machine_rules machine.now) limits.now findings.now }
-    requires of { AreRows machine.now findings.now.marks.entries rows.now }
+    requires found { AreFound (machine_rules machine.now) limits.now (M.pairs marks.now) }
+    requires of { AreRows machine.now (M.pairs marks.now) rows.now }
     requires sorted { AreSortedRows rows.now }
     ensures ok { IfOk result (λ found.
-        AreEnds machine.now limits.now findings.now.marks.entries rows.now found.ends.items) }
+        AreEnds machine.now limits.now (M.pairs marks.now) rows.now found.ends.items) }
     ensures held { IfOk result (λ found.
         AreHeld machine.now limits.now.steps found.ends.items found.held.items) }
     ensures long { IfFault result (λ _. HasSomeLongDump machine.now limits.now) }
@@ -210,7 +210,7 @@ fn ends_of_rows(
         if repeats(rows, place) {
             continue;
         }
-        match end_of(alloc, machine, findings, limits, &rows[place], room) {
+        match end_of(alloc, machine, marks, limits, &rows[place], room) {
             Ok(one) => {
                 room = room_behind(room, &one.held);
                 ends.push(one.end)?;
@@ -222,26 +222,24 @@ fn ends_of_rows(
     Ok(HeldEnds { ends, held })
 }
 
-/// The ends of runs that an explorer's findings show, in the order of a report (docs/FORMATS.md, "Reports"), each once,
+/// The ends of runs that the marks show, in the order of a report (docs/FORMATS.md, "Reports"), each once,
 /// under a log of the fewest departures among the marks that show it, and with the count of its dump's bytes. The dumps of
 /// the first ends are held, while they have room in `HELD_BYTES` together.
 ///
 /// E901 where memory was refused. The other fault is that a dump has 2^64 bytes or more.
-pub fn ends_of(
+pub fn ends_of<M: Marks>(
     alloc: Global,
     machine: &Machine,
-    findings: &Findings<MachineState>,
+    marks: &M,
     limits: &Limits,
 ) -> Result<HeldEnds, OrMemory<TooMany>>
-    requires found { ListsFound (machine_rules machine.now) limits.now findings.now }
+    requires found { AreFound (machine_rules machine.now) limits.now (M.pairs marks.now) }
     ensures true_ends { IfOk result (λ found.
         Each (IsTrueEnd machine.now limits.now) found.ends.items) }
     ensures bytes { IfOk result (λ found.
         Each (HasBytes machine.now limits.now.steps) found.ends.items) }
-    ensures all { IfOk result (λ found.
-        GivesEveryEnd machine.now limits.now findings.now found.ends.items) }
-    ensures marked { IfOk result (λ found.
-        ListsEveryMarkedEnd machine.now findings.now found.ends.items) }
+    ensures listed { IfOk result (λ found.
+        ListsEndsOf machine.now (M.pairs marks.now) found.ends.items) }
     ensures kept { IfOk result (λ found. Each (IsWritable machine.now.looked) found.ends.items) }
     ensures order { IfOk result (λ found. EachTwo IsEndBefore found.ends.items) }
     ensures held { IfOk result (λ found.
@@ -249,6 +247,6 @@ pub fn ends_of(
     ensures long { IfFault result (λ _. HasSomeLongDump machine.now limits.now) }
 {
     machine_law();
-    let rows = rows_in_order(alloc, machine, findings)?;
-    ends_of_rows(alloc, machine, findings, limits, &rows)
+    let rows = rows_in_order(alloc, machine, marks)?;
+    ends_of_rows(alloc, machine, marks, limits, &rows)
 }

@@ -8,7 +8,7 @@ ghost use Rattle.vdesign.specs.Named.{AreNamed};
 ghost use Rattle.vmachine.specs.Machines.{machine_rules};
 ghost use Rattle.vreport.specs.Ends.{GivesEveryEnd, HasBytes, HasSomeLongDump, IsTrueEnd, ListsEveryMarkedEnd};
 ghost use Rattle.vreport.specs.Formed.{IsFormed};
-ghost use Rattle.vreport.specs.Inner.{HasLog, HasSideLog, HasTimeAndLogs, HasTimeAndSideLogs, HasWidth};
+ghost use Rattle.vreport.specs.Inner.{HasLog, HasSideLog, HasTimeAndLogs, HasTimeAndSideLogs, HasWidth, MayBeTold};
 ghost use Rattle.vreport.specs.Reports.{HasOutcome, IsHeadOf, ShowsLineRaces, ShowsRaces, outcome_of as outcome_by_status, report_line_race, report_race, report_value};
 ghost use Rattle.vreport.specs.Versions.{version_for as version_by, version_of_outcome};
 ghost use Rattle.vreport.specs.Truth.{column_of};
@@ -20,12 +20,12 @@ use basis::{NoMemory, OrMemory};
 use byte_sinks::{HeldText, TooMany};
 use explore::{Findings, Reason, Status};
 use racebook::{Side, Witness, line_races, races};
-use report_text::{Column, LineRace, Outcome, PrintedLines, Race, RaceValue, Report, Version};
+use report_text::{Column, End, LineRace, Outcome, PrintedLines, Race, RaceValue, Report, Version};
 use sched_core::setting::{Departures, Looked};
 use statebook::Limits;
 use std::alloc::Global;
 use vdesign::design::Variable;
-use vmachine::{Machine, MachineState};
+use vmachine::{Machine, MachineState, machine_law};
 use vmodel::run_law;
 
 // The name and the width of each variable.
@@ -156,6 +156,45 @@ fn outcome_of(status: Status) -> Outcome
     }
 }
 
+/// The report of a machine under limits, with this outcome, these ends and these races.
+pub fn report_with(
+    alloc: Global,
+    machine: &Machine,
+    limits: &Limits,
+    outcome: Outcome,
+    ends: Vec<End>,
+    races: &[racebook::Race],
+    line_races: &[racebook::LineRace],
+) -> Result<Report, NoMemory>
+    requires { MayBeTold machine.now limits.now ends.items races.now line_races.now }
+    ensures head { IfOk result (IsHeadOf machine.now limits.now) }
+    ensures outcome { IfOk result (λ report. report.outcome ≡ outcome) }
+    ensures ends { IfOk result (λ report. report.ends ≡ ends.items) }
+    ensures races { IfOk result (λ report. report.races ≡ map report_race races.now) }
+    ensures line_races { IfOk result (λ report.
+        report.line_races ≡ map report_line_race line_races.now) }
+    ensures formed { AreNamed machine.now.design → machine.now.until ≤ 4611686018427387903 →
+        IfOk result (IsFormed machine.now) }
+{
+    run_law();
+    let design = machine.design();
+    Ok(Report {
+        version: version_for(machine.departures(), machine.looked(), outcome),
+        top: Vec::from_slice(alloc, &design.top)?,
+        until: machine.until(),
+        depart: limits.depart,
+        steps: limits.steps,
+        grain: machine.grain(),
+        departures: machine.departures(),
+        looked: machine.looked(),
+        outcome,
+        variables: columns_of(alloc, &design.variables)?,
+        ends,
+        races: report_races(alloc, races)?,
+        line_races: report_line_races(alloc, line_races)?,
+    })
+}
+
 /// A report; and of each of its ends the dump, where it is held.
 #[derive(Drop)]
 pub struct HeldReport {
@@ -192,27 +231,12 @@ pub fn hold_report(
         AreHeld machine.now limits.now.steps with_dumps.report.ends with_dumps.held.items) }
     ensures long { IfFault result (λ _. HasSomeLongDump machine.now limits.now) }
 {
-    run_law();
+    machine_law();
     let HeldEnds { ends, held } = ends_of(alloc, machine, findings, limits)?;
     let found = races(alloc, machine, findings)?;
     let printed = line_races(alloc, machine, findings)?;
-    let design = machine.design();
     let outcome = outcome_of(findings.status);
-    let report = Report {
-        version: version_for(machine.departures(), machine.looked(), outcome),
-        top: Vec::from_slice(alloc, &design.top)?,
-        until: machine.until(),
-        depart: limits.depart,
-        steps: limits.steps,
-        grain: machine.grain(),
-        departures: machine.departures(),
-        looked: machine.looked(),
-        outcome,
-        variables: columns_of(alloc, &design.variables)?,
-        ends,
-        races: report_races(alloc, &found)?,
-        line_races: report_line_races(alloc, &printed)?,
-    };
+    let report = report_with(alloc, machine, limits, outcome, ends, &found, &printed)?;
     Ok(HeldReport { report, held })
 }
 

@@ -3,9 +3,9 @@
 ghost use Rattle.std.specs.Prelude.{◌≡◌, IfOk, option_map};
 ghost use Rattle.vreport.specs.Inner.{AreRows, AreSortedRows, TellsRow, cause_of as cause_by_order, order_of as cause_order};
 
+use crate::marks::Marks;
 use crate::values::line_of_values;
 use basis::NoMemory;
-use explore::Findings;
 use sched_core::Log;
 use sched_core::bag::Bag;
 use sched_core::end::Cause;
@@ -83,16 +83,12 @@ fn row_of(
 }
 
 // The rows of all marks, in the order of the marks.
-fn all_rows(
-    alloc: Global,
-    machine: &Machine,
-    findings: &Findings<MachineState>,
-) -> Result<Vec<Row>, NoMemory>
-    ensures { IfOk result (λ rows. AreRows machine.now findings.now.marks.entries rows.items) }
+fn all_rows<M: Marks>(alloc: Global, machine: &Machine, marks: &M) -> Result<Vec<Row>, NoMemory>
+    ensures { IfOk result (λ rows. AreRows machine.now (M.pairs marks.now) rows.items) }
 {
     let mut rows = Vec::new(alloc);
-    for place in 0..findings.marks.len() {
-        if let Some((machine_state, log)) = findings.marks.get_index(place) {
+    for place in 0..marks.count() {
+        if let Some((machine_state, log)) = marks.mark_at(place) {
             if let Some(row) = row_of(alloc, machine, machine_state, log, place)? {
                 rows.push(row)?;
             }
@@ -102,15 +98,15 @@ fn all_rows(
 }
 
 /// The rows of all marks at which a run ends, in their own order.
-pub fn rows_in_order(
+pub fn rows_in_order<M: Marks>(
     alloc: Global,
     machine: &Machine,
-    findings: &Findings<MachineState>,
+    marks: &M,
 ) -> Result<Vec<Row>, NoMemory>
-    ensures of { IfOk result (λ rows. AreRows machine.now findings.now.marks.entries rows.items) }
+    ensures of { IfOk result (λ rows. AreRows machine.now (M.pairs marks.now) rows.items) }
     ensures order { IfOk result (λ rows. AreSortedRows rows.items) }
 {
-    let mut rows = all_rows(alloc, machine, findings)?;
+    let mut rows = all_rows(alloc, machine, marks)?;
     rows.sort()?;
     Ok(rows)
 }

@@ -1,0 +1,30 @@
+use Rattle.std.proofs.Common.{subst}
+use Rattle.std.specs.Prelude.{IfOk}
+use Rattle.vreport.specs.InTime.{TellsOutcomeInTime}
+use Rattle.vreport.specs.declared.timed.Spent.{Spent}
+use Rattle.vreport.proofs.timed.report_in_time.Goals as goal
+
+pub report_timed-requires : goal.report_timed-requires
+report_timed-requires g c =
+    let e = c.explore_in_time-found.ensures in
+    record {
+      races_found = e.found;
+      races_closed = e.closed;
+      races_exhausted = e.exhausted;
+      races_fewest = e.fewest;
+      races_order = e.order;
+      values_order = e.values;
+      lines_found = e.lines_found;
+      lines_closed = e.lines_closed;
+      lines_exhausted = e.lines_exhausted;
+      lines_fewest = e.lines_fewest;
+      lines_order = e.lines_order;
+      ends_found = e.ends_found;
+      ends_closed = e.ends_closed;
+      ends_exhausted = e.ends_exhausted;
+      entries = e.entries;
+      steps = e.steps;
+    }
+
+pub returns-clause-outcome : goal.returns-clause-outcome
+returns-clause-outcome g c = subst (λ (what : Spent). IfOk c.report_timed.result (TellsOutcomeInTime what)) c.spent.ensures c.report_timed.ensures.outcome
