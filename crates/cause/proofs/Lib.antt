@@ -1,0 +1,3 @@
+pub mod FootprintLemmas
+pub mod SlotLemmas
+pub mod SwapLemmas
