@@ -1,9 +1,11 @@
 -- *product rule*: Which two statements race (crates/cause/README.md): the first swap of a run and its parent, in the slot of the last step that
 -- the log names. Both stand in the same state before that step.
 use Rattle.std.specs.Prelude.{◌≡◌, ℕ, ◌-◌, ◌<◌, if◌then◌else◌, List, [], ◌∷◌, length, take, Option, Some, None, slice_get}
+use Rattle.vdesign.specs.declared.action.Action.{Action}
 use Rattle.vmodel.specs.Run.{Setting}
 use Rattle.cause.specs.Footprints.{shared}
 use Rattle.cause.specs.Visits.{same_visit, visits_to, IsSlot}
+use Rattle.cause.specs.Behind.{statement_behind}
 use Rattle.cause.specs.Swaps.{IsFirstSwap, HasNoSwap}
 use Rattle.cause.specs.declared.visit.Visit.{Visit}
 use Rattle.cause.specs.declared.cause.Blamed.{Blamed}
@@ -30,16 +32,27 @@ abbrev pub step_in : Visit → List Visit → Option ℕ
 step_in v [] = None
 step_in v (w ∷ visits) = if same_visit v w then Some w.step else step_in v visits
 
--- what is told of a visit
-abbrev pub told_of : Visit → List Visit → List Visit → Blamed
-told_of v run parent = record { actor = v.actor; place = v.place; in_run = step_in v run; in_parent = step_in v parent }
+-- what is told of visit i of one of both runs, which is v
+abbrev pub told_of : List Action → List Visit → List Visit → List Visit → ℕ → Visit → Blamed
+told_of actions run parent own i v = record {
+  actor = v.actor;
+  place = v.place;
+  statement = statement_behind actions own i v;
+  in_run = step_in v run;
+  in_parent = step_in v parent;
+}
 
-abbrev pub cause_by : ℕ → List Visit → List Visit → Visit → Visit → Cause
-cause_by step run parent v w =
-    record { step = step; first = told_of v run parent; second = told_of w run parent; things = shared v.footprint w.footprint }
+-- what is told of visit i of the run, which is v, and of visit j of the parent, which is w
+abbrev pub cause_by : List Action → ℕ → List Visit → List Visit → ℕ → ℕ → Visit → Visit → Cause
+cause_by actions step run parent i j v w = record {
+  step = step;
+  first = told_of actions run parent run i v;
+  second = told_of actions run parent parent j w;
+  things = shared v.footprint w.footprint;
+}
 
 -- it tells the first swap of these visits
-pub record IsCauseIn (step : ℕ) (run parent : List Visit) (cause : Cause) : Type 0 where
+pub record IsCauseIn (actions : List Action) (step : ℕ) (run parent : List Visit) (cause : Cause) : Type 0 where
   pub i : ℕ
   pub j : ℕ
   pub is : IsFirstSwap run parent i j
@@ -47,7 +60,7 @@ pub record IsCauseIn (step : ℕ) (run parent : List Visit) (cause : Cause) : Ty
   pub at_i : slice_get run i ≡ Some v
   pub w : Visit
   pub at_j : slice_get parent j ≡ Some w
-  pub told : cause ≡ cause_by step run parent v w
+  pub told : cause ≡ cause_by actions step run parent i j v w
 
 -- the cause of what the run under the log has, and its parent hasn't
 pub record IsCause (setting : Setting) (log : List (ℕ × ℕ)) (cause : Cause) : Type 0 where
@@ -56,7 +69,7 @@ pub record IsCause (setting : Setting) (log : List (ℕ × ℕ)) (cause : Cause)
   pub of_run : AreVisits setting log cause.step run
   pub parent : List Visit
   pub of_parent : AreVisits setting (parent_of log) cause.step parent
-  pub is : IsCauseIn cause.step run parent cause
+  pub is : IsCauseIn setting.design.actions cause.step run parent cause
 
 -- the slot doesn't end before so many steps
 abbrev pub HasNoSlot : Setting → List (ℕ × ℕ) → ℕ → ℕ → Type 0

@@ -2,5 +2,6 @@
 pub mod Footprints
 pub mod Visits
 pub mod Swaps
+pub mod Behind
 pub mod Causes
 pub mod Inner

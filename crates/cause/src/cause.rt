@@ -4,6 +4,7 @@ ghost use Rattle.std.specs.Prelude.{◌≡◌, IfOk, IfSome, IfNone, slice_get, 
 ghost use Rattle.cause.specs.Causes as spec;
 ghost use Rattle.cause.specs.Swaps.{HasNoSwap};
 
+use crate::behind::statement_behind;
 use crate::slot::visits_of_slot;
 use crate::swap::first_swap;
 use crate::thing::{Things, shared};
@@ -11,14 +12,16 @@ use crate::visit::{Actor, Visit, is_same_visit};
 use basis::NoMemory;
 use sched_core::{Log, Member};
 use std::alloc::Global;
+use vdesign::action::Action;
 use vmachine::Machine;
 
-/// One of the two visits: who makes it, the place of its action in the design's table, and which step it is in both runs, none where it
-/// doesn't come.
+/// One of the two visits: who makes it, the place of its action in the design's table, that of the statement behind it where its action is a
+/// port connection or an `assign`, else the same place, and which step it is in both runs, none where it doesn't come.
 #[derive(Clone, Copy, Debug)]
 pub struct Blamed {
     pub actor: Actor,
     pub place: usize,
+    pub statement: usize,
     pub in_run: Option<u32>,
     pub in_parent: Option<u32>,
 }
@@ -64,45 +67,35 @@ fn step_in(visit: &Visit, visits: &[Visit]) -> Option<u32>
     None
 }
 
-// What is told of a visit.
-fn told_of(visit: &Visit, run: &[Visit], parent: &[Visit]) -> Blamed
-    ensures { result ≡ spec.told_of visit.now run.now parent.now }
+// What is told of visit i of one of both runs, which is this one.
+fn told_of(
+    actions: &[Action],
+    run: &[Visit],
+    parent: &[Visit],
+    own: &[Visit],
+    i: usize,
+    visit: &Visit,
+) -> Blamed
+    ensures { result ≡ spec.told_of actions.now run.now parent.now own.now i visit.now }
 {
     Blamed {
         actor: visit.actor,
         place: visit.place,
+        statement: statement_behind(actions, own, i, visit),
         in_run: step_in(visit, run),
         in_parent: step_in(visit, parent),
     }
 }
 
-// What is told of two visits.
-fn cause_by(
-    alloc: Global,
-    step: u32,
-    run: &[Visit],
-    parent: &[Visit],
-    one: &Visit,
-    other: &Visit,
-) -> Result<Cause, NoMemory>
-    ensures { IfOk result (λ cause. cause ≡ spec.cause_by step run.now parent.now one.now other.now) }
-{
-    Ok(Cause {
-        step,
-        first: told_of(one, run, parent),
-        second: told_of(other, run, parent),
-        things: shared(alloc, &one.footprint, &other.footprint)?,
-    })
-}
-
 // What is told of the first swap of both slots' visits.
 fn cause_in(
     alloc: Global,
+    actions: &[Action],
     step: u32,
     run: &[Visit],
     parent: &[Visit],
 ) -> Result<Option<Cause>, NoMemory>
-    ensures some { IfOk result (λ told. IfSome told (spec.IsCauseIn step run.now parent.now)) }
+    ensures some { IfOk result (λ told. IfSome told (spec.IsCauseIn actions.now step run.now parent.now)) }
     ensures none { IfOk result (λ told. IfNone told (HasNoSwap run.now parent.now)) }
 {
     match first_swap(run, parent) {
@@ -110,7 +103,12 @@ fn cause_in(
         Some(swap) => {
             let one = &run[swap.in_run];
             let other = &parent[swap.in_parent];
-            Ok(Some(cause_by(alloc, step, run, parent, one, other)?))
+            Ok(Some(Cause {
+                step,
+                first: told_of(actions, run, parent, run, swap.in_run, one),
+                second: told_of(actions, run, parent, parent, swap.in_parent, other),
+                things: shared(alloc, &one.footprint, &other.footprint)?,
+            }))
         }
     }
 }
@@ -137,5 +135,5 @@ pub fn cause_of(
     let Some(parent) = visits_of_slot(alloc, machine, parent_of(members), step, steps)? else {
         return Ok(None);
     };
-    cause_in(alloc, step, &run, &parent)
+    cause_in(alloc, &machine.design().actions, step, &run, &parent)
 }

@@ -3,6 +3,7 @@
 // The law: what is told is the cause of specs/Causes.antt, of all swaps of the two runs the first.
 #![tactic(auto)]
 
+mod behind;
 pub mod cause;
 pub mod footprint;
 mod slot;
