@@ -1,0 +1,4 @@
+pub mod BehindLemmas
+pub mod FootprintLemmas
+pub mod SlotLemmas
+pub mod SwapLemmas

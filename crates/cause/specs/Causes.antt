@@ -1,0 +1,82 @@
+-- *product rule*: Which two statements race (crates/cause/README.md): the first swap of a run and its parent, in the slot of the last step that
+-- the log names. Both stand in the same state before that step.
+use Rattle.std.specs.Prelude.{◌≡◌, ℕ, ◌-◌, ◌<◌, if◌then◌else◌, List, [], ◌∷◌, length, take, Option, Some, None, slice_get}
+use Rattle.vdesign.specs.declared.action.Action.{Action}
+use Rattle.vmodel.specs.Run.{Setting}
+use Rattle.cause.specs.Footprints.{shared}
+use Rattle.cause.specs.Visits.{same_visit, visits_to, IsSlot}
+use Rattle.cause.specs.Behind.{statement_behind}
+use Rattle.cause.specs.Swaps.{IsFirstSwap, HasNoSwap}
+use Rattle.cause.specs.declared.visit.Visit.{Visit}
+use Rattle.cause.specs.declared.cause.Blamed.{Blamed}
+use Rattle.cause.specs.declared.cause.Cause.{Cause}
+
+-- the log without its last member
+abbrev pub parent_of : List (ℕ × ℕ) → List (ℕ × ℕ)
+parent_of log = take (length log - 1) log
+
+-- the step that the last member names
+abbrev pub step_named : Option (ℕ × ℕ) → Option ℕ
+step_named None = None
+step_named (Some member) = Some member.0
+
+abbrev pub last_step : List (ℕ × ℕ) → Option ℕ
+last_step log = step_named (slice_get log (length log - 1))
+
+-- the visits of the whole slot of step s
+abbrev pub AreVisits : Setting → List (ℕ × ℕ) → ℕ → List Visit → Type 0
+AreVisits setting log s visits = (n : ℕ) × IsSlot setting log s n × (visits ≡ visits_to setting log s n)
+
+-- the step of the same visit, if it comes
+abbrev pub step_in : Visit → List Visit → Option ℕ
+step_in v [] = None
+step_in v (w ∷ visits) = if same_visit v w then Some w.step else step_in v visits
+
+-- what is told of visit i of one of both runs, which is v
+abbrev pub told_of : List Action → List Visit → List Visit → List Visit → ℕ → Visit → Blamed
+told_of actions run parent own i v = record {
+  actor = v.actor;
+  place = v.place;
+  statement = statement_behind actions own i v;
+  in_run = step_in v run;
+  in_parent = step_in v parent;
+}
+
+-- what is told of visit i of the run, which is v, and of visit j of the parent, which is w
+abbrev pub cause_by : List Action → ℕ → List Visit → List Visit → ℕ → ℕ → Visit → Visit → Cause
+cause_by actions step run parent i j v w = record {
+  step = step;
+  first = told_of actions run parent run i v;
+  second = told_of actions run parent parent j w;
+  things = shared v.footprint w.footprint;
+}
+
+-- it tells the first swap of these visits
+pub record IsCauseIn (actions : List Action) (step : ℕ) (run parent : List Visit) (cause : Cause) : Type 0 where
+  pub i : ℕ
+  pub j : ℕ
+  pub is : IsFirstSwap run parent i j
+  pub v : Visit
+  pub at_i : slice_get run i ≡ Some v
+  pub w : Visit
+  pub at_j : slice_get parent j ≡ Some w
+  pub told : cause ≡ cause_by actions step run parent i j v w
+
+-- the cause of what the run under the log has, and its parent hasn't
+pub record IsCause (setting : Setting) (log : List (ℕ × ℕ)) (cause : Cause) : Type 0 where
+  pub named : last_step log ≡ Some cause.step
+  pub run : List Visit
+  pub of_run : AreVisits setting log cause.step run
+  pub parent : List Visit
+  pub of_parent : AreVisits setting (parent_of log) cause.step parent
+  pub is : IsCauseIn setting.design.actions cause.step run parent cause
+
+-- the slot doesn't end before so many steps
+abbrev pub HasNoSlot : Setting → List (ℕ × ℕ) → ℕ → ℕ → Type 0
+HasNoSlot setting log s steps = (n : ℕ) → n < steps → IsSlot setting log s n → ⊥
+
+-- there is no cause where both slots end before so many steps
+abbrev pub HasNoCause : Setting → List (ℕ × ℕ) → ℕ → Type 0
+HasNoCause setting log steps =
+    (s n m : ℕ) → last_step log ≡ Some s → n < steps → IsSlot setting log s n → m < steps → IsSlot setting (parent_of log) s m →
+    HasNoSwap (visits_to setting log s n) (visits_to setting (parent_of log) s m)

@@ -1,0 +1,31 @@
+-- *internal*: Words for the contracts of parts within.
+use Rattle.std.specs.Prelude.{ℕ, nat_lt, Bool, false, not, if◌then◌else◌, List, [], ◌∷◌, ◌++◌, Option}
+use Rattle.vmodel.specs.declared.choice.Choice.{Choice}
+use Rattle.cause.specs.Visits.{is_in_slot}
+use Rattle.vdesign.specs.declared.expression.Node.{Node}
+use Rattle.vdesign.specs.declared.expression.Node.TheVariants as node
+use Rattle.cause.specs.declared.thing.Thing.{Thing}
+use Rattle.cause.specs.declared.thing.Thing.TheVariants.{Variable}
+
+-- what a node of an expression names by itself
+abbrev pub named_by : Node → List Thing
+named_by (node.Variable n) = Variable n ∷ []
+named_by (node.Bit n) = Variable n ∷ []
+named_by (node.Part n bounds) = Variable n ∷ []
+named_by (node.Constant c) = []
+named_by (node.BitOf value bounds) = []
+named_by node.Time = []
+named_by (node.Conversion signed) = []
+named_by (node.Unary operator) = []
+named_by (node.Binary operator) = []
+named_by node.Conditional = []
+named_by node.Joined = []
+named_by (node.Repeated count) = []
+
+abbrev pub named_by_all : List Node → List Thing
+named_by_all [] = []
+named_by_all (node ∷ nodes) = named_by node ++ named_by_all nodes
+
+-- the slot of step s has ended before step n, which is of this choice, if it is one
+abbrev pub ends_there : ℕ → ℕ → Option Choice → Bool
+ends_there s n choice = if nat_lt n s then false else not (is_in_slot choice)

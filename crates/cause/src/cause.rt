@@ -1,0 +1,139 @@
+// The cause of what a run has and its parent hasn't.
+
+ghost use Rattle.std.specs.Prelude.{◌≡◌, IfOk, IfSome, IfNone, slice_get, Some};
+ghost use Rattle.cause.specs.Causes as spec;
+ghost use Rattle.cause.specs.Swaps.{HasNoSwap};
+
+use crate::behind::statement_behind;
+use crate::slot::visits_of_slot;
+use crate::swap::first_swap;
+use crate::thing::{Things, shared};
+use crate::visit::{Actor, Visit, is_same_visit};
+use basis::NoMemory;
+use sched_core::{Log, Member};
+use std::alloc::Global;
+use vdesign::action::Action;
+use vmachine::Machine;
+
+/// One of the two visits: who makes it, the place of its action in the design's table, that of the statement behind it where its action is a
+/// port connection or an `assign`, else the same place, and which step it is in both runs, none where it doesn't come.
+#[derive(Clone, Copy, Debug)]
+pub struct Blamed {
+    pub actor: Actor,
+    pub place: usize,
+    pub statement: usize,
+    pub in_run: Option<u32>,
+    pub in_parent: Option<u32>,
+}
+
+/// The first two visits that touch and that both runs take in another order: the one that comes first in the run under the log, and the one
+/// that comes first in its parent; the step from which on the runs differ, and what both touch.
+#[derive(Drop)]
+pub struct Cause {
+    pub step: u32,
+    pub first: Blamed,
+    pub second: Blamed,
+    pub things: Things,
+}
+
+// The step that the last member names.
+fn last_step(members: &[Member]) -> Option<u32>
+    ensures { result ≡ spec.last_step members.now }
+{
+    let last = members.len().saturating_sub(1);
+    match members.get(last) {
+        None => None,
+        Some(member) => Some(member.0),
+    }
+}
+
+// The log without its last member.
+fn parent_of(members: &[Member]) -> &[Member]
+    ensures { result.now ≡ spec.parent_of members.now }
+{
+    let last = members.len().saturating_sub(1);
+    members.split_at(last).0
+}
+
+// The step of the same visit, if it comes.
+fn step_in(visit: &Visit, visits: &[Visit]) -> Option<u32>
+    ensures { result ≡ spec.step_in visit.now visits.now }
+{
+    for other in visits {
+        if is_same_visit(visit, other) {
+            return Some(other.step);
+        }
+    }
+    None
+}
+
+// What is told of visit i of one of both runs, which is this one.
+fn told_of(
+    actions: &[Action],
+    run: &[Visit],
+    parent: &[Visit],
+    own: &[Visit],
+    i: usize,
+    visit: &Visit,
+) -> Blamed
+    ensures { result ≡ spec.told_of actions.now run.now parent.now own.now i visit.now }
+{
+    Blamed {
+        actor: visit.actor,
+        place: visit.place,
+        statement: statement_behind(actions, own, i, visit),
+        in_run: step_in(visit, run),
+        in_parent: step_in(visit, parent),
+    }
+}
+
+// What is told of the first swap of both slots' visits.
+fn cause_in(
+    alloc: Global,
+    actions: &[Action],
+    step: u32,
+    run: &[Visit],
+    parent: &[Visit],
+) -> Result<Option<Cause>, NoMemory>
+    ensures some { IfOk result (λ told. IfSome told (spec.IsCauseIn actions.now step run.now parent.now)) }
+    ensures none { IfOk result (λ told. IfNone told (HasNoSwap run.now parent.now)) }
+{
+    match first_swap(run, parent) {
+        None => Ok(None),
+        Some(swap) => {
+            let one = &run[swap.in_run];
+            let other = &parent[swap.in_parent];
+            Ok(Some(Cause {
+                step,
+                first: told_of(actions, run, parent, run, swap.in_run, one),
+                second: told_of(actions, run, parent, parent, swap.in_parent, other),
+                things: shared(alloc, &one.footprint, &other.footprint)?,
+            }))
+        }
+    }
+}
+
+/// The cause of what the run under the log has, and the run under the log without its last member hasn't. None where no member is named,
+/// where a slot of both runs doesn't end before `steps` steps, and where no two visits that touch stand in another order. E901 is the only
+/// refusal.
+pub fn cause_of(
+    alloc: Global,
+    machine: &Machine,
+    log: &Log,
+    steps: u32,
+) -> Result<Option<Cause>, NoMemory>
+    ensures cause { IfOk result (λ told. IfSome told (spec.IsCause machine.now log.now)) }
+    ensures none { IfOk result (λ told. IfNone told (spec.HasNoCause machine.now log.now steps)) }
+{
+    let members = log.members();
+    let Some(step) = last_step(members) else {
+        return Ok(None);
+    };
+    let Some(run) = visits_of_slot(alloc, machine, members, step, steps)? else {
+        return Ok(None);
+    };
+    let Some(parent) = visits_of_slot(alloc, machine, parent_of(members), step, steps)? else {
+        return Ok(None);
+    };
+    cause_in(alloc, &machine.design().actions, step, &run, &parent)
+}

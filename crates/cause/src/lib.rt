@@ -1,0 +1,14 @@
+// Which statements race. In go a machine and a log whose run differs from that of its parent, the same log without its last member;
+// out come the two steps to blame, where they stand in both runs, and what both touch.
+// The law: what is told is the cause of specs/Causes.antt, of all swaps of the two runs the first.
+#![tactic(auto)]
+
+mod behind;
+pub mod cause;
+pub mod footprint;
+mod slot;
+mod swap;
+pub mod thing;
+pub mod visit;
+
+pub use cause::cause_of;
