@@ -31,7 +31,7 @@ const EXPLANATIONS: [Explanation; 32] = [
     },
     Explanation {
         number: 111,
-        meaning: "the name behind a backtick has no macro",
+        meaning: "the name after a backtick has no macro",
         example: "`X without a `define X",
         advice: "define it before its use; in place of an include name the files, in their order; a directive that docs/LANGUAGE.md doesn't list can't be used",
     },
@@ -164,7 +164,7 @@ const EXPLANATIONS: [Explanation; 32] = [
     Explanation {
         number: 502,
         meaning: "an end of the report isn't true; at 0 is the first one",
-        example: "the text was changed behind the report",
+        example: "the text was changed after the report was written",
         advice: "replay the log of that end and compare time, cause, values, lines and dump; then explore anew",
     },
     Explanation {
