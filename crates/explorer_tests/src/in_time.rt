@@ -13,8 +13,8 @@ use vmachine::Machine;
 use vparse::parse;
 use vsrc::expand;
 
-// At time 1 both processes write `a`, at time 3 both write `b`, the later one last.
-const WRITTEN_TWICE: &[u8] = b"module tb; reg a, b;
+/// At time 1 both processes write `a`, at time 3 both write `b`, the later one last.
+pub const WRITTEN_TWICE: &[u8] = b"module tb; reg a, b;
 initial begin #1 a = 0; #2 b = 0; end
 initial begin #1 a = 1; #2 b = 1; end endmodule";
 
@@ -28,7 +28,8 @@ impl Watcher for UpTo {
     }
 }
 
-fn machine(alloc: Global, text: &[u8]) -> Result<Machine, Fail> {
+/// The machine of the text, in grain process, up to time 100.
+pub fn machine(alloc: Global, text: &[u8]) -> Result<Machine, Fail> {
     let mut files = Vec::new(alloc);
     files.push(Vec::from_slice(alloc, text)?)?;
     let source = expand(alloc, &files)?;

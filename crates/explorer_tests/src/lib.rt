@@ -23,6 +23,8 @@ mod shared_books;
 #[cfg(test)]
 mod shared_reports;
 #[cfg(test)]
+mod timed_reports;
+#[cfg(test)]
 mod wheel;
 #[cfg(test)]
 mod workers;

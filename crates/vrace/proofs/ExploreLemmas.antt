@@ -1,7 +1,9 @@
 -- From the exploration of a design to that of files.
 use Rattle.std.proofs.Common.{◌≡◌, inl, inr, ℕ, List, Option, refl, sym, ap, subst, ◌∙◌}
 use Rattle.statebook.specs.declared.limits.Limits.{Limits}
-use Rattle.vmodel.specs.Run.{Setting}
+use Rattle.explore.specs.Found.{HasEntries}
+use Rattle.explore.specs.declared.ranked_findings.RankedFindings.{RankedFindings}
+use Rattle.vmodel.specs.Run.{Setting, rules_of}
 use Rattle.basis.specs.declared.memory.OrMemory.{OrMemory}
 use Rattle.basis.specs.declared.memory.OrMemory.TheVariants as or
 use Rattle.byte_sinks.specs.Metered.{Written, Broken, count_after}
@@ -9,14 +11,19 @@ use Rattle.byte_sinks.specs.MeteredLaws.{stops_of}
 use Rattle.byte_sinks.specs.declared.metered.Metered.{Metered}
 use Rattle.byte_sinks.specs.declared.fault.WriteFault.{WriteFault}
 use Rattle.byte_sinks.specs.declared.fault.WriteFault.TheVariants as write
+use Rattle.report_text.specs.declared.report.Outcome.TheVariants.{CutEntries}
 use Rattle.report_text.specs.Report.{Report}
 use Rattle.report_text.specs.ReportText.{report_text}
 use Rattle.vreport.specs.Ends.{HasSomeLongDump}
 use Rattle.vreport.specs.Formed.{IsFormed}
+use Rattle.vreport.specs.InTime.{TellsUpTo, outcome_in_time}
+use Rattle.vreport.specs.declared.timed.Spent.{Spent}
 use Rattle.vreport.specs.Reports.{IsExploration}
 use Rattle.vreport.specs.Written.{TakesReport, StopsReport as StopsByteSink}
 use Rattle.vrace.specs.Request.{Request}
 use Rattle.vrace.specs.Explores.{AreWorkers, EndsSearch, Explores, FilesHaveEntriesWhereCut, HasEntriesWhereCut, IsExploreReason, IsReported, IsSearchFault, IsSearchReason, IsSharedReason, IsStatusOf, LeavesReport, Reports, Searched, setting_for}
+use Rattle.vrace.specs.ExploresInTime.{ExploresInTime, ReportsInTime, SaysInShort}
+use Rattle.vrace.specs.declared.in_time.Timed.{Timed}
 use Rattle.vrace.specs.Refusals.{IsOfWriting}
 use Rattle.vrace.specs.RunDumps.{failures_after, fault_of}
 use Rattle.vrace.specs.declared.exploring.Status.{Status}
@@ -40,6 +47,20 @@ module _ {W : Type 0} (contents : W → Option (List ℕ)) (setting : Setting) (
     dumps = taken.dumps;
     is_report = record { exploration = exploration; are_dumps = taken.are_dumps; formed = formed taken.dumps taken.are_dumps };
     status_is = is;
+    written = taken.taken;
+  }
+
+  pub reported_in_time : (lacked : Spent) (search : RankedFindings) (timed : Timed) → TellsUpTo setting limits search.closed report → report.outcome ≡ outcome_in_time lacked search.status →
+      (report.outcome ≡ CutEntries → HasEntries (rules_of setting) limits) → SaysInShort report timed → timed.search ≡ search → TakesReport (Written contents) setting report old new →
+      ReportsInTime contents setting limits lacked timed old new
+  reported_in_time lacked search timed up_to outcome_is entries says same taken = record {
+    report = report;
+    dumps = taken.dumps;
+    is_report = record { exploration = exploration; are_dumps = taken.are_dumps; formed = formed taken.dumps taken.are_dumps };
+    up_to = subst (λ (s : RankedFindings). TellsUpTo setting limits s.closed report) (sym same) up_to;
+    says = says;
+    outcome_is = sym says.outcome_is ∙ outcome_is ∙ ap (λ (s : RankedFindings). outcome_in_time lacked s.status) (sym same);
+    entries = λ e. entries (says.outcome_is ∙ e);
     written = taken.taken;
   }
 
@@ -118,6 +139,9 @@ module _ (files : List (List ℕ)) (asked : Request) (searched : Searched files 
   module _ {W : Type 0} (contents : W → Option (List ℕ)) (old new : Metered W) where
     pub explores : (status : Status) → Reports contents setting limits status old new → Explores contents files asked limits status old new
     explores status r = record { searched = searched; reports = subst (λ (s : Setting). Reports contents s limits status old new) same r }
+
+    pub explores_in_time : (lacked : Spent) (timed : Timed) → ReportsInTime contents setting limits lacked timed old new → ExploresInTime contents files asked limits lacked timed old new
+    explores_in_time lacked timed r = record { searched = searched; reports = subst (λ (s : Setting). ReportsInTime contents s limits lacked timed old new) same r }
 
     pub explore_reason : (fault : Fault) → EndsSearch contents setting limits old new fault → IsExploreReason files asked limits fault
     explore_reason fault (inl (p, kept)) = inr (search_reason fault p)

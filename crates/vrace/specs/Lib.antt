@@ -10,4 +10,5 @@ pub mod Reads
 pub mod Places
 pub mod Numbers
 pub mod Explores
+pub mod ExploresInTime
 pub mod Checks

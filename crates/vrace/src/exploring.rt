@@ -59,8 +59,8 @@ fn status_of(explored: &Explored) -> Status
     }
 }
 
-// Why nothing is reported.
-fn of_search(fault: OrMemory<TooMany>) -> Fault
+/// Why nothing is reported.
+pub(crate) fn of_search(fault: OrMemory<TooMany>) -> Fault
     ensures { TellsSearchFault fault result }
 {
     match fault {
@@ -69,8 +69,12 @@ fn of_search(fault: OrMemory<TooMany>) -> Fault
     }
 }
 
-// The machine that the files and the options ask for.
-fn machine_of(alloc: Global, files: &[Vec<u8>], options: &Options<'_>) -> Result<Machine, Fault>
+/// The machine that the files and the options ask for.
+pub(crate) fn machine_of(
+    alloc: Global,
+    files: &[Vec<u8>],
+    options: &Options<'_>,
+) -> Result<Machine, Fault>
     ensures ok { IfOk result (IsSearched (file_bytes files.now) (request_of options.now)) }
     ensures named { IfOk result (λ machine. AreNamed machine.design) }
     ensures until { IfOk result (λ machine. machine.until ≤ 4611686018427387903) }

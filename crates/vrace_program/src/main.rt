@@ -1,9 +1,10 @@
 //! The program `vrace`. In go words and Verilog; out comes a report, a value change dump or printed lines on standard output, or one line
 //! with the number of a fault on standard error. What an exploration writes is the contract of `vrace::explore_text_alone`,
-//! with several workers of `vrace::explore_text`; what a replay writes that of `vrace::replay_text`.
+//! with several workers of `vrace::explore_text`, and by time of `vrace::explore_text_in_time`; what a replay writes that of `vrace::replay_text`.
 #![tactic(auto)]
 
 mod explanations;
+mod meter;
 mod words;
 
 use basis::NoMemory;
@@ -11,6 +12,7 @@ use byte_sinks::Metered;
 use clap::error::ErrorKind;
 use clap::{ArgMatches, Error};
 use explanations::{explanation_of, show, show_all};
+use meter::{Allowance, Meter};
 use sched_core::setting::Looked;
 use std::alloc::Global;
 use std::fs::File;
@@ -20,8 +22,8 @@ use std::sync::Wait;
 use std::thread::Threads;
 use std::{env, io};
 use vrace::{
-    Allowed, Fault, Options, Status, check_text, explore_text, explore_text_alone, read_text,
-    replay_text, trace_text,
+    Allowed, Fault, Options, Outcome, Status, Timed, check_text, explore_text, explore_text_alone,
+    explore_text_in_time, read_text, replay_text, trace_text,
 };
 use words::{
     Request, Search, Wanted, commands, files_of, has_dashed_log, has_dashed_report, has_dashed_top,
@@ -161,13 +163,60 @@ fn write_report<R: Threads + Wait + Sync, W: Write>(
     }
 }
 
-// Writes the report of what is asked for onto standard output.
-fn explore<R: Threads + Wait + Sync>(
-    rt: &HostRuntime,
-    threads: &R,
-    request: &Request<'_>,
-    search: &Search,
+// Explores with so many workers onto the writer.
+fn explore_by_workers<R: Threads + Wait + Sync, W: Write>(
+    rt: &R,
+    alloc: Global,
+    texts: &[Vec<u8>],
+    options: &Options<'_>,
+    workers: u64,
+    writer: &mut Metered<W>,
 ) -> Result<ExitCode, Stop> {
+    let status = write_report(rt, alloc, texts, options, workers, writer)?;
+    finish(writer)?;
+    Ok(status_code(status))
+}
+
+// Says up to which time all was looked at, where that isn't all.
+fn say_how_far(rt: &HostRuntime, timed: &Timed) {
+    if timed.outcome == Outcome::Exhausted {
+        return;
+    }
+    let _ = match timed.search.closed {
+        Some(time) => eprintln!(rt; "everything up to {time} was looked at"),
+        None => eprintln!(rt; "nothing was looked at whole"),
+    };
+}
+
+// The exit status that says what a report says of an exploration by time.
+fn timed_code(timed: &Timed) -> ExitCode {
+    if timed.raced {
+        return ExitCode::from(1);
+    }
+    if timed.outcome == Outcome::Exhausted {
+        ExitCode::SUCCESS
+    } else {
+        ExitCode::from(3)
+    }
+}
+
+// Explores by time onto the writer.
+fn explore_by_time<W: Write>(
+    rt: &HostRuntime,
+    texts: &[Vec<u8>],
+    options: &Options<'_>,
+    allowance: Allowance,
+    writer: &mut Metered<W>,
+) -> Result<ExitCode, Stop> {
+    let mut meter = Meter::new(rt, allowance);
+    let timed = explore_text_in_time(rt.alloc(), texts, options, &mut meter, writer)?;
+    finish(writer)?;
+    say_how_far(rt, &timed);
+    Ok(timed_code(&timed))
+}
+
+// The options that an exploration asks for, if each of its numbers is within its limit.
+fn options_of<'a>(request: &Request<'a>, search: &Search) -> Result<Options<'a>, Fault> {
     let mut options = Options::new(
         request.top.map(|name| name.as_bytes()),
         request.until,
@@ -177,21 +226,36 @@ fn explore<R: Threads + Wait + Sync>(
         request.grain,
     )?;
     options.look(request.departures, search.looked);
+    if let Some(allowance) = search.allowance {
+        allowance.check()?;
+    }
+    Ok(options)
+}
+
+// Writes the report of what is asked for onto standard output.
+fn explore<R: Threads + Wait + Sync>(
+    rt: &HostRuntime,
+    threads: &R,
+    request: &Request<'_>,
+    search: &Search,
+) -> Result<ExitCode, Stop> {
+    let options = options_of(request, search)?;
     let texts = texts(rt, &request.files)?;
     let Ok(buffered) = BufWriter::new(rt.alloc(), io::writer(rt)) else {
         return Err(Stop::NoMemory);
     };
     let mut writer = Metered::new(buffered);
-    let status = write_report(
-        threads,
-        rt.alloc(),
-        &texts,
-        &options,
-        search.workers,
-        &mut writer,
-    )?;
-    finish(&mut writer)?;
-    Ok(status_code(status))
+    match (search.allowance, search.workers) {
+        (Some(allowance), 1) => explore_by_time(rt, &texts, &options, allowance, &mut writer),
+        _ => explore_by_workers(
+            threads,
+            rt.alloc(),
+            &texts,
+            &options,
+            search.workers,
+            &mut writer,
+        ),
+    }
 }
 
 // Checks the report, if it asks for no more than is allowed, against the files, and says ok where all of it is true.
@@ -287,10 +351,14 @@ fn explore_by<'a, R: Threads + Wait + Sync>(
     if has_dashed_top(matches) {
         return Err(Stop::Usage);
     }
+    let search = search_of(matches);
+    if search.allowance.is_some() && search.workers > 1 {
+        return Err(Stop::Usage);
+    }
     let Ok(request) = request_of(rt.alloc(), matches) else {
         return Err(Stop::NoMemory);
     };
-    explore(rt, threads, &request, &search_of(matches))
+    explore(rt, threads, &request, &search)
 }
 
 // Checks what the words ask for.

@@ -1,5 +1,6 @@
 // The words of a command line, by the rules of docs/LANGUAGE.md, "Commands".
 
+use crate::meter::Allowance;
 use basis::NoMemory;
 use clap::{Arg, ArgAction, ArgMatches, Command, value_parser};
 use sched_core::setting::{Departures, Grain, Looked};
@@ -10,6 +11,11 @@ const PAGES: &str =
     "Pages, in the folder docs: LANGUAGE.md (what is read, commands, limits), SCHEDULING.md (steps, choices, logs), RACES.md (reports), FORMATS.md (dumps, lines, logs, reports), FAULTS.md (numbers)
 
 Exit status: 0 where all was done, of explore where nothing was missed and no race was found; 1 where explore found a race, or something in a report isn't true; 2 where the call was refused, with one line on standard error (vrace explain NUMBER says what it means); 3 where explore was cut and found no race";
+
+// How many entries cut an exploration where nothing is said, by departures alone and by time.
+const ENTRIES: u64 = 100_000;
+
+const TIMED_ENTRIES: u64 = 1_000_000;
 
 /// What is to be run, and how.
 #[derive(Drop)]
@@ -62,6 +68,11 @@ fn number<'a>(alloc: Global, name: &'a str, help: &'a str, default: &'a str) -> 
         .default_value(default)
 }
 
+// An option whose value is a number, which needn't be given.
+fn limit<'a>(alloc: Global, name: &'a str, help: &'a str) -> Arg<'a> {
+    option(alloc, name, "N", help).value_parser(value_parser!(u64))
+}
+
 fn until<'a>(alloc: Global) -> Arg<'a> {
     number(
         alloc,
@@ -110,16 +121,29 @@ fn explore_command<'a>(alloc: Global) -> Result<Command<'a>, NoMemory> {
         "The most departures from the default order, 0 to 4",
         "1",
     );
-    let entries = number(
+    let entries = limit(
         alloc,
         "entries",
-        "The most states that are visited before the search is cut",
-        "100000",
+        "The most states that are visited before the search is cut: 100000 where nothing is said, 1000000 where it goes by time",
     );
     let lines = Arg::new(alloc, "lines")
         .long("lines")
         .action(ArgAction::SetTrue)
         .help("Compares the lines that slots print, too, in whichever order");
+    let seconds = limit(
+        alloc,
+        "seconds",
+        "The most seconds before the search is cut; it then goes by time, and what it reports is whole up to where it came",
+    );
+    let memory = limit(
+        alloc,
+        "memory",
+        "The most megabytes that entries take, as the program counts them, before such a search is cut",
+    );
+    let progress = Arg::new(alloc, "progress")
+        .long("progress")
+        .action(ArgAction::SetTrue)
+        .help("Shows on standard error how far such a search has come");
     let command = Command::new(alloc, "explore")
         .about(
             "Runs every schedule of at most so many departures as --depart says; reports each end and each race",
@@ -133,6 +157,9 @@ fn explore_command<'a>(alloc: Global) -> Result<Command<'a>, NoMemory> {
         .arg(grain(alloc))?
         .arg(hold(alloc))?
         .arg(lines)?
+        .arg(seconds)?
+        .arg(memory)?
+        .arg(progress)?
         .arg(files(alloc))?;
     Ok(command)
 }
@@ -274,13 +301,39 @@ pub fn files_of<'a>(alloc: Global, matches: &ArgMatches<'a>) -> Result<Vec<&'a s
     }
 }
 
-/// How far an exploration goes: departures, entries that cut it, how many workers there are, and what is looked at.
+/// How far an exploration goes: departures, entries that cut it, how many workers there are, what is looked at, and what it may
+/// take where it goes by time.
 #[derive(Clone, Copy, Debug)]
 pub struct Search {
     pub depart: u64,
     pub entries: u64,
     pub workers: u64,
     pub looked: Looked,
+    pub allowance: Option<Allowance>,
+}
+
+// What an exploration by time may take, where one of these words asks for it.
+fn allowance_of(matches: &ArgMatches<'_>) -> Option<Allowance> {
+    let seconds = matches.get_one::<u64>("seconds");
+    let memory = matches.get_one::<u64>("memory");
+    let progress = matches.get_flag("progress");
+    if seconds.is_none() && memory.is_none() && !progress {
+        return None;
+    }
+    Some(Allowance {
+        seconds,
+        memory,
+        progress,
+    })
+}
+
+// How many entries cut an exploration; one by time forgets most of them, so that it may visit more.
+fn entries_of(matches: &ArgMatches<'_>, allowance: Option<Allowance>) -> u64 {
+    let usual = match allowance {
+        None => ENTRIES,
+        Some(_) => TIMED_ENTRIES,
+    };
+    matches.get_one::<u64>("entries").unwrap_or(usual)
 }
 
 // What is looked at.
@@ -294,11 +347,13 @@ fn looked_of(matches: &ArgMatches<'_>) -> Looked {
 
 /// How far the words after `explore` ask to go.
 pub fn search_of(matches: &ArgMatches<'_>) -> Search {
+    let allowance = allowance_of(matches);
     Search {
         depart: matches.get_one::<u64>("depart").unwrap_or(0),
-        entries: matches.get_one::<u64>("entries").unwrap_or(0),
+        entries: entries_of(matches, allowance),
         workers: matches.get_one::<u64>("workers").unwrap_or(0),
         looked: looked_of(matches),
+        allowance,
     }
 }
 

@@ -1,0 +1,14 @@
+use Rattle.std.proofs.Common.{refl, inl}
+use Rattle.std.proofs.lemmas.Result.{IfOk-weaker}
+use Rattle.vrace.specs.ExploresInTime.{ReportsAsTold, ReportsInTime}
+use Rattle.vrace.proofs.in_time.explore_machine_in_time.Goals as goal
+
+pub returns-in-Ok-clause-ok : goal.returns-in-Ok-clause-ok
+returns-in-Ok-clause-ok g c =
+    let lacked = g.B.Budget.lacks c.report_in_time.new.budget in
+    IfOk-weaker c.write_timed.result (λ timed. ReportsAsTold g.W.Write.contents c.args.machine.now c.args.limits.now c.in-Ok.told timed c.args.writer.now c.write_timed.new.writer)
+    (λ timed. ReportsInTime g.W.Write.contents c.args.machine.now c.args.limits.now lacked timed c.args.writer.now c.write_timed.new.writer)
+    (λ timed told. told lacked c.in-Ok.ensures.outcome) c.write_timed.ensures.ok
+
+pub returns-in-Err-clause-err : goal.returns-in-Err-clause-err
+returns-in-Err-clause-err g c = inl (c.of_search.ensures c.args.machine.now c.args.limits.now c.in-Err.ensures.long, refl)

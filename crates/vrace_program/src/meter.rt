@@ -1,0 +1,145 @@
+// What an exploration by time may take, and what it shows on its way.
+
+use std::rt::Clock;
+use std::time::Instant;
+use vrace::{Budget, Fault, Progress, Spent, Watcher};
+
+// The clock is looked at once in so many entries.
+const ENTRIES_A_LOOK: u64 = 256;
+
+// Milliseconds between two lines on standard error.
+const SHOWN_APART: u64 = 500;
+
+/// What an exploration by time may take: seconds, and megabytes of memory by its own count; and whether it shows how far it
+/// has come.
+#[derive(Clone, Copy, Debug)]
+pub struct Allowance {
+    pub seconds: Option<u64>,
+    pub memory: Option<u64>,
+    pub progress: bool,
+}
+
+// Whether the number, if there is one, is 1 to 1,000,000.
+fn is_within(number: Option<u64>) -> bool {
+    match number {
+        None => true,
+        Some(number) => 1 <= number && number <= 1_000_000,
+    }
+}
+
+impl Allowance {
+    /// E404 where a number is out of its limit.
+    pub fn check(&self) -> Result<(), Fault> {
+        if is_within(self.seconds) && is_within(self.memory) {
+            Ok(())
+        } else {
+            Err(Fault::OutOfLimit)
+        }
+    }
+}
+
+/// Measures what an exploration by time takes, and stops it where that is all that it may take.
+#[derive(Drop)]
+pub struct Meter<'r, R> {
+    rt: &'r R,
+    allowance: Allowance,
+    begun: Option<Instant>,
+    entry_bytes: u64,
+    asked: u64,
+    shown: u64,
+    spent: Spent,
+}
+
+impl<'r, R: Clock + Eprint> Meter<'r, R> {
+    /// From now on.
+    pub fn new(rt: &'r R, allowance: Allowance) -> Meter<'r, R> {
+        Meter {
+            rt,
+            allowance,
+            begun: Instant::now(rt).ok(),
+            entry_bytes: 0,
+            asked: 0,
+            shown: 0,
+            spent: Spent::Time,
+        }
+    }
+
+    // Milliseconds since it was begun; without a clock more than is ever allowed.
+    fn passed(&self) -> u64 {
+        let Some(begun) = self.begun else {
+            return u64::MAX;
+        };
+        match begun.elapsed(self.rt) {
+            Ok(passed) => u64::try_from(passed.as_millis()).unwrap_or(u64::MAX),
+            Err(_) => u64::MAX,
+        }
+    }
+
+    // Whether the entries that are held take more memory than is allowed.
+    fn is_full(&self, progress: &Progress) -> bool {
+        let Some(megabytes) = self.allowance.memory else {
+            return false;
+        };
+        let held = self
+            .entry_bytes
+            .saturating_mul(progress.entries_held as u64);
+        held > megabytes.saturating_mul(1_000_000)
+    }
+
+    // Whether all the time is over.
+    fn is_late(&self, passed: u64) -> bool {
+        match self.allowance.seconds {
+            None => false,
+            Some(seconds) => passed >= seconds.saturating_mul(1_000),
+        }
+    }
+
+    // Shows how far the exploration has come, unless it did so just before.
+    fn show(&mut self, passed: u64, progress: &Progress) {
+        if !self.allowance.progress || passed < self.shown.saturating_add(SHOWN_APART) {
+            return;
+        }
+        self.shown = passed;
+        let entries = progress.entries_opened as u64;
+        let pace = entries
+            .saturating_mul(1_000)
+            .checked_div(passed)
+            .unwrap_or(0);
+        let _ = eprintln!(self.rt;
+            "at time {}: {} entries, {} a second",
+            progress.rank, entries, pace
+        );
+    }
+}
+
+impl<'r, R: Clock + Eprint> Watcher for Meter<'r, R> {
+    fn go_on(&mut self, progress: &Progress) -> bool {
+        if self.is_full(progress) {
+            self.spent = Spent::Memory;
+            return false;
+        }
+        let asked = self.asked;
+        self.asked = asked.wrapping_add(1);
+        if asked % ENTRIES_A_LOOK != 0 {
+            return true;
+        }
+        let passed = self.passed();
+        if self.is_late(passed) {
+            return false;
+        }
+        self.show(passed, progress);
+        true
+    }
+}
+
+impl<'r, R: Clock + Eprint> Budget for Meter<'r, R> {
+    ghost lacks = { λ meter. meter.spent };
+
+    fn reckon(&mut self, entry_bytes: u64) {
+        self.entry_bytes = entry_bytes;
+    }
+
+    fn spent(&self) -> Spent {
+        self.spent
+    }
+}
