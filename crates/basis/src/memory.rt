@@ -5,20 +5,24 @@ ghost use Rattle.basis.specs.Reasons.{refused};
 ghost use Rattle.basis.specs.declared.memory.OrMemory.TheVariants.{Memory};
 
 use std::alloc::{AllocError, AllocFailed};
+use thiserror::Error;
 
 /// Want of memory: a growth was refused (E901). Its one field is private and its only makers take what a refused growth
 /// gave, so that no other crate can answer it without cause.
-#[derive(Clone, Copy, Debug, PartialEq, Eq)]
+#[derive(Clone, Copy, Debug, PartialEq, Eq, Error)]
+#[error("memory was refused")]
 pub struct NoMemory {
     _refused: (),
 }
 
 /// A fault of one's own, or want of memory.
-#[derive(Clone, Copy, Debug, PartialEq, Eq)]
+#[derive(Clone, Copy, Debug, PartialEq, Eq, Error)]
 pub enum OrMemory<F> {
     /// The fault.
+    #[error(transparent)]
     Fault(F),
     /// A growth was refused (E901).
+    #[error(transparent)]
     Memory(NoMemory),
 }
 

@@ -5,6 +5,7 @@ use sched_core::bag::Bag;
 use sched_core::end::Cause;
 use sched_core::setting::{Departures, Grain, Looked};
 use std::marker::Model;
+use thiserror::Error;
 
 /// The version of a report's text. Version 1 has no line for the grain, which is process. Version 3 tells which departures
 /// there are and what is looked at, and is that of an exploration that was cut for time; in the others departures take and
@@ -187,7 +188,8 @@ impl<'a> Model for ReportWithDumps<'a> {
 }
 
 /// Why a text was not read as a report: it is that of none (E501).
-#[derive(Clone, Copy, Debug, PartialEq, Eq)]
+#[derive(Clone, Copy, Debug, PartialEq, Eq, Error)]
 pub enum ReportFault {
+    #[error("the text is that of no report")]
     IllFormed,
 }

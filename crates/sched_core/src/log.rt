@@ -8,6 +8,7 @@ use crate::setting::{Departures, Grain};
 use basis::NoMemory;
 use std::alloc::Global;
 use std::marker::Model;
+use thiserror::Error;
 
 /// The last step that a log may name.
 const LAST_STEP: u32 = 999_999;
@@ -43,8 +44,9 @@ pub enum LogHead {
 }
 
 /// Why a text was not read as a log: it is none (E401).
-#[derive(Clone, Copy, Debug, PartialEq, Eq)]
+#[derive(Clone, Copy, Debug, PartialEq, Eq, Error)]
 pub enum LogFault {
+    #[error("the text is that of no log")]
     IllFormed,
 }
 

@@ -9,6 +9,7 @@ ghost use Rattle.sched_core.specs.declared.run.ReplayFault.{ReplayFault};
 use crate::log::{Log, Member};
 use crate::space::Space;
 use basis::OrMemory;
+use thiserror::Error;
 
 /// Where a run ended, and after how many steps.
 #[derive(Drop)]
@@ -19,9 +20,11 @@ pub struct Reached<S> {
 
 /// Why there is no replay: the log names a step that isn't reached or has no such choice (E402),
 /// or the run would take more steps than allowed (E403).
-#[derive(Clone, Copy, Debug, PartialEq, Eq)]
+#[derive(Clone, Copy, Debug, PartialEq, Eq, Error)]
 pub enum ReplayFault {
+    #[error("the run has no such step, or not that choice there")]
     NoSuchChoice,
+    #[error("the run takes more steps than allowed")]
     TooManySteps,
 }
 

@@ -16,6 +16,7 @@ use crate::machine::Machine;
 use basis::{NoMemory, OrMemory};
 use sched_core::end::End;
 use sched_core::{Log, Member, ReplayFault, next_choice};
+use thiserror::Error;
 use vdesign::design::Design;
 use vmodel::effect::Effect;
 use vmodel::history::{History, Item};
@@ -24,11 +25,13 @@ use vmodel::values::Values;
 use vmodel::{State, put_items, put_slot_end};
 
 /// Why a run wasn't handed on to its end, but for want of memory.
-#[derive(Drop)]
+#[derive(Debug, Drop, Error)]
 pub enum RunFault<F> {
     /// There is no such run (E402, E403).
+    #[error(transparent)]
     Replay(ReplayFault),
     /// The sink failed.
+    #[error(transparent)]
     Sink(F),
 }
 

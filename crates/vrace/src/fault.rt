@@ -5,8 +5,8 @@ ghost use Rattle.vrace.specs.Numbers.{detail_of, number_of, rule_number};
 ghost use Rattle.vrace.specs.declared.fault.Fault.TheVariants.{Memory};
 
 use basis::NoMemory;
-use std::error::Error;
 use std::fmt;
+use thiserror::Error;
 use velab_expr::Rule;
 use vsrc::Place;
 
@@ -48,7 +48,7 @@ fn rule_number(rule: Rule) -> u16
 }
 
 /// A refusal, by its number in docs/FAULTS.md. It prints as `E`, the number, and the place or the item that it is about.
-#[derive(Clone, Copy, Debug, PartialEq, Eq)]
+#[derive(Clone, Copy, Debug, PartialEq, Eq, Error)]
 pub enum Fault {
     /// A comment or a string isn't ended.
     NotEnded(At),
@@ -198,8 +198,6 @@ impl fmt::Display for Fault {
         write!(f, "E{}{}", self.number(), self.detail())
     }
 }
-
-impl Error for Fault {}
 
 impl From<NoMemory> for Fault {
     ghost from_gives = { λ m e. e ≡ Memory m };
