@@ -1,6 +1,6 @@
 // What a step of a process does (IEEE 1364-2005, clause 9): its disposition, what it writes, posts, shows, and whether it ends the run.
 
-ghost use Rattle.std.specs.Prelude.{◌≡◌, [], ℕ, List, cond, IfOk};
+ghost use Rattle.std.specs.Prelude.{◌≡◌, [], ℕ, List, cond, IfOk, OnOk};
 ghost use Rattle.vvalue.specs.Value.{holds as holds_at, delay_of as delay_at};
 ghost use Rattle.vmodel.specs.declared.process.Frame.{Frame};
 ghost use Rattle.vmodel.specs.Step as spec;
@@ -90,16 +90,6 @@ impl Effect {
     }
 }
 
-// A step that ends the run (17.4).
-fn end_effect(cause: Cause) -> Effect
-    ensures { result ≡ effect_of_end cause }
-{
-    Effect {
-        cause: Some(cause),
-        ..Effect::quiet()
-    }
-}
-
 /// A step that writes (6.2).
 pub(crate) fn write_effect(parts: Parts) -> Effect
     ensures { result ≡ record spec.quiet { wrote = parts } }
@@ -110,33 +100,86 @@ pub(crate) fn write_effect(parts: Parts) -> Effect
     }
 }
 
-// A step that posts an update for so much later (11.4).
-fn post_effect(after: u128, parts: Parts) -> Effect
-    ensures { result ≡ record spec.quiet { posted = Some (spec.post_after after parts) } }
-{
-    Effect {
-        posted: Some(Post { after, parts }),
-        ..Effect::quiet()
+impl Effect {
+    // From here on it is that of a step that only goes on. Field by field, so that nothing is moved.
+    fn quieten(&mut self)
+        ensures { self.new ≡ spec.quiet }
+    {
+        self.held = None;
+        self.disposition = Disposition::Runnable;
+        self.wrote = Parts::none();
+        self.posted = None;
+        self.triggered = None;
+        self.shown = None;
+        self.strobed = None;
+        self.cause = None;
     }
-}
 
-// A step that triggers a named event (9.7.3).
-fn trigger_effect(event: usize) -> Effect
-    ensures { result ≡ record spec.quiet { triggered = Some event } }
-{
-    Effect {
-        triggered: Some(event),
-        ..Effect::quiet()
+    // That of a step that ends the run (17.4).
+    fn end(&mut self, cause: Cause)
+        ensures { self.new ≡ effect_of_end cause }
+    {
+        self.quieten();
+        self.cause = Some(cause);
     }
-}
 
-// A step that suspends its process (9.7).
-fn suspend_effect(disposition: Disposition) -> Effect
-    ensures { result ≡ record spec.quiet { disposition = disposition } }
-{
-    Effect {
-        disposition,
-        ..Effect::quiet()
+    // That of a step that writes (6.2).
+    fn write(&mut self, parts: Parts)
+        ensures { self.new ≡ record spec.quiet { wrote = parts } }
+    {
+        self.quieten();
+        self.wrote = parts;
+    }
+
+    // That of a step that posts an update for so much later (11.4).
+    fn post(&mut self, after: u128, parts: Parts)
+        ensures { self.new ≡ record spec.quiet { posted = Some (spec.post_after after parts) } }
+    {
+        self.quieten();
+        self.posted = Some(Post { after, parts });
+    }
+
+    // That of a step that triggers a named event (9.7.3).
+    fn trigger(&mut self, event: usize)
+        ensures { self.new ≡ record spec.quiet { triggered = Some event } }
+    {
+        self.quieten();
+        self.triggered = Some(event);
+    }
+
+    // That of a step that suspends its process (9.7).
+    fn suspend(&mut self, disposition: Disposition)
+        ensures { self.new ≡ record spec.quiet { disposition = disposition } }
+    {
+        self.quieten();
+        self.disposition = disposition;
+    }
+
+    // That of a step that shows something at once.
+    fn show(&mut self, shown: Shown)
+        ensures { self.new ≡ record spec.quiet { shown = Some shown } }
+    {
+        self.quieten();
+        self.shown = Some(shown);
+    }
+
+    // That of a step that creates a monitor event (17.1.2).
+    fn strobe(&mut self, place: usize)
+        ensures { self.new ≡ record spec.quiet { strobed = Some place } }
+    {
+        self.quieten();
+        self.strobed = Some(place);
+    }
+
+    // That of the print task of this place (17.1).
+    fn print(&mut self, when: When, place: usize)
+        ensures { self.new ≡ spec.print_effect when place }
+    {
+        match when {
+            When::Now => self.show(Shown::Prints(place)),
+            When::AtSlotEnd => self.strobe(place),
+            When::AtChange => self.show(Shown::Watches(place)),
+        }
     }
 }
 
@@ -151,81 +194,29 @@ fn command_of(switch: DumpSwitch) -> DumpCommand
     }
 }
 
-// A step that shows something at once.
-fn show_effect(shown: Shown) -> Effect
-    ensures { result ≡ record spec.quiet { shown = Some shown } }
-{
-    Effect {
-        shown: Some(shown),
-        ..Effect::quiet()
-    }
-}
-
-// A step that creates a monitor event (17.1.2).
-fn strobe_effect(place: usize) -> Effect
-    ensures { result ≡ record spec.quiet { strobed = Some place } }
-{
-    Effect {
-        strobed: Some(place),
-        ..Effect::quiet()
-    }
-}
-
-// What the print task of this place does (17.1).
-fn print_effect(when: When, place: usize) -> Effect
-    ensures { result ≡ spec.print_effect when place }
-{
-    match when {
-        When::Now => show_effect(Shown::Prints(place)),
-        When::AtSlotEnd => strobe_effect(place),
-        When::AtChange => show_effect(Shown::Watches(place)),
-    }
-}
-
-/// What an action does: the places that come next, what comes after them, before the rest, and all else.
-#[derive(Drop)]
-pub struct Execution<'d> {
+/// Where a process goes by an action: the places that come next, and what comes after them, before the rest.
+#[derive(Clone, Copy)]
+pub struct Course<'d> {
     pub next: &'d [usize],
     pub then: Option<Frame>,
-    pub effect: Effect,
 }
 
-// What comes next where an action only goes on.
-fn goes_to<'d>(next: &'d [usize]) -> Execution<'d>
+// Where an action only goes on.
+fn goes_to<'d>(next: &'d [usize]) -> Course<'d>
     ensures next { result.next.now ≡ next.now }
     ensures then { result.then ≡ None }
-    ensures effect { result.effect ≡ spec.quiet }
 {
-    Execution {
-        next,
-        then: None,
-        effect: Effect::quiet(),
-    }
+    Course { next, then: None }
 }
 
-// What comes next where an action does this, and goes on.
-fn goes_by<'d>(next: &'d [usize], effect: Effect) -> Execution<'d>
-    ensures next { result.next.now ≡ next.now }
-    ensures then { result.then ≡ None }
-    ensures effect { result.effect ≡ effect }
-{
-    Execution {
-        next,
-        then: None,
-        effect,
-    }
-}
-
-// What comes next where an action comes again behind these places.
-fn comes_again<'d>(place: usize, next: &'d [usize]) -> Execution<'d>
+// Where an action comes again behind these places.
+fn comes_again<'d>(place: usize, next: &'d [usize]) -> Course<'d>
     ensures next { result.next.now ≡ next.now }
     ensures then { result.then ≡ Some (Frame.Executing place) }
-    ensures effect { result.effect ≡ spec.quiet }
 {
-    Execution {
+    Course {
         next,
         then: Some(Frame::Executing(place)),
-        effect: Effect::quiet(),
     }
 }
 
@@ -241,17 +232,15 @@ fn frame_of_turns(place: usize, turns: u64) -> Option<Frame>
     }
 }
 
-// What comes next where a `repeat` has so many turns left behind these places (9.6).
-fn turns_first<'d>(place: usize, next: &'d [usize], turns: u64) -> Execution<'d>
+// Where a `repeat` goes that has so many turns left behind these places (9.6).
+fn turns_first<'d>(place: usize, next: &'d [usize], turns: u64) -> Course<'d>
     ensures next { result.next.now ≡ next.now }
     ensures then { (after : List Frame) →
         spec.turns_left place turns after ≡ behind result.then after }
-    ensures effect { result.effect ≡ spec.quiet }
 {
-    Execution {
+    Course {
         next,
         then: frame_of_turns(place, turns),
-        effect: Effect::quiet(),
     }
 }
 
@@ -261,11 +250,13 @@ fn while_of<'d>(
     condition: &Expression,
     body: &'d Places,
     environment: &Environment<'_>,
-) -> Execution<'d>
+    effect: &mut Effect,
+) -> Course<'d>
     ensures { (after : List Frame) →
         while_result place (holds_at environment.now condition.now) body.now after
-        ≡ step_result result.then result.next.now after result.effect }
+        ≡ step_result result.then result.next.now after effect.new }
 {
+    effect.quieten();
     if holds(condition, environment) {
         comes_again(place, body.as_slice())
     } else {
@@ -279,19 +270,18 @@ fn wait_of<'d>(
     condition: &Expression,
     body: &'d Places,
     environment: &Environment<'_>,
-) -> Execution<'d>
+    effect: &mut Effect,
+) -> Course<'d>
     ensures { (after : List Frame) →
         wait_result place (holds_at environment.now condition.now) body.now after
-        ≡ step_result result.then result.next.now after result.effect }
+        ≡ step_result result.then result.next.now after effect.new }
 {
     if holds(condition, environment) {
+        effect.quieten();
         return goes_to(body.as_slice());
     }
-    Execution {
-        next: &[],
-        then: Some(Frame::Executing(place)),
-        effect: suspend_effect(Disposition::Waiting(place)),
-    }
+    effect.suspend(Disposition::Waiting(place));
+    comes_again(place, &[])
 }
 
 // The branch of an `if` that comes next (9.4).
@@ -311,20 +301,14 @@ fn branch_of<'d>(
 }
 
 // What an `assign` does (6.1): it writes, and waits before it comes again.
-fn continuous_assign_of<'d>(place: usize, parts: Parts) -> Execution<'d>
+fn continuous_assign_of<'d>(place: usize, parts: Parts, effect: &mut Effect) -> Course<'d>
     ensures next { result.next.now ≡ [] }
     ensures then { result.then ≡ Some (Frame.Executing place) }
-    ensures effect { result.effect ≡ record spec.quiet { wrote = parts; disposition = Disposition.Waiting place } }
+    ensures effect { effect.new ≡ record spec.quiet { wrote = parts; disposition = Disposition.Waiting place } }
 {
-    Execution {
-        next: &[],
-        then: Some(Frame::Executing(place)),
-        effect: Effect {
-            wrote: parts,
-            disposition: Disposition::Waiting(place),
-            ..Effect::quiet()
-        },
-    }
+    effect.write(parts);
+    effect.disposition = Disposition::Waiting(place);
+    comes_again(place, &[])
 }
 
 // What an assignment does (9.2.1).
@@ -333,14 +317,15 @@ fn assign_of<'d>(
     targets: &Targets,
     value: &Expression,
     environment: &Environment<'_>,
-) -> Result<Execution<'d>, NoMemory>
-    ensures next { IfOk result (λ execution. execution.next.now ≡ []) }
-    ensures then { IfOk result (λ execution. execution.then ≡ None) }
-    ensures effect { IfOk result (λ execution. execution.effect
-        ≡ record spec.quiet { wrote = assigned_at environment.now targets.now value.now }) }
+    effect: &mut Effect,
+) -> Result<Course<'d>, NoMemory>
+    ensures next { IfOk result (λ course. course.next.now ≡ []) }
+    ensures then { IfOk result (λ course. course.then ≡ None) }
+    ensures effect { OnOk result
+        (effect.new ≡ record spec.quiet { wrote = assigned_at environment.now targets.now value.now }) }
 {
-    let parts = assigned_parts(alloc, targets, value, environment)?;
-    Ok(goes_by(&[], write_effect(parts)))
+    effect.write(assigned_parts(alloc, targets, value, environment)?);
+    Ok(goes_to(&[]))
 }
 
 // What a nonblocking assignment does that is written so much later (9.2.2, 9.7.7).
@@ -350,15 +335,16 @@ fn post_of<'d>(
     targets: &Targets,
     value: &Expression,
     environment: &Environment<'_>,
-) -> Result<Execution<'d>, NoMemory>
-    ensures next { IfOk result (λ execution. execution.next.now ≡ []) }
-    ensures then { IfOk result (λ execution. execution.then ≡ None) }
-    ensures effect { IfOk result (λ execution. execution.effect ≡ record spec.quiet {
+    effect: &mut Effect,
+) -> Result<Course<'d>, NoMemory>
+    ensures next { IfOk result (λ course. course.next.now ≡ []) }
+    ensures then { IfOk result (λ course. course.then ≡ None) }
+    ensures effect { OnOk result (effect.new ≡ record spec.quiet {
       posted = Some (spec.post_after delay (assigned_at environment.now targets.now value.now));
     }) }
 {
-    let parts = assigned_parts(alloc, targets, value, environment)?;
-    Ok(goes_by(&[], post_effect(delay, parts)))
+    effect.post(delay, assigned_parts(alloc, targets, value, environment)?);
+    Ok(goes_to(&[]))
 }
 
 // What a suspended assignment does first (9.7.7): it takes its value, and sleeps before it writes.
@@ -368,22 +354,20 @@ fn assign_delayed_of<'d>(
     targets: &Targets,
     value: &Expression,
     environment: &Environment<'_>,
-) -> Execution<'d>
+    effect: &mut Effect,
+) -> Course<'d>
     ensures next { result.next.now ≡ [] }
     ensures then { result.then ≡ Some (Frame.Writing place) }
-    ensures effect { result.effect ≡ record spec.quiet {
+    ensures effect { effect.new ≡ record spec.quiet {
       held = Some (held_at environment.now targets.now value.now);
       disposition = Disposition.Delayed (delay_at environment.now amount.now);
     } }
 {
-    Execution {
+    effect.suspend(Disposition::Delayed(delay_of(amount, environment)));
+    effect.held = Some(held_value(targets, value, environment));
+    Course {
         next: &[],
         then: Some(Frame::Writing(place)),
-        effect: Effect {
-            held: Some(held_value(targets, value, environment)),
-            disposition: Disposition::Delayed(delay_of(amount, environment)),
-            ..Effect::quiet()
-        },
     }
 }
 
@@ -393,19 +377,27 @@ pub fn effect_of<'d>(
     place: usize,
     action: &'d Action,
     environment: &Environment<'_>,
-) -> Result<Execution<'d>, NoMemory>
-    ensures { IfOk result (λ execution. (after : List Frame) →
+    effect: &mut Effect,
+) -> Result<Course<'d>, NoMemory>
+    ensures { IfOk result (λ course. (after : List Frame) →
         execute place action.now after environment.now
-        ≡ step_result execution.then execution.next.now after execution.effect) }
+        ≡ step_result course.then course.next.now after effect.new) }
 {
     match action {
-        Action::Assign { targets, value } => assign_of(alloc, targets, value, environment),
-        Action::Nonblocking { targets, value } => post_of(alloc, 0, targets, value, environment),
+        Action::Assign { targets, value } => assign_of(alloc, targets, value, environment, effect),
+        Action::Nonblocking { targets, value } => post_of(
+            alloc,
+            0,
+            targets,
+            value,
+            environment,
+            effect,
+        ),
         Action::AssignDelayed {
             amount,
             targets,
             value,
-        } => Ok(assign_delayed_of(place, amount, targets, value, environment)),
+        } => Ok(assign_delayed_of(place, amount, targets, value, environment, effect)),
         Action::NonblockingDelayed {
             amount,
             targets,
@@ -416,65 +408,102 @@ pub fn effect_of<'d>(
             targets,
             value,
             environment,
+            effect,
         ),
-        Action::Trigger(event) => Ok(goes_by(&[], trigger_effect(*event))),
+        Action::Trigger(event) => {
+            effect.trigger(*event);
+            Ok(goes_to(&[]))
+        }
         Action::Test {
             condition,
             when_true,
             otherwise,
-        } => Ok(goes_to(branch_of(condition, when_true, otherwise, environment))),
+        } => {
+            effect.quieten();
+            Ok(goes_to(branch_of(condition, when_true, otherwise, environment)))
+        }
         Action::Case {
             kind,
             value,
             branches,
             otherwise,
-        } => Ok(goes_to(places_of_case(*kind, value, branches, otherwise, environment))),
-        Action::While { condition, body } => Ok(while_of(place, condition, body, environment)),
-        Action::Repeat { count, .. } => Ok(turns_first(place, &[], turns_of(count, environment))),
-        Action::Forever { body } => Ok(comes_again(place, body.as_slice())),
+        } => {
+            effect.quieten();
+            Ok(goes_to(places_of_case(*kind, value, branches, otherwise, environment)))
+        }
+        Action::While { condition, body } => Ok(while_of(
+            place,
+            condition,
+            body,
+            environment,
+            effect,
+        )),
+        Action::Repeat { count, .. } => {
+            effect.quieten();
+            Ok(turns_first(place, &[], turns_of(count, environment)))
+        }
+        Action::Forever { body } => {
+            effect.quieten();
+            Ok(comes_again(place, body.as_slice()))
+        }
         Action::Delay { amount, body } => {
-            let disposition = Disposition::Delayed(delay_of(amount, environment));
-            Ok(goes_by(body.as_slice(), suspend_effect(disposition)))
+            effect.suspend(Disposition::Delayed(delay_of(amount, environment)));
+            Ok(goes_to(body.as_slice()))
         }
         Action::EventControl { body, .. } => {
-            Ok(goes_by(body.as_slice(), suspend_effect(Disposition::Waiting(place))))
+            effect.suspend(Disposition::Waiting(place));
+            Ok(goes_to(body.as_slice()))
         }
         Action::Wait {
             condition,
             body,
             ..
-        } => Ok(wait_of(place, condition, body, environment)),
+        } => Ok(wait_of(place, condition, body, environment, effect)),
         Action::ContinuousAssign { net, value, .. } => {
             let parts = assigned_one(&Target::Whole(*net), value, environment);
-            Ok(continuous_assign_of(place, parts))
+            Ok(continuous_assign_of(place, parts, effect))
         }
-        Action::Print { when, .. } => Ok(goes_by(&[], print_effect(*when, place))),
+        Action::Print { when, .. } => {
+            effect.print(*when, place);
+            Ok(goes_to(&[]))
+        }
         Action::DumpVars(_) => {
-            Ok(goes_by(&[], show_effect(Shown::Commands(DumpCommand::Vars(place)))))
+            effect.show(Shown::Commands(DumpCommand::Vars(place)));
+            Ok(goes_to(&[]))
         }
         Action::Dump(switch) => {
-            Ok(goes_by(&[], show_effect(Shown::Commands(command_of(*switch)))))
+            effect.show(Shown::Commands(command_of(*switch)));
+            Ok(goes_to(&[]))
         }
-        Action::NoOperation => Ok(goes_to(&[])),
-        Action::Finish => Ok(goes_by(&[], end_effect(Cause::Finish))),
-        Action::Stop => Ok(goes_by(&[], end_effect(Cause::Stop))),
+        Action::NoOperation => {
+            effect.quieten();
+            Ok(goes_to(&[]))
+        }
+        Action::Finish => {
+            effect.end(Cause::Finish);
+            Ok(goes_to(&[]))
+        }
+        Action::Stop => {
+            effect.end(Cause::Stop);
+            Ok(goes_to(&[]))
+        }
     }
 }
 
 // What the start of a turn of the action at this place does, where so many turns are left (9.6).
-fn turn_of<'d>(place: usize, turns: u64, action: &'d Action) -> Execution<'d>
+fn turn_of<'d>(place: usize, turns: u64, action: &'d Action, effect: &mut Effect) -> Course<'d>
     ensures { (after : List Frame) →
         spec.execute_turn place turns action.now after
-        ≡ step_result result.then result.next.now after result.effect }
+        ≡ step_result result.then result.next.now after effect.new }
 {
+    effect.quieten();
     match action {
         Action::Repeat { body, .. } => {
             turns_first(place, body.as_slice(), turns.saturating_sub(1))
         }
-        _ => Execution {
+        _ => Course {
             next: &[],
             then: Some(Frame::Repeating(place, turns)),
-            effect: Effect::quiet(),
         },
     }
 }
@@ -485,14 +514,15 @@ fn written_of<'d>(
     targets: &Targets,
     held: Option<Vec4>,
     environment: &Environment<'_>,
-) -> Result<Execution<'d>, NoMemory>
-    ensures next { IfOk result (λ execution. execution.next.now ≡ []) }
-    ensures then { IfOk result (λ execution. execution.then ≡ None) }
-    ensures effect { IfOk result (λ execution. execution.effect
-        ≡ record spec.quiet { wrote = resumed_at environment.now targets.now held }) }
+    effect: &mut Effect,
+) -> Result<Course<'d>, NoMemory>
+    ensures next { IfOk result (λ course. course.next.now ≡ []) }
+    ensures then { IfOk result (λ course. course.then ≡ None) }
+    ensures effect { OnOk result
+        (effect.new ≡ record spec.quiet { wrote = resumed_at environment.now targets.now held }) }
 {
-    let parts = resumed_parts(alloc, targets, held, environment)?;
-    Ok(goes_by(&[], write_effect(parts)))
+    effect.write(resumed_parts(alloc, targets, held, environment)?);
+    Ok(goes_to(&[]))
 }
 
 // What the second step of the suspended assignment at this place does, with the value that its process holds (9.7.7).
@@ -502,36 +532,43 @@ fn resume_of<'d>(
     action: &'d Action,
     held: Option<Vec4>,
     environment: &Environment<'_>,
-) -> Result<Execution<'d>, NoMemory>
-    ensures { IfOk result (λ execution. (after : List Frame) →
+    effect: &mut Effect,
+) -> Result<Course<'d>, NoMemory>
+    ensures { IfOk result (λ course. (after : List Frame) →
         spec.resume place action.now after held environment.now
-        ≡ step_result execution.then execution.next.now after execution.effect) }
+        ≡ step_result course.then course.next.now after effect.new) }
 {
     match action {
-        Action::AssignDelayed { targets, .. } => written_of(alloc, targets, held, environment),
-        _ => Ok(Execution {
-            next: &[],
-            then: Some(Frame::Writing(place)),
-            effect: Effect::quiet(),
-        }),
+        Action::AssignDelayed { targets, .. } => {
+            written_of(alloc, targets, held, environment, effect)
+        }
+        _ => {
+            effect.quieten();
+            Ok(Course {
+                next: &[],
+                then: Some(Frame::Writing(place)),
+            })
+        }
     }
 }
 
-/// What the action that this frame is at does at this moment, with the value that the process holds. E901 is the only refusal.
+/// What the action that this frame is at does at this moment, with the value that the process holds: where the process goes is
+/// answered, and the effect is then what else it does. E901 is the only refusal; the effect may then be any.
 pub fn effect_at<'d>(
     alloc: Global,
     frame: Frame,
     action: &'d Action,
     held: Option<Vec4>,
     environment: &Environment<'_>,
-) -> Result<Execution<'d>, NoMemory>
-    ensures { IfOk result (λ execution. (after : List Frame) →
+    effect: &mut Effect,
+) -> Result<Course<'d>, NoMemory>
+    ensures { IfOk result (λ course. (after : List Frame) →
         execute_at frame action.now after held environment.now
-        ≡ step_result execution.then execution.next.now after execution.effect) }
+        ≡ step_result course.then course.next.now after effect.new) }
 {
     match frame {
-        Frame::Executing(place) => effect_of(alloc, place, action, environment),
-        Frame::Repeating(place, turns) => Ok(turn_of(place, turns, action)),
-        Frame::Writing(place) => resume_of(alloc, place, action, held, environment),
+        Frame::Executing(place) => effect_of(alloc, place, action, environment, effect),
+        Frame::Repeating(place, turns) => Ok(turn_of(place, turns, action, effect)),
+        Frame::Writing(place) => resume_of(alloc, place, action, held, environment, effect),
     }
 }

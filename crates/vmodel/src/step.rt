@@ -343,10 +343,10 @@ impl State {
         };
         let alloc = *self.processes.allocator();
         let held = self.held_by(number);
-        let execution = effect_at(alloc, frame, action, held, &self.environment(design))?;
-        self.place(number, execution.then, execution.next, &execution.effect)?;
-        self.finish(design, &execution.effect, monitors);
-        *effect = execution.effect;
+        let environment = self.environment(design);
+        let course = effect_at(alloc, frame, action, held, &environment, effect)?;
+        self.place(number, course.then, course.next, effect)?;
+        self.finish(design, effect, monitors);
         Ok(())
     }
 

@@ -8,10 +8,10 @@ use Rattle.vmodel.proofs.state.State.run.Goals as goal
 
 pub returns-clause-ok : goal.returns-clause-ok
 returns-clause-ok c =
-    let execution = c.in_ok-execution.execution in
-    let effect = execution.effect in
-    ran c.args.design.now c.args.number c.in-Some.frame c.in-Some.action.now c.held_by-held.result c.environment.result execution.then execution.next.now effect c.args.self.now
-    c.in-Some.ensures.0 c.in-Some.ensures.1 c.held_by-held.ensures c.environment.ensures c.in_ok-execution.ensures
+    let course = c.in_ok-course.course in
+    let effect = c.effect_at.new.effect in
+    ran c.args.design.now c.args.number c.in-Some.frame c.in-Some.action.now c.held_by-held.result c.environment-environment.result course.then course.next.now effect c.args.self.now
+    c.in-Some.ensures.0 c.in-Some.ensures.1 c.held_by-held.ensures c.environment-environment.ensures c.in_ok-course.ensures
     ∙ ap (λ (t : State). complete effect (with_cause effect.cause (with_woken c.args.design.now t.values effect.triggered (record t { values = with_parts effect.wrote t.values }))))
     (sym c.in_ok-place.ensures.ok)
     ∙ sym c.finish.ensures
