@@ -11,7 +11,7 @@ from second_syntax import Expander, Fault, Reader, cut
 from second_values import Binary, Bit, Conditional, Constant, Conversion, FixedBit, FixedPart, Joined, Number, Part, Repeated, Time, Unary, Variable
 from second_values import World, digits, extended, integer, is_known
 
-MOST_LEVELS, MOST_OBJECTS, MOST_PROCESSES, MOST_INSTANCES = 16, 1024, 256, 1024
+MOST_LEVELS, MOST_OBJECTS, MOST_PROCESSES, MOST_INSTANCES, MOST_LETTERS, MOST_SIZE = 16, 1024, 256, 1024, 1_048_576, 4_194_304
 TASKS = {"display": "line", "strobe": "strobe", "monitor": "monitor"}
 FORMS = {"b": "b", "h": "h", "d": "d", "t": "t", "0d": "0d", "0t": "0t"}
 ESCAPES = {"n": "\n", "t": "\t", "\\": "\\", '"': '"'}
@@ -41,6 +41,32 @@ def number_of(word):
         wide = {"b": 1, "o": 3, "h": 4}[base]
         letters = "".join(digit * wide if digit in "xz" else digits(int(digit, 16), wide) for digit in reversed(shown))
     return Number(word, (letters + fill * 64)[:length], bool(sign), not size and not sign)
+
+
+# ---- the size of a module (Limits)
+
+# trees that count nothing by themselves
+PLAIN = {"module", "parameters", "head", "ports", "input", "output", "type", "range", "integer", "parameter", "localparam", "declare", "wire", "reg",
+         "assigns", "initial", "always", "by-order", "by-name", "delay-value", "default"}
+
+
+def size_of(tree):
+    kind, *parts = tree
+    inner = sum(size_of(part) for part in parts if isinstance(part, tuple))
+    if kind == "labelled":
+        return inner - 1 + (len(parts[0]) - 2) * size_of(parts[1])
+    if kind == "terms" or kind == "events":
+        return len(parts)
+    if kind == "string":
+        return 1 + len(parts[0])
+    if kind == "path":
+        return sum(1 + len(name) for name in parts)
+    if kind in ("display", "strobe", "monitor", "dumpvars", "dumpfile", "dumpon", "dumpoff", "dumpall", "dumpflush", "finish", "stop"):
+        return inner
+    if kind == "instances":
+        overrides = size_of(parts[1]) if isinstance(parts[1], tuple) else 0
+        return inner + (len(parts) - 3) * overrides
+    return inner if kind in PLAIN else inner + 1
 
 
 # ---- what a design has
@@ -614,7 +640,7 @@ class Whole:
 
     def __init__(self, modules, top):
         self.modules, self.top = modules, top
-        self.design, self.broken, self.events, self.units, self.paths = Design(top=top), set(), 0, {}, []
+        self.design, self.broken, self.events, self.units, self.paths, self.letters, self.size = Design(top=top), set(), 0, {}, [], 0, 0
 
     def world(self):
         design = self.design
@@ -638,7 +664,9 @@ class Whole:
         first = len(self.design.objects)
         own = one.declare_all(given)
         self.design.scopes.append(Scope(name, one.path, depth, first, len(self.design.objects) - first))
-        if len(self.design.objects) > MOST_OBJECTS:
+        self.letters += len(one.path) + sum(len(each.name) for each in self.design.objects[first:])
+        self.size += size_of(one.tree)
+        if len(self.design.objects) > MOST_OBJECTS or self.letters > MOST_LETTERS or self.size > MOST_SIZE:
             return self.broken.add(309)
         if outside:
             one.connect(connections, outside, before)

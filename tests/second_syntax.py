@@ -6,7 +6,7 @@ bytes (latin-1). A fault is a Fault: the numbers that it may have (two where the
 """
 import re
 
-LEVELS = 64
+LEVELS, MOST_WORDS = 64, 4_194_304
 
 RESERVED = set("""always and assign automatic begin buf bufif0 bufif1 case casex casez cell cmos config deassign default defparam design disable
 edge else end endcase endconfig endfunction endgenerate endmodule endprimitive endspecify endtable endtask event for force forever fork function
@@ -235,6 +235,8 @@ def cut(text, lines):
         if kind != "blank":
             tokens.append(Token("number" if kind in ("based", "plain") else kind, found[0], lines[at]))
         at = found.end()
+    if len(tokens) > MOST_WORDS:
+        raise Fault(112, tokens[MOST_WORDS].line)
     return tokens + [Token("end", "", lines[at])]
 
 

@@ -8,7 +8,9 @@ use Rattle.basis.specs.declared.timescale.Timescale.{Timescale}
 use Rattle.vast.specs.Words.{Text}
 use Rattle.vast.specs.NumberedWords.{Word}
 use Rattle.vast.specs.NumberedModules.{ModuleTree, SourceTree}
-use Rattle.vdesign.specs.Design.{Design, Variable}
+use Rattle.vdesign.specs.Design.{Design, Variable, Scope as Room}
+use Rattle.module_size.specs.Sizes.{size_of}
+use Rattle.vmodules.specs.Names.{letters_of}
 use Rattle.vmodules.specs.Hierarchy.{top_of}
 use Rattle.vmodules.specs.Ports.{ports_of}
 use Rattle.vexpr_parse.proofs.Turning.{le_so}
@@ -21,10 +23,10 @@ use Rattle.velab_declaration.specs.Right.{kind_rule}
 use Rattle.velab_declaration.specs.ActionFlaws.{blank_environment, flaw_rule, table_fault}
 use Rattle.velab_declaration.specs.Variables.{declared_names}
 use Rattle.velab_process.specs.Processes.{Processes as Made}
-use Rattle.vhierarchy.specs.Instances.{Instantiation, scope_of, lower_own_processes, with_own, child_context, each, elaborate_instance, elaborate_top, nothing, top_context, Part, Context, broken_paths, broken_table, elaborated}
+use Rattle.vhierarchy.specs.Instances.{Instantiation, scope_of, lower_own_processes, with_own, child_context, each, elaborate_instance, elaborate_top, nothing, top_context, Part, Context, letters_held, broken_paths, broken_table, elaborated}
 use Rattle.elaboration_law.specs.Hierarchy.{Instance, instances_in, top_instance, listed}
 use Rattle.elaboration_law.specs.Laws.{IsMeant}
-use Rattle.elaboration_law.specs.Counts.{Counted, Variables, Processes, Instances, NamedEvents, limit, count_in, HasTooMany}
+use Rattle.elaboration_law.specs.Counts.{Counted, Variables, Processes, Instances, NamedEvents, Letters, Sizes, limit, count_in, HasTooMany}
 use Rattle.elaboration_law.proofs.ToldLemmas.{is_local, is_of_connections, untold, untold_fault}
 use Rattle.elaboration_law.proofs.ModuleRules.{is_of_paths, undriven_tell, own_processes_tell}
 use Rattle.elaboration_law.proofs.DesignRules.{table_tells, kind_broken, flaw_broken, broken_paths_tell}
@@ -42,9 +44,31 @@ held Variables part = length part.variables
 held Processes part = length part.begins
 held Instances part = length part.scopes
 held NamedEvents part = part.events
+held Letters part = letters_held part
+held Sizes part = part.size
 
 abbrev total : Counted → List Instance → ℕ
 total what list = sum_by (count_in what) list
+
+-- ---- lengths of names
+
+size_append : {A : Type 0} (size : A → ℕ) (xs ys : List A) → size_of size (xs ++ ys) ≡ size_of size xs + size_of size ys
+size_append size [] ys = omega arith
+size_append size (x ∷ xs) ys = let rest = size_append size xs ys in omega (arith, rest)
+
+-- variables that are named by a path and then by their own names
+names_long : (path : Text) (variables : List Variable) (words : List Word) → map (λ v. v.name) variables ≡ map (dotted path) words →
+    size_of (λ v. length v.name) variables ≡ size_of (λ name. length path + (1 + length name)) (letters_of words)
+names_long path [] [] named = refl
+names_long path [] (w ∷ ws) named = absurd cc
+names_long path (v ∷ vs) [] named = absurd cc
+names_long path (v ∷ vs) (w ∷ ws) named =
+    let first : v.name ≡ dotted path w = cc in
+    let others : map (λ (x : Variable). x.name) vs ≡ map (dotted path) ws = cc in
+    let here = ap length first in
+    let long = length-append path (46 ∷ w.letters) in
+    let rest = names_long path vs ws others in
+    omega (arith, here, long, rest)
 
 -- ---- what an instance adds
 
@@ -74,6 +98,18 @@ module _ (modules : SourceTree) (part : Part) (context : Context) (own : Own mod
       let whole = ap (held NamedEvents) s.whole_is in
       let names = (names_counted part context own.scope own.names_are).events_are in
       omega (arith, whole, names)
+  added Letters =
+      let s = own_steps modules part context own in
+      let room = scope_of context own.scope.variables in
+      let whole = ap (held Letters) s.whole_is in
+      let long = size_append (λ (v : Variable). length v.name) part.variables s.variables_made in
+      let rooms = size_append (λ (r : Room). length r.path) part.scopes (room ∷ []) in
+      let named = names_long context.path s.variables_made (declared_names context.unit) (own_named modules part context own) in
+      omega (arith, whole, long, rooms, named)
+  added Sizes =
+      let s = own_steps modules part context own in
+      let whole = ap (held Sizes) s.whole_is in
+      omega (arith, whole)
 
   -- and then there are no more than there may be
   few_own : (what : Counted) → held what own.whole ≤ limit what
@@ -93,6 +129,8 @@ module _ (modules : SourceTree) (part : Part) (context : Context) (own : Own mod
       let whole = ap (held NamedEvents) s.whole_is in
       let few = (names_counted part context own.scope own.names_are).few_events in
       omega (arith, whole, few)
+  few_own Letters = let more = added Letters in let few = (names_counted part context own.scope own.names_are).few_letters in omega (arith, more, few)
+  few_own Sizes = let more = added Sizes in let few = (names_counted part context own.scope own.names_are).small in omega (arith, more, few)
 
 counts_gather : (top : Text) (modules : SourceTree) (what : Counted) → Gathers top modules (λ (a b : ℕ). a + b) (held what) (total what)
 counts_gather top modules what = record {
@@ -150,7 +188,9 @@ module _ (modules : SourceTree) (fault : ElabFault) (rule : fault.rule ≡ TooMa
   module _ (part : Part) (context : Context) where
     more_names : ManyNames part context → (list : List Instance) → Exceeds part (instance_at context ∷ list)
     more_names (inl many) list = let sum = sum_by-cons (count_in Variables) (instance_at context) list in record { what = Variables; many = omega (arith, many, sum) }
-    more_names (inr many) list = let sum = sum_by-cons (count_in NamedEvents) (instance_at context) list in record { what = NamedEvents; many = omega (arith, many, sum) }
+    more_names (inr (inl many)) list = let sum = sum_by-cons (count_in NamedEvents) (instance_at context) list in record { what = NamedEvents; many = omega (arith, many, sum) }
+    more_names (inr (inr (inl many))) list = let sum = sum_by-cons (count_in Letters) (instance_at context) list in record { what = Letters; many = omega (arith, many, sum) }
+    more_names (inr (inr (inr many))) list = let sum = sum_by-cons (count_in Sizes) (instance_at context) list in record { what = Sizes; many = omega (arith, many, sum) }
 
     more_instances : (levels : ℕ) → 1024 < 0 + length (instances_in modules (instance_at context)) → Exceeds part (instance_at context ∷ flat_map (listed levels modules) (instances_in modules (instance_at context)))
     more_instances levels many =
@@ -251,6 +291,8 @@ nothing_held Variables = refl
 nothing_held Processes = refl
 nothing_held Instances = refl
 nothing_held NamedEvents = refl
+nothing_held Letters = refl
+nothing_held Sizes = refl
 
 unless_some : (holds : Bool) (rule : Rule) (word : Option Word) (fault : ElabFault) → unless holds rule word ≡ Some fault → holds ≡ false
 unless_some true rule word fault is = absurd cc

@@ -1,5 +1,6 @@
--- How many variables, processes, instances and named events an instance adds, and what is told where they are too many.
-use Rattle.std.proofs.Common.{◌≡◌, ℕ, suc, ◌+◌, ◌<◌, ◌≤◌, arith, nat_le, nat_lt, Bool, true, false, not, List, [], ◌∷◌, ◌++◌, map, length, Option, Some, None, Result, Ok, Err, refl, sym, ap, ◌∙◌, ◌⊎◌, inl, inr, length-append}
+-- How many variables, processes, instances and named events an instance adds, how long its names and how large its module are, and what is told
+-- where they are too many.
+use Rattle.std.proofs.Common.{◌≡◌, ◌&&◌, ℕ, suc, ◌+◌, ◌<◌, ◌≤◌, arith, nat_le, nat_lt, Bool, true, false, not, List, [], ◌∷◌, ◌++◌, map, length, Option, Some, None, Result, Ok, Err, refl, sym, ap, ◌∙◌, ◌⊎◌, inl, inr, length-append}
 use Rattle.std.specs.List.{flat_map, filter_map, cons_option, sum_by}
 use Rattle.std.specs.Option.{option_or}
 use Rattle.std.proofs.lemmas.Bool.Decides.{nat_tests}
@@ -9,6 +10,8 @@ use Rattle.vast.specs.Words.{Text}
 use Rattle.vast.specs.NumberedWords.{Word}
 use Rattle.vast.specs.NumberedExpressions as text
 use Rattle.vast.specs.NumberedModules.{HeadParameter, ParameterType, SettingTree, ConnectionsTree, InstanceTree, ItemTree, parameters, declaration, events, assignments, initial, always, instances, ModuleTree, SourceTree}
+use Rattle.basis.proofs.Bools.{and_left, and_right}
+use Rattle.module_size.specs.Sizes.{module_size}
 use Rattle.vmodules.specs.Names.{is_declared, first_again}
 use Rattle.vmodules.specs.Hierarchy.{module_of}
 use Rattle.vmodules.specs.Ports.{Port, ports_of}
@@ -27,7 +30,7 @@ use Rattle.velab_declaration.specs.Variables.{declared_names}
 use Rattle.velab_process.specs.Statements.{Table}
 use Rattle.velab_process.specs.Processes.{ProcessTree, Processes as Made, with_begins_before, lower_process, lower_processes, process_trees_by, lower_items}
 use Rattle.velab_process.specs.Connections.{lower_connection, lower_join, lower_joins, one_process}
-use Rattle.vhierarchy.specs.Instances.{barring, Instantiation, lower_list, named_again, lower_instances_of, lower_instances_by, lower_instances, Part, Context, base_of, lower_names, lower_own_processes}
+use Rattle.vhierarchy.specs.Instances.{barring, Instantiation, lower_list, named_again, lower_instances_of, lower_instances_by, lower_instances, Part, Context, base_of, lower_names, lower_own_processes, has_room, letters_held, letters_added}
 use Rattle.elaboration_law.specs.Hierarchy.{instance_by, instances_of, instances_by}
 use Rattle.elaboration_law.specs.Counts.{connected, events_by}
 use Rattle.elaboration_law.proofs.ToldLemmas.{is_local, is_of_connections, untold}
@@ -296,10 +299,12 @@ pub record NamesCounted (part : Part) (context : Context) (scope : Scope) : Type
   pub few_variables : length part.variables + length (declared_names context.unit) ≤ 1024
   pub few_events : scope.events ≤ 4294967295
   pub events_are : scope.events ≡ part.events + length (flat_map events_by context.unit.items)
+  pub few_letters : letters_held part + letters_added context ≤ 1048576
+  pub small : part.size + module_size context.unit ≤ 4194304
 
 module _ (part : Part) (context : Context) where
   abbrev counted : Result Scope ElabFault
-  counted = provided (nat_le part.events 4294967295) TooMany (Some context.name) (item_scope (base_of part context) context.unit)
+  counted = provided (has_room part context) TooMany (Some context.name) (item_scope (base_of part context) context.unit)
 
   abbrev fewer : Bool
   fewer = nat_le (length part.variables + length (declared_names context.unit)) 1024
@@ -308,25 +313,44 @@ module _ (part : Part) (context : Context) where
   names_counted scope is =
       let again = barring_ok (first_again (declared_names context.unit)) Doubled (provided fewer TooMany (Some context.name) counted) scope is in
       let few = provided_ok fewer TooMany (Some context.name) counted scope again.1 in
-      let inner = provided_ok (nat_le part.events 4294967295) TooMany (Some context.name) (item_scope (base_of part context) context.unit) scope few.1 in
+      let inner = provided_ok (has_room part context) TooMany (Some context.name) (item_scope (base_of part context) context.unit) scope few.1 in
+      let events = nat_le part.events 4294967295 in
+      let letters = nat_le (letters_held part + letters_added context) 1048576 in
+      let size = nat_le (part.size + module_size context.unit) 4194304 in
+      let both = and_right events (letters && size) inner.0 in
       record {
         few_variables = le_so (length part.variables + length (declared_names context.unit)) 1024 few.0;
-        few_events = scope_few (base_of part context) context.unit scope inner.1 (le_so part.events 4294967295 inner.0);
+        few_events = scope_few (base_of part context) context.unit scope inner.1 (le_so part.events 4294967295 (and_left events (letters && size) inner.0));
         events_are = scope_counted (base_of part context) context.unit scope inner.1;
+        few_letters = le_so (letters_held part + letters_added context) 1048576 (and_left letters size both);
+        small = le_so (part.size + module_size context.unit) 4194304 (and_right letters size both);
       }
 
-  -- too many variables, or too many named events
+  -- too many variables, too many named events, names that are too long, or modules that are too large
   abbrev pub ManyNames : Type 0
-  ManyNames = (1024 < length part.variables + length (declared_names context.unit)) ⊎ (4294967295 < part.events + length (flat_map events_by context.unit.items))
+  ManyNames =
+      (1024 < length part.variables + length (declared_names context.unit)) ⊎ ((4294967295 < part.events + length (flat_map events_by context.unit.items))
+      ⊎ ((1048576 < letters_held part + letters_added context) ⊎ (4194304 < part.size + module_size context.unit)))
+
+  no_room : has_room part context ≡ false → ManyNames
+  no_room none =
+      by (nat_le part.events 4294967295) (nat_le (letters_held part + letters_added context) 1048576) (nat_le (part.size + module_size context.unit) 4194304) refl refl refl none
+    where
+      by : (events letters size : Bool) → nat_le part.events 4294967295 ≡ events → nat_le (letters_held part + letters_added context) 1048576 ≡ letters →
+          nat_le (part.size + module_size context.unit) 4194304 ≡ size → (events && (letters && size)) ≡ false → ManyNames
+      by false letters size e f g none = let more = gt_of part.events 4294967295 e in inr (inl (omega (arith, more)))
+      by true false size e f g none = inr (inr (inl (gt_of (letters_held part + letters_added context) 1048576 f)))
+      by true true false e f g none = inr (inr (inr (gt_of (part.size + module_size context.unit) 4194304 g)))
+      by true true true e f g none = absurd cc
 
   module _ (fault : ElabFault) (rule : fault.rule ≡ TooMany) where
-    in_counted : ((nat_le part.events 4294967295 ≡ false) × (fault.rule ≡ TooMany)) ⊎ ((nat_le part.events 4294967295 ≡ true) × (item_scope (base_of part context) context.unit ≡ Err fault)) → ManyNames
-    in_counted (inl (many, other)) = let more = gt_of part.events 4294967295 many in inr (omega (arith, more))
-    in_counted (inr (ok, err)) = inr (scope_many (base_of part context) context.unit fault rule err)
+    in_counted : ((has_room part context ≡ false) × (fault.rule ≡ TooMany)) ⊎ ((has_room part context ≡ true) × (item_scope (base_of part context) context.unit ≡ Err fault)) → ManyNames
+    in_counted (inl (none, other)) = no_room none
+    in_counted (inr (ok, err)) = inr (inl (scope_many (base_of part context) context.unit fault rule err))
 
     in_fewer : ((fewer ≡ false) × (fault.rule ≡ TooMany)) ⊎ ((fewer ≡ true) × (counted ≡ Err fault)) → ManyNames
     in_fewer (inl (many, other)) = inl (gt_of (length part.variables + length (declared_names context.unit)) 1024 many)
-    in_fewer (inr (ok, err)) = in_counted (provided_err (nat_le part.events 4294967295) TooMany (Some context.name) (item_scope (base_of part context) context.unit) fault err)
+    in_fewer (inr (ok, err)) = in_counted (provided_err (has_room part context) TooMany (Some context.name) (item_scope (base_of part context) context.unit) fault err)
 
     in_variables : ((w : Word) × (first_again (declared_names context.unit) ≡ Some w) × (fault.rule ≡ Doubled)) ⊎ ((first_again (declared_names context.unit) ≡ None) × (provided fewer TooMany (Some context.name) counted ≡ Err fault)) →
         ManyNames

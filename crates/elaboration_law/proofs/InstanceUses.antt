@@ -24,7 +24,7 @@ use Rattle.velab_declaration.specs.Variables.{port_names, declared_names, ScopeD
 use Rattle.velab_process.specs.Statements.{Table}
 use Rattle.velab_process.specs.Processes.{Processes, process_trees_by, lower_processes, lower_items, with_begins_before}
 use Rattle.velab_process.specs.Connections.{only_name, lower_input, lower_output, lower_connection, lower_join, lower_joins}
-use Rattle.vhierarchy.specs.Instances.{barring, Instantiation, instantiation_by, lower_instance, lower_list, named_again, lower_instances_of, lower_instances_by, lower_instances, driven_by, scope_drivers_by, lower_own_variables, lower_own_processes, with_own, few_enough, lower_own, base_of, lower_names, Part, Context}
+use Rattle.vhierarchy.specs.Instances.{barring, Instantiation, instantiation_by, lower_instance, lower_list, named_again, lower_instances_of, lower_instances_by, lower_instances, driven_by, scope_drivers_by, lower_own_variables, lower_own_processes, with_own, few_enough, lower_own, base_of, lower_names, Part, Context, has_room}
 use Rattle.elaboration_law.specs.Uses.{Use, Read, Driven, use_of, used_in, used_in_range}
 use Rattle.elaboration_law.specs.Places.{Place, UseAt, at_place, all_fit, variables_of, place_behind, place_after, used_in_type, used_outside, used_by_output, used_at_port, used_if_connected, used_in_kind, used_in_declaration, used_in_processes, used_in_symbol, used_in_symbols, used_in_port, used_in_connection, used_by_items, used_in_instance}
 use Rattle.elaboration_law.proofs.HierarchyLemmas.{Own, OwnFault, in_names, in_instances, in_own}
@@ -298,10 +298,10 @@ module _ (r : UseRule) where
     names_judged =
         let b = all_fit r.fits by_all in
         let few = nat_le (length part.variables + length (declared_names context.unit)) 1024 in
-        let counted = provided (nat_le part.events 4294967295) TooMany (Some context.name) (item_scope base context.unit) in
+        let counted = provided (has_room part context) TooMany (Some context.name) (item_scope base context.unit) in
         barring_judges asked b (first_again (declared_names context.unit)) Doubled (provided few TooMany (Some context.name) counted) r.no_doubled
         (provided_judges asked b few TooMany (Some context.name) counted r.no_many
-        (provided_judges asked b (nat_le part.events 4294967295) TooMany (Some context.name) (item_scope base context.unit) r.no_many scope_judged))
+        (provided_judges asked b (has_room part context) TooMany (Some context.name) (item_scope base context.unit) r.no_many scope_judged))
 
     abbrev ports : List Port
     ports = ports_of context.unit

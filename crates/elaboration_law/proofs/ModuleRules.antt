@@ -21,7 +21,7 @@ use Rattle.velab_declaration.specs.Parameters.{Overrides, Base, lower_type, lowe
 use Rattle.velab_declaration.specs.Variables.{port_names, declared_names, ScopeDrivers, lower_kind, lower_declaration, lower_variables, lower_port, lower_ports}
 use Rattle.velab_process.specs.Connections.{lower_joins}
 use Rattle.velab_process.specs.Processes.{lower_items}
-use Rattle.vhierarchy.specs.Instances.{barring, Instantiation, instantiation_by, lower_instance, lower_list, named_again, lower_instances_of, lower_instances_by, lower_instances, Part, Context, base_of, lower_names, lower_own_processes, with_own, few_enough, driven_by, scope_drivers_by, lower_own_variables, lower_own}
+use Rattle.vhierarchy.specs.Instances.{barring, Instantiation, instantiation_by, lower_instance, lower_list, named_again, lower_instances_of, lower_instances_by, lower_instances, Part, Context, base_of, lower_names, lower_own_processes, with_own, few_enough, driven_by, scope_drivers_by, lower_own_variables, lower_own, has_room}
 use Rattle.elaboration_law.proofs.ToldLemmas.{Tells, is_local, is_of_connections, local_connections, wider, then_tells, required_tells, provided_tells, barring_tells}
 use Rattle.elaboration_law.proofs.ExpressionRules.{constant_tells, bounds_tell}
 use Rattle.elaboration_law.proofs.StatementRules.{items_tell, joins_tell}
@@ -203,9 +203,9 @@ pub names_tell : (part : Part) (context : Context) → Tells is_of_names (lower_
 names_tell part context =
     let many = nat_le (length part.variables + length (declared_names context.unit)) 1024 in
     let inner = item_scope (base_of part context) context.unit in
-    barring_tells is_of_names (first_again (declared_names context.unit)) Doubled (provided many TooMany (Some context.name) (provided (nat_le part.events 4294967295) TooMany (Some context.name) inner)) refl
-    (provided_tells is_of_names many TooMany (Some context.name) (provided (nat_le part.events 4294967295) TooMany (Some context.name) inner) refl
-    (provided_tells is_of_names (nat_le part.events 4294967295) TooMany (Some context.name) inner refl (scope_tells (base_of part context) context.unit)))
+    barring_tells is_of_names (first_again (declared_names context.unit)) Doubled (provided many TooMany (Some context.name) (provided (has_room part context) TooMany (Some context.name) inner)) refl
+    (provided_tells is_of_names many TooMany (Some context.name) (provided (has_room part context) TooMany (Some context.name) inner) refl
+    (provided_tells is_of_names (has_room part context) TooMany (Some context.name) inner refl (scope_tells (base_of part context) context.unit)))
 
 -- ---- instances
 

@@ -19,7 +19,7 @@ use Rattle.velab_expr.specs.Scopes.{Scope, at}
 use Rattle.velab_expr.specs.Symbols.{Symbol, name_in, symbols_in_head, symbols_by, valueless_by}
 use Rattle.velab_declaration.specs.Parameters.{Overrides, Base, lower_meaning, with_meaning, add_symbol, add_symbols, first_scope, item_scope}
 use Rattle.velab_declaration.specs.Variables.{port_names, declared_names}
-use Rattle.vhierarchy.specs.Instances.{barring, Instantiation, lower_list, named_again, lower_instances_of, lower_instances, Part, Context, base_of, lower_names}
+use Rattle.vhierarchy.specs.Instances.{barring, Instantiation, lower_list, named_again, lower_instances_of, lower_instances, Part, Context, base_of, lower_names, has_room}
 use Rattle.elaboration_law.specs.Doubles.{other_names, names_in_module, has_head_twice}
 use Rattle.elaboration_law.proofs.ToldLemmas.{is_of_connections, untold}
 use Rattle.elaboration_law.proofs.ModuleRules.{is_of_meaning, meaning_tells, list_tells}
@@ -166,7 +166,7 @@ module _ (base : Base) (m : ModuleTree) where
 
 module _ (part : Part) (context : Context) where
   abbrev counted : Result Scope ElabFault
-  counted = provided (nat_le part.events 4294967295) TooMany (Some context.name) (item_scope (base_of part context) context.unit)
+  counted = provided (has_room part context) TooMany (Some context.name) (item_scope (base_of part context) context.unit)
 
   abbrev few : Bool
   few = nat_le (length part.variables + length (declared_names context.unit)) 1024
@@ -174,18 +174,18 @@ module _ (part : Part) (context : Context) where
   pub names_once : (scope : Scope) → lower_names part context ≡ Ok scope → has_double (names_in_module context.unit) ≡ false
   names_once scope is =
       let again = barring_ok (first_again (declared_names context.unit)) Doubled (provided few TooMany (Some context.name) counted) scope is in
-      let inner = provided_ok (nat_le part.events 4294967295) TooMany (Some context.name) (item_scope (base_of part context) context.unit) scope (provided_ok few TooMany (Some context.name) counted scope again.1).1 in
+      let inner = provided_ok (has_room part context) TooMany (Some context.name) (item_scope (base_of part context) context.unit) scope (provided_ok few TooMany (Some context.name) counted scope again.1).1 in
       scope_once (base_of part context) context.unit scope inner.1 (none_twice (declared_names context.unit) again.0)
 
   module _ (fault : ElabFault) (rule : fault.rule ≡ Doubled) where
-    in_counted : ((nat_le part.events 4294967295 ≡ false) × (fault.rule ≡ TooMany)) ⊎ ((nat_le part.events 4294967295 ≡ true) × (item_scope (base_of part context) context.unit ≡ Err fault)) →
+    in_counted : ((has_room part context ≡ false) × (fault.rule ≡ TooMany)) ⊎ ((has_room part context ≡ true) × (item_scope (base_of part context) context.unit ≡ Err fault)) →
         has_double (names_in_module context.unit) ≡ true
     in_counted (inl (many, other)) = absurd cc
     in_counted (inr (ok, err)) = scope_twice (base_of part context) context.unit fault rule err
 
     in_few : ((few ≡ false) × (fault.rule ≡ TooMany)) ⊎ ((few ≡ true) × (counted ≡ Err fault)) → has_double (names_in_module context.unit) ≡ true
     in_few (inl (many, other)) = absurd cc
-    in_few (inr (ok, err)) = in_counted (provided_err (nat_le part.events 4294967295) TooMany (Some context.name) (item_scope (base_of part context) context.unit) fault err)
+    in_few (inr (ok, err)) = in_counted (provided_err (has_room part context) TooMany (Some context.name) (item_scope (base_of part context) context.unit) fault err)
 
     in_variables : ((w : Word) × (first_again (declared_names context.unit) ≡ Some w) × (fault.rule ≡ Doubled)) ⊎ ((first_again (declared_names context.unit) ≡ None) × (provided few TooMany (Some context.name) counted ≡ Err fault)) →
         has_double (names_in_module context.unit) ≡ true

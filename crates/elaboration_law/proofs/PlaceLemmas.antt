@@ -17,7 +17,7 @@ use Rattle.velab_expr.specs.Symbols.{Symbol, parameter_symbol, event_symbol, ins
 use Rattle.velab_declaration.specs.Parameters.{Overrides, Base, lower_type, parameter_by, lower_setting, lower_meaning, with_meaning, add_symbol, add_symbols, first_scope, item_scope}
 use Rattle.velab_declaration.specs.Variables.{Declaration, port_declaration, declarations, port_names, declared_names}
 use Rattle.vmodules.specs.Ports.{Port, ports_of}
-use Rattle.vhierarchy.specs.Instances.{Part, Context, base_of, lower_names, no_scope}
+use Rattle.vhierarchy.specs.Instances.{Part, Context, base_of, lower_names, no_scope, has_room}
 use Rattle.elaboration_law.specs.Doubles.{names_in_module}
 use Rattle.elaboration_law.specs.Places.{Place, Thing, a_variable, a_parameter, an_event, an_instance, no_place, variables_of, symbols_of, thing_by, things_in, names_behind, place_behind, place_after}
 use Rattle.elaboration_law.proofs.StepLemmas.{same_value, then_ok, required_ok, provided_ok, barring_ok}
@@ -483,10 +483,10 @@ module _ (base : Base) (m : ModuleTree) where
 module _ (part : Part) (context : Context) where
   pub item_scope_of : (scope : Scope) → lower_names part context ≡ Ok scope → item_scope (base_of part context) context.unit ≡ Ok scope
   item_scope_of scope is =
-      let counted = provided (nat_le part.events 4294967295) TooMany (Some context.name) (item_scope (base_of part context) context.unit) in
+      let counted = provided (has_room part context) TooMany (Some context.name) (item_scope (base_of part context) context.unit) in
       let few = nat_le (length part.variables + length (declared_names context.unit)) 1024 in
       let again = barring_ok (first_again (declared_names context.unit)) Doubled (provided few TooMany (Some context.name) counted) scope is in
-      (provided_ok (nat_le part.events 4294967295) TooMany (Some context.name) (item_scope (base_of part context) context.unit) scope (provided_ok few TooMany (Some context.name) counted scope again.1).1).1
+      (provided_ok (has_room part context) TooMany (Some context.name) (item_scope (base_of part context) context.unit) scope (provided_ok few TooMany (Some context.name) counted scope again.1).1).1
 
   pub names_stand : (scope : Scope) → lower_names part context ≡ Ok scope → Stands context.unit [] context.unit.items scope
   names_stand scope is = scope_stands (base_of part context) context.unit scope (item_scope_of scope is)

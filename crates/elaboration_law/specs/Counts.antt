@@ -5,6 +5,8 @@ use Rattle.vast.specs.Words.{Text}
 use Rattle.vast.specs.NumberedWords.{Word}
 use Rattle.vast.specs.NumberedExpressions.{ExpressionTree}
 use Rattle.vast.specs.NumberedModules.{ItemTree, parameters, declaration, events, assignments, initial, always, instances, ModuleTree, SourceTree}
+use Rattle.module_size.specs.Sizes.{size_of, module_size}
+use Rattle.vmodules.specs.Names.{letters_of}
 use Rattle.vmodules.specs.Hierarchy.{top_of}
 use Rattle.vmodules.specs.Ports.{ports_of}
 use Rattle.vmodules.specs.Connected.{value_for}
@@ -12,12 +14,14 @@ use Rattle.velab_declaration.specs.Variables.{declared_names}
 use Rattle.velab_process.specs.Processes.{process_trees_by}
 use Rattle.elaboration_law.specs.Hierarchy.{Instance, top_instance, listed}
 
--- what is counted
+-- what is counted; of names their bytes, of modules their sizes
 pub data Counted : Type 0 where
   Variables : Counted
   Processes : Counted
   Instances : Counted
   NamedEvents : Counted
+  Letters : Counted
+  Sizes : Counted
 
 -- how many of them there may be: with the top, instances are 1,025
 abbrev pub limit : Counted → ℕ
@@ -25,6 +29,8 @@ limit Variables = 1024
 limit Processes = 256
 limit Instances = 1025
 limit NamedEvents = 4294967295
+limit Letters = 1048576
+limit Sizes = 4194304
 
 -- what ports are connected to: each connection is a process (12.3.9.2)
 abbrev pub connected : Instance → List ExpressionTree
@@ -40,12 +46,18 @@ events_by (initial statement) = []
 events_by (always statement) = []
 events_by (instances name overrides list) = []
 
+-- 12.5: the bytes of an instance's path, and of the names of its variables, which are its path, a dot and then their own
+abbrev pub letters_in : Instance → ℕ
+letters_in one = length one.path + size_of (λ name. length one.path + (1 + length name)) (letters_of (declared_names one.unit))
+
 -- how many an instance has
 abbrev pub count_in : Counted → Instance → ℕ
 count_in Variables one = length (declared_names one.unit)
 count_in Processes one = length (connected one) + length (flat_map process_trees_by one.unit.items)
 count_in Instances one = 1
 count_in NamedEvents one = length (flat_map events_by one.unit.items)
+count_in Letters one = letters_in one
+count_in Sizes one = module_size one.unit
 
 -- The top and all instances below it have too many together. Down to 16 levels they are counted: deeper ones are E308.
 pub record HasTooMany (modules : SourceTree) (top : Option Text) : Type 0 where

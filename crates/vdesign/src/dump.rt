@@ -32,9 +32,10 @@ impl Model for Selection {
 
 impl Selection {
     /// These scopes, or everything where there are none.
-    pub fn new(list: Vec<Chosen>) -> Selection
+    pub fn new(mut list: Vec<Chosen>) -> Selection
         ensures { result ≡ list.items }
     {
+        list.shrink_to_fit();
         Selection { list }
     }
 

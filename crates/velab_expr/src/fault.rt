@@ -31,8 +31,9 @@ pub enum Rule {
     /// E308: more than 16 levels of instances, the top among them.
     #[error("instances nest too deep")]
     Depth,
-    /// E309: more than 1,024 variables, 256 processes, 1,024 instances below the top or 4,294,967,295 named events.
-    #[error("too many variables, processes, instances or events")]
+    /// E309: more than 1,024 variables, 256 processes, 1,024 instances below the top or 4,294,967,295 named events; or names that are too
+    /// long, or modules that are too large, together.
+    #[error("too many variables, processes, instances or events, or too large names or modules")]
     TooMany,
     /// E310: a name of another kind than its use asks for: a net that a process assigns to, a variable that an `assign` or an output
     /// drives, a parameter that is written or waited for, a named event or an instance in an expression, a bit or a part of what is

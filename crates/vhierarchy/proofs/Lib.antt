@@ -2,6 +2,7 @@ pub mod StepLemmas
 pub mod GrowLemmas
 pub mod DesignLemmas
 pub mod OwnLemmas
+pub mod RoomLemmas
 pub mod DriverLemmas
 pub mod InstantiationLemmas
 mod NamedLemmas

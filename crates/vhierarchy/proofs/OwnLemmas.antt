@@ -8,6 +8,7 @@ use Rattle.vast.specs.NumberedWords.{Word}
 use Rattle.vast.specs.NumberedTrees.{item_tree}
 use Rattle.vast.specs.declared.module.ModuleItem.{ModuleItem}
 use Rattle.vdesign.specs.Design.{Variable}
+use Rattle.module_size.specs.Sizes.{module_size}
 use Rattle.vmodules.specs.Names.{letters_of, first_again, is_declared}
 use Rattle.vmodules.specs.declared.ports.PortForm.{PortForm}
 use Rattle.vmodules.specs.Inner.{port_form}
@@ -133,18 +134,18 @@ module _ (part : Part) (name : Word) (context : Context) (scope : Scope) (variab
         by (Err other) b first then = absurd cc
 
     pub own_is : (after : Part) → behind part.variables variables ≡ Ok after.variables → with_begins_before part.begins processes ≡ Ok (record { table = after.table; begins = after.begins }) →
-        after.scopes ≡ part.scopes ++ scope_of context scope.variables ∷ [] → after.events ≡ scope.events → few_enough name after ≡ own
+        after.scopes ≡ part.scopes ++ scope_of context scope.variables ∷ [] → after.events ≡ scope.events → after.size ≡ part.size + module_size context.unit → few_enough name after ≡ own
     own_is after = by variables processes
       where
         by : (a : Result (List Variable) ElabFault) (b : Result Processes ElabFault) → behind part.variables a ≡ Ok after.variables →
             with_begins_before part.begins b ≡ Ok (record { table = after.table; begins = after.begins }) →
-            after.scopes ≡ part.scopes ++ scope_of context scope.variables ∷ [] → after.events ≡ scope.events →
+            after.scopes ≡ part.scopes ++ scope_of context scope.variables ∷ [] → after.events ≡ scope.events → after.size ≡ part.size + module_size context.unit →
             few_enough name after ≡ (a >>= λ v. b >>= λ p. few_enough name (with_own context scope part v p))
-        by (Ok v) (Ok p) first then scopes events =
+        by (Ok v) (Ok p) first then scopes events sizes =
             let variables_are : after.variables ≡ part.variables ++ v = cc in
             let put : Processes = record { table = after.table; begins = after.begins } in
             let given : Processes = record { table = p.table; begins = part.begins ++ p.begins } in
             let processes_are : put ≡ given = cc in
-            λ i. few_enough name (record { variables = variables_are i; scopes = scopes i; table = (processes_are i).table; begins = (processes_are i).begins; events = events i })
-        by (Ok v) (Err other) first then scopes events = absurd cc
-        by (Err other) b first then scopes events = absurd cc
+            λ i. few_enough name (record { variables = variables_are i; scopes = scopes i; table = (processes_are i).table; begins = (processes_are i).begins; events = events i; size = sizes i })
+        by (Ok v) (Err other) first then scopes events sizes = absurd cc
+        by (Err other) b first then scopes events sizes = absurd cc

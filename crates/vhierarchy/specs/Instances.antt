@@ -1,6 +1,6 @@
 -- *trusted*: `Elaborates modules top scale design`: the design that a text stands for, by recursion over instances (IEEE 1364-2005,
 -- clause 12).
-use Rattle.std.specs.Prelude.{◌≡◌, ℕ, zero, suc, ◌+◌, nat_le, if◌then◌else◌, List, [], ◌∷◌, ◌++◌, map, length, Option, None, Some, Result, Ok, Err}
+use Rattle.std.specs.Prelude.{◌≡◌, ℕ, zero, suc, ◌+◌, nat_le, Bool, ◌&&◌, if◌then◌else◌, List, [], ◌∷◌, ◌++◌, map, length, Option, None, Some, Result, Ok, Err}
 use Rattle.std.specs.List.{flat_map, filter, filter_map}
 use Rattle.std.specs.Option.{option_or}
 use Rattle.basis.specs.declared.timescale.Timescale.{Timescale}
@@ -8,6 +8,7 @@ use Rattle.vast.specs.Words.{Text}
 use Rattle.vast.specs.NumberedWords.{Word}
 use Rattle.vast.specs.NumberedExpressions.{ExpressionTree}
 use Rattle.vast.specs.NumberedModules.{ConnectionsTree, InstanceTree, ItemTree, parameters, declaration, events, assignments, initial, always, instances, ModuleTree, SourceTree}
+use Rattle.module_size.specs.Sizes.{size_of, module_size}
 use Rattle.vmodules.specs.Names.{has_double, is_declared, letters_of, first_again}
 use Rattle.vmodules.specs.Hierarchy.{module_names, module_of, top_of, rival_of}
 use Rattle.vmodules.specs.Ports.{Port, ports_of}
@@ -133,13 +134,15 @@ driven_names connections ports instantiation items = (driven_inside connections 
 
 -- ---- what an instance adds (12.1, 12.3)
 
--- a design so far: its variables, its scopes, its actions, where its processes begin, and how many named events it has
+-- a design so far: its variables, its scopes, its actions, where its processes begin, how many named events it has, and how large the modules
+-- of its instances are together
 pub record Part : Type 0 where
   pub variables : List design.Variable
   pub scopes : List design.Scope
   pub table : Table
   pub begins : List (List ℕ)
   pub events : ℕ
+  pub size : ℕ
 
 -- an instance, or the top: the top's name, its path, its name, how many scopes are round it, its module, what is said of its parameters from outside,
 -- and what its ports are connected to there
@@ -158,12 +161,30 @@ base_of part context = record { top = context.top; first = length part.variables
 abbrev pub scope_of : Context → ℕ → design.Scope
 scope_of context count = record { name = context.name.letters; path = context.path; depth = context.depth; variables = count }
 
+-- how many bytes the names of a design's variables and scopes have so far
+abbrev pub letters_held : Part → ℕ
+letters_held part = size_of (λ v. length v.name) part.variables + size_of (λ s. length s.path) part.scopes
+
+-- and those of an instance, whose variables have its path, a dot and then their own names
+abbrev pub dotted_size : Text → Text → ℕ
+dotted_size path name = length path + (1 + length name)
+
+abbrev pub letters_added : Context → ℕ
+letters_added context = length context.path + size_of (dotted_size context.path) (letters_of (declared_names context.unit))
+
+-- A design has at most 4,294,967,295 named events; its names have at most 1,048,576 bytes together, and the modules of its instances a size of
+-- at most 4,194,304.
+abbrev pub has_room : Part → Context → Bool
+has_room part context =
+    nat_le part.events 4294967295
+    && (nat_le (letters_held part + letters_added context) 1048576 && nat_le (part.size + module_size context.unit) 4194304)
+
 -- its names, as they are known at its first item; a design has at most 1,024 variables
 abbrev pub lower_names : Part → Context → Result Scope ElabFault
 lower_names part context =
     none_again rule.Doubled (declared_names context.unit)
     (provided (nat_le (length part.variables + length (declared_names context.unit)) 1024) rule.TooMany (Some context.name)
-    (provided (nat_le part.events 4294967295) rule.TooMany (Some context.name)
+    (provided (has_room part context) rule.TooMany (Some context.name)
     (item_scope (base_of part context) context.unit)))
 
 -- the processes of its port connections, and then its own
@@ -179,6 +200,7 @@ with_own context scope part variables processes = record {
   table = processes.table;
   begins = part.begins ++ processes.begins;
   events = scope.events;
+  size = part.size + module_size context.unit;
 }
 
 -- a design has at most 256 processes, and 1,024 instances below the top
@@ -244,7 +266,7 @@ elaborate_instance (suc levels) modules part context =
 -- ---- the design (12.1)
 
 abbrev pub nothing : Part
-nothing = record { variables = []; scopes = []; table = record { actions = []; words = [] }; begins = []; events = 0 }
+nothing = record { variables = []; scopes = []; table = record { actions = []; words = [] }; begins = []; events = 0; size = 0 }
 
 -- nothing is said of the top from outside, and there are no names
 abbrev pub no_scope : Scope

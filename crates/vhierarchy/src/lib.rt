@@ -11,6 +11,7 @@ mod instantiation;
 pub mod law;
 mod own;
 mod part;
+mod room;
 mod select;
 
 pub use design::elaborate;

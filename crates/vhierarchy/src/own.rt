@@ -6,6 +6,7 @@ ghost use Rattle.vast.specs.NumberedTrees.{module_tree};
 ghost use Rattle.vast.specs.NumberedWords.{numbered};
 ghost use Rattle.vast.specs.Words.{Text};
 ghost use Rattle.vexpr_parse.specs.Texts.{words_of};
+ghost use Rattle.module_size.specs.Sizes.{module_size};
 ghost use Rattle.vmodules.specs.Ports.{ports_of};
 ghost use Rattle.vmodules.specs.Inner.{port_form};
 ghost use Rattle.velab_expr.specs.Inner.{symbols_in};
@@ -19,6 +20,7 @@ use crate::context::Context;
 use crate::drivers::driven_names;
 use crate::instantiation::Instantiation;
 use crate::part::Part;
+use crate::room::room_for;
 use basis::{NoMemory, OrMemory};
 use std::alloc::Global;
 use vast::token::Token;
@@ -26,7 +28,7 @@ use vdesign::action::Places;
 use vdesign::design::{Scope as Room, Variable};
 use velab_declaration::declared::declared;
 use velab_declaration::drivers::ScopeDrivers;
-use velab_declaration::parameter::{Growing, MOST_EVENTS, add_head, add_items, add_valueless};
+use velab_declaration::parameter::{Growing, add_head, add_items, add_valueless};
 use velab_declaration::variable::{put_ports, put_variables};
 use velab_expr::fault::{ElabFault, Rule};
 use velab_expr::refusal::refused;
@@ -44,11 +46,13 @@ pub const MOST_PROCESSES: usize = 256;
 /// The most scopes of a design: the top's, and those of 1,024 instances.
 const MOST_SCOPES: usize = 1025;
 
-/// The names of an instance, and how many of those that are no variables are known before its first item.
+/// The names of an instance, how many of those that are no variables are known before its first item, and how large the modules of the design
+/// are with its own.
 #[derive(Drop)]
 pub struct Known<'t> {
     pub growing: Growing<'t>,
     pub head: usize,
+    pub size: usize,
 }
 
 /// The names of an instance. Errors: E302, E303, E306, E307, E309, E310, E901.
@@ -65,6 +69,8 @@ pub fn known_names<'t>(
         (lower_names part.now (context_tree (words_of tokens.now) context.now)) }
     ensures small { IfOk result (λ known. known.head
         + length (symbols_in (words_of tokens.now) context.now.unit.now.items.items) < 2 ^ 64) }
+    ensures whole { IfOk result (λ known. known.size ≡
+        part.now.size + module_size (module_tree (words_of tokens.now) context.now.unit.now)) }
 {
     let first = part.variables.len();
     let names = declared(alloc, tokens, ports, &context.unit.items)?;
@@ -72,9 +78,10 @@ pub fn known_names<'t>(
     if first > MOST_VARIABLES || variables > MOST_VARIABLES - first {
         return Err(refused(Rule::TooMany, Some(context.name.number)));
     }
-    if part.events > MOST_EVENTS {
-        return Err(refused(Rule::TooMany, Some(context.name.number)));
-    }
+    let size = match room_for(tokens, part, context, &names) {
+        None => return Err(refused(Rule::TooMany, Some(context.name.number))),
+        Some(size) => size,
+    };
     let mut growing = Growing {
         top: context.top,
         names,
@@ -95,7 +102,11 @@ pub fn known_names<'t>(
     let head = growing.others.len();
     add_items(alloc, tokens, context.overrides, items, &mut growing)?;
     let _whole = growing.others.len();
-    Ok(Known { growing, head })
+    Ok(Known {
+        growing,
+        head,
+        size,
+    })
 }
 
 // The variables of an instance. Errors: E303, E304, E306, E307, E310, E901.
@@ -208,10 +219,13 @@ pub fn put_own(
     ports: &[PortForm<'_>],
     instantiation: &[Instantiation<'_, '_>],
     scope: &Scope<'_, '_>,
+    size: usize,
     part: &mut Part,
 ) -> Result<(), OrMemory<ElabFault>>
     requires small { scope.now.known
         + length (symbols_in (words_of tokens.now) context.now.unit.now.items.items) < 2 ^ 64 }
+    requires whole { size ≡
+        part.old.size + module_size (module_tree (words_of tokens.now) context.now.unit.now) }
     ensures { Makes result part.new
         (own_part (words_of tokens.now) context.now ports.now instantiation.now scope.now part.old) }
 {
@@ -243,5 +257,6 @@ pub fn put_own(
     )?;
     check_counts(&part.begins, &part.scopes, context.name)?;
     part.events = scope.events;
+    part.size = size;
     Ok(())
 }

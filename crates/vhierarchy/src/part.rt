@@ -9,7 +9,8 @@ use vdesign::action::Places;
 use vdesign::design::{Scope, Variable};
 use velab_process::statement::Table;
 
-/// A design so far: its variables, its scopes, its actions, where its processes begin, and how many named events it has.
+/// A design so far: its variables, its scopes, its actions, where its processes begin, how many named events it has, and how large the
+/// modules of its instances are together.
 #[derive(Drop)]
 pub struct Part {
     pub variables: Vec<Variable>,
@@ -17,6 +18,7 @@ pub struct Part {
     pub table: Table,
     pub begins: Vec<Places>,
     pub events: usize,
+    pub size: usize,
 }
 
 impl Model for Part {
@@ -34,6 +36,7 @@ impl Model for Part {
       table = p.table;
       begins = p.begins.items;
       events = p.events;
+      size = p.size;
     } };
 }
 
@@ -52,6 +55,7 @@ impl Part {
             },
             begins: Vec::new(alloc),
             events: 0,
+            size: 0,
         }
     }
 }

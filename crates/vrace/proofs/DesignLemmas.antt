@@ -1,10 +1,11 @@
 -- A rule that the only tree of a text breaks leaves the text without a design.
-use Rattle.std.proofs.Common.{◌≡◌, inr, ℕ, List, Option, Result, Ok, Err, IfErr, sym, ap, subst, ◌∙◌}
+use Rattle.std.proofs.Common.{◌≡◌, ◌<◌, ◌≤◌, inr, ℕ, List, length, Option, Some, Result, Ok, Err, IfErr, sym, ap, subst, ◌∙◌, arith}
 use Rattle.std.specs.Prelude.{option_and_then}
-use Rattle.vsrc.specs.Source.{Source}
+use Rattle.vsrc.specs.Source.{Source, place_of}
+use Rattle.vsrc.specs.declared.expanded.Place.{Place}
 use Rattle.vsrc.specs.Expansion.{expansion}
 use Rattle.vsrc.specs.declared.fault.SrcFault.{SrcFault}
-use Rattle.vlex.specs.Tokenized.{Tokenized, pieces_of}
+use Rattle.vlex.specs.Tokenized.{Tokenized, pieces_of, start_of}
 use Rattle.vast.specs.Words.{Text}
 use Rattle.vast.specs.Modules.{DerivesText}
 use Rattle.vast.specs.ModuleTrees.{source_tree}
@@ -20,10 +21,10 @@ use Rattle.vparse.specs.Refusals.{HasNoText, IsOnlyText}
 use Rattle.vhierarchy.specs.Instances.{Elaborates}
 use Rattle.vhierarchy.specs.Reasons.{IsDesignReason, HasNoDesign}
 use Rattle.velab_expr.specs.declared.fault.ElabFault.{ElabFault}
-use Rattle.vrace.specs.Replays.{AreRead, IsTreeOf, texts_of}
+use Rattle.vrace.specs.Replays.{AreRead, most_words, IsTreeOf, texts_of}
 use Rattle.vrace.specs.Unique.{IsCut, IsReadAs}
 use Rattle.vrace.specs.declared.fault.At.{At}
-use Rattle.vrace.specs.Refusals.{Breaks, word_place, IsTextReason, IsDesignFault, IsTreeless}
+use Rattle.vrace.specs.Refusals.{Breaks, HasManyWords, IsAt, word_place, IsTextReason, IsDesignFault, IsTreeless}
 use Rattle.vrace.specs.declared.fault.Fault.{Fault}
 
 module _ (source : Source) (tokens : Tokenized) (cut : IsCut source tokens) where
@@ -35,13 +36,23 @@ module _ (source : Source) (tokens : Tokenized) (cut : IsCut source tokens) wher
   pub treeless : HasNoText (words_of tokens) → IsTreeless source.text
   treeless none tree is = none is.plain (at_words tree is).0
 
-  pub read_as : (text : TextTree) → DerivesText (words_of tokens) (source_tree (words_of tokens) text) → IsOnlyText (words_of tokens) (source_tree (words_of tokens) text) →
+  pub has_many : most_words < length (pieces_of tokens) → (place : Place) (at : At) → place ≡ place_of tokens.source (start_of tokens most_words) → at ≡ record { 0 = Some place } →
+      IsTreeless source.text × IsAt at (HasManyWords source)
+  has_many many place at placed told = (
+    (λ tree is.
+        let few = is.few in
+        let same = ap length (cut.only is.pieces is.lexed) in
+        omega (arith, many, few, same)),
+    (place, told, record { tokens = tokens; are_tokens = cut.are_tokens; many = many; placed = placed }),
+  )
+
+  pub read_as : length (pieces_of tokens) ≤ most_words → (text : TextTree) → DerivesText (words_of tokens) (source_tree (words_of tokens) text) → IsOnlyText (words_of tokens) (source_tree (words_of tokens) text) →
       text_leaves text ≡ leaves_from 0 (words_of tokens) → IsReadAs source.text (numbered_tree (words_of tokens) text)
-  read_as text derived only kept =
+  read_as few text derived only kept =
       let words : List Text = words_of tokens in
       let here : IsNumbered words (source_tree words text) (numbered_tree words text) = numbered_text words text kept in
       record {
-        is_tree = record { pieces = pieces_of tokens; lexed = cut.are_tokens.lexed; plain = source_tree words text; derived = derived; numbered = here };
+        is_tree = record { pieces = pieces_of tokens; lexed = cut.are_tokens.lexed; few = few; plain = source_tree words text; derived = derived; numbered = here };
         only = λ other is.
             numbered_once words (source_tree words text) other (numbered_tree words text)
             (subst (λ plain. IsNumbered words plain other) (only is.plain (at_words other is).0) (at_words other is).1) here;

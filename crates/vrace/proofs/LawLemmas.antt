@@ -78,7 +78,7 @@ module _ (laws : Laws) (files : List (List ℕ)) (read : AreRead files) where
       not_for_text (Memory m) r = tt
       not_for_text (Directive at) r = absurd r
       not_for_text (NoMacro at) r = absurd r
-      not_for_text (TooLarge at) r = absurd r
+      not_for_text (TooLarge at) r = absurd (r.0 here.tree here.is_tree)
       not_for_text (LeftOpen at) r = absurd r
       not_for_text (Timescales at) r = absurd r
       not_for_text BadLog r = absurd r

@@ -8,7 +8,7 @@ use Rattle.vsrc.specs.declared.fault.SrcFault.{SrcFault}
 use Rattle.vsrc.specs.declared.fault.SrcFault.TheVariants as source
 use Rattle.vsrc.specs.declared.expanded.Place.{Place}
 use Rattle.vlex.specs.Lexed.{HasNoTokens, IsTokenReason}
-use Rattle.vlex.specs.Tokenized.{Tokenized, start_of}
+use Rattle.vlex.specs.Tokenized.{Tokenized, pieces_of, start_of}
 use Rattle.vexpr_parse.specs.Texts.{words_of}
 use Rattle.vlex.specs.declared.fault.LexFault.TheVariants as pieces
 use Rattle.vast.specs.NumberedModules.{SourceTree}
@@ -22,7 +22,7 @@ use Rattle.sched_core.specs.Replay.{IsMissing, TakesMore}
 use Rattle.vmodel.specs.Run.{rules_of}
 use Rattle.byte_sinks.specs.declared.metered.Metered.{Metered}
 use Rattle.vrace.specs.Request.{Request}
-use Rattle.vrace.specs.Replays.{limit, total, AreRead, AreTokens, IsTreeOf, IsDesignOf, IsDesignOfFiles, Replayed, setting_of, IsShown, IsDump}
+use Rattle.vrace.specs.Replays.{limit, total, AreRead, AreTokens, most_words, IsTreeOf, IsDesignOf, IsDesignOfFiles, Replayed, setting_of, IsShown, IsDump}
 use Rattle.vrace.specs.declared.replay.Show.{Show}
 use Rattle.vrace.specs.declared.fault.At.{At}
 use Rattle.velab_expr.specs.declared.fault.Rule.{Rule}
@@ -42,6 +42,13 @@ IsDesignless text top = (scale : Timescale) (design : Design) → IsDesignOf tex
 -- the first word of the text that can't follow those before it is refused so
 abbrev pub HasRefusal : Source → SyntaxFault → Type 0
 HasRefusal source fault = (tokens : Tokenized) × AreTokens source tokens × IsRefusal tokens fault
+
+-- the text has too many words, and the first that is too much stands here
+pub record HasManyWords (source : Source) (place : Place) : Type 0 where
+  pub tokens : Tokenized
+  pub are_tokens : AreTokens source tokens
+  pub many : most_words < length (pieces_of tokens)
+  pub placed : place ≡ place_of tokens.source (start_of tokens most_words)
 
 -- where the word of this number stands, or the text's end after the last
 abbrev pub word_place : Tokenized → ℕ → Option Place
@@ -76,11 +83,12 @@ IsFileReason files (Memory m) = Unit {0}
 IsFileReason files TooLong = limit < total files
 IsFileReason files other = ⊥
 
--- What a fault of the text says of it. The place of E101, E102 and E2xx is that of what can't be read; that of E3xx is
--- of the word at which the rule is broken.
+-- What a fault of the text says of it. The place of E101, E102 and E2xx is that of what can't be read; that of E112 is of the first word that
+-- is too much, that of E3xx of the word at which the rule is broken.
 abbrev pub IsTextReason : Source → Option (List ℕ) → Fault → Type 0
 IsTextReason source top (NotEnded at) = HasNoTokens source.text × IsAt at (λ place. IsTokenReason source (pieces.NotEnded place))
 IsTextReason source top (BadToken at) = HasNoTokens source.text × IsAt at (λ place. IsTokenReason source (pieces.BadToken place))
+IsTextReason source top (TooLarge at) = IsTreeless source.text × IsAt at (HasManyWords source)
 IsTextReason source top (NoTree at) = IsTreeless source.text × IsAt at (λ place. HasRefusal source (words.NoTree place))
 IsTextReason source top (Outside at) = IsTreeless source.text × IsAt at (λ place. HasRefusal source (words.Outside place))
 IsTextReason source top (TooDeep at) = IsTreeless source.text × IsAt at (λ place. HasRefusal source (words.TooDeep place))

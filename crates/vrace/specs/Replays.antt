@@ -44,10 +44,15 @@ pub record AreRead (files : List (List ℕ)) : Type 0 where
 abbrev pub texts_of : List Piece → List Text
 texts_of = map (λ piece. piece.text)
 
--- A text stands for a tree: its tokens derive it, and its words have their numbers among them.
+-- the most words that a text may have
+abbrev pub most_words : ℕ
+most_words = 4194304
+
+-- A text stands for a tree: its tokens, of which there aren't too many, derive it, and its words have their numbers among them.
 pub record IsTreeOf (text : List ℕ) (tree : SourceTree) : Type 0 where
   pub pieces : List Piece
   pub lexed : Lexed text pieces
+  pub few : length pieces ≤ most_words
   pub plain : PlainTree
   pub derived : DerivesText (texts_of pieces) plain
   pub numbered : IsNumbered (texts_of pieces) plain tree

@@ -57,6 +57,9 @@ fn at_token(tokens: &Tokens<'_>, number: Option<u32>) -> At
     }
 }
 
+/// The most words of a text.
+const MOST_WORDS: usize = 4_194_304;
+
 /// A design, and where the statement of each of its actions begins.
 #[derive(Drop)]
 pub struct Placed {
@@ -156,13 +159,16 @@ fn tokens_of<'a>(alloc: Global, text: &'a Expanded) -> Result<Tokens<'a>, Fault>
     }
 }
 
-// The tree of the tokens.
+// The tree of the tokens. E112 where there are too many.
 fn tree_of(alloc: Global, tokens: &Tokens<'_>) -> Result<TextTree, Fault>
     ensures ok { (source : Source) → IsCut source tokens.now →
         IfOk result (λ tree. IsReadAs source.text (source_tree (words_of tokens.now) tree)) }
     ensures err { (source : Source) (top : Option (List ℕ)) → IsCut source tokens.now →
         IfErr result (IsTextReason source top) }
 {
+    if tokens.len() > MOST_WORDS {
+        return Err(Fault::TooLarge(at(tokens.place(MOST_WORDS))));
+    }
     match parse(alloc, tokens) {
         Ok(tree) => Ok(tree),
         Err(OrMemory::Fault(fault)) => Err(of_tree(fault)),
@@ -205,7 +211,8 @@ fn design_of_text(alloc: Global, text: &Expanded, top: Option<&[u8]>) -> Result<
 
 /// The design of the top module in the files, with the places of its statements. E904 where the
 /// files together are longer than 16,777,216 bytes; E110 to E114 where their directives and macros have such a fault; E101,
-/// E102, E2xx and E3xx only where the text that they make has no tokens, no tree, or no design; E901.
+/// E102, E2xx and E3xx only where the text that they make has no tokens, no tree, or no design; E112 also where it has more than 4,194,304
+/// words; E901.
 pub fn placed_design_of(
     alloc: Global,
     files: &[Vec<u8>],

@@ -58,7 +58,7 @@ pub enum Fault {
     Directive(At),
     /// The name after a backtick has no macro.
     NoMacro(At),
-    /// Macros or conditionals nest too deep, or the text or the number of uses grows too large.
+    /// Macros or conditionals nest too deep, the text or the number of uses grows too large, or it has too many words.
     TooLarge(At),
     /// A conditional is left open.
     LeftOpen(At),

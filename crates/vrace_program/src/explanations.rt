@@ -37,9 +37,9 @@ const EXPLANATIONS: [Explanation; 32] = [
     },
     Explanation {
         number: 112,
-        meaning: "macros or conditionals nest deeper than 32, over 1,000,000 macros are used, or the text grows past 33,554,432 bytes; without a place, a dump that a report would hold has 2^64 bytes or more",
+        meaning: "macros or conditionals nest deeper than 32, over 1,000,000 macros are used, the text grows past 33,554,432 bytes, or it has over 4,194,304 words; without a place, a dump that a report would hold has 2^64 bytes or more",
         example: "`define A `A and a use of A",
-        advice: "take the macro out of its own text, or make less text by macros",
+        advice: "take the macro out of its own text, make less text by macros, or write loops in place of many statements",
     },
     Explanation {
         number: 113,
@@ -121,9 +121,9 @@ const EXPLANATIONS: [Explanation; 32] = [
     },
     Explanation {
         number: 309,
-        meaning: "over 256 processes, 1,024 variables, 1,024 instances below the top or 4,294,967,295 named events; connections of ports are processes, and ports are variables",
+        meaning: "over 256 processes, 1,024 variables, 1,024 instances below the top or 4,294,967,295 named events; connections of ports are processes, and ports are variables; names of variables and instances of over 1,048,576 bytes together; modules of all instances of over 4,194,304 together in size",
         example: "257 initials; reg v0, v1, .. up to v1024",
-        advice: "split the testbench, or put several initials into one",
+        advice: "split the testbench, or put several initials into one; shorten names, or write loops in place of many statements: docs/LANGUAGE.md, Limits, has what counts how much",
     },
     Explanation {
         number: 310,

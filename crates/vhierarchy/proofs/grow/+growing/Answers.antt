@@ -52,6 +52,7 @@ pub put_unit-put_own-requires : goal.put_unit-put_own-requires
 put_unit-put_own-requires t c = record {
   small = subst (λ (n : ℕ). n + length (symbols_in (words_of c.tokens-tokens.result.now) c.args.context.now.unit.now.items.items) < 2 ^ 64)
       (sym (ap (λ (s : Scope). s.known) c.at-scope.ensures)) c.in_ok-known.ensures.small;
+  whole = c.in_ok-known.ensures.whole;
 }
 
 pub put_unit-returns-in_err-put_own : goal.put_unit-returns-in_err-put_own

@@ -1,6 +1,7 @@
-use Rattle.std.proofs.Common.{◌++◌, ◌∷◌, [], List, length, map, refl, sym, ap, ◌∙◌}
+use Rattle.std.proofs.Common.{◌≡◌, ◌+◌, ◌++◌, ◌∷◌, [], List, length, map, refl, sym, ap, ◌∙◌}
 use Rattle.vast.specs.Words.{Text}
 use Rattle.vexpr_parse.specs.Texts.{words_of}
+use Rattle.module_size.specs.Sizes.{module_size}
 use Rattle.vmodules.specs.Ports.{Port}
 use Rattle.vmodules.specs.Inner.{port_form}
 use Rattle.velab_expr.specs.Answers.{behind}
@@ -26,6 +27,7 @@ returns-in_err-put_own_variables c =
       table = c.part.inside.table;
       begins = c.part.inside.begins.items;
       events = c.part.inside.events;
+      size = c.part.inside.size;
     } in
     let variables = lower_own_variables context ports children scope in
     hands_on c.from_residual.result c.in_err-put_own_variables.field-0.0 _ _ c.from_residual.ensures.1
@@ -46,6 +48,7 @@ returns-in_err-put_own_processes c =
       table = c.part.inside.table;
       begins = c.part.inside.begins.items;
       events = c.part.inside.events;
+      size = c.part.inside.size;
     } in
     let variables = lower_own_variables context ports children scope in
     let processes = lower_own_processes context ports scope before.table in
@@ -68,6 +71,7 @@ returns-in_err-check_counts c =
       table = c.part.inside.table;
       begins = c.part.inside.begins.items;
       events = c.part.inside.events;
+      size = c.part.inside.size;
     } in
     let after : Part = record {
       variables = c.put_own_variables.new.into.items;
@@ -75,15 +79,17 @@ returns-in_err-check_counts c =
       table = c.put_own_processes.new.table;
       begins = c.put_own_processes.new.into.items;
       events = scope.events;
+      size = c.args.size;
     } in
     let named = ap (λ (name : Text). c.part.inside.scopes.items ++ record { name = name; path = c.args.context.now.path.now; depth = c.args.context.now.depth; variables = c.scope.inside.variables } ∷ []) c.letters.ensures in
     let scopes = c.in_ok-put_scope.ensures ∙ named ∙ ap (λ (s : Scope). c.part.inside.scopes.items ++ scope_of context s.variables ∷ []) c.scope.view_is in
     let variables = lower_own_variables context ports children scope in
     let processes = lower_own_processes context ports scope before.table in
+    let whole : c.args.size ≡ before.size + module_size context.unit = c.requires.whole ∙ ap (λ (p : Part). p.size + module_size context.unit) (sym c.part.view_is) in
     hands_on c.from_residual-in_err-check_counts.result c.in_err-check_counts.field-0.0 _ _ c.from_residual-in_err-check_counts.ensures.1
     (same_refused _ _
     ((λ i. few context.name (length (c.deref.ensures.value i)) (length (c.deref-2.ensures.value i)) after)
-    ∙ own_is before context.name context scope variables processes after c.in_ok-put_own_variables.ensures c.in_ok-put_own_processes.ensures scopes refl
+    ∙ own_is before context.name context scope variables processes after c.in_ok-put_own_variables.ensures c.in_ok-put_own_processes.ensures scopes refl whole
     ∙ ap (λ (part : Part). lower_own context ports children scope part) c.part.view_is)
     c.in_err-check_counts.field-0.0 (c.in_err-check_counts.ensures words after))
 
@@ -100,6 +106,7 @@ returns c =
       table = c.part.inside.table;
       begins = c.part.inside.begins.items;
       events = c.part.inside.events;
+      size = c.part.inside.size;
     } in
     let after : Part = record {
       variables = c.put_own_variables.new.into.items;
@@ -107,12 +114,14 @@ returns c =
       table = c.put_own_processes.new.table;
       begins = c.put_own_processes.new.into.items;
       events = c.scope.inside.events;
+      size = c.args.size;
     } in
     let named = ap (λ (name : Text). c.part.inside.scopes.items ++ record { name = name; path = c.args.context.now.path.now; depth = c.args.context.now.depth; variables = c.scope.inside.variables } ∷ []) c.letters.ensures in
     let scopes = c.in_ok-put_scope.ensures ∙ named ∙ ap (λ (s : Scope). c.part.inside.scopes.items ++ scope_of context s.variables ∷ []) c.scope.view_is in
     let variables = lower_own_variables context ports children scope in
     let processes = lower_own_processes context ports scope before.table in
+    let whole : c.args.size ≡ before.size + module_size context.unit = c.requires.whole ∙ ap (λ (p : Part). p.size + module_size context.unit) (sym c.part.view_is) in
     sym (ap (λ (part : Part). lower_own context ports children scope part) c.part.view_is)
-    ∙ sym (own_is before context.name context scope variables processes after c.in_ok-put_own_variables.ensures c.in_ok-put_own_processes.ensures scopes (ap (λ (s : Scope). s.events) c.scope.view_is))
+    ∙ sym (own_is before context.name context scope variables processes after c.in_ok-put_own_variables.ensures c.in_ok-put_own_processes.ensures scopes (ap (λ (s : Scope). s.events) c.scope.view_is) whole)
     ∙ sym (λ i. few context.name (length (c.deref.ensures.value i)) (length (c.deref-2.ensures.value i)) after)
     ∙ c.in_ok-check_counts.ensures words after

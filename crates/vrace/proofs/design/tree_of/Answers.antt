@@ -1,4 +1,4 @@
-use Rattle.std.proofs.Common.{subst}
+use Rattle.std.proofs.Common.{subst, arith}
 use Rattle.basis.specs.Reasons.{Because}
 use Rattle.vexpr_parse.specs.Texts.{words_of}
 use Rattle.vparse.specs.Refusals.{HasNoText, IsRefusal}
@@ -7,7 +7,7 @@ use Rattle.vrace.proofs.design.tree_of.Goals as goal
 
 pub returns-in-Ok-clause-ok : goal.returns-in-Ok-clause-ok
 returns-in-Ok-clause-ok c = λ source cut.
-    read_as source c.args.tokens.now cut c.in-Ok.tree c.in-Ok.ensures.derives c.in-Ok.ensures.only c.in-Ok.ensures.leaves
+    read_as source c.args.tokens.now cut (omega arith) c.in-Ok.tree c.in-Ok.ensures.derives c.in-Ok.ensures.only c.in-Ok.ensures.leaves
 
 pub returns-in-Err-Fault-clause-err : goal.returns-in-Err-Fault-clause-err
 returns-in-Err-Fault-clause-err c = λ source top cut.
