@@ -29,20 +29,20 @@ pub enum Actor {
 /// A visit: the step that it is, who makes it, how many visits of his came before it, the place of its action, and what it reads and
 /// writes.
 #[derive(Drop)]
-pub struct Visit {
-    pub step: u32,
-    pub actor: Actor,
-    pub number: usize,
-    pub place: usize,
-    pub footprint: Footprint,
+pub(crate) struct Visit {
+    pub(crate) step: u32,
+    pub(crate) actor: Actor,
+    pub(crate) number: usize,
+    pub(crate) place: usize,
+    pub(crate) footprint: Footprint,
 }
 
 /// An update that was posted: when, for how much later, and by the `<=` at which place.
 #[derive(Drop)]
-pub struct Posted {
-    pub at: u64,
-    pub after: u128,
-    pub place: usize,
+pub(crate) struct Posted {
+    pub(crate) at: u64,
+    pub(crate) after: u128,
+    pub(crate) place: usize,
 }
 
 /// What was seen of a run. A clause sees it as the record `Seen` of specs/Visits.antt.
