@@ -1,4 +1,4 @@
-use Rattle.std.proofs.Common.{◌≡◌, ◌+◌, ◌-◌, ◌≤◌, ℕ, List, arith}
+use Rattle.std.proofs.Common.{◌≤◌, ℕ, List, arith}
 use Rattle.vsrc.specs.Source.{file_start}
 use Rattle.vsrc.proofs.Counting.{file_start-le, file_start-last}
 use Rattle.vsrc.proofs.expanded.start_of.Goals as goal

@@ -1,4 +1,4 @@
-use Rattle.std.proofs.Common.{◌≡◌, ◌+◌, ◌-◌, ◌≤◌, ℕ, List, arith, ◌∙◌, ap}
+use Rattle.std.proofs.Common.{◌≡◌, ℕ, List, arith, ◌∙◌, ap}
 use Rattle.vsrc.specs.Source.{count_below, file_start}
 use Rattle.vsrc.proofs.Counting.{count_below-rises, file_start-le}
 use Rattle.vsrc.proofs.expanded.Lines.place.Goals as goal
