@@ -12,3 +12,4 @@ pub mod RankBookLemmas
 pub mod RankedLemmas
 pub mod RankLoopLemmas
 pub mod RankMarksLemmas
+pub mod TakenMarks

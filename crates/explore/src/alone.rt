@@ -9,7 +9,7 @@ ghost use Rattle.explore.specs.Inner.Ways.{IsSearching};
 
 use crate::classes::{Full, visit_all};
 use crate::findings::{Findings, Status};
-use crate::marks::list_marks;
+use crate::marks::into_marks;
 use crate::search::Search;
 use basis::{NoMemory, OrMemory};
 use indexmap::IndexMap;
@@ -128,6 +128,6 @@ pub fn explore_alone<P: Space>(
     let Search { book, ways } = search;
     drop(ways);
     let status = status_of(alloc, &book, visited);
-    let marks = list_marks(alloc, space, limits, &book)?;
+    let marks = into_marks(alloc, space, limits, book)?;
     Ok(Findings { marks, status })
 }

@@ -9,7 +9,7 @@ ghost use Rattle.explore.specs.Inner.Exploring.{AreEntries};
 use basis::NoMemory;
 use indexmap::IndexMap;
 use sched_core::{Log, Space};
-use statebook::{Limits, PlainBook};
+use statebook::{Entry, Limits, PlainBook};
 use std::alloc::Global;
 use std::hash::Hash;
 
@@ -24,6 +24,29 @@ pub fn note<S: Eq + Hash + Drop>(
 {
     marks.insert(state, log)?;
     Ok(())
+}
+
+/// The marks that the book's entries stand at, as `list_marks` lists them. The entries are let go one by one, so that there is
+/// room for the marks where the book has taken all that there was.
+pub fn into_marks<P: Space>(
+    alloc: Global,
+    space: &P,
+    limits: &Limits,
+    book: PlainBook<P::State>,
+) -> Result<IndexMap<P::State, Log>, NoMemory>
+    requires { AreEntries (P.rules space.now) limits.now book }
+    ensures found { IfOk result (λ marks. AreFound (P.rules space.now) limits.now marks.entries) }
+    ensures read { IfOk result (λ marks. ListsExactly (P.rules space.now) book marks.entries) }
+    ensures distinct { IfOk result (λ marks. IsUnique P.State.eq marks) }
+{
+    let mut marks = IndexMap::new(alloc);
+    for entry in book.into_entries() {
+        let Entry { state, log, .. } = entry;
+        if space.is_mark(&state) {
+            note(&mut marks, state, log)?;
+        }
+    }
+    Ok(marks)
 }
 
 /// The marks that the book's entries stand at, each once. Of entries of equal states a later one

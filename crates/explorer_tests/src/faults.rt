@@ -47,7 +47,11 @@ fn faults_print_their_numbers(rt: HostRuntime) -> Result<(), Fail> {
 
 #[test]
 fn faults_print_their_places(rt: HostRuntime) -> Result<(), Fail> {
-    let place = Place { file: 2, line: 31 };
+    let place = Place {
+        file: 2,
+        line: 31,
+        column: 4,
+    };
     let text = format!(in rt.alloc(); "{}", Fault::NoDesign(Rule::Unknown, At(Some(place))))?;
     assert!(rt; text.as_str() == "E303 at 2:31");
     Ok(())

@@ -131,14 +131,14 @@ const REFUSED: [(&[u8], u32, usize); 44] = [
     (b"`default_nettype", 110, 1),
 ];
 
-fn fault(number: u32, line: usize) -> SrcFault {
-    let place = Place { file: 1, line };
-    match number {
-        110 => SrcFault::Directive { place },
-        111 => SrcFault::NoMacro { place },
-        112 => SrcFault::Growth { place },
-        113 => SrcFault::LeftOpen { place },
-        _ => SrcFault::Timescales { place },
+// The number of a fault, and its file and line.
+fn told(fault: SrcFault) -> (u32, usize, usize) {
+    match fault {
+        SrcFault::Directive { place } => (110, place.file, place.line),
+        SrcFault::NoMacro { place } => (111, place.file, place.line),
+        SrcFault::Growth { place } => (112, place.file, place.line),
+        SrcFault::LeftOpen { place } => (113, place.file, place.line),
+        SrcFault::Timescales { place } => (114, place.file, place.line),
     }
 }
 
@@ -146,7 +146,7 @@ fn fault(number: u32, line: usize) -> SrcFault {
 fn refuses_texts(rt: HostRuntime) -> Result<(), Fail> {
     for (file, number, line) in REFUSED {
         match expanded(rt.alloc(), &[file])? {
-            Err(OrMemory::Fault(found)) => assert_eq!(rt; found, fault(number, line), "{file:?}"),
+            Err(OrMemory::Fault(found)) => assert_eq!(rt; told(found), (number, 1, line), "{file:?}"),
             Err(OrMemory::Memory(_)) => assert!(rt; false, "{file:?}"),
             Ok(_) => assert!(rt; false, "{file:?}"),
         }
@@ -155,25 +155,25 @@ fn refuses_texts(rt: HostRuntime) -> Result<(), Fail> {
 }
 
 // The places of the bytes of that text: what a macro gave comes from its use.
-const PLACES: [(usize, usize); 18] = [
-    (2, 1),
-    (2, 2),
-    (3, 1),
-    (3, 1),
-    (3, 1),
-    (3, 1),
-    (3, 1),
-    (3, 1),
-    (3, 1),
-    (3, 1),
-    (3, 2),
-    (4, 1),
-    (4, 1),
-    (4, 1),
-    (4, 1),
-    (4, 1),
-    (4, 1),
-    (4, 2),
+const PLACES: [(usize, usize, usize); 18] = [
+    (2, 1, 1),
+    (2, 2, 16),
+    (3, 1, 0),
+    (3, 1, 0),
+    (3, 1, 0),
+    (3, 1, 0),
+    (3, 1, 2),
+    (3, 1, 3),
+    (3, 1, 4),
+    (3, 1, 5),
+    (3, 2, 0),
+    (4, 1, 0),
+    (4, 1, 1),
+    (4, 1, 2),
+    (4, 1, 3),
+    (4, 1, 3),
+    (4, 1, 5),
+    (4, 2, 23),
 ];
 
 #[test]
@@ -188,9 +188,10 @@ fn goes_on_over_files(rt: HostRuntime) -> Result<(), Fail> {
         return Err(Fail::from("expands"));
     };
     assert_eq!(rt; found.text(), b"\n\nb \nc /*\n\n*/ d \n".as_slice());
-    for (at, (file, line)) in PLACES.into_iter().enumerate() {
+    for (at, (file, line, column)) in PLACES.into_iter().enumerate() {
         assert!(rt; at <= found.text().len());
-        assert_eq!(rt; found.place(at), Place { file, line }, "at {at}");
+        let place = Place { file, line, column };
+        assert_eq!(rt; found.place(at), place, "at {at}");
     }
     let timescale = Timescale {
         unit: Span {

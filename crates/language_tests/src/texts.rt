@@ -31,28 +31,32 @@ fn source(alloc: Global, texts: &[&[u8]]) -> Result<Expanded, Fail> {
     Ok(expand(alloc, &files)?)
 }
 
+fn place(file: usize, line: usize, column: usize) -> Place {
+    Place { file, line, column }
+}
+
 #[test]
 fn joins_files(rt: HostRuntime) -> Result<(), Fail> {
     let none = source(rt.alloc(), &[])?;
     assert_eq!(rt; none.text(), b"".as_slice());
-    assert_eq!(rt; none.place(0), Place { file: 1, line: 1 });
+    assert_eq!(rt; none.place(0), place(1, 1, 0));
 
     let source = source(rt.alloc(), &[b"a\nb", b"", b"\nc"])?;
     assert_eq!(rt; source.text(), b"a\nb\n\n\nc".as_slice());
     // the bytes of the text, line feeds between the files included, and its end
     let places = [
-        (1, 1),
-        (1, 1),
-        (1, 2),
-        (1, 2),
-        (2, 1),
-        (3, 1),
-        (3, 2),
-        (3, 2),
+        (1, 1, 0),
+        (1, 1, 1),
+        (1, 2, 0),
+        (1, 2, 1),
+        (2, 1, 0),
+        (3, 1, 0),
+        (3, 2, 0),
+        (3, 2, 1),
     ];
-    for (at, (file, line)) in places.into_iter().enumerate() {
+    for (at, (file, line, column)) in places.into_iter().enumerate() {
         assert!(rt; at <= source.text().len());
-        assert_eq!(rt; source.place(at), Place { file, line }, "at {at}");
+        assert_eq!(rt; source.place(at), place(file, line, column), "at {at}");
     }
     assert_eq!(rt; source.timescale(), Timescale::usual());
     Ok(())
@@ -109,8 +113,8 @@ fn names_kinds_and_places(rt: HostRuntime) -> Result<(), Fail> {
     for (index, kind) in kinds.into_iter().enumerate() {
         assert_eq!(rt; found.kind(index), kind);
     }
-    assert_eq!(rt; found.place(2), Place { file: 1, line: 2 });
-    assert_eq!(rt; found.place(5), Place { file: 2, line: 2 });
+    assert_eq!(rt; found.place(2), place(1, 2, 3));
+    assert_eq!(rt; found.place(5), place(2, 2, 4));
     Ok(())
 }
 
@@ -278,13 +282,13 @@ fn deepest_tree(rt: HostRuntime) -> Result<(), Fail> {
 // their places.
 const EXPRESSIONS: &[u8] = b"a + b * c ;\n( d +\n) 1\n**\n2 -";
 
-// From these words on no expression stands: the word, whether it is one outside the profile, and the line.
-const NONE_FROM: [(usize, bool, usize); 5] = [
-    (5, false, 1),
-    (6, false, 3),
-    (11, true, 4),
-    (13, false, 5),
-    (99, false, 5),
+// From these words on no expression stands: the word, whether it is one outside the profile, the line and the column.
+const NONE_FROM: [(usize, bool, usize, usize); 5] = [
+    (5, false, 1, 10),
+    (6, false, 3, 0),
+    (11, true, 4, 0),
+    (13, false, 5, 3),
+    (99, false, 5, 3),
 ];
 
 // The operators of `a + b * c`, the outer one first.
@@ -314,8 +318,8 @@ fn longest_expressions(rt: HostRuntime) -> Result<(), Fail> {
     assert_eq!(rt; end, 5);
     assert!(rt; is_sum_of_product(&sum));
     assert_eq!(rt; parse_expr(alloc, &words, 2)?.1, 5);
-    for (at, outside, line) in NONE_FROM {
-        let place = Place { file: 1, line };
+    for (at, outside, line, column) in NONE_FROM {
+        let place = place(1, line, column);
         let fault = if outside {
             SyntaxFault::Outside { place }
         } else {
@@ -340,7 +344,7 @@ fn deepest_expressions(rt: HostRuntime) -> Result<(), Fail> {
     assert_eq!(rt; parse_expr(alloc, &tokens(alloc, &read)?, 0)?.1, 127);
     let deeper = source(alloc, &[b"(\n", &[b'('; 63]])?;
     let fault = SyntaxFault::TooDeep {
-        place: Place { file: 2, line: 1 },
+        place: place(2, 1, 62),
     };
     assert!(rt;
         parse_expr(alloc, &tokens(alloc, &deeper)?, 0).err() == Some(OrMemory::Fault(fault))

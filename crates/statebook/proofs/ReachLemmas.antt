@@ -41,7 +41,7 @@ finishes i [] = []
 finishes i (None ∷ fs) = finishes (suc i) fs
 finishes i (Some places ∷ fs) = Finish i places ∷ finishes (suc i) fs
 
-middle : {X : Type 0} (xs ys : List X) (y : X) → slice_get (xs ++ y ∷ ys) (length xs) ≡ Some y
+pub middle : {X : Type 0} (xs ys : List X) (y : X) → slice_get (xs ++ y ∷ ys) (length xs) ≡ Some y
 middle [] ys y = refl
 middle (x ∷ xs) ys y = middle xs ys y
 

@@ -1,16 +1,16 @@
 // How far an explorer goes.
 
 ghost use Rattle.std.specs.Prelude.{◌≡◌, ◌↔◌, IsSome, IfSome};
-ghost use Rattle.statebook.specs.Limits.{AreLimits};
+ghost use Rattle.statebook.specs.Limits.{AreBounds, AreLimits};
 
-/// How far an explorer goes: at most `depart` departures, 0 to 4; at most `steps` steps of one run,
-/// and no further job from `entries` entries on, both 1 to 1,000,000.
+/// How far an explorer goes: at most `depart` departures, 0 to 4; at most `steps` steps of one run, 1 to 1,000,000; and no
+/// further job from `entries` entries on.
 #[derive(Clone, Copy, Debug)]
 pub struct Limits {
     pub depart: u32,
     pub steps: u32,
     pub entries: u32,
-    ghost within: { AreLimits depart steps entries },
+    ghost within: { AreBounds depart steps entries },
 }
 
 const DEPART_MAX: u32 = 4;
@@ -19,8 +19,11 @@ const STEPS_MAX: u32 = 1_000_000;
 
 const ENTRIES_MAX: u32 = 1_000_000;
 
+/// No search comes to so many entries.
+const ENTRIES_ANY: u32 = 4_294_967_295;
+
 impl Limits {
-    /// The limits, if each number is within its own.
+    /// The limits, if each number is within its own; of entries that is 1 to 1,000,000.
     pub fn new(depart: u32, steps: u32, entries: u32) -> Option<Limits>
         ensures within { IsSome result ↔ AreLimits depart steps entries }
         ensures depart { IfSome result (λ limits. limits.depart ≡ depart) }
@@ -37,6 +40,24 @@ impl Limits {
             depart,
             steps,
             entries,
+        })
+    }
+
+    /// The limits of a search that isn't bounded by its entries, as one by rank forgets most of them; if each number is within
+    /// its own.
+    pub fn of_any_entries(depart: u32, steps: u32) -> Option<Limits>
+        ensures within { IsSome result ↔ AreLimits depart steps 1 }
+        ensures depart { IfSome result (λ limits. limits.depart ≡ depart) }
+        ensures steps { IfSome result (λ limits. limits.steps ≡ steps) }
+        ensures entries { IfSome result (λ limits. limits.entries ≡ 4294967295) }
+    {
+        if depart > DEPART_MAX || steps > STEPS_MAX || steps == 0 {
+            return None;
+        }
+        Some(Limits {
+            depart,
+            steps,
+            entries: ENTRIES_ANY,
         })
     }
 }

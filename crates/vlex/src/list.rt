@@ -71,7 +71,7 @@ impl<'a> Tokens<'a> {
         rest.split_at(span.len as usize).0
     }
 
-    /// The file and line where the token at `index` begins; of the text's end where `index` is the length.
+    /// The place where the token at `index` begins; of the text's end where `index` is the length.
     pub fn place(&self, index: usize) -> Place
         requires { index ≤ length (pieces_of self.now) }
         ensures { result ≡ place_of self.now.source (start_of self.now index) }

@@ -1,5 +1,5 @@
 -- Counts of places: a partition point is a count, and so is the number of listed places below a place.
-use Rattle.std.proofs.Common.{◌≡◌, ℕ, zero, suc, ◌+◌, ◌-◌, ◌≤◌, Bool, true, false, cond, List, [], ◌∷◌, length, get_or, nat_lt, refl, ◌∙◌, ap, arith}
+use Rattle.std.proofs.Common.{◌≡◌, ℕ, zero, suc, ◌+◌, ◌-◌, ◌≤◌, Bool, true, false, cond, List, [], ◌∷◌, length, get_or, nat_lt, refl, sym, ◌∙◌, ap, arith}
 use Rattle.std.specs.List.{count_by, AllWithin}
 use Rattle.std.specs.List.Sorted.{IsNonDecreasing}
 use Rattle.std.proofs.Common.{All, slice_index}
@@ -108,6 +108,12 @@ file_start-some start (b ∷ bs) at (suc k) rise e =
     (λ before. let count : count_below bs at ≡ suc k = omega (arith, e, count_by-yes (λ x. nat_lt x at) b bs before) in
     file_start-some (b + 1) bs at k (rises-tail b bs rise) count)
     (λ after. absurd (omega (arith, e, count_by-no (λ x. nat_lt x at) b bs after, later_borders b bs at rise after)))
+
+-- the same, by the count of the places before it
+pub file_start-last : (borders : List ℕ) (at count : ℕ) → IsNonDecreasing borders → count ≡ count_below borders at → (count ≡ 0 → ⊥) → get_or borders (count - 1) 0 + 1 ≡ file_start 0 borders at
+file_start-last borders at count rise counted some =
+    let more : count_below borders at ≡ suc (count - 1) = omega (arith, counted, some) in
+    sym (file_start-some 0 borders at (count - 1) rise more)
 
 pub count_below-le : (places : List ℕ) (at : ℕ) → count_below places at ≤ length places
 count_below-le places at = count_by-le-length (λ x. nat_lt x at) places

@@ -85,7 +85,7 @@ told files (Err refusal) = Err (fault_at refusal.why (place_in files refusal.at)
 -- files that are too long by themselves are refused at the first line of the file with which they get so
 abbrev pub unless_long : Option ℕ → Result Source SrcFault → Result Source SrcFault
 unless_long None result = result
-unless_long (Some number) result = Err (Growth (record { file = number; line = 1 }))
+unless_long (Some number) result = Err (Growth (record { file = number; line = 1; column = 0 }))
 
 -- what the files are expanded to, or why not
 unfoldable pub expansion : List (List ℕ) → Result Source SrcFault

@@ -24,7 +24,7 @@ pub record AreLines (borders feeds : List ℕ) : Type 0 where
 
 -- a fault of files that are too long together, told by the number of the file with which they get so
 abbrev pub is_long_with : ℕ → SrcFault
-is_long_with number = Growth (record { file = number; line = 1 })
+is_long_with number = Growth (record { file = number; line = 1; column = 0 })
 
 abbrev pub IsLong : Option ℕ → SrcFault → Type 0
 IsLong first fault = (number : ℕ) × (first ≡ Some number) × (fault ≡ is_long_with number)

@@ -1,4 +1,4 @@
--- *product rule*: The text that files make together, and the file and line of each place in it.
+-- *product rule*: The text that files make together, and the file, line and column of each place in it.
 use Rattle.std.specs.Prelude.{ℕ, ◌+◌, ◌-◌, List, [], ◌∷◌, Vec, length, map, count_by, nat_lt, if◌then◌else◌, Option, None, Some}
 use Rattle.std.specs.List.{join_by}
 use Rattle.std.specs.List.{slice_index_or}
@@ -50,32 +50,33 @@ feeds_of text = places (is_byte 10) text
 abbrev pub count_below : List ℕ → ℕ → ℕ
 count_below places at = count_by (λ place. nat_lt place at) places
 
--- where the file that `at` stands in begins: behind the last border before it, and else at `start`
+-- where the file that `at` stands in begins: after the last border before it, and else at `start`; so does its line, by line feeds
 abbrev pub file_start : ℕ → List ℕ → ℕ → ℕ
 file_start start [] at = start
 file_start start (border ∷ borders) at = if nat_lt border at then file_start (border + 1) borders at else start
 
 -- The file is one more than the borders before the place, the line one more than the line feeds before it, those
--- before its file left out.
+-- before its file left out. The column is what stands before it in its line: a border is a line feed, too.
 abbrev pub place_by : List ℕ → List ℕ → ℕ → Place
 place_by borders feeds at = record {
   file = 1 + count_below borders at;
   line = 1 + (count_below feeds at - count_below feeds (file_start 0 borders at));
+  column = at - file_start 0 feeds at;
 }
 
--- the file and line of a place in the joined files
+-- the place of a byte of the joined files
 abbrev pub place_in : List (List ℕ) → ℕ → Place
 place_in files = place_by (borders_of files) (feeds_of (joined files))
 
 -- ---- what files are expanded to
 
--- A text, for each of its bytes a file and line (its own, or those of the use that made it), those of its end, and the timescale.
+-- A text, for each of its bytes a place in the files (its own, or that of the use that made it), that of its end, and the timescale.
 pub record Source : Type 0 where
   pub text : List ℕ
   pub places : List Place
   pub end : Place
   pub timescale : Timescale
 
--- the file and line of the byte at `at`, and at the text's length those of its end
+-- the place of the byte at `at`, and at the text's length that of its end
 abbrev pub place_of : Source → ℕ → Place
 place_of source at = slice_index_or source.places at source.end

@@ -2,16 +2,17 @@
 
 ghost use Rattle.std.specs.Prelude.{◌≡◌, ◌≤◌, length, map};
 ghost use Rattle.std.specs.List.Sorted.{IsNonDecreasing};
-ghost use Rattle.vsrc.specs.Source.{count_below, place_by, text_limit};
+ghost use Rattle.vsrc.specs.Source.{count_below, file_start, place_by, text_limit};
 
 use basis::Timescale;
 use std::marker::Model;
 
-/// A place in the files: the number of the file and of the line in it, both from 1.
+/// A place in the files: the number of the file and of the line in it, both from 1, and how many bytes of the line stand before it.
 #[derive(Clone, Copy, Debug, PartialEq, Eq)]
 pub struct Place {
     pub file: usize,
     pub line: usize,
+    pub column: usize,
 }
 
 /// The text that files are expanded to, of at most 33,554,432 bytes, with the place of each byte and the timescale.
@@ -55,20 +56,16 @@ impl Lines {
         Lines { borders, feeds }
     }
 
-    /// The file and the line of a place in the joined files.
+    /// The file, the line and the column of a place in the joined files.
     pub fn place(&self, at: usize) -> Place
         ensures { result ≡ place_by self.now.borders self.now.feeds at }
     {
-        let file = below(&self.borders, at);
-        let begins = if file == 0 {
-            0
-        } else {
-            self.borders[file - 1] + 1
-        };
+        let begins = start_of(&self.borders, at);
         let line = below(&self.feeds, at) - below(&self.feeds, begins);
         Place {
-            file: file + 1,
+            file: below(&self.borders, at) + 1,
             line: line + 1,
+            column: at - start_of(&self.feeds, at),
         }
     }
 }
@@ -122,7 +119,7 @@ impl Expanded {
         self.text.as_slice()
     }
 
-    /// The file and the line of the byte at `at`; of the text's end where `at` is its length.
+    /// The place of the byte at `at`; of the text's end where `at` is its length.
     pub fn place(&self, at: usize) -> Place
         requires { at ≤ length self.now.text }
         ensures { result ≡ place_of self.now at }
@@ -139,6 +136,19 @@ impl Expanded {
         ensures { result ≡ self.now.timescale }
     {
         self.timescale
+    }
+}
+
+// Where what `at` stands in begins: after the last of the places before it.
+fn start_of(places: &[usize], at: usize) -> usize
+    requires { IsNonDecreasing places.now }
+    ensures { result ≡ file_start 0 places.now at }
+{
+    let count = below(places, at);
+    if count == 0 {
+        0
+    } else {
+        places[count - 1] + 1
     }
 }
 

@@ -37,7 +37,7 @@ pub fn expand(alloc: Global, files: &[Vec<u8>]) -> Result<Expanded, OrMemory<Src
     }
 }
 
-// A refusal as the fault of its number, with its file and line.
+// A refusal as the fault of its number, with its place.
 fn fault_of(lines: &Lines, refusal: Refusal) -> SrcFault
     ensures { result ≡ fault_at refusal.why
         (place_by lines.now.borders lines.now.feeds refusal.at) }
@@ -90,7 +90,11 @@ fn append(
 {
     if bytes.len() > TEXT_LIMIT || text.len() + lead.len() > TEXT_LIMIT - bytes.len() {
         return Err(OrMemory::Fault(SrcFault::Growth {
-            place: Place { file, line: 1 },
+            place: Place {
+                file,
+                line: 1,
+                column: 0,
+            },
         }));
     }
     text.extend_from_slice(lead)?;

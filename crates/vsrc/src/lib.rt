@@ -1,5 +1,5 @@
 // Files to text. In: the bytes of the files, in order. Out: one text, in which directives were obeyed and macros replaced,
-// its timescale, and for each byte the file and line that it comes from. The law: what `expand` gives is the `expansion`
+// its timescale, and for each byte the place that it comes from. The law: what `expand` gives is the `expansion`
 // of the files, and where that has a fault it is that fault.
 #![tactic(auto)]
 
