@@ -43,21 +43,16 @@ impl Limits {
         })
     }
 
-    /// The limits of a search that isn't bounded by its entries, as one by rank forgets most of them; if each number is within
-    /// its own.
-    pub fn of_any_entries(depart: u32, steps: u32) -> Option<Limits>
-        ensures within { IsSome result ↔ AreLimits depart steps 1 }
-        ensures depart { IfSome result (λ limits. limits.depart ≡ depart) }
-        ensures steps { IfSome result (λ limits. limits.steps ≡ steps) }
-        ensures entries { IfSome result (λ limits. limits.entries ≡ 4294967295) }
+    /// The same limits, but that no number of entries cuts a search: for one by rank, which forgets most of them.
+    pub fn with_any_entries(self) -> Limits
+        ensures depart { result.depart ≡ self.depart }
+        ensures steps { result.steps ≡ self.steps }
+        ensures entries { result.entries ≡ 4294967295 }
     {
-        if depart > DEPART_MAX || steps > STEPS_MAX || steps == 0 {
-            return None;
-        }
-        Some(Limits {
-            depart,
-            steps,
+        Limits {
+            depart: self.depart,
+            steps: self.steps,
             entries: ENTRIES_ANY,
-        })
+        }
     }
 }

@@ -53,6 +53,20 @@ impl<'a> Options<'a> {
         })
     }
 
+    /// From here on no number of entries cuts an exploration: for one by time, which forgets most of them.
+    pub fn visit_any_entries(&mut self)
+        ensures entries { self.new.limits.entries ≡ 4294967295 }
+        ensures depart { self.new.limits.depart ≡ self.old.limits.depart }
+        ensures steps { self.new.limits.steps ≡ self.old.limits.steps }
+        ensures top { self.new.top ≡ self.old.top }
+        ensures until { self.new.until ≡ self.old.until }
+        ensures grain { self.new.grain ≡ self.old.grain }
+        ensures departures { self.new.departures ≡ self.old.departures }
+        ensures looked { self.new.looked ≡ self.old.looked }
+    {
+        self.limits = self.limits.with_any_entries();
+    }
+
     /// From here on they ask for such departures, and to look at so much.
     pub fn look(&mut self, departures: Departures, looked: Looked)
         ensures departures { self.new.departures ≡ departures }

@@ -31,7 +31,8 @@ use words::{
 };
 use workpool::OpenGate;
 
-// What stands for the limits of exploring, which a replay doesn't read.
+// What stands for the limits of exploring, which a replay doesn't read; the number of entries is also that of an exploration for which
+// nothing is said.
 const DEPART: u64 = 1;
 
 const ENTRIES: u64 = 100_000;
@@ -222,12 +223,15 @@ fn options_of<'a>(request: &Request<'a>, search: &Search) -> Result<Options<'a>,
         request.until,
         search.depart,
         request.steps,
-        search.entries,
+        search.entries.unwrap_or(ENTRIES),
         request.grain,
     )?;
     options.look(request.departures, search.looked);
     if let Some(allowance) = search.allowance {
         allowance.check()?;
+        if search.entries.is_none() {
+            options.visit_any_entries();
+        }
     }
     Ok(options)
 }

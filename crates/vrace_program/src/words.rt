@@ -12,11 +12,6 @@ const PAGES: &str =
 
 Exit status: 0 where all was done, of explore where nothing was missed and no race was found; 1 where explore found a race, or something in a report isn't true; 2 where the call was refused, with one line on standard error (vrace explain NUMBER says what it means); 3 where explore was cut and found no race";
 
-// How many entries cut an exploration where nothing is said, by departures alone and by time.
-const ENTRIES: u64 = 100_000;
-
-const TIMED_ENTRIES: u64 = 1_000_000;
-
 /// What is to be run, and how.
 #[derive(Drop)]
 pub struct Request<'a> {
@@ -124,7 +119,7 @@ fn explore_command<'a>(alloc: Global) -> Result<Command<'a>, NoMemory> {
     let entries = limit(
         alloc,
         "entries",
-        "The most states that are visited before the search is cut: 100000 where nothing is said, 1000000 where it goes by time",
+        "The most states that are visited before the search is cut; where nothing is said 100000, or any number where it goes by time",
     );
     let lines = Arg::new(alloc, "lines")
         .long("lines")
@@ -306,7 +301,8 @@ pub fn files_of<'a>(alloc: Global, matches: &ArgMatches<'a>) -> Result<Vec<&'a s
 #[derive(Clone, Copy, Debug)]
 pub struct Search {
     pub depart: u64,
-    pub entries: u64,
+    /// None: none is said.
+    pub entries: Option<u64>,
     pub workers: u64,
     pub looked: Looked,
     pub allowance: Option<Allowance>,
@@ -327,15 +323,6 @@ fn allowance_of(matches: &ArgMatches<'_>) -> Option<Allowance> {
     })
 }
 
-// How many entries cut an exploration; one by time forgets most of them, so that it may visit more.
-fn entries_of(matches: &ArgMatches<'_>, allowance: Option<Allowance>) -> u64 {
-    let usual = match allowance {
-        None => ENTRIES,
-        Some(_) => TIMED_ENTRIES,
-    };
-    matches.get_one::<u64>("entries").unwrap_or(usual)
-}
-
 // What is looked at.
 fn looked_of(matches: &ArgMatches<'_>) -> Looked {
     if matches.get_flag("lines") {
@@ -347,13 +334,12 @@ fn looked_of(matches: &ArgMatches<'_>) -> Looked {
 
 /// How far the words after `explore` ask to go.
 pub fn search_of(matches: &ArgMatches<'_>) -> Search {
-    let allowance = allowance_of(matches);
     Search {
         depart: matches.get_one::<u64>("depart").unwrap_or(0),
-        entries: entries_of(matches, allowance),
+        entries: matches.get_one::<u64>("entries"),
         workers: matches.get_one::<u64>("workers").unwrap_or(0),
         looked: looked_of(matches),
-        allowance,
+        allowance: allowance_of(matches),
     }
 }
 

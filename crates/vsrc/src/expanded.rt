@@ -145,11 +145,7 @@ fn start_of(places: &[usize], at: usize) -> usize
     ensures { result ≡ file_start 0 places.now at }
 {
     let count = below(places, at);
-    if count == 0 {
-        0
-    } else {
-        places[count - 1] + 1
-    }
+    if count == 0 { 0 } else { places[count - 1] + 1 }
 }
 
 // How many of the places stand before `at`.

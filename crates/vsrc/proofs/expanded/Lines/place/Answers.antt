@@ -11,7 +11,7 @@ overflow_sub-line c =
     let begins : c.start_of-begins.result ≡ start = c.start_of-begins.ensures ∙ ap (λ l. file_start 0 l c.args.at) c.deref.ensures.value in
     let all : c.below.result ≡ count_below feeds c.args.at = c.below.ensures ∙ ap (λ l. count_below l c.args.at) c.deref-2.ensures.value in
     let first : c.below-2.result ≡ count_below feeds start =
-        c.below-2.ensures ∙ ap (λ l. count_below l c.start_of-begins.result) c.deref-3.ensures.value ∙ ap (count_below feeds) begins in
+    c.below-2.ensures ∙ ap (λ l. count_below l c.start_of-begins.result) c.deref-3.ensures.value ∙ ap (count_below feeds) begins in
     omega (arith, all, first, count_below-rises feeds start c.args.at (file_start-le 0 c.self.inside.borders.items c.args.at (omega arith)))
 
 -- nor does the line
