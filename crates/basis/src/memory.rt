@@ -5,6 +5,7 @@ ghost use Rattle.basis.specs.Reasons.{refused};
 ghost use Rattle.basis.specs.declared.memory.OrMemory.TheVariants.{Memory};
 
 use std::alloc::{AllocError, AllocFailed};
+use std::fmt::Display;
 use thiserror::Error;
 
 /// Want of memory: a growth was refused (E901). Its one field is private and its only makers take what a refused growth
@@ -17,6 +18,7 @@ pub struct NoMemory {
 
 /// A fault of one's own, or want of memory.
 #[derive(Clone, Copy, Debug, PartialEq, Eq, Error)]
+#[error_bound(F: Display)]
 pub enum OrMemory<F> {
     /// The fault.
     #[error(transparent)]

@@ -16,6 +16,7 @@ use crate::machine::Machine;
 use basis::{NoMemory, OrMemory};
 use sched_core::end::End;
 use sched_core::{Log, Member, ReplayFault, next_choice};
+use std::fmt::Display;
 use thiserror::Error;
 use vdesign::design::Design;
 use vmodel::effect::Effect;
@@ -26,6 +27,7 @@ use vmodel::{State, put_items, put_slot_end};
 
 /// Why a run wasn't handed on to its end, but for want of memory.
 #[derive(Debug, Drop, Error)]
+#[error_bound(F: Display)]
 pub enum RunFault<F> {
     /// There is no such run (E402, E403).
     #[error(transparent)]
