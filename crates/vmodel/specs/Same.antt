@@ -1,5 +1,5 @@
 -- *product rule*: When two states of a run are equal: by all that they hold, statements by their places (docs/SCHEDULING.md).
-use Rattle.std.specs.Prelude.{ℕ, Bool, true, false, nat_eq, ◌&&◌, List, Option}
+use Rattle.std.specs.Prelude.{ℕ, Bool, false, nat_eq, ◌&&◌, List, Option}
 use Rattle.std.specs.Bool.{beq}
 use Rattle.std.specs.Option.{option_eq}
 use Rattle.std.specs.Cmp.Lexicographic.{pointwise}

@@ -1,12 +1,8 @@
 -- *internal*: Each test of equality, part by part, decides whether the two are equal (laws with their proofs).
-use Rattle.std.specs.Prelude.{◌≡◌, ℕ, Bool, List, nat_eq, ◌&&◌, Some, None, Decides, refl}
+use Rattle.std.specs.Prelude.{◌≡◌, ℕ, nat_eq, ◌&&◌}
 use Rattle.std.proofs.Common.{ap}
-use Rattle.std.specs.Option.{option_eq}
-use Rattle.std.specs.Cmp.{IsEquivalence, IsTotalOrder, IsPartialOrder, decided, booleans_Decides, unsigned_Decides, partial_order_from_agreeing_total}
-use Rattle.std.specs.Ordering.{nat_cmp, eq_by_cmp}
-use Rattle.std.proofs.lemmas.Cmp.{nat_list_cmp_total, lists_total}
-use Rattle.std.specs.Cmp.Lexicographic.{pointwise, slice_cmp, lists_ties, texts_ties}
-use Rattle.std.proofs.lemmas.Slice.Eq.{slice_eq-Decides}
+use Rattle.std.specs.Cmp.{IsEquivalence, decided, booleans_Decides, unsigned_Decides}
+use Rattle.std.specs.Cmp.Lexicographic.{pointwise}
 use Rattle.std.proofs.lemmas.Bool.Decides.{Decides-and, Decides-like}
 use Rattle.vbits.specs.Vectors.{vector_same}
 use Rattle.vbits.specs.Equal.{vectors_tell}
@@ -17,7 +13,7 @@ use Rattle.vmodel.specs.State.{Process, State}
 use Rattle.sched_core.specs.BagLaws.{lines_tell}
 use Rattle.sched_core.specs.Bags.{lines_same}
 use Rattle.sched_core.specs.Ends.{cause_same, causes_tell}
-use Rattle.sched_core.specs.Settings.{grain_same, grains_tell}
+use Rattle.sched_core.specs.Settings.{grains_tell}
 use Rattle.sched_core.specs.Tests.{Tells, list_tells, option_tells}
 use Rattle.vmodel.specs.Same.{values_same, frame_same, process_same, part_same, parts_same, slot_same, stand_same, regions_same, queue_same, held_back_same, printed_same, state_same}
 
