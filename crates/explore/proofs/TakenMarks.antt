@@ -59,7 +59,7 @@ mark_noted {S} r law limits eq agree entries u sound left rest marks after x m f
       front = m.front ++ x ∷ [];
       whole = taken entries m.front left rest x m.whole first;
       read = subst P (one_longer m.front x)
-          (marks_more r law limits eq agree entries u sound (length m.front) marks after x x.state x.log m.read (there entries m.front left rest x m.whole first) mark (law.reflexive x.state) refl apart is);
+          (marks_more r law limits eq agree entries u sound (length m.front) marks after x x.state x.log m.read (there entries m.front left rest x m.whole first) mark (law.reflexive x.state) (λ i. x.log) apart is);
     }
 
 -- none is left

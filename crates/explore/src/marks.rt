@@ -1,10 +1,11 @@
 // The list of marks, read from the book.
 
-ghost use Rattle.std.specs.Prelude.{◌≡◌, IfOk, OnOk};
+ghost use Rattle.std.specs.Prelude.{◌≡◌, length, IfOk, OnOk};
 ghost use Rattle.indexmap.specs.IndexMap.{IsUnique, insert_entry};
 ghost use Rattle.explore.specs.Found.{AreFound};
 ghost use Rattle.explore.specs.BookFindings.{ListsExactly};
 ghost use Rattle.explore.specs.Inner.Exploring.{AreEntries};
+ghost use Rattle.statebook.specs.Books.{IsUndominated};
 
 use basis::NoMemory;
 use indexmap::IndexMap;
@@ -38,6 +39,8 @@ pub fn into_marks<P: Space>(
     ensures found { IfOk result (λ marks. AreFound (P.rules space.now) limits.now marks.entries) }
     ensures read { IfOk result (λ marks. ListsExactly (P.rules space.now) book marks.entries) }
     ensures distinct { IfOk result (λ marks. IsUnique P.State.eq marks) }
+    ensures paired { length book.finished ≡ length book.entries }
+    ensures apart { IsUndominated P.State.eq book.entries }
 {
     let mut marks = IndexMap::new(alloc);
     for entry in book.into_entries() {

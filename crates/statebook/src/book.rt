@@ -137,6 +137,7 @@ impl<S: Eq + Hash + Drop> PlainBook<S> {
     /// Its entries, in order; what else the book holds is let go. No entry is dominated by an earlier one.
     pub fn into_entries(self) -> IndexSet<Entry<S>>
         ensures entries { result.keys ≡ self.entries }
+        ensures paired { length self.finished ≡ length self.entries }
         ensures undominated { IsUndominated S.eq self.entries }
     {
         self.entries

@@ -1,5 +1,4 @@
-use Rattle.std.proofs.Common.{◌≡◌, length, subst, refl, true}
-use Rattle.statebook.specs.Books.{Book, IsUndominated}
+use Rattle.std.proofs.Common.{◌≡◌, refl, true}
 use Rattle.explore.specs.Inner.Exploring.{AllFinished}
 use Rattle.explore.proofs.AloneLemmas.{Left, complete, cut_steps, exhausted, fewest, has_entries, root_is_bounded, stopped, tells_of_book, through_value}
 use Rattle.explore.proofs.alone.explore_alone.Given.{Over}
@@ -15,14 +14,12 @@ status_of-status-requires g c = λ is.
     (through_value c.visit_all-visited.result true (λ within. within ≡ true → AllFinished c.visit_all-visited.new.search.book) is c.visit_all-visited.ensures.finished refl)
 
 -- what the search left, and how it ended
-left : (g : Over) (c : goal.After-drop-book-inside-6 g) → Left (g.P.Space.rules c.args.space.now) c.args.limits.now g.P.State.PartialEq.eq c.visit_all-visited.new.search.book c.visit_all-visited.result c.status_of-status.result
+left : (g : Over) (c : goal.In_ok-marks g) → Left (g.P.Space.rules c.args.space.now) c.args.limits.now g.P.State.PartialEq.eq c.visit_all-visited.new.search.book c.visit_all-visited.result c.status_of-status.result
 left g c =
-    let P : Book g.row.P-State.Denot → Type 0 = λ b. IsUndominated g.P.State.PartialEq.eq b.entries in
-    let Q : Book g.row.P-State.Denot → Type 0 = λ b. length b.finished ≡ length b.entries in
     record {
       under_way = c.visit_all-visited.ensures.searching.under_way;
-      paired = subst Q c.book.view_is c.book.invariant.paired;
-      apart = subst P c.book.view_is c.book.invariant.undominated;
+      paired = c.into_marks.ensures.paired;
+      apart = c.into_marks.ensures.apart;
       agree = g.met.P.Space.same_is_eq c.args.space.now;
       bounded = c.visit_all-visited.ensures.bounded;
       visited_all = c.visit_all-visited.ensures.all;
