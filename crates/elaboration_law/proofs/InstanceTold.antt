@@ -1,7 +1,7 @@
 -- The own steps of an instance: what they add to a design has no flaw only where its sizes are right; and where a size is told, they aren't.
 use Rattle.std.proofs.Common.{◌≡◌, ℕ, ◌+◌, nat_le, Bool, true, false, ◌&&◌, List, [], ◌∷◌, ◌++◌, map, length, slice_get, Option, None, Some, Result, Ok, Err, refl, sym, ap, ◌∙◌, ◌⊎◌, inl, inr, if◌then◌else◌, subst, arith, append_assoc}
 use Rattle.std.specs.List.{list_all}
-use Rattle.basis.proofs.Bools.{and_assoc, and_both}
+use Rattle.basis.proofs.Bools.{and_assoc}
 use Rattle.vast.specs.Words.{Text}
 use Rattle.vast.specs.NumberedWords.{Word}
 use Rattle.vast.specs.NumberedExpressions as text
@@ -9,12 +9,11 @@ use Rattle.vast.specs.NumberedModules.{ConnectionsTree, InstanceTree, ItemTree, 
 use Rattle.vmodules.specs.Names.{letters_of, first_again}
 use Rattle.vmodules.specs.Hierarchy.{module_of}
 use Rattle.vmodules.specs.Ports.{Port, ports_of}
-use Rattle.vmodules.specs.Connected.{NamedConnection, open_names, misfit, misfit_if, value_for}
+use Rattle.vmodules.specs.Connected.{open_names, misfit, misfit_if, value_for}
 use Rattle.vdesign.specs.Design.{Variable}
-use Rattle.vdesign.specs.declared.action.Action.{Action}
 use Rattle.vvalue.specs.Value.{Environment}
 use Rattle.vvalue.specs.Flaws.{flaw_of}
-use Rattle.velab_expr.specs.declared.fault.Rule.TheVariants.{Top, Doubled, Drivers, Ports, TooMany}
+use Rattle.velab_expr.specs.declared.fault.Rule.TheVariants.{Doubled, Drivers, Ports, TooMany}
 use Rattle.velab_expr.specs.declared.fault.ElabFault.{ElabFault}
 use Rattle.velab_expr.specs.Answers.{◌>>=◌, provided}
 use Rattle.velab_expr.specs.Constants.{nothing}
@@ -23,15 +22,15 @@ use Rattle.velab_expr.specs.Scopes.{Scope, lower_variable}
 use Rattle.velab_expr.specs.Symbols.{symbols_by}
 use Rattle.velab_declaration.specs.ActionFlaws.{action_flaw, blank_environment}
 use Rattle.velab_declaration.specs.Parameters.{item_scope}
-use Rattle.velab_declaration.specs.Variables.{Declaration, port_declaration, declarations, port_names, declared_names, ScopeDrivers, lower_ports, lower_variables}
+use Rattle.velab_declaration.specs.Variables.{port_declaration, declarations, port_names, declared_names, ScopeDrivers, lower_ports, lower_variables}
 use Rattle.velab_process.specs.Statements.{Table}
 use Rattle.velab_process.specs.Processes.{Processes, with_begins_before, lower_items}
 use Rattle.velab_process.specs.Connections.{only_name, lower_input, lower_output, lower_connection, lower_join, lower_joins}
-use Rattle.vhierarchy.specs.Instances.{barring, Instantiation, instantiation_by, lower_instance, lower_list, named_again, lower_instances_of, lower_instances_by, lower_instances, Part, Context, base_of, lower_names, lower_own, lower_own_variables, lower_own_processes, driven_by, scope_drivers_by, with_own, few_enough}
+use Rattle.vhierarchy.specs.Instances.{barring, Instantiation, lower_instance, lower_list, named_again, lower_instances_of, lower_instances_by, lower_instances, Part, Context, base_of, lower_names, lower_own, lower_own_variables, lower_own_processes, driven_by, scope_drivers_by, with_own, few_enough}
 use Rattle.elaboration_law.specs.Widths.{Worth, is_sized}
 use Rattle.elaboration_law.specs.Worths.{are_set_in, are_ranged, is_port_ranged, is_item_ranged}
 use Rattle.elaboration_law.specs.WrongWidths.{Surrounded, constants_in, worth_in, is_sized_if, is_connected, is_item, has_right_widths}
-use Rattle.elaboration_law.proofs.StepLemmas.{same_value, then_ok, then_err, barring_ok, barring_err, few_err}
+use Rattle.elaboration_law.proofs.StepLemmas.{then_err, barring_ok, barring_err, few_err}
 use Rattle.elaboration_law.proofs.UseLemmas.{Judges, first_false, second_false, two_judge, last_judges, barring_judges, provided_judges}
 use Rattle.elaboration_law.proofs.OwnLemmas.{undriven_variables}
 use Rattle.elaboration_law.proofs.PlaceLemmas.{got_in_front, got_behind, got_mapped, item_scope_of, names_stand, scope_keeps}
@@ -175,7 +174,7 @@ abbrev pub surrounded : (Text → Worth) → Context → Surrounded
 surrounded outside context = record { unit = context.unit; outside = outside; values = context.overrides.values; connections = context.connections }
 
 module _ (part : Part) (context : Context) (outside : Text → Worth) (round : IsRound part.variables context.overrides.scope outside) where
-  abbrev one : Surrounded
+  abbrev pub one : Surrounded
   one = surrounded outside context
 
   abbrev constants : Text → Worth
@@ -190,10 +189,10 @@ module _ (part : Part) (context : Context) (outside : Text → Worth) (round : I
   abbrev is_ranged : Bool
   is_ranged = are_ranged constants context.unit
 
-  abbrev connected : Bool
+  abbrev pub connected : Bool
   connected = list_all (is_connected one) (ports_of context.unit)
 
-  abbrev processed : Bool
+  abbrev pub processed : Bool
   processed = list_all (is_item (worth_in one)) context.unit.items
 
   -- its names

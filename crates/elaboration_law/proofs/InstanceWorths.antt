@@ -1,38 +1,37 @@
 -- What the names of an instance are worth in a design that has its variables: their sizes and their bounds are those that are meant.
-use Rattle.std.proofs.Common.{◌≡◌, ◌<◌, ◌≤◌, ℕ, ◌+◌, ◌-◌, nat_lt, nat_le, Bool, true, false, not, cond, if◌then◌else◌, ◌&&◌, ◌||◌, List, [], ◌∷◌, ◌++◌, map, length, slice_get, option_and_then, Option, None, Some, Result, Ok, Err, refl, sym, ap, ◌∙◌, subst, arith, append_assoc, length-append}
+use Rattle.std.proofs.Common.{◌≡◌, ◌<◌, ◌≤◌, ℕ, ◌+◌, ◌-◌, nat_lt, nat_le, Bool, true, false, not, cond, if◌then◌else◌, ◌&&◌, ◌||◌, List, [], ◌∷◌, ◌++◌, map, length, slice_get, Option, None, Some, refl, sym, ap, ◌∙◌, subst, arith}
 use Rattle.std.specs.List.{list_all, list_any, flat_map, position_or_len}
 use Rattle.std.specs.Str.{bytes_eq}
 use Rattle.std.proofs.lemmas.Bool.{lt-ltb}
 use Rattle.std.proofs.lemmas.Bool.Decides.{nat_tests}
-use Rattle.std.proofs.lemmas.List.{map-append, length-map, length-replicate}
+use Rattle.std.proofs.lemmas.List.{map-append, length-replicate}
 use Rattle.std.proofs.lemmas.List.Folds.{list_all-append}
 use Rattle.basis.proofs.Bools.{and_left, and_right, and_both}
 use Rattle.vbits.specs.declared.bit4.Bit4.TheVariants.{X}
 use Rattle.vbits.specs.Vectors.{Vector, filled}
 use Rattle.vast.specs.Words.{Text}
 use Rattle.vast.specs.NumberedWords.{Word}
-use Rattle.vast.specs.NumberedModules.{RangeTree, DeclarationKind, variables, integers, DeclaredTree, ItemTree, parameters, declaration, events, assignments, initial, always, instances, ModuleTree}
+use Rattle.vast.specs.NumberedModules.{RangeTree, variables, integers, DeclaredTree, ItemTree, parameters, declaration, events, assignments, initial, always, instances, ModuleTree}
 use Rattle.vdesign.specs.Design as design
 use Rattle.vdesign.specs.declared.design.Kind.{Kind}
 use Rattle.vdesign.specs.declared.design.Kind.TheVariants.{Reg, Integer, Wire}
 use Rattle.vdesign.specs.declared.expression.Bounds.{Bounds}
 use Rattle.vvalue.specs.Value.{value_at, bounds_of}
 use Rattle.vmodules.specs.Ports.{Port, ports_of}
-use Rattle.velab_expr.specs.declared.scope.Meaning.{Meaning}
-use Rattle.velab_expr.specs.declared.scope.Meaning.TheVariants.{Variable, Parameter, Event, Instance}
-use Rattle.velab_expr.specs.Scopes.{Scope, meaning_at, meaning_of, bounds_for}
+use Rattle.velab_expr.specs.declared.scope.Meaning.TheVariants.{Variable, Parameter}
+use Rattle.velab_expr.specs.Scopes.{Scope, meaning_of, bounds_for}
 use Rattle.velab_expr.specs.Constants.{nothing}
 use Rattle.velab_expr.specs.Ranges.{span}
 use Rattle.velab_declaration.specs.ActionFlaws.{blank_environment}
-use Rattle.velab_declaration.specs.Variables.{Declaration, all_declared, kind_of, declared_as, declarations_of, declarations, port_declaration, port_names, declared_names, length_of, ScopeDrivers}
+use Rattle.velab_declaration.specs.Variables.{Declaration, all_declared, kind_of, declarations_of, declarations, port_declaration, port_names, length_of, ScopeDrivers}
 use Rattle.elaboration_law.specs.Places.{variables_of}
 use Rattle.elaboration_law.specs.Doubles.{other_names}
 use Rattle.vmodules.specs.Names.{letters_of}
 use Rattle.elaboration_law.specs.Widths.{Worth, selected_by, is_bound, is_range}
-use Rattle.elaboration_law.specs.Worths.{bounds_by, range_of_kind, is_port_ranged, is_item_ranged, are_ranged, declared_worth}
+use Rattle.elaboration_law.specs.Worths.{bounds_by, is_port_ranged, is_item_ranged, are_ranged, declared_worth}
 use Rattle.elaboration_law.specs.WrongWidths.{with_variables}
 use Rattle.elaboration_law.proofs.ConstantUses.{within}
-use Rattle.elaboration_law.proofs.PlaceLemmas.{there_is, got_in_front, got_behind, got_mapped, IsOf}
+use Rattle.elaboration_law.proofs.PlaceLemmas.{got_behind, IsOf}
 use Rattle.elaboration_law.proofs.SizeLemmas.{IsSize, AreVectors}
 use Rattle.elaboration_law.proofs.ExpressionWidths.{is_within, AreWorth}
 use Rattle.elaboration_law.proofs.ParameterWidths.{vectors_behind, place_in_front, place_behind, looked_up, looked_in_vain}

@@ -46,3 +46,4 @@ pub mod VariableWidths
 pub mod StatementWidths
 pub mod InstanceWorths
 pub mod InstanceTold
+pub mod WidthLemmas

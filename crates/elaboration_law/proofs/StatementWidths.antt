@@ -4,7 +4,7 @@ use Rattle.std.proofs.Common.{◌≡◌, ℕ, Bool, true, false, ◌&&◌, List,
 use Rattle.std.specs.Prelude.{unwrap_or}
 use Rattle.std.specs.List.{list_all}
 use Rattle.std.specs.Option.{option_or}
-use Rattle.basis.proofs.Bools.{and_assoc, and_both}
+use Rattle.basis.proofs.Bools.{and_assoc}
 use Rattle.vast.specs.NumberedWords.{Word}
 use Rattle.vast.specs.Words.{Text}
 use Rattle.vast.specs.NumberedExpressions as text
@@ -15,9 +15,7 @@ use Rattle.vast.specs.declared.statement.Dumping.TheVariants as dumps
 use Rattle.vdesign.specs.Expressions.{ExpressionTree}
 use Rattle.vdesign.specs.declared.action.Action.{Action}
 use Rattle.vdesign.specs.declared.action.Action.TheVariants.{While}
-use Rattle.vdesign.specs.declared.action.Branch.{Branch}
 use Rattle.vdesign.specs.declared.action.Target.{Target}
-use Rattle.vdesign.specs.declared.action.Term.{Term}
 use Rattle.vdesign.specs.declared.action.Edge.{Edge}
 use Rattle.vdesign.specs.declared.action.Edge.TheVariants.{Any, Rise, Fall}
 use Rattle.vdesign.specs.declared.print.Piece.{Piece}
@@ -29,7 +27,6 @@ use Rattle.format_text.specs.Pieces.{Argument, string, value, text_piece, withou
 use Rattle.vvalue.specs.Value.{Environment}
 use Rattle.vvalue.specs.Flaws.{flaw_of, targets_flaw}
 use Rattle.vvalue.specs.declared.flaw.Flaw.{Flaw}
-use Rattle.vvalue.specs.declared.flaw.Flaw.TheVariants.{NoBits, Size}
 use Rattle.velab_expr.specs.declared.fault.Rule.TheVariants.{Kind}
 use Rattle.velab_expr.specs.declared.fault.ElabFault.{ElabFault}
 use Rattle.velab_expr.specs.declared.scope.Meaning.{Meaning}
@@ -45,7 +42,7 @@ use Rattle.velab_declaration.specs.ActionFlaws.{first_flaw, branch_flaw, piece_f
 use Rattle.velab_process.specs.Waits.{edge_of, term_by, lower_term, lower_further, lower_control}
 use Rattle.velab_process.specs.Prints.{lower_argument, lower_arguments, lower_line}
 use Rattle.velab_process.specs.Statements.{Table, Lowered, LoweredBranches, lowered_action, with_places_before, with_branches_before, assignment_action, dump_action, end_action, lower_amount, lower_own_amount, lower_assignment, lower_task, lower_label, lower_labels, lower_statement, lower_all, lower_branch, lower_branches}
-use Rattle.velab_process.specs.Processes.{ProcessTree, procedural, continuous, Processes, with_begins_before, process_trees_by, lower_drive, lower_process, lower_processes, lower_items}
+use Rattle.velab_process.specs.Processes.{ProcessTree, procedural, continuous, Processes, with_begins_before, process_trees_by, lower_process, lower_processes, lower_items}
 use Rattle.elaboration_law.specs.Widths.{Worth, meant, is_sized, are_sized, is_target}
 use Rattle.elaboration_law.specs.WrongWidths.{is_delay, is_own_delay, is_assignment, is_argument, is_task, is_statement, are_statements, is_branch, are_branches, is_process, is_item}
 use Rattle.elaboration_law.proofs.UseLemmas.{first_false, second_false}
