@@ -9,7 +9,7 @@ use Rattle.vast.specs.NumberedModules.{ConnectionsTree, InstanceTree, ItemTree, 
 use Rattle.vmodules.specs.Names.{letters_of, first_again}
 use Rattle.vmodules.specs.Hierarchy.{module_of}
 use Rattle.vmodules.specs.Ports.{Port, ports_of}
-use Rattle.vmodules.specs.Connected.{open_names, misfit, misfit_if, value_for}
+use Rattle.vmodules.specs.Connected.{NamedConnection, open_names, misfit, misfit_if, value_for}
 use Rattle.vdesign.specs.Design.{Variable}
 use Rattle.vvalue.specs.Value.{Environment}
 use Rattle.vvalue.specs.Flaws.{flaw_of}
@@ -27,9 +27,9 @@ use Rattle.velab_process.specs.Statements.{Table}
 use Rattle.velab_process.specs.Processes.{Processes, with_begins_before, lower_items}
 use Rattle.velab_process.specs.Connections.{only_name, lower_input, lower_output, lower_connection, lower_join, lower_joins}
 use Rattle.vhierarchy.specs.Instances.{barring, Instantiation, lower_instance, lower_list, named_again, lower_instances_of, lower_instances_by, lower_instances, Part, Context, base_of, lower_names, lower_own, lower_own_variables, lower_own_processes, driven_by, scope_drivers_by, with_own, few_enough}
-use Rattle.elaboration_law.specs.Widths.{Worth, is_sized}
+use Rattle.elaboration_law.specs.Widths.{Worth, is_sized, is_sized_if}
 use Rattle.elaboration_law.specs.Worths.{are_set_in, are_ranged, is_port_ranged, is_item_ranged}
-use Rattle.elaboration_law.specs.WrongWidths.{Surrounded, constants_in, worth_in, is_sized_if, is_connected, is_item, has_right_widths}
+use Rattle.elaboration_law.specs.WrongWidths.{Instantiated, constants_in, worth_in, is_connected, is_sized_item, has_right_widths}
 use Rattle.elaboration_law.proofs.StepLemmas.{then_err, barring_ok, barring_err, few_err}
 use Rattle.elaboration_law.proofs.UseLemmas.{Judges, first_false, second_false, two_judge, last_judges, barring_judges, provided_judges}
 use Rattle.elaboration_law.proofs.OwnLemmas.{undriven_variables}
@@ -40,13 +40,9 @@ use Rattle.elaboration_law.proofs.ParameterWidths.{IsWorth, AllAdded}
 use Rattle.elaboration_law.proofs.InstanceWidths.{scope_sizes, ports_judged, items_judged}
 use Rattle.elaboration_law.proofs.VariableWidths.{variable_by, AreDeclared, both_declared, ports_declared, items_declared}
 use Rattle.elaboration_law.proofs.InstanceWorths.{all_in, names_sized, worth_here}
-use Rattle.elaboration_law.proofs.StatementWidths.{Told, Quiet, goes_on, quietly, variable_quiet, table_flaw, of_processes, acted, begun, expression_told, with_true, items_told}
+use Rattle.elaboration_law.proofs.StatementWidths.{Told, Quiet, goes_on, quietly, quiet_then, variable_quiet, table_flaw, of_processes, acted, begun, expression_told, with_true, items_told}
 
 -- ---- the instances that it wants: no size is told of them
-
-quiet_then : {A B : Type 0} (a : Result A ElabFault) (next : A → Result B ElabFault) → Quiet a → ((x : A) → Quiet (next x)) → Quiet (a >>= next)
-quiet_then (Ok x) next h more = more x
-quiet_then (Err fault) next h more = h
 
 ports_quiet : {A : Type 0} (word : Option Word) (a : Result A ElabFault) → Quiet a → Quiet (barring word Ports a)
 ports_quiet None a h = h
@@ -128,26 +124,24 @@ module _ (now : Environment) (outer : Scope) (outside : Text → Worth) (outer_v
       by true = output_told whose p.name value
       by false = input_told p.name value
 
-  module _ (one : Surrounded) (is_outside : one.outside ≡ outside) where
-    join_told : (whose : Word) (table : Table) (t : Bool) → Says (table_flaw now table) t → (p : Port) (value : Option text.ExpressionTree) →
-        Told (of_processes now) (t && is_sized_if one value) (lower_join whose outer inner table p value)
-    join_told whose table t s p None = with_true outer outside outer_vectors now outer_agrees t (table_flaw now table) s
-    join_told whose table t s p (Some value) =
-        subst (λ (n : Text → Worth). Told (of_processes now) (t && is_sized n value) (lower_join whose outer inner table p (Some value))) (sym is_outside)
-        (goes_on (action_flaw now) (of_processes now) (is_sized outside value) (t && is_sized outside value) (lower_connection whose outer inner p value) _ (second_false t (is_sized outside value))
-        (connection_told whose p value) (λ action h. acted now table t (is_sized outside value) action s h))
+  join_told : (whose : Word) (table : Table) (t : Bool) → Says (table_flaw now table) t → (p : Port) (value : Option text.ExpressionTree) →
+      Told (of_processes now) (t && is_sized_if outside value) (lower_join whose outer inner table p value)
+  join_told whose table t s p None = with_true t (table_flaw now table) s
+  join_told whose table t s p (Some value) =
+      goes_on (action_flaw now) (of_processes now) (is_sized outside value) (t && is_sized outside value) (lower_connection whose outer inner p value) _ (second_false t (is_sized outside value))
+      (connection_told whose p value) (λ action h. acted now table t (is_sized outside value) action s h)
 
-    joins_told : (whose : Word) (table : Table) (t : Bool) → Says (table_flaw now table) t → (ports : List Port) →
-        Told (of_processes now) (t && list_all (is_connected one) ports) (lower_joins whose outer inner one.connections table ports)
-    joins_told whose table t s [] = with_true outer outside outer_vectors now outer_agrees t (table_flaw now table) s
-    joins_told whose table t s (p ∷ more) =
-        let first = is_connected one p in
-        let others = list_all (is_connected one) more in
-        goes_on (of_processes now) (of_processes now) (t && first) (t && (first && others)) (lower_join whose outer inner table p (value_for one.connections p.name.letters)) _
-        (λ e. sym (and_assoc t first others) ∙ first_false (t && first) others e)
-        (join_told whose table t s p (value_for one.connections p.name.letters)) (λ front k.
-        subst (λ (x : Bool). Told (of_processes now) x (with_begins_before front.begins (lower_joins whose outer inner one.connections front.table more))) (and_assoc t first others)
-        (begun now ((t && first) && others) front.begins (lower_joins whose outer inner one.connections front.table more) (joins_told whose front.table (t && first) k more)))
+  joins_told : (connections : List NamedConnection) (whose : Word) (table : Table) (t : Bool) → Says (table_flaw now table) t → (ports : List Port) →
+      Told (of_processes now) (t && list_all (λ (p : Port). is_sized_if outside (value_for connections p.name.letters)) ports) (lower_joins whose outer inner connections table ports)
+  joins_told connections whose table t s [] = with_true t (table_flaw now table) s
+  joins_told connections whose table t s (p ∷ more) =
+      let first = is_sized_if outside (value_for connections p.name.letters) in
+      let others = list_all (λ (p : Port). is_sized_if outside (value_for connections p.name.letters)) more in
+      goes_on (of_processes now) (of_processes now) (t && first) (t && (first && others)) (lower_join whose outer inner table p (value_for connections p.name.letters)) _
+      (λ e. sym (and_assoc t first others) ∙ first_false (t && first) others e)
+      (join_told whose table t s p (value_for connections p.name.letters)) (λ front k.
+      subst (λ (x : Bool). Told (of_processes now) x (with_begins_before front.begins (lower_joins whose outer inner connections front.table more))) (and_assoc t first others)
+      (begun now ((t && first) && others) front.begins (lower_joins whose outer inner connections front.table more) (joins_told connections whose front.table (t && first) k more)))
 
 -- ---- what names are worth in designs that begin with these variables
 
@@ -170,12 +164,12 @@ carried part more t h rest = subst (λ (l : List Variable). Says (table_flaw (bl
 
 -- ---- an instance's own steps
 
-abbrev pub surrounded : (Text → Worth) → Context → Surrounded
-surrounded outside context = record { unit = context.unit; outside = outside; values = context.overrides.values; connections = context.connections }
+abbrev pub instantiated : (Text → Worth) → Context → Instantiated
+instantiated outside context = record { unit = context.unit; outside = outside; values = context.overrides.values; connections = context.connections }
 
 module _ (part : Part) (context : Context) (outside : Text → Worth) (round : IsRound part.variables context.overrides.scope outside) where
-  abbrev pub one : Surrounded
-  one = surrounded outside context
+  abbrev pub one : Instantiated
+  one = instantiated outside context
 
   abbrev constants : Text → Worth
   constants = constants_in one
@@ -193,7 +187,7 @@ module _ (part : Part) (context : Context) (outside : Text → Worth) (round : I
   connected = list_all (is_connected one) (ports_of context.unit)
 
   abbrev pub processed : Bool
-  processed = list_all (is_item (worth_in one)) context.unit.items
+  processed = list_all (is_sized_item (worth_in one)) context.unit.items
 
   -- its names
 
@@ -262,7 +256,7 @@ module _ (part : Part) (context : Context) (outside : Text → Worth) (round : I
             let now = blank_environment ((part.variables ++ vs) ++ rest) in
             goes_on (of_processes now) (of_processes now) (t && connected) (t && (connected && processed)) (lower_joins context.name context.overrides.scope scope context.connections table (ports_of context.unit)) _
             (λ e. sym (and_assoc t connected processed) ∙ first_false (t && connected) processed e)
-            (joins_told now context.overrides.scope outside around.vectors (around.agrees rest) scope (worth_in one) round_here.vectors (round_here.agrees rest) one refl context.name table t s (ports_of context.unit)) (λ joins k.
+            (joins_told now context.overrides.scope outside around.vectors (around.agrees rest) scope (worth_in one) round_here.vectors (round_here.agrees rest) context.connections context.name table t s (ports_of context.unit)) (λ joins k.
             subst (λ (x : Bool). Told (of_processes now) x (with_begins_before joins.begins (lower_items scope joins.table context.unit.items))) (and_assoc t connected processed)
             (begun now ((t && connected) && processed) joins.begins (lower_items scope joins.table context.unit.items)
             (items_told (worth_in one) round_here.vectors now scope (round_here.agrees rest) joins.table (t && connected) k context.unit.items)))

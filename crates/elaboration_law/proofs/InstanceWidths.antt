@@ -57,7 +57,7 @@ module _ (base : Base) (m : ModuleTree) (outside : Text → Worth) (outer_vector
   Added named holds a = AllAdded base.overrides outside outer_vectors outer_agrees named holds a
 
   -- before any of them stands
-  first_worth : IsWorthHere (first_scope base m) (nothing_known outside base.overrides.values m)
+  first_worth : IsWorthHere (first_scope base m) nothing_known
   first_worth = record {
     whole = let long = length-map (declared_names m) (λ (w : Word). w.letters) in omega (arith, long);
     vectors = λ letters. none_sized;
@@ -100,7 +100,7 @@ module _ (base : Base) (m : ModuleTree) (outside : Text → Worth) (outer_vector
 
       all : Added named holds (add_symbols base.overrides (first_scope base m) valueless >>= λ s. add_symbols base.overrides s (head ++ whole))
       all = subst (Added named holds) (added_in_turn base.overrides outside outer_vectors outer_agrees (first_scope base m) valueless (head ++ whole))
-          (symbols_sizes base.overrides outside outer_vectors outer_agrees (first_scope base m) (nothing_known outside base.overrides.values m) (symbols_of m) first_worth)
+          (symbols_sizes base.overrides outside outer_vectors outer_agrees (first_scope base m) nothing_known (symbols_of m) first_worth)
 
       last_one : (known : ℕ) (a : Result Scope ElabFault) → Added named holds a → Added named holds (a >>= λ w. Ok (at w known))
       last_one known (Ok w) h = (worth_at base.overrides outside outer_vectors outer_agrees w known named h.0, h.1)

@@ -30,8 +30,8 @@ use Rattle.velab_expr.specs.Resolved.{lower_constant}
 use Rattle.velab_expr.specs.Ranges.{span}
 use Rattle.velab_expr.specs.Symbols.{Symbol, parameter_symbol, event_symbol, instance_symbol, name_in}
 use Rattle.velab_declaration.specs.Parameters.{Overrides, typed_value, parameter_by, lower_type, lower_parameter_value, lower_setting, lower_meaning, with_meaning, add_symbols}
-use Rattle.elaboration_law.specs.Widths.{Worth, meant, selected_by, is_sized, is_bound, is_range}
-use Rattle.elaboration_law.specs.Worths.{no_worth, with_name, range_of, bounds_by, set_to, worth_as, worth_by, is_sized_outside, is_set, worths_behind, are_set}
+use Rattle.elaboration_law.specs.Widths.{Worth, meant, selected_by, is_sized, is_sized_if, is_bound, is_range}
+use Rattle.elaboration_law.specs.Worths.{no_worth, with_name, range_of, bounds_by, set_to, worth_as, worth_by, is_set, worths_behind, are_set}
 use Rattle.elaboration_law.proofs.UseLemmas.{first_false, second_false}
 use Rattle.elaboration_law.proofs.SizeLemmas.{IsSize, AreVectors, none_sized, sized}
 use Rattle.elaboration_law.proofs.PlaceLemmas.{there_is, got_in_front, got_behind}
@@ -48,7 +48,7 @@ module _ (scope : Scope) (named : Text → Worth) (vectors : AreVectors named) (
 
   module _ (outer : Scope) (outside : Text → Worth) (outer_vectors : AreVectors outside) (outer_agrees : AreWorth true nothing outer outside) (values : List NamedConnection) where
     value_set : (own : text.ExpressionTree) (other : Option text.ExpressionTree) →
-        IsConstant (set_to outside values named own other) (is_sized named own && is_sized_outside outside values named other) (lower_parameter_value outer scope own other)
+        IsConstant (set_to outside values named own other) (is_sized named own && is_sized_if outside other) (lower_parameter_value outer scope own other)
     value_set own None = by (lower_constant scope own) (constant_sizes scope named vectors agrees own)
       where
         by : (a : Result ExpressionTree ElabFault) → IsConstant (meant named own) (is_sized named own) a → IsConstant (meant named own) (is_sized named own && true) a
@@ -235,7 +235,7 @@ module _ (overrides : Overrides) (outside : Text → Worth) (outer_vectors : Are
       ranged = is_range named (range_of type)
 
       valued : Bool
-      valued = is_sized named setting.value && is_sized_outside outside overrides.values named other
+      valued = is_sized named setting.value && is_sized_if outside other
 
       by : (a : Result (Option Bounds) ElabFault) (b : Result ExpressionTree ElabFault) → IsRange named (range_of type) ranged a → IsConstant tree valued b →
           Means (worth_as outside overrides.values named type (bounds_by named (range_of type)) tree) (ranged && valued)
@@ -255,7 +255,7 @@ module _ (overrides : Overrides) (outside : Text → Worth) (outer_vectors : Are
       IsSize (length (worth_by outside overrides.values named one).value.letters)
   worth_sized named vectors (parameter_symbol type setting) is =
       parameter_sized type (bounds_by named (range_of type)) (set_to outside overrides.values named setting.value other)
-      (narrow (range_of type) (and_left (is_range named (range_of type)) (is_sized named setting.value && is_sized_outside outside overrides.values named other) is)) (tree_sized other)
+      (narrow (range_of type) (and_left (is_range named (range_of type)) (is_sized named setting.value && is_sized_if outside other) is)) (tree_sized other)
     where
       other : Option text.ExpressionTree
       other = value_for overrides.values setting.name.letters

@@ -44,11 +44,11 @@ use Rattle.velab_process.specs.Prints.{lower_argument, lower_arguments, lower_li
 use Rattle.velab_process.specs.Statements.{Table, Lowered, LoweredBranches, lowered_action, with_places_before, with_branches_before, assignment_action, dump_action, end_action, lower_amount, lower_own_amount, lower_assignment, lower_task, lower_label, lower_labels, lower_statement, lower_all, lower_branch, lower_branches}
 use Rattle.velab_process.specs.Processes.{ProcessTree, procedural, continuous, Processes, with_begins_before, process_trees_by, lower_process, lower_processes, lower_items}
 use Rattle.elaboration_law.specs.Widths.{Worth, meant, is_sized, are_sized, is_target}
-use Rattle.elaboration_law.specs.WrongWidths.{is_delay, is_own_delay, is_assignment, is_argument, is_task, is_statement, are_statements, is_branch, are_branches, is_process, is_item}
+use Rattle.elaboration_law.specs.WrongWidths.{is_sized_delay, is_sized_own_delay, is_sized_assignment, is_sized_argument, is_sized_task, is_sized_statement, are_sized_statements, is_sized_branch, are_sized_branches, is_sized_process, is_sized_item}
 use Rattle.elaboration_law.proofs.UseLemmas.{first_false, second_false}
 use Rattle.elaboration_law.proofs.SizeLemmas.{AreVectors}
 use Rattle.elaboration_law.proofs.ExpressionWidths.{is_width, Says, both_say, AreWorth, Sizes, lower_sizes}
-use Rattle.elaboration_law.proofs.TargetWidths.{IsWritten, target_sizes}
+use Rattle.elaboration_law.proofs.TargetWidths.{or_assoc, IsWritten, target_sizes}
 
 -- ---- truths in another order
 
@@ -58,6 +58,12 @@ behind_body true true true = refl
 behind_body true true false = refl
 behind_body true false true = refl
 behind_body true false false = refl
+
+swapped : (t d v : Bool) → (d && (t && v)) ≡ (t && (d && v))
+swapped true true v = refl
+swapped true false v = refl
+swapped false true v = refl
+swapped false false v = refl
 
 true_last : (b : Bool) → (b && true) ≡ b
 true_last true = refl
@@ -74,17 +80,17 @@ outer_false true false b e = refl
 
 -- ---- flaws one after another
 
-pub flaw_assoc : (a b c : Option Flaw) → option_or (option_or a b) c ≡ option_or a (option_or b c)
-flaw_assoc None b c = refl
-flaw_assoc (Some flaw) b c = refl
-
 flaw_none : (a : Option Flaw) → option_or a None ≡ a
 flaw_none None = refl
 flaw_none (Some flaw) = refl
 
 pub flaws_joined : {A : Type 0} (flaw : A → Option Flaw) (xs ys : List A) → first_flaw flaw (xs ++ ys) ≡ option_or (first_flaw flaw xs) (first_flaw flaw ys)
 flaws_joined flaw [] ys = refl
-flaws_joined flaw (x ∷ xs) ys = ap (option_or (flaw x)) (flaws_joined flaw xs ys) ∙ sym (flaw_assoc (flaw x) (first_flaw flaw xs) (first_flaw flaw ys))
+flaws_joined flaw (x ∷ xs) ys = ap (option_or (flaw x)) (flaws_joined flaw xs ys) ∙ sym (or_assoc (flaw x) (first_flaw flaw xs) (first_flaw flaw ys))
+
+pub with_true : (b : Bool) (flaw : Option Flaw) → Says flaw b → Says flaw (b && true)
+with_true true flaw h = h
+with_true false flaw h = h
 
 -- ---- what an answer tells
 
@@ -108,7 +114,7 @@ pub quietly : {A B : Type 0} (g : B → Option Flaw) (all : Bool) (a : Result A 
 quietly g all (Ok x) next h more = more x
 quietly g all (Err fault) next h more = λ e. absurd cc
 
-quiet_then : {A B : Type 0} (a : Result A ElabFault) (next : A → Result B ElabFault) → Quiet a → ((x : A) → Quiet (next x)) → Quiet (a >>= next)
+pub quiet_then : {A B : Type 0} (a : Result A ElabFault) (next : A → Result B ElabFault) → Quiet a → ((x : A) → Quiet (next x)) → Quiet (a >>= next)
 quiet_then (Ok x) next h more = more x
 quiet_then (Err fault) next h more = h
 
@@ -315,27 +321,27 @@ module _ (scope : Scope) (named : Text → Worth) (vectors : AreVectors named) (
 
   -- ---- lines
 
-  argument_told : (argument : ArgumentTree) → Told (argument_flaw now) (is_argument named argument) (lower_argument scope argument)
+  argument_told : (argument : ArgumentTree) → Told (argument_flaw now) (is_sized_argument named argument) (lower_argument scope argument)
   argument_told (quoted letters) = refl
   argument_told (printed tree) =
       goes_on (flaw_of now) (argument_flaw now) (is_sized named tree) (is_sized named tree) (lower_expression scope tree) _ (λ e. e) (expression_told tree) (λ e h. h)
 
-  arguments_told : (list : List ArgumentTree) → Told (first_flaw (argument_flaw now)) (list_all (is_argument named) list) (lower_arguments scope list)
+  arguments_told : (list : List ArgumentTree) → Told (first_flaw (argument_flaw now)) (list_all (is_sized_argument named) list) (lower_arguments scope list)
   arguments_told [] = refl
   arguments_told (one ∷ more) =
-      let holds = is_argument named one in
-      let others = list_all (is_argument named) more in
+      let holds = is_sized_argument named one in
+      let others = list_all (is_sized_argument named) more in
       goes_on (argument_flaw now) (first_flaw (argument_flaw now)) holds (holds && others) (lower_argument scope one) _ (first_false holds others) (argument_told one) (λ argument h.
       goes_on (first_flaw (argument_flaw now)) (first_flaw (argument_flaw now)) others (holds && others) (lower_arguments scope more) _ (second_false holds others) (arguments_told more) (λ rest k.
       both_say (argument_flaw now argument) (first_flaw (argument_flaw now) rest) holds others h k))
 
-  line_told : (arguments : List ArgumentTree) → Told (first_flaw (piece_flaw now)) (list_all (is_argument named) arguments) (lower_line scope arguments)
+  line_told : (arguments : List ArgumentTree) → Told (first_flaw (piece_flaw now)) (list_all (is_sized_argument named) arguments) (lower_line scope arguments)
   line_told arguments =
       goes_on (first_flaw (argument_flaw now)) (first_flaw (piece_flaw now)) holds holds (lower_arguments scope arguments) _ (λ e. e) (arguments_told arguments) (λ all h.
       by (first_flaw (argument_flaw now) all) (pieces_of all) h (pieces_have now [] all))
     where
       holds : Bool
-      holds = list_all (is_argument named) arguments
+      holds = list_all (is_sized_argument named) arguments
 
       by : (flaw : Option Flaw) (pieces : Option (List Piece)) → Says flaw holds → Have now flaw pieces → Told (first_flaw (piece_flaw now)) holds (found pieces Kind (first_argument arguments))
       by flaw None h k = λ e. absurd cc
@@ -343,7 +349,7 @@ module _ (scope : Scope) (named : Text → Worth) (vectors : AreVectors named) (
 
   -- ---- assignments and delays
 
-  amount_told : (amount : DelayTree) → Told (flaw_of now) (is_delay named amount) (lower_amount scope amount)
+  amount_told : (amount : DelayTree) → Told (flaw_of now) (is_sized_delay named amount) (lower_amount scope amount)
   amount_told (by_number digits) = expression_told (text.number digits)
   amount_told (by_name letters) = expression_told (text.name letters)
   amount_told (by_value amount) = expression_told amount
@@ -352,16 +358,10 @@ module _ (scope : Scope) (named : Text → Worth) (vectors : AreVectors named) (
   own_flaw None = None
   own_flaw (Some e) = flaw_of now e
 
-  own_told : (amount : Option DelayTree) → Told own_flaw (is_own_delay named amount) (lower_own_amount scope amount)
+  own_told : (amount : Option DelayTree) → Told own_flaw (is_sized_own_delay named amount) (lower_own_amount scope amount)
   own_told None = refl
   own_told (Some amount) =
-      goes_on (flaw_of now) own_flaw (is_delay named amount) (is_delay named amount) (lower_amount scope amount) _ (λ e. e) (amount_told amount) (λ e h. h)
-
-  swapped : (t d v : Bool) → (d && (t && v)) ≡ (t && (d && v))
-  swapped true true v = refl
-  swapped true false v = refl
-  swapped false true v = refl
-  swapped false false v = refl
+      goes_on (flaw_of now) own_flaw (is_sized_delay named amount) (is_sized_delay named amount) (lower_amount scope amount) _ (λ e. e) (amount_told amount) (λ e h. h)
 
   assignment_says : (blocking : Bool) (amount : Option ExpressionTree) (targets : List Target) (e : ExpressionTree) (t d v : Bool) →
       Says (targets_flaw now targets) t → Says (own_flaw amount) d → Says (flaw_of now e) v → Says (action_flaw now (assignment_action blocking amount targets e)) (t && (d && v))
@@ -385,10 +385,10 @@ module _ (scope : Scope) (named : Text → Worth) (vectors : AreVectors named) (
       by false (Some a) k = delayed a k
 
   assignment_told : (blocking : Bool) (table : Table) (b : Bool) → Says (table_flaw now table) b → (target : TargetTree) (amount : Option DelayTree) (v : text.ExpressionTree) →
-      Told (of_lowered now) (b && is_assignment named target amount v) (lower_assignment blocking scope table target amount v)
+      Told (of_lowered now) (b && is_sized_assignment named target amount v) (lower_assignment blocking scope table target amount v)
   assignment_told blocking table b s target amount v =
       let t = is_target named target in
-      let d = is_own_delay named amount in
+      let d = is_sized_own_delay named amount in
       let x = is_sized named v in
       let all = b && (t && (d && x)) in
       goes_on (targets_flaw now) (of_lowered now) t all (lower_target scope target) _ (λ e. middle_false b t (d && x) e) (target_told target) (λ targets h.
@@ -408,13 +408,9 @@ module _ (scope : Scope) (named : Text → Worth) (vectors : AreVectors named) (
   end_flawless true = refl
   end_flawless false = refl
 
-  pub with_true : (b : Bool) (flaw : Option Flaw) → Says flaw b → Says flaw (b && true)
-  with_true true flaw h = h
-  with_true false flaw h = h
-
-  task_told : (table : Table) (b : Bool) → Says (table_flaw now table) b → (call : TaskTree) → Told (of_lowered now) (b && is_task named call) (lower_task scope table call)
+  task_told : (table : Table) (b : Bool) → Says (table_flaw now table) b → (call : TaskTree) → Told (of_lowered now) (b && is_sized_task named call) (lower_task scope table call)
   task_told table b s (print kind arguments) =
-      let holds = list_all (is_argument named) arguments in
+      let holds = list_all (is_sized_argument named) arguments in
       goes_on (first_flaw (piece_flaw now)) (of_lowered now) holds (b && holds) (lower_line scope arguments) _ (second_false b holds) (line_told arguments) (λ pieces h. acted now table b holds _ s h)
   task_told table b s (dump_file letters) = with_true b _ (acted_anyway now table b _ s refl)
   task_told table b s (dump_vars selection) = quietly (of_lowered now) (b && true) (lower_selection scope selection) _ (selection_quiet scope selection) (λ chosen. with_true b _ (acted_anyway now table b _ s refl))
@@ -454,19 +450,19 @@ module _ (scope : Scope) (named : Text → Worth) (vectors : AreVectors named) (
   turning begin condition next_target next_value body = lower_expression scope condition >>= λ test. turning_behind begin condition next_target next_value body test
 
   mutual
-    statement_told : (table : Table) (t : Bool) → Says (table_flaw now table) t → (statement : StatementTree) → Told (of_lowered now) (t && is_statement named statement) (lower_statement scope table statement)
+    statement_told : (table : Table) (t : Bool) → Says (table_flaw now table) t → (statement : StatementTree) → Told (of_lowered now) (t && is_sized_statement named statement) (lower_statement scope table statement)
     statement_told table t s empty = with_true t (table_flaw now table) s
     statement_told table t s (block statements) = all_told table t s statements
     statement_told table t s (assign target amount v) = assignment_told true table t s target amount v
     statement_told table t s (nonblocking target amount v) = assignment_told false table t s target amount v
     statement_told table t s (trigger letters) = quietly (of_lowered now) (t && true) (lower_event scope letters) _ (event_quiet scope letters) (λ number. with_true t _ (acted_anyway now table t _ s refl))
     statement_told table t s (if_true condition body) =
-        tested t (is_sized named condition) (is_statement named body) (lower_expression scope condition) (lower_statement scope table body) _ (expression_told condition) (statement_told table t s body) (λ e inner h k.
-        acted now inner.table (t && is_statement named body) (is_sized named condition) _ k h)
+        tested t (is_sized named condition) (is_sized_statement named body) (lower_expression scope condition) (lower_statement scope table body) _ (expression_told condition) (statement_told table t s body) (λ e inner h k.
+        acted now inner.table (t && is_sized_statement named body) (is_sized named condition) _ k h)
     statement_told table t s (if_else condition body other) =
         let c = is_sized named condition in
-        let b = is_statement named body in
-        let o = is_statement named other in
+        let b = is_sized_statement named body in
+        let o = is_sized_statement named other in
         let all = t && (c && (b && o)) in
         goes_on (flaw_of now) (of_lowered now) c all (lower_expression scope condition) _ (λ e. middle_false t c (b && o) e) (expression_told condition) (λ e h.
         goes_on (of_lowered now) (of_lowered now) (t && b) all (lower_statement scope table body) _ (λ f. outer_false t c (b && o) (sym (and_assoc t b o) ∙ first_false (t && b) o f)) (statement_told table t s body) (λ one k.
@@ -474,26 +470,26 @@ module _ (scope : Scope) (named : Text → Worth) (vectors : AreVectors named) (
         acted_as now two.table ((t && b) && o) c all _ (ap (λ (x : Bool). x && c) (and_assoc t b o) ∙ behind_body t c (b && o)) l h)))
     statement_told table t s (case_of kind v branches) =
         let c = is_sized named v in
-        let b = are_branches named branches in
+        let b = are_sized_branches named branches in
         let all = t && (c && b) in
         goes_on (flaw_of now) (of_lowered now) c all (lower_expression scope v) _ (λ e. middle_false t c b e) (expression_told v) (λ e h.
         after_branches now (t && b) all (of_lowered now) (lower_branches scope table branches) _ (λ f. outer_false t c b f) (branches_told table t s branches) (λ inner k.
         acted_as now inner.table k.of_table (c && k.of_items) all _ (sym (behind_body k.of_table c k.of_items) ∙ ap (λ (x : Bool). x && c) k.together ∙ behind_body t c b)
         k.table_says (both_say (flaw_of now e) (first_flaw (branch_flaw now) inner.branches) c k.of_items h k.items_say)))
     statement_told table t s (while_true condition body) =
-        tested t (is_sized named condition) (is_statement named body) (lower_expression scope condition) (lower_statement scope table body) _ (expression_told condition) (statement_told table t s body) (λ e inner h k.
-        acted now inner.table (t && is_statement named body) (is_sized named condition) _ k h)
+        tested t (is_sized named condition) (is_sized_statement named body) (lower_expression scope condition) (lower_statement scope table body) _ (expression_told condition) (statement_told table t s body) (λ e inner h k.
+        acted now inner.table (t && is_sized_statement named body) (is_sized named condition) _ k h)
     statement_told table t s (repeat_times count body) =
-        tested t (is_sized named count) (is_statement named body) (lower_expression scope count) (lower_statement scope table body) _ (expression_told count) (statement_told table t s body) (λ e inner h k.
-        acted now inner.table (t && is_statement named body) (is_sized named count) _ k h)
+        tested t (is_sized named count) (is_sized_statement named body) (lower_expression scope count) (lower_statement scope table body) _ (expression_told count) (statement_told table t s body) (λ e inner h k.
+        acted now inner.table (t && is_sized_statement named body) (is_sized named count) _ k h)
     statement_told table t s (forever body) =
-        let b = is_statement named body in
+        let b = is_sized_statement named body in
         goes_on (of_lowered now) (of_lowered now) (t && b) (t && b) (lower_statement scope table body) _ (λ e. e) (statement_told table t s body) (λ inner k. acted_anyway now inner.table (t && b) _ k refl)
     statement_told table t s (for_loop target v condition next_target next_value body) =
-        let i = is_assignment named target None v in
+        let i = is_sized_assignment named target None v in
         let c = is_sized named condition in
-        let b = is_statement named body in
-        let n = is_assignment named next_target None next_value in
+        let b = is_sized_statement named body in
+        let n = is_sized_assignment named next_target None next_value in
         let u = t && i in
         let all = u && (c && (b && n)) in
         finished now all (t && (i && (c && (b && n)))) (and_assoc t i (c && (b && n))) (lower_statement scope table (for_loop target v condition next_target next_value body))
@@ -505,60 +501,60 @@ module _ (scope : Scope) (named : Text → Worth) (vectors : AreVectors named) (
         (placed now ((u && b) && n) inner.places (lower_assignment true scope inner.table next_target None next_value) (assignment_told true inner.table (u && b) l next_target None next_value)) (λ turn m.
         acted_as now turn.table ((u && b) && n) c all (While test turn.places) (ap (λ (x : Bool). x && c) (and_assoc u b n) ∙ behind_body u c (b && n)) m h))))))
     statement_told table t s (wait_for condition body) =
-        tested t (is_sized named condition) (is_statement named body) (lower_expression scope condition) (lower_statement scope table body) _ (expression_told condition) (statement_told table t s body) (λ e inner h k.
-        acted now inner.table (t && is_statement named body) (is_sized named condition) _ k h)
+        tested t (is_sized named condition) (is_sized_statement named body) (lower_expression scope condition) (lower_statement scope table body) _ (expression_told condition) (statement_told table t s body) (λ e inner h k.
+        acted now inner.table (t && is_sized_statement named body) (is_sized named condition) _ k h)
     statement_told table t s (delay amount body) =
-        tested t (is_delay named amount) (is_statement named body) (lower_amount scope amount) (lower_statement scope table body) _ (amount_told amount) (statement_told table t s body) (λ e inner h k.
-        acted now inner.table (t && is_statement named body) (is_delay named amount) _ k h)
+        tested t (is_sized_delay named amount) (is_sized_statement named body) (lower_amount scope amount) (lower_statement scope table body) _ (amount_told amount) (statement_told table t s body) (λ e inner h k.
+        acted now inner.table (t && is_sized_statement named body) (is_sized_delay named amount) _ k h)
     statement_told table t s (event control body) =
-        let b = is_statement named body in
+        let b = is_sized_statement named body in
         quietly (of_lowered now) (t && b) (lower_control scope control body) _ (control_quiet scope control body) (λ terms.
         goes_on (of_lowered now) (of_lowered now) (t && b) (t && b) (lower_statement scope table body) _ (λ e. e) (statement_told table t s body) (λ inner k. acted_anyway now inner.table (t && b) _ k refl))
     statement_told table t s (task call) = task_told table t s call
 
-    all_told : (table : Table) (t : Bool) → Says (table_flaw now table) t → (statements : StatementTrees) → Told (of_lowered now) (t && are_statements named statements) (lower_all scope table statements)
+    all_told : (table : Table) (t : Bool) → Says (table_flaw now table) t → (statements : StatementTrees) → Told (of_lowered now) (t && are_sized_statements named statements) (lower_all scope table statements)
     all_told table t s no_statement = with_true t (table_flaw now table) s
     all_told table t s (first_statement statement rest) =
-        let one = is_statement named statement in
-        let others = are_statements named rest in
+        let one = is_sized_statement named statement in
+        let others = are_sized_statements named rest in
         goes_on (of_lowered now) (of_lowered now) (t && one) (t && (one && others)) (lower_statement scope table statement) _ (λ e. sym (and_assoc t one others) ∙ first_false (t && one) others e) (statement_told table t s statement) (λ front k.
         subst (λ (x : Bool). Told (of_lowered now) x (with_places_before front.places (lower_all scope front.table rest))) (and_assoc t one others)
         (placed now ((t && one) && others) front.places (lower_all scope front.table rest) (all_told front.table (t && one) k rest)))
 
-    branch_told : (table : Table) (t : Bool) → Says (table_flaw now table) t → (branch : BranchTree) → Branches now (t && is_branch named branch) (lower_branch scope table branch)
+    branch_told : (table : Table) (t : Bool) → Says (table_flaw now table) t → (branch : BranchTree) → Branches now (t && is_sized_branch named branch) (lower_branch scope table branch)
     branch_told table t s (labelled items body) =
-        let b = is_statement named body in
+        let b = is_sized_statement named body in
         let i = are_sized named items in
         branches_on now (t && b) (t && (b && i)) (of_lowered now) (lower_statement scope table body) _ (λ e. sym (and_assoc t b i) ∙ first_false (t && b) i e) (statement_told table t s body) (λ inner k.
         branches_on now i (t && (b && i)) (first_flaw (branch_flaw now)) (lower_labels scope inner.places items) _ (λ e. second_false t (b && i) (second_false b i e)) (labels_told inner.places items) (λ branches h.
         record { of_table = t && b; of_items = i; table_says = k; items_say = h; together = and_assoc t b i }))
     branch_told table t s (default colon body) =
-        let b = is_statement named body in
+        let b = is_sized_statement named body in
         branches_on now (t && b) (t && b) (of_lowered now) (lower_statement scope table body) _ (λ e. e) (statement_told table t s body) (λ inner k.
         record { of_table = t && b; of_items = true; table_says = k; items_say = refl; together = true_last (t && b) })
 
-    branches_told : (table : Table) (t : Bool) → Says (table_flaw now table) t → (branches : BranchTrees) → Branches now (t && are_branches named branches) (lower_branches scope table branches)
+    branches_told : (table : Table) (t : Bool) → Says (table_flaw now table) t → (branches : BranchTrees) → Branches now (t && are_sized_branches named branches) (lower_branches scope table branches)
     branches_told table t s no_branch = record { of_table = t; of_items = true; table_says = s; items_say = refl; together = refl }
     branches_told table t s (first_branch branch rest) =
-        let b = is_branch named branch in
-        let r = are_branches named rest in
+        let b = is_sized_branch named branch in
+        let r = are_sized_branches named rest in
         branches_then now (t && b) (t && (b && r)) (lower_branch scope table branch) _ (λ e. sym (and_assoc t b r) ∙ first_false (t && b) r e) (branch_told table t s branch) (λ front k.
         front_and_rest now t b r front k (lower_branches scope front.table rest) (branches_told front.table k.of_table k.table_says rest))
 
   -- ---- processes
 
-  process_told : (table : Table) (t : Bool) → Says (table_flaw now table) t → (process : ProcessTree) → Told (of_lowered now) (t && is_process named process) (lower_process scope table process)
+  process_told : (table : Table) (t : Bool) → Says (table_flaw now table) t → (process : ProcessTree) → Told (of_lowered now) (t && is_sized_process named process) (lower_process scope table process)
   process_told table t s (procedural statement) = statement_told table t s statement
   process_told table t s (continuous name v) =
       let c = is_sized named v in
       quietly (of_lowered now) (t && c) (lower_variable scope name) _ (variable_quiet scope name) (λ net.
       goes_on (flaw_of now) (of_lowered now) c (t && c) (lower_expression scope v) _ (second_false t c) (expression_told v) (λ e h. acted now table t c _ s h))
 
-  pub processes_told : (table : Table) (t : Bool) → Says (table_flaw now table) t → (list : List ProcessTree) → Told (of_processes now) (t && list_all (is_process named) list) (lower_processes scope table list)
+  pub processes_told : (table : Table) (t : Bool) → Says (table_flaw now table) t → (list : List ProcessTree) → Told (of_processes now) (t && list_all (is_sized_process named) list) (lower_processes scope table list)
   processes_told table t s [] = with_true t (table_flaw now table) s
   processes_told table t s (process ∷ rest) =
-      let one = is_process named process in
-      let others = list_all (is_process named) rest in
+      let one = is_sized_process named process in
+      let others = list_all (is_sized_process named) rest in
       goes_on (of_lowered now) (of_processes now) (t && one) (t && (one && others)) (lower_process scope table process) _ (λ e. sym (and_assoc t one others) ∙ first_false (t && one) others e) (process_told table t s process) (λ front k.
       subst (λ (x : Bool). Told (of_processes now) x (with_begins_before (front.places ∷ []) (lower_processes scope front.table rest))) (and_assoc t one others)
       (begun now ((t && one) && others) (front.places ∷ []) (lower_processes scope front.table rest) (processes_told front.table (t && one) k rest)))
@@ -566,12 +562,11 @@ module _ (scope : Scope) (named : Text → Worth) (vectors : AreVectors named) (
 -- those of items, each in the scope of its place
 module _ (named : Text → Worth) (vectors : AreVectors named) (now : Environment) where
   pub items_told : (scope : Scope) → AreWorth false now scope named → (table : Table) (t : Bool) → Says (table_flaw now table) t → (items : List ItemTree) →
-      Told (of_processes now) (t && list_all (is_item named) items) (lower_items scope table items)
-  items_told scope agrees table true s [] = s
-  items_told scope agrees table false s [] = s
+      Told (of_processes now) (t && list_all (is_sized_item named) items) (lower_items scope table items)
+  items_told scope agrees table t s [] = with_true t (table_flaw now table) s
   items_told scope agrees table t s (item ∷ more) =
-      let one = is_item named item in
-      let others = list_all (is_item named) more in
+      let one = is_sized_item named item in
+      let others = list_all (is_sized_item named) more in
       goes_on (of_processes now) (of_processes now) (t && one) (t && (one && others)) (lower_processes scope table (process_trees_by item)) _ (λ e. sym (and_assoc t one others) ∙ first_false (t && one) others e)
       (processes_told scope named vectors now agrees table t s (process_trees_by item)) (λ front k.
       subst (λ (x : Bool). Told (of_processes now) x (with_begins_before front.begins (lower_items (behind_item scope item) front.table more))) (and_assoc t one others)

@@ -31,7 +31,7 @@ use Rattle.elaboration_law.proofs.ExpressionWidths.{is_width, Says, both_say, un
 
 -- ---- rows of targets
 
-or_assoc : (a b c : Option Flaw) → option_or (option_or a b) c ≡ option_or a (option_or b c)
+pub or_assoc : (a b c : Option Flaw) → option_or (option_or a b) c ≡ option_or a (option_or b c)
 or_assoc None b c = refl
 or_assoc (Some flaw) b c = refl
 

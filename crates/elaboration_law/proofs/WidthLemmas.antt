@@ -32,8 +32,8 @@ use Rattle.velab_declaration.specs.Variables.{port_names}
 use Rattle.vhierarchy.specs.Instances.{Instantiation, instantiation_by, lower_instance, lower_list, named_again, lower_instances_of, lower_instances_by, lower_instances, Part, Context, lower_own_variables, lower_own_processes, with_own, few_enough, child_context, each, elaborate_instance, nothing, no_scope, top_context, elaborate_top, broken_paths, broken_table, broken_design, elaborated}
 use Rattle.elaboration_law.specs.Laws.{IsMeant}
 use Rattle.elaboration_law.specs.Widths.{Worth}
-use Rattle.elaboration_law.specs.Worths.{are_set_in, are_ranged}
-use Rattle.elaboration_law.specs.WrongWidths.{Surrounded, constants_in, worth_in, has_right_widths, nothing_worth, top_surrounded, surrounded_as, surrounded_of, surrounded_by, surrounded_below, HasWrongWidth}
+use Rattle.elaboration_law.specs.Worths.{nothing_known, are_set_in, are_ranged}
+use Rattle.elaboration_law.specs.WrongWidths.{Instantiated, constants_in, worth_in, has_right_widths, top_instantiated, instantiated_as, instantiated_of, instantiated_by, instantiated_below, HasWrongWidth}
 use Rattle.elaboration_law.proofs.StepLemmas.{same_value, then_ok, barring_ok, provided_ok, required_ok}
 use Rattle.elaboration_law.proofs.UseLemmas.{Judges, first_false, second_false}
 use Rattle.elaboration_law.proofs.ToldLemmas.{TellsFault, TellsRule}
@@ -46,16 +46,16 @@ use Rattle.elaboration_law.proofs.SizeLemmas.{none_sized}
 use Rattle.elaboration_law.proofs.ExpressionWidths.{is_width, Says}
 use Rattle.elaboration_law.proofs.StatementWidths as widths
 use Rattle.elaboration_law.proofs.StatementWidths.{table_flaw, of_processes}
-use Rattle.elaboration_law.proofs.InstanceTold.{instances_quiet, IsRound, round_more, Carries, carried, surrounded, connected, processed, names_judged, round_here, processes_told, right_is, own_wrong}
+use Rattle.elaboration_law.proofs.InstanceTold.{instances_quiet, IsRound, round_more, Carries, carried, instantiated, connected, processed, names_judged, round_here, processes_told, right_is, own_wrong}
 
 -- ---- the instances in a module
 
 module _ (named : Text → Worth) where
-  abbrev made_as : Instantiation → Surrounded
+  abbrev made_as : Instantiation → Instantiated
   made_as c = record { unit = c.child; outside = named; values = c.values; connections = c.connections }
 
   list_is : (child : ModuleTree) (known : ℕ) (overrides : Option ConnectionsTree) (list : List InstanceTree) (children : List Instantiation) →
-      lower_list child known overrides list ≡ Ok children → map made_as children ≡ map (surrounded_as named overrides child) list
+      lower_list child known overrides list ≡ Ok children → map made_as children ≡ map (instantiated_as named overrides child) list
   list_is child known overrides [] children is = sym (ap (map made_as) (same_value [] children is))
   list_is child known overrides (one ∷ more) children is =
       let front = then_ok (lower_instance child known overrides one) (λ front. lower_list child known overrides more >>= λ others. Ok (front ∷ others)) children is in
@@ -67,14 +67,14 @@ module _ (named : Text → Worth) where
       ∙ λ i. made_as (sym same i) ∷ list_is child known overrides more others.0 others.1 i
 
   of_is : (name : Word) (before known : ℕ) (child : Option ModuleTree) (overrides : Option ConnectionsTree) (list : List InstanceTree) (children : List Instantiation) →
-      lower_instances_of name before known child overrides list ≡ Ok children → map made_as children ≡ surrounded_of named overrides child list
+      lower_instances_of name before known child overrides list ≡ Ok children → map made_as children ≡ instantiated_of named overrides child list
   of_is name before known None overrides list children is = absurd cc
   of_is name before known (Some child) overrides list children is =
       list_is child known overrides list children (barring_ok (named_again child) Doubled _ children (provided_ok _ TooMany (Some name) _ children is).1).1
 
   module _ (modules : SourceTree) where
     by_is : (before known : ℕ) (item : ItemTree) (children : List Instantiation) → lower_instances_by modules before known item ≡ Ok children →
-        map made_as children ≡ surrounded_by modules named item
+        map made_as children ≡ instantiated_by modules named item
     by_is before known (parameters local type settings) children is = sym (ap (map made_as) (same_value [] children is))
     by_is before known (declaration kind list) children is = sym (ap (map made_as) (same_value [] children is))
     by_is before known (events names) children is = sym (ap (map made_as) (same_value [] children is))
@@ -84,7 +84,7 @@ module _ (named : Text → Worth) where
     by_is before known (instances name overrides list) children is = of_is name before known (module_of modules name.letters) overrides list children is
 
     children_are : (before known : ℕ) (items : List ItemTree) (children : List Instantiation) → lower_instances modules before known items ≡ Ok children →
-        map made_as children ≡ flat_map (surrounded_by modules named) items
+        map made_as children ≡ flat_map (instantiated_by modules named) items
     children_are before known [] children is = sym (ap (map made_as) (same_value [] children is))
     children_are before known (item ∷ more) children is =
         let front = then_ok (lower_instances_by modules before known item)
@@ -102,20 +102,20 @@ Grows part holds (Ok all) = (more : List Variable) × (part.variables ++ more �
 Grows part holds (Err fault) = is_width fault.rule ≡ true → holds ≡ false
 
 module _ (modules : SourceTree) where
-  abbrev right_below : ℕ → Surrounded → Bool
-  right_below levels one = list_all has_right_widths (surrounded_below levels modules one)
+  abbrev right_below : ℕ → Instantiated → Bool
+  right_below levels one = list_all has_right_widths (instantiated_below levels modules one)
 
   -- of each instance
   abbrev AllGrow : ℕ → Type 0
   AllGrow levels = (part : Part) (context : Context) (outside : Text → Worth) (t : Bool) → IsRound part.variables context.overrides.scope outside → Carries part t →
-      Grows part (t && right_below levels (surrounded outside context)) (elaborate_instance levels modules part context)
+      Grows part (t && right_below levels (instantiated outside context)) (elaborate_instance levels modules part context)
 
   module _ (levels : ℕ) (rest : AllGrow levels) (scope : Scope) (context : Context) (named : Text → Worth) where
     abbrev step : Part → Instantiation → Result Part ElabFault
     step so_far c = elaborate_instance levels modules so_far (child_context scope context c)
 
     abbrev all_below : List Instantiation → Bool
-    all_below list = list_all has_right_widths (flat_map (surrounded_below levels modules) (map (made_as named) list))
+    all_below list = list_all has_right_widths (flat_map (instantiated_below levels modules) (map (made_as named) list))
 
     further : (part next : Part) (holds : Bool) (a : Result Part ElabFault) → (more : List Variable) → part.variables ++ more ≡ next.variables → Grows next holds a → Grows part holds a
     further part next holds (Ok all) more is h =
@@ -134,7 +134,7 @@ module _ (modules : SourceTree) where
 
         whole : (t && all_below (c ∷ more)) ≡ ((t && here) && all_below more)
         whole =
-            ap (λ (b : Bool). t && b) (list_all-append has_right_widths (surrounded_below levels modules (made_as named c)) (flat_map (surrounded_below levels modules) (map (made_as named) more)))
+            ap (λ (b : Bool). t && b) (list_all-append has_right_widths (instantiated_below levels modules (made_as named c)) (flat_map (instantiated_below levels modules) (map (made_as named) more)))
             ∙ sym (and_assoc t here (all_below more))
 
         by : (a : Result Part ElabFault) → Grows part (t && here) a → ((next : Part) → IsRound next.variables scope named → Carries next (t && here) → Grows next ((t && here) && all_below more) (each step next more)) →
@@ -147,11 +147,11 @@ module _ (modules : SourceTree) where
 
   -- an instance, where it holds of those in it
   module _ (levels : ℕ) (rest : AllGrow levels) (part : Part) (context : Context) (outside : Text → Worth) (t : Bool) (round : IsRound part.variables context.overrides.scope outside) (h : Carries part t) where
-    abbrev one : Surrounded
-    one = surrounded outside context
+    abbrev one : Instantiated
+    one = instantiated outside context
 
     abbrev inside : Bool
-    inside = list_all has_right_widths (flat_map (surrounded_below levels modules) (flat_map (surrounded_by modules (worth_in one)) context.unit.items))
+    inside = list_all has_right_widths (flat_map (instantiated_below levels modules) (flat_map (instantiated_by modules (worth_in one)) context.unit.items))
 
     abbrev all : Bool
     all = t && (has_right_widths one && inside)
@@ -192,7 +192,7 @@ module _ (modules : SourceTree) where
         same : ((t && has_right_widths one) && all_below levels rest own.scope context (worth_in one) own.children) ≡ all
         same =
             and_assoc t (has_right_widths one) (all_below levels rest own.scope context (worth_in one) own.children)
-            ∙ ap (λ (l : List Surrounded). t && (has_right_widths one && list_all has_right_widths (flat_map (surrounded_below levels modules) l)))
+            ∙ ap (λ (l : List Instantiated). t && (has_right_widths one && list_all has_right_widths (flat_map (instantiated_below levels modules) l)))
             (children_are (worth_in one) modules 0 own.scope.known context.unit.items own.children own.instances_are)
 
     of_own : (fault : ElabFault) → is_width fault.rule ≡ true → OwnFault modules part context fault → all ≡ false
@@ -272,9 +272,9 @@ module _ (top : Word) (part : Part) (holds : Bool) (carries : Carries part holds
 -- ---- the law
 
 abbrev all_right : SourceTree → ModuleTree → Bool
-all_right modules m = list_all has_right_widths (surrounded_below 16 modules (top_surrounded m))
+all_right modules m = list_all has_right_widths (instantiated_below 16 modules (top_instantiated m))
 
-nowhere_round : IsRound [] no_scope nothing_worth
+nowhere_round : IsRound [] no_scope nothing_known
 nowhere_round = record {
   vectors = λ letters. none_sized;
   agrees = λ rest. record { of_parameter = λ name value bounds before is. absurd cc; of_variable = λ name number fixed is. absurd cc };
@@ -282,7 +282,7 @@ nowhere_round = record {
 
 top_grows : (modules : SourceTree) (m : ModuleTree) → Grows nothing (all_right modules m) (elaborate_top modules m)
 unfolding elaborate_top
-top_grows modules m = all_grow modules 16 nothing (top_context m) nothing_worth true nowhere_round (λ rest. refl)
+top_grows modules m = all_grow modules 16 nothing (top_context m) nothing_known true nowhere_round (λ rest. refl)
 
 module _ (modules : SourceTree) (top : Option Text) where
   design_right : (unit : ModuleTree) (part : Part) → elaborate_top modules unit ≡ Ok part → JudgesIf of_width (all_right modules unit) (broken_design unit.name part)

@@ -89,6 +89,10 @@ module _ (named : Text → Worth) where
     are_sized text.none = true
     are_sized (text.first one more) = is_sized one && are_sized more
 
+  abbrev pub is_sized_if : Option text.ExpressionTree → Bool
+  is_sized_if None = true
+  is_sized_if (Some tree) = is_sized tree
+
   -- ---- ranges (4.3.1): bounds from 0 to 65535, at most 64 bits from one to the other
 
   abbrev pub is_bound : text.ExpressionTree → Bool

@@ -18,7 +18,7 @@ use Rattle.velab_expr.specs.Symbols.{Symbol, parameter_symbol, event_symbol, ins
 use Rattle.velab_declaration.specs.Parameters.{parameter_by}
 use Rattle.velab_declaration.specs.Variables.{Declaration, length_of}
 use Rattle.elaboration_law.specs.Places.{symbols_of}
-use Rattle.elaboration_law.specs.Widths.{Worth, meant, selected_by, is_sized, is_range}
+use Rattle.elaboration_law.specs.Widths.{Worth, meant, selected_by, is_sized, is_sized_if, is_range}
 
 -- what has no value: one bit that is x
 abbrev pub no_worth : Worth
@@ -56,14 +56,10 @@ module _ (outside : Text → Worth) (values : List NamedConnection) (named : Tex
   worth_by (event_symbol name) = no_worth
   worth_by (instance_symbol name) = no_worth
 
-  abbrev pub is_sized_outside : Option text.ExpressionTree → Bool
-  is_sized_outside None = true
-  is_sized_outside (Some other) = is_sized outside other
-
   -- its range, its value, and the one from outside
   abbrev pub is_set : Symbol → Bool
   is_set (parameter_symbol type setting) =
-      is_range named (range_of type) && (is_sized named setting.value && is_sized_outside (value_for values setting.name.letters))
+      is_range named (range_of type) && (is_sized named setting.value && is_sized_if outside (value_for values setting.name.letters))
   is_set (event_symbol name) = true
   is_set (instance_symbol name) = true
 
@@ -81,10 +77,10 @@ module _ (outside : Text → Worth) (values : List NamedConnection) where
 
 -- ---- an instance of this module (12.2): named events and instances have no value, and its parameters stand in its head and among its items
 
-module _ (outside : Text → Worth) (values : List NamedConnection) (m : ModuleTree) where
-  abbrev pub nothing_known : Text → Worth
-  nothing_known letters = no_worth
+abbrev pub nothing_known : Text → Worth
+nothing_known letters = no_worth
 
+module _ (outside : Text → Worth) (values : List NamedConnection) (m : ModuleTree) where
   abbrev pub worths_in : Text → Worth
   worths_in = worths_behind outside values nothing_known (symbols_of m)
 
