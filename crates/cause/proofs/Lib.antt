@@ -1,4 +1,6 @@
 pub mod BehindLemmas
 pub mod FootprintLemmas
+pub mod NumberLemmas
+pub mod ParentLemmas
 pub mod SlotLemmas
 pub mod SwapLemmas

@@ -2,7 +2,7 @@
 -- the log names. Both stand in the same state before that step.
 use Rattle.std.specs.Prelude.{◌≡◌, ℕ, ◌-◌, ◌<◌, if◌then◌else◌, List, [], ◌∷◌, length, take, Option, Some, None, slice_get}
 use Rattle.vdesign.specs.declared.action.Action.{Action}
-use Rattle.vmodel.specs.Run.{Setting}
+use Rattle.vmodel.specs.Run.{Setting, state_after}
 use Rattle.cause.specs.Footprints.{shared}
 use Rattle.cause.specs.Visits.{same_visit, visits_to, IsSlot}
 use Rattle.cause.specs.Behind.{statement_behind}
@@ -65,6 +65,7 @@ pub record IsCauseIn (actions : List Action) (step : ℕ) (run parent : List Vis
 -- the cause of what the run under the log has, and its parent hasn't
 pub record IsCause (setting : Setting) (log : List (ℕ × ℕ)) (cause : Cause) : Type 0 where
   pub named : last_step log ≡ Some cause.step
+  pub same : state_after setting log cause.step ≡ state_after setting (parent_of log) cause.step
   pub run : List Visit
   pub of_run : AreVisits setting log cause.step run
   pub parent : List Visit

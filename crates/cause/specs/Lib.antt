@@ -4,4 +4,5 @@ pub mod Visits
 pub mod Swaps
 pub mod Behind
 pub mod Causes
+pub mod Numbered
 pub mod Inner

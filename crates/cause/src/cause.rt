@@ -116,6 +116,7 @@ fn cause_in(
 /// The cause of what the run under the log has, and the run under the log without its last member hasn't. None where no member is named,
 /// where a slot of both runs doesn't end before `steps` steps, and where no two visits that touch stand in another order. E901 is the only
 /// refusal.
+#[tactic(auto, using(crate::proofs::ParentLemmas::same_before))]
 pub fn cause_of(
     alloc: Global,
     machine: &Machine,

@@ -15,9 +15,9 @@ use vdesign::print::{Piece, Pieces, When};
 
 /// What a step reads, and what it writes.
 #[derive(Drop)]
-pub struct Footprint {
-    pub reads: Things,
-    pub writes: Things,
+pub(crate) struct Footprint {
+    pub(crate) reads: Things,
+    pub(crate) writes: Things,
 }
 
 // What a node of an expression names.
@@ -148,7 +148,7 @@ fn put_pieces(things: &mut Vec<Thing>, pieces: &[Piece]) -> Result<(), NoMemory>
 
 impl Footprint {
     /// That of a step that reads and writes nothing.
-    pub fn nothing(alloc: Global) -> Footprint
+    pub(crate) fn nothing(alloc: Global) -> Footprint
         ensures { result ≡ spec.nothing }
     {
         Footprint {
@@ -304,7 +304,11 @@ fn driving(alloc: Global, net: u32, value: &Expression) -> Result<Footprint, NoM
 }
 
 /// What a step of an action reads and writes, after which its process holds a value, or none.
-pub fn footprint_of(alloc: Global, action: &Action, holds: bool) -> Result<Footprint, NoMemory>
+pub(crate) fn footprint_of(
+    alloc: Global,
+    action: &Action,
+    holds: bool,
+) -> Result<Footprint, NoMemory>
     ensures { IfOk result (λ found. found ≡ spec.footprint_of action.now holds) }
 {
     match action {
@@ -344,7 +348,7 @@ pub fn footprint_of(alloc: Global, action: &Action, holds: bool) -> Result<Footp
 }
 
 /// The same of the action at a place of the table, if there is one.
-pub fn footprint_at(
+pub(crate) fn footprint_at(
     alloc: Global,
     actions: &[Action],
     place: usize,

@@ -4,11 +4,13 @@
 #![tactic(auto)]
 
 mod behind;
-pub mod cause;
-pub mod footprint;
+mod cause;
+mod footprint;
 mod slot;
 mod swap;
-pub mod thing;
-pub mod visit;
+mod thing;
+mod visit;
 
-pub use cause::cause_of;
+pub use cause::{Blamed, Cause, cause_of};
+pub use thing::{Thing, Things};
+pub use visit::Actor;

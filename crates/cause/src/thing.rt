@@ -32,14 +32,14 @@ impl Model for Things {
 
 impl Things {
     /// These things.
-    pub fn new(list: Vec<Thing>) -> Things
+    pub(crate) fn new(list: Vec<Thing>) -> Things
         ensures { result ≡ list.items }
     {
         Things { list }
     }
 
     /// No thing.
-    pub fn none(alloc: Global) -> Things
+    pub(crate) fn none(alloc: Global) -> Things
         ensures { result ≡ [] }
     {
         Things {
@@ -48,7 +48,7 @@ impl Things {
     }
 
     /// One thing.
-    pub fn one(alloc: Global, thing: Thing) -> Result<Things, NoMemory>
+    pub(crate) fn one(alloc: Global, thing: Thing) -> Result<Things, NoMemory>
         ensures { IfOk result (λ things. things ≡ thing ∷ []) }
     {
         let mut list = Vec::new(alloc);
@@ -88,7 +88,7 @@ fn is_in(thing: &Thing, list: &[Thing]) -> bool
 }
 
 /// Whether something stands in both lists.
-pub fn meet(one: &[Thing], other: &[Thing]) -> bool
+pub(crate) fn meet(one: &[Thing], other: &[Thing]) -> bool
     ensures { result ≡ spec.meet one.now other.now }
 {
     for thing in one {

@@ -1,8 +1,9 @@
 // The visits of a slot, and which `<=` posted an update.
 
-ghost use Rattle.std.specs.Prelude.{◌≡◌, ◌∷◌, ◌++◌, ◌+◌, ◌≤◌, ◌<◌, [], ℕ, nat_lt, suc, map, slice_get, is_some, length, option_map, if◌then◌else◌, IfOk, OnOk, Some, None};
+ghost use Rattle.std.specs.Prelude.{◌≡◌, ◌∷◌, ◌++◌, ◌+◌, ◌≤◌, ◌<◌, [], ℕ, nat_lt, suc, map, slice_get, is_some, length, option_map, if◌then◌else◌, take, IfOk, IfSome, IfNone, OnOk, Some, None};
 ghost use Rattle.vmodel.specs.declared.effect.Effect.{Effect};
 ghost use Rattle.vmodel.specs.State.{State};
+ghost use Rattle.cause.specs.Numbered.{AreNumbered};
 ghost use Rattle.cause.specs.Visits as spec;
 
 use crate::footprint::{Footprint, footprint_at};
@@ -28,20 +29,20 @@ pub enum Actor {
 /// A visit: the step that it is, who makes it, how many visits of his came before it, the place of its action, and what it reads and
 /// writes.
 #[derive(Drop)]
-pub struct Visit {
-    pub step: u32,
-    pub actor: Actor,
-    pub number: usize,
-    pub place: usize,
-    pub footprint: Footprint,
+pub(crate) struct Visit {
+    pub(crate) step: u32,
+    pub(crate) actor: Actor,
+    pub(crate) number: usize,
+    pub(crate) place: usize,
+    pub(crate) footprint: Footprint,
 }
 
 /// An update that was posted: when, for how much later, and by the `<=` at which place.
 #[derive(Drop)]
-pub struct Posted {
-    pub at: u64,
-    pub after: u128,
-    pub place: usize,
+pub(crate) struct Posted {
+    pub(crate) at: u64,
+    pub(crate) after: u128,
+    pub(crate) place: usize,
 }
 
 /// What was seen of a run. A clause sees it as the record `Seen` of specs/Visits.antt.
@@ -58,6 +59,10 @@ impl Model for Seen {
     ghost Value = { seen.Seen };
 
     ghost view = { λ s. record { posted = s.posted.items; updates = s.updates; visits = s.visits.items } };
+
+    ghost use Rattle.cause.specs.Numbered.{AreNumbered};
+
+    ghost invariant = { λ s. AreNumbered s.visits.items };
 }
 
 // Whether two are the same.
@@ -78,17 +83,40 @@ pub(crate) fn is_same_visit(one: &Visit, other: &Visit) -> bool
     is_same_actor(one.actor, other.actor) && one.number == other.number
 }
 
-// How many of these visits an actor made.
-fn visits_by(actor: Actor, visits: &[Visit]) -> usize
-    ensures { result ≡ spec.visits_by actor visits.now }
+// What the number of the actor's next visit is behind visit k, where he made that.
+#[tactic(auto, using(crate::proofs::NumberLemmas::none_there))]
+fn number_behind(actor: Actor, visits: &[Visit], k: usize) -> Option<usize>
+    requires numbered { AreNumbered visits.now }
+    requires few { length visits.now < 18446744073709551616 }
+    ensures some { IfSome result (λ n. n ≡ spec.visits_by actor (take (k + 1) visits.now)) }
+    ensures none { IfNone result (spec.visits_by actor (take (k + 1) visits.now) ≡ spec.visits_by actor (take k visits.now)) }
 {
-    let mut count = 0;
-    for visit in visits {
-        if is_same_actor(actor, visit.actor) {
-            count += 1;
+    match visits.get(k) {
+        None => None,
+        Some(visit) => {
+            if is_same_actor(actor, visit.actor) {
+                Some(visit.number + 1)
+            } else {
+                None
+            }
         }
     }
-    count
+}
+
+// How many of these visits an actor made: one more than the number of his last.
+fn visits_by(actor: Actor, visits: &[Visit]) -> usize
+    requires { AreNumbered visits.now }
+    ensures { result ≡ spec.visits_by actor visits.now }
+{
+    let mut k = visits.len();
+    while k > 0 {
+        k -= 1;
+        match number_behind(actor, visits, k) {
+            None => {}
+            Some(number) => return number,
+        }
+    }
+    0
 }
 
 // Whether an update is due at a time.
@@ -168,6 +196,7 @@ fn footprint_by(
 }
 
 // The visit of a step.
+#[tactic(auto, using(crate::proofs::NumberLemmas::numbered_on))]
 fn put_visit(
     alloc: Global,
     visits: &mut Vec<Visit>,
@@ -177,8 +206,10 @@ fn put_visit(
     place: Option<usize>,
     effect: &Effect,
 ) -> Result<(), NoMemory>
-    ensures { OnOk result (visits.new.items
+    requires { AreNumbered visits.old.items }
+    ensures ok { OnOk result (visits.new.items
         ≡ spec.with_visit design.now step choice place effect.now visits.old.items) }
+    ensures numbered { AreNumbered visits.new.items }
 {
     let Some(place) = place else {
         return Ok(());

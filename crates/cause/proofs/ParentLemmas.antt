@@ -1,0 +1,42 @@
+-- A run and its parent, up to the step that the last member names.
+use Rattle.std.proofs.Common.{◌≡◌, ℕ, zero, suc, ◌-◌, ◌==◌, ◌<◌, ◌≤◌, Bool, false, if◌then◌else◌, List, [], ◌∷◌, length, take, Option, Some, None, slice_get, refl, sym, ap, ◌∙◌, arith}
+use Rattle.std.proofs.lemmas.Bool.Decides.{nat_tests}
+use Rattle.std.proofs.lemmas.Option.{same_Some, slice_get_within}
+use Rattle.sched_core.specs.Rules.{choice_at}
+use Rattle.vmodel.specs.State.{State}
+use Rattle.vmodel.specs.Run.{Setting, rules_of, state_after}
+use Rattle.cause.specs.Causes.{parent_of, step_named, last_step}
+
+no_choice : (log : List (ℕ × ℕ)) (k : ℕ) → length log ≡ 0 → choice_at log k ≡ 0
+no_choice [] k e = refl
+no_choice (m ∷ log) k e = absurd (omega (arith, e))
+
+-- before the last member both logs name the same
+same_choice : (log : List (ℕ × ℕ)) (n : ℕ) (last : ℕ × ℕ) (k : ℕ) → length log ≡ suc n → slice_get log n ≡ Some last → k < last.0 →
+    choice_at log k ≡ choice_at (take n log) k
+same_choice [] n last k len e lt = absurd (omega (arith, len))
+same_choice (m ∷ log) zero last k len e lt =
+    let before : k < m.0 = omega (arith, lt, ap (λ (member : ℕ × ℕ). member.0) (same_Some m last e)) in
+    let other : (m.0 == k) ≡ false = grind (arith, nat_tests, before) in
+    ap (λ (test : Bool). if test then m.1 else choice_at log k) other ∙ no_choice log k (omega (arith, len))
+same_choice (m ∷ log) (suc n) last k len e lt =
+    ap (λ (choice : ℕ). if m.0 == k then m.1 else choice) (same_choice log n last k (omega (arith, len)) e lt)
+
+module _ (setting : Setting) (log : List (ℕ × ℕ)) (last : ℕ × ℕ) (e : slice_get log (length log - 1) ≡ Some last) where
+  some_length : length log ≡ suc (length log - 1)
+  some_length = omega (arith, slice_get_within log (length log - 1) last e)
+
+  same_to : (n : ℕ) → n ≤ last.0 → state_after setting log n ≡ state_after setting (parent_of log) n
+  same_to zero le = refl
+  same_to (suc n) le =
+      ap (λ (s : State). (rules_of setting).after s (choice_at log n)) (same_to n (omega (arith, le)))
+      ∙ ap ((rules_of setting).after (state_after setting (parent_of log) n)) (same_choice log (length log - 1) last n some_length e (omega (arith, le)))
+
+named : (found : Option (ℕ × ℕ)) (s : ℕ) → step_named found ≡ Some s → (last : ℕ × ℕ) × (found ≡ Some last) × (s ≡ last.0)
+named None s e = absurd cc
+named (Some last) s e = (last, refl, sym (same_Some last.0 s e))
+
+pub same_before : (setting : Setting) (log : List (ℕ × ℕ)) (s : ℕ) → last_step log ≡ Some s → state_after setting log s ≡ state_after setting (parent_of log) s
+same_before setting log s e =
+    let (last, found, is) = named (slice_get log (length log - 1)) s e in
+    same_to setting log last found s (omega (arith, is))
