@@ -45,6 +45,7 @@ use Rattle.velab_process.specs.Statements.{Table, Lowered, LoweredBranches, lowe
 use Rattle.velab_process.specs.Processes.{ProcessTree, procedural, continuous, Processes, with_begins_before, process_trees_by, lower_process, lower_processes, lower_items}
 use Rattle.elaboration_law.specs.Widths.{Worth, meant, is_sized, are_sized, is_target}
 use Rattle.elaboration_law.specs.WrongWidths.{is_sized_delay, is_sized_own_delay, is_sized_assignment, is_sized_argument, is_sized_task, is_sized_statement, are_sized_statements, is_sized_branch, are_sized_branches, is_sized_process, is_sized_item}
+use Rattle.elaboration_law.proofs.RightUses.{and_true}
 use Rattle.elaboration_law.proofs.UseLemmas.{first_false, second_false}
 use Rattle.elaboration_law.proofs.SizeLemmas.{AreVectors}
 use Rattle.elaboration_law.proofs.ExpressionWidths.{is_width, Says, both_say, AreWorth, Sizes, lower_sizes}
@@ -64,10 +65,6 @@ swapped true true v = refl
 swapped true false v = refl
 swapped false true v = refl
 swapped false false v = refl
-
-true_last : (b : Bool) → (b && true) ≡ b
-true_last true = refl
-true_last false = refl
 
 -- where one of them doesn't hold all don't
 middle_false : (t c b : Bool) → c ≡ false → (t && (c && b)) ≡ false
@@ -531,7 +528,7 @@ module _ (scope : Scope) (named : Text → Worth) (vectors : AreVectors named) (
     branch_told table t s (default colon body) =
         let b = is_sized_statement named body in
         branches_on now (t && b) (t && b) (of_lowered now) (lower_statement scope table body) _ (λ e. e) (statement_told table t s body) (λ inner k.
-        record { of_table = t && b; of_items = true; table_says = k; items_say = refl; together = true_last (t && b) })
+        record { of_table = t && b; of_items = true; table_says = k; items_say = refl; together = sym (and_true (t && b)) })
 
     branches_told : (table : Table) (t : Bool) → Says (table_flaw now table) t → (branches : BranchTrees) → Branches now (t && are_sized_branches named branches) (lower_branches scope table branches)
     branches_told table t s no_branch = record { of_table = t; of_items = true; table_says = s; items_say = refl; together = refl }
