@@ -37,3 +37,13 @@ pub mod RightStatements
 pub mod RightInstances
 pub mod RightHierarchy
 pub mod KindLemmas
+pub mod SizeLemmas
+pub mod ExpressionWidths
+pub mod TargetWidths
+pub mod ParameterWidths
+pub mod InstanceWidths
+pub mod VariableWidths
+pub mod StatementWidths
+pub mod InstanceWorths
+pub mod InstanceTold
+pub mod WidthLemmas

@@ -34,7 +34,7 @@ second_false false b e = refl
 
 module _ (asked : Rule → Bool) where
   -- two questions, of an answer and of what comes behind it
-  two_judge : {A B : Type 0} (one other : Bool) (a : Result A ElabFault) (next : A → Result B ElabFault) → Judges asked one a → ((x : A) → Judges asked other (next x)) →
+  pub two_judge : {A B : Type 0} (one other : Bool) (a : Result A ElabFault) (next : A → Result B ElabFault) → Judges asked one a → ((x : A) → Judges asked other (next x)) →
       Judges asked (one && other) (a >>= next)
   two_judge {B = B} one other (Ok x) next h more = by (next x) (more x)
     where

@@ -13,3 +13,6 @@ pub mod Constants
 pub mod Selected
 pub mod Unknowns
 pub mod Kinds
+pub mod Widths
+pub mod Worths
+pub mod WrongWidths

@@ -10,6 +10,7 @@ ghost use Rattle.elaboration_law.specs.Doubles.{IsDeclaredTwice};
 ghost use Rattle.elaboration_law.specs.Drivers.{HasTwoDrivers};
 ghost use Rattle.elaboration_law.specs.Misfits.{HasMisfit};
 ghost use Rattle.elaboration_law.specs.Unknowns.{HasUnknown};
+ghost use Rattle.elaboration_law.specs.WrongWidths.{HasWrongWidth};
 ghost use Rattle.elaboration_law.specs.Constants.{HasUnfixed};
 ghost use Rattle.elaboration_law.specs.Kinds.{HasMiskind};
 ghost use Rattle.elaboration_law.specs.Tops.{LacksModule};
@@ -23,6 +24,7 @@ pub fn elaboration_rules()
     ensures known { IsMeant rule.Unknown HasUnknown }
     ensures drivers { IsMeant rule.Drivers HasTwoDrivers }
     ensures connections { IsMeant rule.Ports HasMisfit }
+    ensures widths { IsMeant rule.Width HasWrongWidth }
     ensures constants { IsMeant rule.Constant HasUnfixed }
     ensures depth { IsMeant rule.Depth IsTooDeep }
     ensures counts { IsMeant rule.TooMany HasTooMany }

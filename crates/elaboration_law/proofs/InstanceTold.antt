@@ -1,0 +1,297 @@
+-- The own steps of an instance: what they add to a design has no flaw only where its sizes are right; and where a size is told, they aren't.
+use Rattle.std.proofs.Common.{◌≡◌, ℕ, ◌+◌, nat_le, Bool, true, false, ◌&&◌, List, [], ◌∷◌, ◌++◌, map, length, slice_get, Option, None, Some, Result, Ok, Err, refl, sym, ap, ◌∙◌, ◌⊎◌, inl, inr, if◌then◌else◌, subst, arith, append_assoc}
+use Rattle.std.specs.List.{list_all}
+use Rattle.basis.proofs.Bools.{and_assoc}
+use Rattle.vast.specs.Words.{Text}
+use Rattle.vast.specs.NumberedWords.{Word}
+use Rattle.vast.specs.NumberedExpressions as text
+use Rattle.vast.specs.NumberedModules.{ConnectionsTree, InstanceTree, ItemTree, parameters, declaration, events, assignments, initial, always, instances, ModuleTree, SourceTree}
+use Rattle.vmodules.specs.Names.{letters_of, first_again}
+use Rattle.vmodules.specs.Hierarchy.{module_of}
+use Rattle.vmodules.specs.Ports.{Port, ports_of}
+use Rattle.vmodules.specs.Connected.{NamedConnection, open_names, misfit, misfit_if, value_for}
+use Rattle.vdesign.specs.Design.{Variable}
+use Rattle.vvalue.specs.Value.{Environment}
+use Rattle.vvalue.specs.Flaws.{flaw_of}
+use Rattle.velab_expr.specs.declared.fault.Rule.TheVariants.{Doubled, Drivers, Ports, TooMany}
+use Rattle.velab_expr.specs.declared.fault.ElabFault.{ElabFault}
+use Rattle.velab_expr.specs.Answers.{◌>>=◌, provided}
+use Rattle.velab_expr.specs.Constants.{nothing}
+use Rattle.velab_expr.specs.Resolved.{lower_expression}
+use Rattle.velab_expr.specs.Scopes.{Scope, lower_variable}
+use Rattle.velab_expr.specs.Symbols.{symbols_by}
+use Rattle.velab_declaration.specs.ActionFlaws.{action_flaw, blank_environment}
+use Rattle.velab_declaration.specs.Parameters.{item_scope}
+use Rattle.velab_declaration.specs.Variables.{port_declaration, declarations, port_names, declared_names, ScopeDrivers, lower_ports, lower_variables}
+use Rattle.velab_process.specs.Statements.{Table}
+use Rattle.velab_process.specs.Processes.{Processes, with_begins_before, lower_items}
+use Rattle.velab_process.specs.Connections.{only_name, lower_input, lower_output, lower_connection, lower_join, lower_joins}
+use Rattle.vhierarchy.specs.Instances.{barring, Instantiation, lower_instance, lower_list, named_again, lower_instances_of, lower_instances_by, lower_instances, Part, Context, base_of, lower_names, lower_own, lower_own_variables, lower_own_processes, driven_by, scope_drivers_by, with_own, few_enough}
+use Rattle.elaboration_law.specs.Widths.{Worth, is_sized, is_sized_if}
+use Rattle.elaboration_law.specs.Worths.{are_set_in, are_ranged, is_port_ranged, is_item_ranged}
+use Rattle.elaboration_law.specs.WrongWidths.{Instantiated, constants_in, worth_in, is_connected, is_sized_item, has_right_widths}
+use Rattle.elaboration_law.proofs.StepLemmas.{then_err, barring_ok, barring_err, few_err}
+use Rattle.elaboration_law.proofs.UseLemmas.{Judges, first_false, second_false, two_judge, last_judges, barring_judges, provided_judges}
+use Rattle.elaboration_law.proofs.OwnLemmas.{undriven_variables}
+use Rattle.elaboration_law.proofs.PlaceLemmas.{got_in_front, got_behind, got_mapped, item_scope_of, names_stand, scope_keeps}
+use Rattle.elaboration_law.proofs.SizeLemmas.{AreVectors}
+use Rattle.elaboration_law.proofs.ExpressionWidths.{is_width, Says, AreWorth, worth_of_constants}
+use Rattle.elaboration_law.proofs.ParameterWidths.{IsWorth, AllAdded}
+use Rattle.elaboration_law.proofs.InstanceWidths.{scope_sizes, ports_judged, items_judged}
+use Rattle.elaboration_law.proofs.VariableWidths.{variable_by, AreDeclared, both_declared, ports_declared, items_declared}
+use Rattle.elaboration_law.proofs.InstanceWorths.{all_in, names_sized, worth_here}
+use Rattle.elaboration_law.proofs.StatementWidths.{Told, Quiet, goes_on, quietly, quiet_then, variable_quiet, table_flaw, of_processes, acted, begun, expression_told, with_true, items_told}
+
+-- ---- the instances that it wants: no size is told of them
+
+ports_quiet : {A : Type 0} (word : Option Word) (a : Result A ElabFault) → Quiet a → Quiet (barring word Ports a)
+ports_quiet None a h = h
+ports_quiet (Some word) a h = refl
+
+doubled_quiet : {A : Type 0} (word : Option Word) (a : Result A ElabFault) → Quiet a → Quiet (barring word Doubled a)
+doubled_quiet None a h = h
+doubled_quiet (Some word) a h = refl
+
+few_quiet : {A : Type 0} (holds : Bool) (word : Option Word) (a : Result A ElabFault) → Quiet a → Quiet (provided holds TooMany word a)
+few_quiet true word a h = h
+few_quiet false word a h = refl
+
+list_quiet : (child : ModuleTree) (known : ℕ) (overrides : Option ConnectionsTree) (list : List InstanceTree) → Quiet (lower_list child known overrides list)
+list_quiet child known overrides [] = tt
+list_quiet child known overrides (one ∷ more) =
+    quiet_then (lower_instance child known overrides one) _
+    (ports_quiet (misfit_if one.name (letters_of (open_names child)) overrides) _ (ports_quiet (misfit one.name (letters_of (port_names child)) one.connections) _ tt)) (λ front.
+    quiet_then (lower_list child known overrides more) _ (list_quiet child known overrides more) (λ others. tt))
+
+of_quiet : (name : Word) (before known : ℕ) (child : Option ModuleTree) (overrides : Option ConnectionsTree) (list : List InstanceTree) → Quiet (lower_instances_of name before known child overrides list)
+of_quiet name before known None overrides list = refl
+of_quiet name before known (Some child) overrides list =
+    few_quiet (nat_le (before + length list) 1024) (Some name) _ (doubled_quiet (named_again child) _ (list_quiet child known overrides list))
+
+by_quiet : (modules : SourceTree) (before known : ℕ) (item : ItemTree) → Quiet (lower_instances_by modules before known item)
+by_quiet modules before known (parameters local type settings) = tt
+by_quiet modules before known (declaration kind list) = tt
+by_quiet modules before known (events names) = tt
+by_quiet modules before known (assignments settings) = tt
+by_quiet modules before known (initial statement) = tt
+by_quiet modules before known (always statement) = tt
+by_quiet modules before known (instances name overrides list) = of_quiet name before known (module_of modules name.letters) overrides list
+
+pub instances_quiet : (modules : SourceTree) (before known : ℕ) (items : List ItemTree) → Quiet (lower_instances modules before known items)
+instances_quiet modules before known [] = tt
+instances_quiet modules before known (item ∷ more) =
+    quiet_then (lower_instances_by modules before known item) _ (by_quiet modules before known item) (λ front.
+    quiet_then (lower_instances modules (before + length front) (known + length (symbols_by item)) more) _
+    (instances_quiet modules (before + length front) (known + length (symbols_by item)) more) (λ others. tt))
+
+-- ---- connections
+
+only_sized : (named : Text → Worth) (tree : text.ExpressionTree) (name : Word) → only_name tree ≡ Some name → is_sized named tree ≡ true
+only_sized named (text.number digits) name is = refl
+only_sized named (text.name letters) name is = refl
+only_sized named (text.time word) name is = refl
+only_sized named (text.bit letters index) name is = absurd cc
+only_sized named (text.part letters left right) name is = absurd cc
+only_sized named (text.parentheses inner) name is = absurd cc
+only_sized named (text.concatenation parts) name is = absurd cc
+only_sized named (text.replication count parts) name is = absurd cc
+only_sized named (text.conversion signed inner) name is = absurd cc
+only_sized named (text.apply operator inner) name is = absurd cc
+only_sized named (text.combine operator left right) name is = absurd cc
+only_sized named (text.conditional condition when_true when_false) name is = absurd cc
+
+module _ (now : Environment) (outer : Scope) (outside : Text → Worth) (outer_vectors : AreVectors outside) (outer_agrees : AreWorth false now outer outside)
+    (inner : Scope) (named : Text → Worth) (vectors : AreVectors named) (agrees : AreWorth false now inner named) where
+  input_told : (port : Word) (value : text.ExpressionTree) → Told (action_flaw now) (is_sized outside value) (lower_input outer inner port value)
+  input_told port value =
+      quietly (action_flaw now) (is_sized outside value) (lower_variable inner port) _ (variable_quiet inner port) (λ net.
+      goes_on (flaw_of now) (action_flaw now) (is_sized outside value) (is_sized outside value) (lower_expression outer value) _ (λ e. e) (expression_told outer outside outer_vectors now outer_agrees value) (λ e h. h))
+
+  output_told : (whose port : Word) (value : text.ExpressionTree) → Told (action_flaw now) (is_sized outside value) (lower_output whose outer inner port (only_name value))
+  output_told whose port value = by (only_name value) refl
+    where
+      by : (name : Option Word) → only_name value ≡ name → Told (action_flaw now) (is_sized outside value) (lower_output whose outer inner port name)
+      by None is = λ e. absurd cc
+      by (Some name) is =
+          quietly (action_flaw now) (is_sized outside value) (lower_variable outer name) _ (variable_quiet outer name) (λ net.
+          goes_on (flaw_of now) (action_flaw now) true (is_sized outside value) (lower_expression inner (text.name port)) _ (λ no. absurd cc) (expression_told inner named vectors now agrees (text.name port)) (λ e h.
+          subst (Says (flaw_of now e)) (sym (only_sized outside value name is)) h))
+
+  connection_told : (whose : Word) (p : Port) (value : text.ExpressionTree) → Told (action_flaw now) (is_sized outside value) (lower_connection whose outer inner p value)
+  connection_told whose p value = by p.output
+    where
+      by : (out : Bool) → Told (action_flaw now) (is_sized outside value) (if out then lower_output whose outer inner p.name (only_name value) else lower_input outer inner p.name value)
+      by true = output_told whose p.name value
+      by false = input_told p.name value
+
+  join_told : (whose : Word) (table : Table) (t : Bool) → Says (table_flaw now table) t → (p : Port) (value : Option text.ExpressionTree) →
+      Told (of_processes now) (t && is_sized_if outside value) (lower_join whose outer inner table p value)
+  join_told whose table t s p None = with_true t (table_flaw now table) s
+  join_told whose table t s p (Some value) =
+      goes_on (action_flaw now) (of_processes now) (is_sized outside value) (t && is_sized outside value) (lower_connection whose outer inner p value) _ (second_false t (is_sized outside value))
+      (connection_told whose p value) (λ action h. acted now table t (is_sized outside value) action s h)
+
+  joins_told : (connections : List NamedConnection) (whose : Word) (table : Table) (t : Bool) → Says (table_flaw now table) t → (ports : List Port) →
+      Told (of_processes now) (t && list_all (λ (p : Port). is_sized_if outside (value_for connections p.name.letters)) ports) (lower_joins whose outer inner connections table ports)
+  joins_told connections whose table t s [] = with_true t (table_flaw now table) s
+  joins_told connections whose table t s (p ∷ more) =
+      let first = is_sized_if outside (value_for connections p.name.letters) in
+      let others = list_all (λ (p : Port). is_sized_if outside (value_for connections p.name.letters)) more in
+      goes_on (of_processes now) (of_processes now) (t && first) (t && (first && others)) (lower_join whose outer inner table p (value_for connections p.name.letters)) _
+      (λ e. sym (and_assoc t first others) ∙ first_false (t && first) others e)
+      (join_told whose table t s p (value_for connections p.name.letters)) (λ front k.
+      subst (λ (x : Bool). Told (of_processes now) x (with_begins_before front.begins (lower_joins whose outer inner connections front.table more))) (and_assoc t first others)
+      (begun now ((t && first) && others) front.begins (lower_joins whose outer inner connections front.table more) (joins_told connections whose front.table (t && first) k more)))
+
+-- ---- what names are worth in designs that begin with these variables
+
+pub record IsRound (vs : List Variable) (scope : Scope) (named : Text → Worth) : Type 0 where
+  pub vectors : AreVectors named
+  pub agrees : (rest : List Variable) → AreWorth false (blank_environment (vs ++ rest)) scope named
+
+pub round_more : (vs more : List Variable) (scope : Scope) (named : Text → Worth) → IsRound vs scope named → IsRound (vs ++ more) scope named
+round_more vs more scope named h = record {
+  vectors = h.vectors;
+  agrees = λ rest. subst (λ (l : List Variable). AreWorth false (blank_environment l) scope named) (sym (append_assoc vs more rest)) (h.agrees (more ++ rest));
+}
+
+-- what a part of a design has has no flaw only where this holds, whatever variables are still to come
+abbrev pub Carries : Part → Bool → Type 0
+Carries part t = (rest : List Variable) → Says (table_flaw (blank_environment (part.variables ++ rest)) part.table) t
+
+pub carried : (part : Part) (more : List Variable) (t : Bool) → Carries part t → (rest : List Variable) → Says (table_flaw (blank_environment ((part.variables ++ more) ++ rest)) part.table) t
+carried part more t h rest = subst (λ (l : List Variable). Says (table_flaw (blank_environment l) part.table) t) (sym (append_assoc part.variables more rest)) (h (more ++ rest))
+
+-- ---- an instance's own steps
+
+abbrev pub instantiated : (Text → Worth) → Context → Instantiated
+instantiated outside context = record { unit = context.unit; outside = outside; values = context.overrides.values; connections = context.connections }
+
+module _ (part : Part) (context : Context) (outside : Text → Worth) (round : IsRound part.variables context.overrides.scope outside) where
+  abbrev pub one : Instantiated
+  one = instantiated outside context
+
+  abbrev constants : Text → Worth
+  constants = constants_in one
+
+  abbrev outer : AreWorth true nothing context.overrides.scope outside
+  outer = worth_of_constants false (blank_environment (part.variables ++ [])) context.overrides.scope outside (round.agrees [])
+
+  abbrev set : Bool
+  set = are_set_in outside context.overrides.values context.unit
+
+  abbrev is_ranged : Bool
+  is_ranged = are_ranged constants context.unit
+
+  abbrev pub connected : Bool
+  connected = list_all (is_connected one) (ports_of context.unit)
+
+  abbrev pub processed : Bool
+  processed = list_all (is_sized_item (worth_in one)) context.unit.items
+
+  -- its names
+
+  pub names_judged : Judges is_width set (lower_names part context)
+  names_judged =
+      barring_judges is_width set (first_again (declared_names context.unit)) Doubled _ refl
+      (provided_judges is_width set (nat_le (length part.variables + length (declared_names context.unit)) 1024) TooMany (Some context.name) _ refl
+      (provided_judges is_width set (nat_le part.events 4294967295) TooMany (Some context.name) _ refl
+      (by (item_scope (base_of part context) context.unit) (scope_sizes (base_of part context) context.unit outside round.vectors outer))))
+    where
+      by : (a : Result Scope ElabFault) → AllAdded context.overrides outside round.vectors outer constants set a → Judges is_width set a
+      by (Ok scope) h = h.1
+      by (Err fault) h = h
+
+  module _ (scope : Scope) (names_are : lower_names part context ≡ Ok scope) where
+    all_added : IsWorth context.overrides outside round.vectors outer scope constants × (set ≡ true)
+    all_added = subst (AllAdded context.overrides outside round.vectors outer constants set) (item_scope_of part context scope names_are) (scope_sizes (base_of part context) context.unit outside round.vectors outer)
+
+    abbrev worth : IsWorth context.overrides outside round.vectors outer scope constants
+    worth = all_added.0
+
+    -- its variables
+
+    module _ (children : List Instantiation) where
+      abbrev drivers : ScopeDrivers
+      drivers = scope_drivers_by context (ports_of context.unit) children scope
+
+      undriven_judged : Judges is_width is_ranged (undriven_variables context children scope)
+      undriven_judged =
+          two_judge is_width (list_all (is_port_ranged constants) (ports_of context.unit)) (list_all (is_item_ranged constants) context.unit.items) (lower_ports drivers scope (ports_of context.unit)) _
+          (ports_judged constants worth.vectors drivers scope worth.agrees (ports_of context.unit)) (λ front.
+          last_judges is_width (list_all (is_item_ranged constants) context.unit.items) (lower_variables drivers scope context.unit.items) _
+          (items_judged constants worth.vectors drivers scope worth.agrees context.unit.items) (λ others. refl))
+
+      all_declared : AreDeclared constants drivers (all_in context.unit) (undriven_variables context children scope)
+      all_declared =
+          both_declared constants drivers (map port_declaration (ports_of context.unit)) (declarations context.unit) (lower_ports drivers scope (ports_of context.unit)) (lower_variables drivers scope context.unit.items)
+          (ports_declared constants drivers worth.vectors scope worth.agrees (ports_of context.unit)) (items_declared constants drivers worth.vectors scope worth.agrees context.unit.items)
+
+      module _ (vs : List Variable) (variables_are : lower_own_variables context (ports_of context.unit) children scope ≡ Ok vs) where
+        undriven_are : undriven_variables context children scope ≡ Ok vs
+        undriven_are = (barring_ok (first_again (driven_by context (ports_of context.unit) children scope)) Drivers (undriven_variables context children scope) vs variables_are).1
+
+        ranges_hold : is_ranged ≡ true
+        ranges_hold = subst (Judges is_width is_ranged) undriven_are undriven_judged
+
+        made_are : vs ≡ map (variable_by constants drivers) (all_in context.unit)
+        made_are = subst (AreDeclared constants drivers (all_in context.unit)) undriven_are all_declared
+
+        pub round_here : IsRound (part.variables ++ vs) scope (worth_in one)
+        round_here = record {
+          vectors = names_sized constants context.unit ranges_hold worth.vectors;
+          agrees = λ rest. worth_here constants drivers context.unit scope worth.agrees (names_stand part context scope names_are).of ((part.variables ++ vs) ++ rest) (λ k d is.
+              let first = scope_keeps (λ (x : Scope). x.first) (λ x symbol meaning. refl) (λ x known. refl) (base_of part context) context.unit scope (item_scope_of part context scope names_are) in
+              got_in_front (part.variables ++ vs) rest (scope.first + k) (variable_by constants drivers d)
+              (got_behind part.variables vs k (scope.first + k) (omega (arith, first))
+              ∙ ap (λ (l : List Variable). slice_get l k) made_are ∙ got_mapped (variable_by constants drivers) (all_in context.unit) k d is));
+        }
+
+        -- its processes
+
+        pub processes_told : (rest : List Variable) (table : Table) (t : Bool) → Says (table_flaw (blank_environment ((part.variables ++ vs) ++ rest)) table) t →
+            Told (of_processes (blank_environment ((part.variables ++ vs) ++ rest))) (t && (connected && processed)) (lower_own_processes context (ports_of context.unit) scope table)
+        processes_told rest table t s =
+            let around = round_more part.variables vs context.overrides.scope outside round in
+            let now = blank_environment ((part.variables ++ vs) ++ rest) in
+            goes_on (of_processes now) (of_processes now) (t && connected) (t && (connected && processed)) (lower_joins context.name context.overrides.scope scope context.connections table (ports_of context.unit)) _
+            (λ e. sym (and_assoc t connected processed) ∙ first_false (t && connected) processed e)
+            (joins_told now context.overrides.scope outside around.vectors (around.agrees rest) scope (worth_in one) round_here.vectors (round_here.agrees rest) context.connections context.name table t s (ports_of context.unit)) (λ joins k.
+            subst (λ (x : Bool). Told (of_processes now) x (with_begins_before joins.begins (lower_items scope joins.table context.unit.items))) (and_assoc t connected processed)
+            (begun now ((t && connected) && processed) joins.begins (lower_items scope joins.table context.unit.items)
+            (items_told (worth_in one) round_here.vectors now scope (round_here.agrees rest) joins.table (t && connected) k context.unit.items)))
+
+        -- all is right where its connections and its processes are
+        pub right_is : has_right_widths one ≡ (connected && processed)
+        right_is = λ i. all_added.1 i && (ranges_hold i && (connected && processed))
+
+    -- ---- where a size is told
+
+    pub own_wrong : (t : Bool) → Carries part t → (children : List Instantiation) (fault : ElabFault) → is_width fault.rule ≡ true → lower_own context (ports_of context.unit) children scope part ≡ Err fault →
+        (t && has_right_widths one) ≡ false
+    own_wrong t carries children fault width err = by (then_err (lower_own_variables context (ports_of context.unit) children scope) behind fault err)
+      where
+        behind : List Variable → Result Part ElabFault
+        behind vs = lower_own_processes context (ports_of context.unit) scope part.table >>= λ processes. few_enough context.name (with_own context scope part vs processes)
+
+        of_ranges : is_ranged ≡ false → (t && has_right_widths one) ≡ false
+        of_ranges e = second_false t (has_right_widths one) (second_false set (is_ranged && (connected && processed)) (first_false is_ranged (connected && processed) e))
+
+        in_variables : ((w : Word) × (first_again (driven_by context (ports_of context.unit) children scope) ≡ Some w) × (fault.rule ≡ Drivers))
+            ⊎ ((first_again (driven_by context (ports_of context.unit) children scope) ≡ None) × (undriven_variables context children scope ≡ Err fault)) → (t && has_right_widths one) ≡ false
+        in_variables (inl (w, again, rule)) = absurd (let no = sym width ∙ ap is_width rule in cc)
+        in_variables (inr (none, e)) = of_ranges (subst (Judges is_width is_ranged) e (undriven_judged children) width)
+
+        in_processes : (vs : List Variable) → lower_own_variables context (ports_of context.unit) children scope ≡ Ok vs →
+            (lower_own_processes context (ports_of context.unit) scope part.table ≡ Err fault)
+            ⊎ ((processes : Processes) × (lower_own_processes context (ports_of context.unit) scope part.table ≡ Ok processes) × (few_enough context.name (with_own context scope part vs processes) ≡ Err fault)) →
+            (t && has_right_widths one) ≡ false
+        in_processes vs ok (inl e) =
+            ap (λ (b : Bool). t && b) (right_is children vs ok)
+            ∙ subst (Told (of_processes (blank_environment ((part.variables ++ vs) ++ []))) (t && (connected && processed))) e (processes_told children vs ok [] part.table t (carried part vs t carries [])) width
+        in_processes vs ok (inr (processes, made, e)) = absurd (let no = sym width ∙ ap is_width (few_err context.name (with_own context scope part vs processes) fault e).1 in cc)
+
+        by : (lower_own_variables context (ports_of context.unit) children scope ≡ Err fault)
+            ⊎ ((vs : List Variable) × (lower_own_variables context (ports_of context.unit) children scope ≡ Ok vs) × (behind vs ≡ Err fault)) → (t && has_right_widths one) ≡ false
+        by (inl e) = in_variables (barring_err (first_again (driven_by context (ports_of context.unit) children scope)) Drivers (undriven_variables context children scope) fault e)
+        by (inr (vs, ok, e)) = in_processes vs ok (then_err (lower_own_processes context (ports_of context.unit) scope part.table) (λ processes. few_enough context.name (with_own context scope part vs processes)) fault e)
