@@ -105,7 +105,8 @@ module _ (now : Environment) (outer : Scope) (outside : Text → Worth) (outer_v
   input_told : (port : Word) (value : text.ExpressionTree) → Told (action_flaw now) (is_sized outside value) (lower_input outer inner port value)
   input_told port value =
       quietly (action_flaw now) (is_sized outside value) (lower_variable inner port) _ (variable_quiet inner port) (λ net.
-      goes_on (flaw_of now) (action_flaw now) (is_sized outside value) (is_sized outside value) (lower_expression outer value) _ (λ e. e) (expression_told outer outside outer_vectors now outer_agrees value) (λ e h. h))
+      goes_on (flaw_of now) (action_flaw now) (is_sized outside value) (is_sized outside value) (lower_expression outer value) _
+      (λ e. e) (expression_told outer outside outer_vectors now outer_agrees value) (λ e h. h))
 
   output_told : (whose port : Word) (value : text.ExpressionTree) → Told (action_flaw now) (is_sized outside value) (lower_output whose outer inner port (only_name value))
   output_told whose port value = by (only_name value) refl

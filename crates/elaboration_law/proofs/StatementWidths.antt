@@ -47,6 +47,7 @@ use Rattle.elaboration_law.specs.Widths.{Worth, meant, is_sized, are_sized, is_t
 use Rattle.elaboration_law.specs.WrongWidths.{is_sized_delay, is_sized_own_delay, is_sized_assignment, is_sized_argument, is_sized_task, is_sized_statement, are_sized_statements, is_sized_branch, are_sized_branches, is_sized_process, is_sized_item}
 use Rattle.elaboration_law.proofs.RightUses.{and_true}
 use Rattle.elaboration_law.proofs.UseLemmas.{first_false, second_false}
+use Rattle.elaboration_law.proofs.RightUses.{and_true}
 use Rattle.elaboration_law.proofs.SizeLemmas.{AreVectors}
 use Rattle.elaboration_law.proofs.ExpressionWidths.{is_width, Says, both_say, AreWorth, Sizes, lower_sizes}
 use Rattle.elaboration_law.proofs.TargetWidths.{or_assoc, IsWritten, target_sizes}
@@ -86,8 +87,7 @@ flaws_joined flaw [] ys = refl
 flaws_joined flaw (x ∷ xs) ys = ap (option_or (flaw x)) (flaws_joined flaw xs ys) ∙ sym (or_assoc (flaw x) (first_flaw flaw xs) (first_flaw flaw ys))
 
 pub with_true : (b : Bool) (flaw : Option Flaw) → Says flaw b → Says flaw (b && true)
-with_true true flaw h = h
-with_true false flaw h = h
+with_true b flaw h = subst (Says flaw) (and_true b) h
 
 -- ---- what an answer tells
 
@@ -431,20 +431,25 @@ module _ (scope : Scope) (named : Text → Worth) (vectors : AreVectors named) (
       let one = is_sized named item in
       let others = are_sized named more in
       goes_on (first_flaw (branch_flaw now)) (first_flaw (branch_flaw now)) one (one && others) (lower_label scope places item) _ (first_false one others)
-      (goes_on (flaw_of now) (first_flaw (branch_flaw now)) one one (lower_expression scope item) _ (λ e. e) (expression_told item) (λ e h. subst (λ (f : Option Flaw). Says f one) (sym (flaw_none (flaw_of now e))) h)) (λ front h.
+      (goes_on (flaw_of now) (first_flaw (branch_flaw now)) one one (lower_expression scope item) _
+      (λ e. e) (expression_told item) (λ e h. subst (λ (f : Option Flaw). Says f one) (sym (flaw_none (flaw_of now e))) h)) (λ front h.
       goes_on (first_flaw (branch_flaw now)) (first_flaw (branch_flaw now)) others (one && others) (lower_labels scope places more) _ (second_false one others) (labels_told places more) (λ rest k.
       subst (λ (f : Option Flaw). Says f (one && others)) (sym (flaws_joined (branch_flaw now) front rest))
       (both_say (first_flaw (branch_flaw now) front) (first_flaw (branch_flaw now) rest) one others h k)))
 
   -- what a `for` does behind its first assignment
-  abbrev turning_behind : Lowered → text.ExpressionTree → TargetTree → text.ExpressionTree → StatementTree → ExpressionTree → Result Lowered ElabFault
-  turning_behind begin condition next_target next_value body test =
-      lower_statement scope begin.table body >>= λ inner.
-      with_places_before inner.places (lower_assignment true scope inner.table next_target None next_value) >>= λ turn.
-      Ok (lowered_action turn.table (first_in condition) (While test turn.places))
+  module _ (begin : Lowered) (condition : text.ExpressionTree) (next_target : TargetTree) (next_value : text.ExpressionTree) (body : StatementTree) where
+    abbrev after_turn : ExpressionTree → Lowered → Result Lowered ElabFault
+    after_turn test turn = Ok (lowered_action turn.table (first_in condition) (While test turn.places))
 
-  abbrev turning : Lowered → text.ExpressionTree → TargetTree → text.ExpressionTree → StatementTree → Result Lowered ElabFault
-  turning begin condition next_target next_value body = lower_expression scope condition >>= λ test. turning_behind begin condition next_target next_value body test
+    abbrev after_body : ExpressionTree → Lowered → Result Lowered ElabFault
+    after_body test inner = with_places_before inner.places (lower_assignment true scope inner.table next_target None next_value) >>= λ turn. after_turn test turn
+
+    abbrev after_test : ExpressionTree → Result Lowered ElabFault
+    after_test test = lower_statement scope begin.table body >>= λ inner. after_body test inner
+
+    abbrev turning : Result Lowered ElabFault
+    turning = lower_expression scope condition >>= λ test. after_test test
 
   mutual
     statement_told : (table : Table) (t : Bool) → Says (table_flaw now table) t → (statement : StatementTree) → Told (of_lowered now) (t && is_sized_statement named statement) (lower_statement scope table statement)
@@ -454,7 +459,8 @@ module _ (scope : Scope) (named : Text → Worth) (vectors : AreVectors named) (
     statement_told table t s (nonblocking target amount v) = assignment_told false table t s target amount v
     statement_told table t s (trigger letters) = quietly (of_lowered now) (t && true) (lower_event scope letters) _ (event_quiet scope letters) (λ number. with_true t _ (acted_anyway now table t _ s refl))
     statement_told table t s (if_true condition body) =
-        tested t (is_sized named condition) (is_sized_statement named body) (lower_expression scope condition) (lower_statement scope table body) _ (expression_told condition) (statement_told table t s body) (λ e inner h k.
+        tested t (is_sized named condition) (is_sized_statement named body) (lower_expression scope condition) (lower_statement scope table body) _ (expression_told condition)
+        (statement_told table t s body) (λ e inner h k.
         acted now inner.table (t && is_sized_statement named body) (is_sized named condition) _ k h)
     statement_told table t s (if_else condition body other) =
         let c = is_sized named condition in
@@ -462,8 +468,10 @@ module _ (scope : Scope) (named : Text → Worth) (vectors : AreVectors named) (
         let o = is_sized_statement named other in
         let all = t && (c && (b && o)) in
         goes_on (flaw_of now) (of_lowered now) c all (lower_expression scope condition) _ (λ e. middle_false t c (b && o) e) (expression_told condition) (λ e h.
-        goes_on (of_lowered now) (of_lowered now) (t && b) all (lower_statement scope table body) _ (λ f. outer_false t c (b && o) (sym (and_assoc t b o) ∙ first_false (t && b) o f)) (statement_told table t s body) (λ one k.
-        goes_on (of_lowered now) (of_lowered now) ((t && b) && o) all (lower_statement scope one.table other) _ (λ f. outer_false t c (b && o) (sym (and_assoc t b o) ∙ f)) (statement_told one.table (t && b) k other) (λ two l.
+        goes_on (of_lowered now) (of_lowered now) (t && b) all (lower_statement scope table body) _
+        (λ f. outer_false t c (b && o) (sym (and_assoc t b o) ∙ first_false (t && b) o f)) (statement_told table t s body) (λ one k.
+        goes_on (of_lowered now) (of_lowered now) ((t && b) && o) all (lower_statement scope one.table other) _
+        (λ f. outer_false t c (b && o) (sym (and_assoc t b o) ∙ f)) (statement_told one.table (t && b) k other) (λ two l.
         acted_as now two.table ((t && b) && o) c all _ (ap (λ (x : Bool). x && c) (and_assoc t b o) ∙ behind_body t c (b && o)) l h)))
     statement_told table t s (case_of kind v branches) =
         let c = is_sized named v in
@@ -474,7 +482,8 @@ module _ (scope : Scope) (named : Text → Worth) (vectors : AreVectors named) (
         acted_as now inner.table k.of_table (c && k.of_items) all _ (sym (behind_body k.of_table c k.of_items) ∙ ap (λ (x : Bool). x && c) k.together ∙ behind_body t c b)
         k.table_says (both_say (flaw_of now e) (first_flaw (branch_flaw now) inner.branches) c k.of_items h k.items_say)))
     statement_told table t s (while_true condition body) =
-        tested t (is_sized named condition) (is_sized_statement named body) (lower_expression scope condition) (lower_statement scope table body) _ (expression_told condition) (statement_told table t s body) (λ e inner h k.
+        tested t (is_sized named condition) (is_sized_statement named body) (lower_expression scope condition) (lower_statement scope table body) _ (expression_told condition)
+        (statement_told table t s body) (λ e inner h k.
         acted now inner.table (t && is_sized_statement named body) (is_sized named condition) _ k h)
     statement_told table t s (repeat_times count body) =
         tested t (is_sized named count) (is_sized_statement named body) (lower_expression scope count) (lower_statement scope table body) _ (expression_told count) (statement_told table t s body) (λ e inner h k.
@@ -490,15 +499,21 @@ module _ (scope : Scope) (named : Text → Worth) (vectors : AreVectors named) (
         let u = t && i in
         let all = u && (c && (b && n)) in
         finished now all (t && (i && (c && (b && n)))) (and_assoc t i (c && (b && n))) (lower_statement scope table (for_loop target v condition next_target next_value body))
-        (goes_on (of_lowered now) (of_lowered now) u all (lower_assignment true scope table target None v) _ (first_false u (c && (b && n))) (assignment_told true table t s target None v) (λ begin k.
+        (goes_on (of_lowered now) (of_lowered now) u all (lower_assignment true scope table target None v) _ (first_false u (c && (b && n)))
+        (assignment_told true table t s target None v) (λ begin k.
         placed now all begin.places (turning begin condition next_target next_value body)
-        (goes_on (flaw_of now) (of_lowered now) c all (lower_expression scope condition) (turning_behind begin condition next_target next_value body) (λ e. middle_false u c (b && n) e) (expression_told condition) (λ test h.
-        goes_on (of_lowered now) (of_lowered now) (u && b) all (lower_statement scope begin.table body) (λ inner. with_places_before inner.places (lower_assignment true scope inner.table next_target None next_value) >>= λ turn. Ok (lowered_action turn.table (first_in condition) (While test turn.places))) (λ f. outer_false u c (b && n) (sym (and_assoc u b n) ∙ first_false (u && b) n f)) (statement_told begin.table u k body) (λ inner l.
-        goes_on (of_lowered now) (of_lowered now) ((u && b) && n) all (with_places_before inner.places (lower_assignment true scope inner.table next_target None next_value)) (λ turn. Ok (lowered_action turn.table (first_in condition) (While test turn.places))) (λ f. outer_false u c (b && n) (sym (and_assoc u b n) ∙ f))
-        (placed now ((u && b) && n) inner.places (lower_assignment true scope inner.table next_target None next_value) (assignment_told true inner.table (u && b) l next_target None next_value)) (λ turn m.
+        (goes_on (flaw_of now) (of_lowered now) c all (lower_expression scope condition) (after_test begin condition next_target next_value body)
+        (λ e. middle_false u c (b && n) e) (expression_told condition) (λ test h.
+        goes_on (of_lowered now) (of_lowered now) (u && b) all (lower_statement scope begin.table body) (after_body begin condition next_target next_value body test)
+        (λ f. outer_false u c (b && n) (sym (and_assoc u b n) ∙ first_false (u && b) n f)) (statement_told begin.table u k body) (λ inner l.
+        goes_on (of_lowered now) (of_lowered now) ((u && b) && n) all (with_places_before inner.places (lower_assignment true scope inner.table next_target None next_value))
+        (after_turn begin condition next_target next_value body test) (λ f. outer_false u c (b && n) (sym (and_assoc u b n) ∙ f))
+        (placed now ((u && b) && n) inner.places (lower_assignment true scope inner.table next_target None next_value)
+        (assignment_told true inner.table (u && b) l next_target None next_value)) (λ turn m.
         acted_as now turn.table ((u && b) && n) c all (While test turn.places) (ap (λ (x : Bool). x && c) (and_assoc u b n) ∙ behind_body u c (b && n)) m h))))))
     statement_told table t s (wait_for condition body) =
-        tested t (is_sized named condition) (is_sized_statement named body) (lower_expression scope condition) (lower_statement scope table body) _ (expression_told condition) (statement_told table t s body) (λ e inner h k.
+        tested t (is_sized named condition) (is_sized_statement named body) (lower_expression scope condition) (lower_statement scope table body) _ (expression_told condition)
+        (statement_told table t s body) (λ e inner h k.
         acted now inner.table (t && is_sized_statement named body) (is_sized named condition) _ k h)
     statement_told table t s (delay amount body) =
         tested t (is_sized_delay named amount) (is_sized_statement named body) (lower_amount scope amount) (lower_statement scope table body) _ (amount_told amount) (statement_told table t s body) (λ e inner h k.
@@ -514,7 +529,8 @@ module _ (scope : Scope) (named : Text → Worth) (vectors : AreVectors named) (
     all_told table t s (first_statement statement rest) =
         let one = is_sized_statement named statement in
         let others = are_sized_statements named rest in
-        goes_on (of_lowered now) (of_lowered now) (t && one) (t && (one && others)) (lower_statement scope table statement) _ (λ e. sym (and_assoc t one others) ∙ first_false (t && one) others e) (statement_told table t s statement) (λ front k.
+        goes_on (of_lowered now) (of_lowered now) (t && one) (t && (one && others)) (lower_statement scope table statement) _
+        (λ e. sym (and_assoc t one others) ∙ first_false (t && one) others e) (statement_told table t s statement) (λ front k.
         subst (λ (x : Bool). Told (of_lowered now) x (with_places_before front.places (lower_all scope front.table rest))) (and_assoc t one others)
         (placed now ((t && one) && others) front.places (lower_all scope front.table rest) (all_told front.table (t && one) k rest)))
 
@@ -547,12 +563,14 @@ module _ (scope : Scope) (named : Text → Worth) (vectors : AreVectors named) (
       quietly (of_lowered now) (t && c) (lower_variable scope name) _ (variable_quiet scope name) (λ net.
       goes_on (flaw_of now) (of_lowered now) c (t && c) (lower_expression scope v) _ (second_false t c) (expression_told v) (λ e h. acted now table t c _ s h))
 
-  pub processes_told : (table : Table) (t : Bool) → Says (table_flaw now table) t → (list : List ProcessTree) → Told (of_processes now) (t && list_all (is_sized_process named) list) (lower_processes scope table list)
+  pub processes_told : (table : Table) (t : Bool) → Says (table_flaw now table) t → (list : List ProcessTree) →
+      Told (of_processes now) (t && list_all (is_sized_process named) list) (lower_processes scope table list)
   processes_told table t s [] = with_true t (table_flaw now table) s
   processes_told table t s (process ∷ rest) =
       let one = is_sized_process named process in
       let others = list_all (is_sized_process named) rest in
-      goes_on (of_lowered now) (of_processes now) (t && one) (t && (one && others)) (lower_process scope table process) _ (λ e. sym (and_assoc t one others) ∙ first_false (t && one) others e) (process_told table t s process) (λ front k.
+      goes_on (of_lowered now) (of_processes now) (t && one) (t && (one && others)) (lower_process scope table process) _
+      (λ e. sym (and_assoc t one others) ∙ first_false (t && one) others e) (process_told table t s process) (λ front k.
       subst (λ (x : Bool). Told (of_processes now) x (with_begins_before (front.places ∷ []) (lower_processes scope front.table rest))) (and_assoc t one others)
       (begun now ((t && one) && others) (front.places ∷ []) (lower_processes scope front.table rest) (processes_told front.table (t && one) k rest)))
 

@@ -137,7 +137,8 @@ module _ (modules : SourceTree) where
             ap (λ (b : Bool). t && b) (list_all-append has_right_widths (instantiated_below levels modules (made_as named c)) (flat_map (instantiated_below levels modules) (map (made_as named) more)))
             ∙ sym (and_assoc t here (all_below more))
 
-        by : (a : Result Part ElabFault) → Grows part (t && here) a → ((next : Part) → IsRound next.variables scope named → Carries next (t && here) → Grows next ((t && here) && all_below more) (each step next more)) →
+        by : (a : Result Part ElabFault) → Grows part (t && here) a → ((next : Part) → IsRound next.variables scope named → Carries next (t && here) →
+            Grows next ((t && here) && all_below more) (each step next more)) →
             Grows part (t && all_below (c ∷ more)) (a >>= λ next. each step next more)
         by (Ok next) g others =
             subst (λ (b : Bool). Grows part b (each step next more)) (sym whole)
@@ -225,7 +226,8 @@ of_width f = is_width f.rule
 abbrev none_of_width : Rule → Bool
 none_of_width rule = not (is_width rule)
 
-table_judged : (now : Environment) (actions : List Action) (words : List (Option ℕ)) (holds : Bool) → Says (first_flaw (action_flaw now) actions) holds → JudgesIf of_width holds (table_fault (flaw_rule now) actions words)
+table_judged : (now : Environment) (actions : List Action) (words : List (Option ℕ)) (holds : Bool) → Says (first_flaw (action_flaw now) actions) holds →
+    JudgesIf of_width holds (table_fault (flaw_rule now) actions words)
 table_judged now [] words holds h = h
 table_judged now (action ∷ more) words holds h = by (action_flaw now action) h (λ k. table_judged now more (drop 1 words) holds k)
   where
