@@ -45,7 +45,6 @@ use Rattle.velab_process.specs.Statements.{Table, Lowered, LoweredBranches, lowe
 use Rattle.velab_process.specs.Processes.{ProcessTree, procedural, continuous, Processes, with_begins_before, process_trees_by, lower_process, lower_processes, lower_items}
 use Rattle.elaboration_law.specs.Widths.{Worth, meant, is_sized, are_sized, is_target}
 use Rattle.elaboration_law.specs.WrongWidths.{is_sized_delay, is_sized_own_delay, is_sized_assignment, is_sized_argument, is_sized_task, is_sized_statement, are_sized_statements, is_sized_branch, are_sized_branches, is_sized_process, is_sized_item}
-use Rattle.elaboration_law.proofs.RightUses.{and_true}
 use Rattle.elaboration_law.proofs.UseLemmas.{first_false, second_false}
 use Rattle.elaboration_law.proofs.RightUses.{and_true}
 use Rattle.elaboration_law.proofs.SizeLemmas.{AreVectors}
