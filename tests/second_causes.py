@@ -1,0 +1,133 @@
+"""A second reading of crates/cause/README.md: the visits of a slot in the run under a log and in the run under the same log without its last
+member, and the first two that touch and stand in another order.
+"""
+from dataclasses import dataclass
+
+from second_reading import Run
+
+
+@dataclass
+class Visit:
+    """A step of a process, or an update: who makes it, which step of its run it is, and what it reads and writes."""
+    who: tuple
+    step: int
+    reads: set
+    writes: set
+
+
+ADVANCE = ("advance",)
+NOTHING = frozenset()
+
+
+def names_in(expression):
+    return {("variable", place) for place in expression.reads()}
+
+
+def index_names(targets):
+    return set().union(*(names_in(target[2]) for target in targets if target[0] == "bit"))
+
+
+def targets_of(targets):
+    return {("variable", target[1]) for target in targets}
+
+
+def terms_of(terms):
+    return {("event" if edge == "event" else "variable", place) for edge, place in terms}
+
+
+def shown_in(pieces):
+    return set().union(*(names_in(piece[2]) for piece in pieces if not isinstance(piece, str)))
+
+
+def footprint(action, counts):
+    """What a step of an action reads, and what it writes; by the body of a `repeat`, its count."""
+    kind, *what = action
+    if kind in ("assign", "drive", "post"):
+        return names_in(what[1]) | index_names(what[0]), targets_of(what[0])
+    if kind == "later":
+        return names_in(what[1]) | names_in(what[2]) | index_names(what[0]), targets_of(what[0])
+    if kind == "held":
+        return names_in(what[1]) | names_in(what[2]), NOTHING
+    if kind == "write":
+        return index_names(what[0]), targets_of(what[0])
+    if kind == "trigger":
+        return NOTHING, {("event", what[0])}
+    if kind in ("delay", "until", "test", "again", "repeat"):
+        return names_in(what[0]), NOTHING
+    if kind == "turn":
+        return names_in(counts[id(what[1])]), NOTHING
+    if kind == "on":
+        return terms_of(what[0]), NOTHING
+    if kind == "line":
+        return shown_in(what[0]), NOTHING
+    if kind == "case":
+        return set().union(names_in(what[1]), *(names_in(item) for item in what[2])), NOTHING
+    return NOTHING, NOTHING
+
+
+class Watched(Run):
+    """A run that keeps who takes each step, and what that touches."""
+
+    def __init__(self, *words, **more):
+        self.visits, self.posts, self.updates, self.counts = [], [], 0, {}
+        super().__init__(*words, **more)
+
+    def take(self, choice):
+        step = len(self.visits)
+        if choice == "advance":
+            visit = Visit(ADVANCE, step, NOTHING, NOTHING)
+        elif choice == "update":
+            due = [poster for time, poster in self.posts if time == self.time]
+            visit = Visit(("update", due[self.updates]), step, NOTHING, {("variable", place) for place, letters in self.activated[0] if letters})
+            self.updates += 1
+        else:
+            visit = Visit(("process", choice), step, *self.touched(choice))
+        self.visits.append(visit)
+        super().take(choice)
+        self.updates *= choice != "advance"
+
+    def touched(self, process):
+        action = self.rest[process][0]
+        if action[0] == "repeat":
+            self.counts[id(action[2])] = action[1]
+        if action[0] in ("post", "later"):
+            self.posts.append((self.time + (self.amount(action[3]) if action[0] == "later" else 0), id(action)))
+        return footprint(action, self.counts)
+
+
+def slot_visits(made, grain, log, start, until, holding):
+    """The visits of the run under the log, from a step on, to the end of its slot, by who makes them and how many of his there were."""
+    run, named, count = Watched(made, grain == "process", until, holding), dict(log), 0
+    while run.choices() and not (count > start and run.visits[-1].who == ADVANCE):
+        run.take_number(named.get(count, 0))
+        count += 1
+    found, counts = {}, {}
+    for visit in run.visits[start:]:
+        if visit.who == ADVANCE:
+            break
+        number = counts[visit.who] = counts.get(visit.who, -1) + 1
+        found[(visit.who, number)] = visit
+    return found
+
+
+def touch(one, other):
+    return bool(one.writes & (other.reads | other.writes) or other.writes & one.reads)
+
+
+def shared(one, other):
+    return one.writes & (other.reads | other.writes) | other.writes & one.reads
+
+
+def cause(made, grain, log, until, holding):
+    """The step at which the runs part, the names of the two visits, and the visits of both runs by their names; None where there is none."""
+    *others, (start, _) = log
+    run = slot_visits(made, grain, log, start, until, holding)
+    parent = slot_visits(made, grain, others, start, until, holding)
+    for name, visit in run.items():
+        before = [
+            (one.step, other) for other, one in parent.items()
+            if other != name and touch(visit, one) and (name not in parent or one.step < parent[name].step)
+            and (other not in run or run[other].step > visit.step)]
+        if before:
+            return start, name, max(before, key=lambda found: found[0])[1], run, parent
+    return None
