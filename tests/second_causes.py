@@ -8,9 +8,11 @@ from second_reading import Run
 
 @dataclass
 class Visit:
-    """A step of a process, or an update: who makes it, which step of its run it is, and what it reads and writes."""
+    """A step of a process, or an update: who makes it, which step of its run it is, its action, and what it reads and writes."""
     who: tuple
     step: int
+    action: int
+    is_connection: bool
     reads: set
     writes: set
 
@@ -37,6 +39,13 @@ def terms_of(terms):
 
 def shown_in(pieces):
     return set().union(*(names_in(piece[2]) for piece in pieces if not isinstance(piece, str)))
+
+
+def name_of(action):
+    """A number that an action has alone, wherever it stands; None where that can't be told."""
+    kind, *what = action
+    part = what[kind in ("repeat", "turn")] if what else 0
+    return None if isinstance(part, int) else id(part)
 
 
 def footprint(action, counts):
@@ -75,23 +84,24 @@ class Watched(Run):
     def take(self, choice):
         step = len(self.visits)
         if choice == "advance":
-            visit = Visit(ADVANCE, step, NOTHING, NOTHING)
+            visit = Visit(ADVANCE, step, None, False, NOTHING, NOTHING)
         elif choice == "update":
             due = [poster for time, poster in self.posts if time == self.time]
-            visit = Visit(("update", due[self.updates]), step, NOTHING, {("variable", place) for place, letters in self.activated[0] if letters})
+            writes = {("variable", place) for place, letters in self.activated[0] if letters}
+            visit = Visit(("update", due[self.updates]), step, due[self.updates], False, NOTHING, writes)
             self.updates += 1
         else:
-            visit = Visit(("process", choice), step, *self.touched(choice))
+            action = self.rest[choice][0]
+            visit = Visit(("process", choice), step, name_of(action), action[0] == "drive", *self.touched(action))
         self.visits.append(visit)
         super().take(choice)
         self.updates *= choice != "advance"
 
-    def touched(self, process):
-        action = self.rest[process][0]
+    def touched(self, action):
         if action[0] == "repeat":
             self.counts[id(action[2])] = action[1]
         if action[0] in ("post", "later"):
-            self.posts.append((self.time + (self.amount(action[3]) if action[0] == "later" else 0), id(action)))
+            self.posts.append((self.time + (self.amount(action[3]) if action[0] == "later" else 0), name_of(action)))
         return footprint(action, self.counts)
 
 
@@ -116,6 +126,16 @@ def touch(one, other):
 
 def shared(one, other):
     return one.writes & (other.reads | other.writes) | other.writes & one.reads
+
+
+def behind(visit, visits):
+    """Where a visit is a connection, the last visit before it that wrote what it reads, and so on."""
+    while visit.is_connection:
+        before = [one for one in visits.values() if one.step < visit.step and one.writes & visit.reads]
+        if not before:
+            break
+        visit = max(before, key=lambda one: one.step)
+    return visit
 
 
 def cause(made, grain, log, until, holding):

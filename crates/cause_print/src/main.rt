@@ -4,10 +4,7 @@
 #![tactic(auto)]
 
 use basis::NoMemory;
-use cause::cause::{Blamed, Cause};
-use cause::cause_of;
-use cause::thing::Thing;
-use cause::visit::Actor;
+use cause::{Actor, Blamed, Cause, Thing, cause_of};
 use sched_core::setting::{Departures, Grain, Looked};
 use sched_core::{Log, read_log};
 use std::alloc::Global;
@@ -85,7 +82,9 @@ fn show_visit(rt: &impl Print, word: &str, visit: Blamed) -> io::Result<()> {
         Actor::UpdateOf(_) => println!(rt; "{word} update")?,
     }
     show_step(rt, "run", visit.in_run)?;
-    show_step(rt, "parent", visit.in_parent)
+    show_step(rt, "parent", visit.in_parent)?;
+    println!(rt; "place {}", visit.place)?;
+    println!(rt; "statement {}", visit.statement)
 }
 
 fn show_thing(rt: &impl Print, thing: &Thing) -> io::Result<()> {
