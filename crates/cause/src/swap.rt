@@ -86,6 +86,33 @@ fn is_swap(run: &[Visit], parent: &[Visit], i: usize, j: usize) -> bool
     }
 }
 
+// Where the same visit stands, or behind all where it doesn't come.
+fn place_of(visit: &Visit, visits: &[Visit]) -> usize
+    ensures within { result ≤ length visits.now }
+    ensures come { (n : ℕ) → result < length visits.now → result < n → spec.has_come visit.now (take n visits.now) ≡ true }
+{
+    let mut place = 0;
+    for other in visits {
+        if is_same_visit(visit, other) {
+            return place;
+        }
+        place += 1;
+    }
+    place
+}
+
+// From which visit of the parent on none is a swap with this one of the run, as it has come there.
+#[tactic(auto, using(crate::proofs::SwapLemmas::behind_place, crate::proofs::SwapLemmas::no_visit))]
+fn end_of(run: &[Visit], parent: &[Visit], i: usize) -> usize
+    ensures within { result ≤ length parent.now }
+    ensures none { (l : ℕ) → result ≤ l → spec.is_swap run.now parent.now i l ≡ false }
+{
+    match run.get(i) {
+        None => 0,
+        Some(visit) => place_of(visit, parent),
+    }
+}
+
 // The last visit of the parent with which this one of the run is a swap.
 fn second_of(run: &[Visit], parent: &[Visit], i: usize) -> Option<usize>
     ensures swap { IfSome result (λ j. spec.is_swap run.now parent.now i j ≡ true) }
@@ -93,7 +120,7 @@ fn second_of(run: &[Visit], parent: &[Visit], i: usize) -> Option<usize>
     ensures within { IfSome result (λ j. j < length parent.now) }
     ensures none { IfNone result ((l : ℕ) → spec.is_swap run.now parent.now i l ≡ false) }
 {
-    let mut j = parent.len();
+    let mut j = end_of(run, parent, i);
     while j > 0 {
         j -= 1;
         if is_swap(run, parent, i, j) {
