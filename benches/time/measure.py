@@ -53,7 +53,7 @@ endmodule
 
 
 def words(more=()):
-    return ["explore", "--memory", MEMORY, "--entries", MOST, "--steps", MOST, *more]
+    return ["explore", "--memory", MEMORY, "--steps", MOST, *more]
 
 
 def measured(program, name, text, more=()):
