@@ -44,7 +44,7 @@ def shown_in(pieces):
 def name_of(action):
     """A number that an action has alone, wherever it stands; None where that can't be told."""
     kind, *what = action
-    part = what[kind in ("repeat", "turn")] if what else 0
+    part = what[kind in ("repeat", "turn", "case")] if what else 0
     return None if isinstance(part, int) else id(part)
 
 
