@@ -24,10 +24,9 @@ impl Model for Places {
 
 impl Places {
     /// These places.
-    pub fn new(mut list: Vec<usize>) -> Places
+    pub fn new(list: Vec<usize>) -> Places
         ensures { result ≡ list.items }
     {
-        list.shrink_to_fit();
         Places { list }
     }
 
@@ -76,10 +75,9 @@ impl Model for Terms {
 
 impl Terms {
     /// These terms.
-    pub fn new(mut list: Vec<Term>) -> Terms
+    pub fn new(list: Vec<Term>) -> Terms
         ensures { result ≡ list.items }
     {
-        list.shrink_to_fit();
         Terms { list }
     }
 
@@ -120,10 +118,9 @@ impl Model for Branches {
 
 impl Branches {
     /// These branches.
-    pub fn new(mut list: Vec<Branch>) -> Branches
+    pub fn new(list: Vec<Branch>) -> Branches
         ensures { result ≡ list.items }
     {
-        list.shrink_to_fit();
         Branches { list }
     }
 
@@ -168,10 +165,9 @@ impl Model for Targets {
 
 impl Targets {
     /// These targets.
-    pub fn new(mut list: Vec<Target>) -> Targets
+    pub fn new(list: Vec<Target>) -> Targets
         ensures { result ≡ list.items }
     {
-        list.shrink_to_fit();
         Targets { list }
     }
 

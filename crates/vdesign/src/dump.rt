@@ -32,10 +32,9 @@ impl Model for Selection {
 
 impl Selection {
     /// These scopes, or everything where there are none.
-    pub fn new(mut list: Vec<Chosen>) -> Selection
+    pub fn new(list: Vec<Chosen>) -> Selection
         ensures { result ≡ list.items }
     {
-        list.shrink_to_fit();
         Selection { list }
     }
 

@@ -77,11 +77,10 @@ impl Model for Expression {
 
 impl Expression {
     /// The expression of these nodes.
-    pub fn new(mut nodes: Vec<Node>) -> Expression
+    pub fn new(nodes: Vec<Node>) -> Expression
         requires { (tree : ExpressionTree) × (nodes.items ≡ nodes_of tree) }
         ensures { (tree : ExpressionTree) → nodes.items ≡ nodes_of tree → result ≡ tree }
     {
-        nodes.shrink_to_fit();
         Expression { nodes }
     }
 

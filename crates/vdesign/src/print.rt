@@ -49,10 +49,9 @@ impl Model for Text {
 
 impl Text {
     /// These bytes.
-    pub fn new(mut bytes: Vec<u8>) -> Text
+    pub fn new(bytes: Vec<u8>) -> Text
         ensures { result ≡ bytes.items }
     {
-        bytes.shrink_to_fit();
         Text { bytes }
     }
 
@@ -98,10 +97,9 @@ impl Model for Pieces {
 
 impl Pieces {
     /// These pieces.
-    pub fn new(mut list: Vec<Piece>) -> Pieces
+    pub fn new(list: Vec<Piece>) -> Pieces
         ensures { result ≡ list.items }
     {
-        list.shrink_to_fit();
         Pieces { list }
     }
 

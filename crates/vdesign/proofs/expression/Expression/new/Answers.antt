@@ -8,9 +8,7 @@ grows : (tree : ExpressionTree) (nodes : List Node) → nodes ≡ nodes_of tree 
 grows tree nodes is = ap tree_by is ∙ tree_by_nodes tree
 
 pub invariant_of-result : goal.invariant_of-result
-invariant_of-result c =
-    let same = c.shrink_to_fit.ensures.items ∙ c.requires.1 in
-    ap nodes_of (grows c.requires.0 c.shrink_to_fit.new.self.items same) ∙ sym same
+invariant_of-result c = ap nodes_of (grows c.requires.0 c.args.nodes.items c.requires.1) ∙ sym c.requires.1
 
 pub returns : goal.returns
-returns c = λ tree is. grows tree c.shrink_to_fit.new.self.items (c.shrink_to_fit.ensures.items ∙ is)
+returns c = λ tree is. grows tree c.args.nodes.items is
