@@ -8,6 +8,7 @@ use Rattle.statebook.specs.declared.limits.Limits.{Limits}
 use Rattle.statebook.specs.Ways.{SomeRunExceeds}
 use Rattle.explore.specs.Found.{AllFewest, AreFound, HasEntries, IsListedMark}
 use Rattle.explore.specs.declared.rank_marks.FoundMark.{FoundMark}
+use Rattle.explore.specs.declared.rank_marks.RankMarks.{RankMarks}
 use Rattle.explore.specs.declared.ranked_findings.RankedFindings.{RankedFindings}
 use Rattle.explore.specs.declared.ranked_findings.RankedReason.TheVariants.{Entries, Steps}
 use Rattle.explore.specs.declared.ranked_findings.RankedStatus.TheVariants.{Exhausted, Cut}
@@ -20,6 +21,10 @@ pub record Closing (S : Type 0) : Type 0 where
 -- The marks of a list, each with its log.
 abbrev pub pairs_of : {S : Type 0} → List (FoundMark S) → List (S × List (ℕ × ℕ))
 pairs_of marks = map (λ found. (found.state, found.log)) marks
+
+-- The marks of a rank as they are handed on.
+abbrev pub closing_of : {S : Type 0} → RankMarks S → Closing S
+closing_of closed = record { rank = closed.rank; marks = pairs_of closed.marks.items }
 
 -- It is so of each closing.
 abbrev pub OfEach : {S : Type 0} → List (Closing S) → (Closing S → Type 0) → Type 0

@@ -1,7 +1,7 @@
 // Who takes what a search that goes by rank finds, and who is asked whether it is to go on.
 
 ghost use Rattle.std.specs.Prelude.{List, [], OnOk, OnErr};
-ghost use Rattle.explore.specs.Ranked.{Closing, CollectsMore, StaysAs, pairs_of};
+ghost use Rattle.explore.specs.Ranked.{Closing, CollectsMore, StaysAs, closing_of};
 
 use crate::rank_marks::RankMarks;
 use basis::NoMemory;
@@ -13,8 +13,7 @@ pub trait Collector<S> {
 
     /// Takes the marks of a rank that is closed; after want of memory none of them.
     fn collect(&mut self, closed: RankMarks<S>) -> Result<(), NoMemory>
-        ensures ok { OnOk result
-            (CollectsMore collects self.old (record { rank = closed.rank; marks = pairs_of closed.marks.items }) self.new) }
+        ensures ok { OnOk result (CollectsMore collects self.old (closing_of closed) self.new) }
         ensures err { OnErr result (StaysAs collects self.old self.new) };
 
     /// To collect nothing changes nothing.

@@ -2,8 +2,8 @@
 use Rattle.std.proofs.Common.{◌≡◌, [], ◌∷◌, ◌++◌, Result, Ok, Err, OnErr, ap, ◌∙◌, append_assoc}
 use Rattle.std.proofs.lemmas.List.{map-append}
 use Rattle.sched_core.specs.declared.grid.Square.{Square}
-use Rattle.explore.specs.Ranked.{CollectsMore, StaysAs}
-use Rattle.explore_bench.specs.Kept.{CollectsAll, closing_of, closings_of}
+use Rattle.explore.specs.Ranked.{CollectsMore, StaysAs, closing_of}
+use Rattle.explore_bench.specs.Kept.{CollectsAll, closings_of}
 use Rattle.explore.specs.declared.rank_marks.RankMarks.{RankMarks}
 use Rattle.explore_bench.specs.declared.kept.KeptMarks.{KeptMarks}
 

@@ -2,13 +2,9 @@
 use Rattle.std.specs.Prelude.{◌≡◌, List, [], ◌++◌, map}
 use Rattle.std.proofs.Common.{append-nil, sym}
 use Rattle.sched_core.specs.declared.grid.Square.{Square}
-use Rattle.explore.specs.Ranked.{Closing, pairs_of}
+use Rattle.explore.specs.Ranked.{Closing, closing_of}
 use Rattle.explore.specs.declared.rank_marks.RankMarks.{RankMarks}
 use Rattle.explore_bench.specs.declared.kept.KeptMarks.{KeptMarks}
-
--- The marks of a rank as they were handed on.
-abbrev pub closing_of : RankMarks Square → Closing Square
-closing_of kept = record { rank = kept.rank; marks = pairs_of kept.marks.items }
 
 -- So of each rank.
 abbrev pub closings_of : List (RankMarks Square) → List (Closing Square)

@@ -23,13 +23,13 @@ impl KeptMarks {
 /// It keeps them as they come.
 impl Collector<Square> for KeptMarks {
     ghost use Rattle.std.specs.Prelude.{OnErr, OnOk};
-    ghost use Rattle.explore.specs.Ranked.{CollectsMore, StaysAs, pairs_of};
+    ghost use Rattle.explore.specs.Ranked.{CollectsMore, StaysAs, closing_of};
     ghost use Rattle.explore_bench.specs.Kept.{CollectsAll, collects_none};
 
     ghost collects = { CollectsAll };
 
     fn collect(&mut self, closed: RankMarks<Square>) -> Result<(), NoMemory>
-        ensures ok { OnOk result (CollectsMore CollectsAll self.old (record { rank = closed.rank; marks = pairs_of closed.marks.items }) self.new) }
+        ensures ok { OnOk result (CollectsMore CollectsAll self.old (closing_of closed) self.new) }
         ensures err { OnErr result (StaysAs CollectsAll self.old self.new) }
     {
         self.ranks.push(closed)?;

@@ -115,13 +115,13 @@ fn found_in(
 
 /// After want of memory nothing of the slot is kept.
 impl<'m> Collector<MachineState> for ClosedSlots<'m> {
-    ghost use Rattle.explore.specs.Ranked.{CollectsMore, StaysAs};
+    ghost use Rattle.explore.specs.Ranked.{CollectsMore, StaysAs, closing_of};
     ghost use Rattle.racebook.specs.Inner.{CollectsSlots, collects_nothing};
 
     ghost collects = { CollectsSlots };
 
     fn collect(&mut self, closed: RankMarks<MachineState>) -> Result<(), NoMemory>
-        ensures ok { OnOk result (CollectsMore CollectsSlots self.old (record { rank = closed.rank; marks = pairs_of closed.marks.items }) self.new) }
+        ensures ok { OnOk result (CollectsMore CollectsSlots self.old (closing_of closed) self.new) }
         ensures err { OnErr result (StaysAs CollectsSlots self.old self.new) }
     {
         let found = found_in(self.alloc, self.machine, closed.marks)?;
