@@ -146,7 +146,11 @@ fn told(fault: SrcFault) -> (u32, usize, usize) {
 fn refuses_texts(rt: HostRuntime) -> Result<(), Fail> {
     for (file, number, line) in REFUSED {
         match expanded(rt.alloc(), &[file])? {
-            Err(OrMemory::Fault(found)) => assert_eq!(rt; told(found), (number, 1, line), "{file:?}"),
+            Err(OrMemory::Fault(found)) => assert_eq!(rt;
+                told(found),
+                (number, 1, line),
+                "{file:?}"
+            ),
             Err(OrMemory::Memory(_)) => assert!(rt; false, "{file:?}"),
             Ok(_) => assert!(rt; false, "{file:?}"),
         }
