@@ -1,0 +1,133 @@
+// The text of all races.
+
+use crate::cause::put_statements;
+use crate::difference::{put_difference, put_name, put_sides};
+use crate::pieces::{put_count, put_number};
+use crate::place::Sources;
+use crate::summary::{Told, put_summary};
+use basis::NoMemory;
+use race_groups::{Difference, Group, Name, Races};
+use std::alloc::Global;
+use vdesign::design::Design;
+use vmachine::Machine;
+
+// How many of those that follow are named, unless all are.
+const NAMED: usize = 3;
+
+// `race 1: tb.b is 1 or 0 at 5`
+fn put_heading(
+    text: &mut Vec<u8>,
+    machine: &Machine,
+    number: usize,
+    difference: &Difference,
+) -> Result<(), NoMemory> {
+    text.extend_from_slice(b"race ")?;
+    put_number(text, number as u64)?;
+    text.extend_from_slice(b": ")?;
+    put_difference(text, machine, difference)?;
+    text.push(b'\n')?;
+    Ok(())
+}
+
+// The two statements, or that they weren't found.
+fn put_cause(
+    alloc: Global,
+    text: &mut Vec<u8>,
+    machine: &Machine,
+    sources: &Sources<'_>,
+    group: &Group,
+) -> Result<(), NoMemory> {
+    match &group.cause {
+        None => {
+            text.extend_from_slice(b"    which statements race was not found\n")?;
+            Ok(())
+        }
+        Some(cause) => put_statements(alloc, text, machine.design(), sources, cause),
+    }
+}
+
+// The first names, in one line.
+fn put_names(text: &mut Vec<u8>, design: &Design, names: &[Name]) -> Result<(), NoMemory> {
+    for (place, name) in names.iter().take(NAMED).enumerate() {
+        if place == 0 {
+            text.extend_from_slice(b": ")?;
+        } else {
+            text.extend_from_slice(b", ")?;
+        }
+        put_name(text, design, name)?;
+    }
+    Ok(())
+}
+
+// All names, a line each.
+fn put_all_names(text: &mut Vec<u8>, design: &Design, names: &[Name]) -> Result<(), NoMemory> {
+    for name in names {
+        text.extend_from_slice(b"        ")?;
+        put_name(text, design, name)?;
+        text.push(b'\n')?;
+    }
+    Ok(())
+}
+
+// What follows from the same two statements.
+fn put_more(
+    text: &mut Vec<u8>,
+    design: &Design,
+    group: &Group,
+    all: bool,
+) -> Result<(), NoMemory> {
+    if group.more == 0 {
+        return Ok(());
+    }
+    text.extend_from_slice(b"    and ")?;
+    put_count(text, group.more, b"more difference")?;
+    text.extend_from_slice(b" that follow, up to ")?;
+    put_number(text, group.last)?;
+    if all {
+        text.push(b'\n')?;
+        return put_all_names(text, design, &group.next);
+    }
+    put_names(text, design, &group.next)?;
+    text.push(b'\n')?;
+    Ok(())
+}
+
+// How a race at time 0 is mostly cured.
+fn put_cure(text: &mut Vec<u8>, machine: &Machine, difference: &Difference) -> Result<(), NoMemory> {
+    if difference.time(machine) == 0 {
+        text.extend_from_slice(b"    at time 0: give the value in the declaration, as in `reg a = 0;`, or read it after a delay, as in `#1`\n")?;
+    }
+    Ok(())
+}
+
+// One race: what differs, which two statements race, in which order each side comes about, and what follows.
+fn put_group(
+    alloc: Global,
+    text: &mut Vec<u8>,
+    machine: &Machine,
+    sources: &Sources<'_>,
+    group: &Group,
+    told: &Told,
+) -> Result<(), NoMemory> {
+    put_cause(alloc, text, machine, sources, group)?;
+    put_sides(alloc, text, machine, sources, group)?;
+    put_cure(text, machine, &group.first)?;
+    put_more(text, machine.design(), group, told.all)
+}
+
+/// The races, each by its cause, and what wasn't looked at.
+pub fn races_text(
+    alloc: Global,
+    machine: &Machine,
+    sources: &Sources<'_>,
+    races: &Races,
+    told: &Told,
+) -> Result<Vec<u8>, NoMemory> {
+    let mut text = Vec::new(alloc);
+    for (place, group) in races.groups.iter().enumerate() {
+        put_heading(&mut text, machine, place.saturating_add(1), &group.first)?;
+        put_group(alloc, &mut text, machine, sources, group, told)?;
+    }
+    put_summary(&mut text, machine, races, told)?;
+    Ok(text)
+}
