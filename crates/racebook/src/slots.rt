@@ -128,5 +128,9 @@ impl<'m> Collector<MachineState> for ClosedSlots<'m> {
         self.put(found)
     }
 
+    fn found_count(&self) -> usize {
+        self.races.len().saturating_add(self.line_races.len())
+    }
+
     ghost none = { collects_nothing };
 }
