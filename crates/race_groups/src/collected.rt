@@ -192,5 +192,9 @@ impl<'m> Collector<MachineState> for RaceGroups<'m> {
         }
     }
 
+    fn found_count(&self) -> usize {
+        self.groups.len()
+    }
+
     ghost none = { collects_nothing };
 }

@@ -1,7 +1,7 @@
 // A search for races, by time.
 
 ghost use Rattle.std.specs.Prelude.{IfOk};
-ghost use Rattle.explore.specs.Ranked.{TellsOfEntries, TellsOfSteps};
+ghost use Rattle.explore.specs.Ranked.{TellsOfEntries, TellsOfSteps, TellsOfStop};
 ghost use Rattle.vmachine.specs.Machines.{machine_rules};
 ghost use Rattle.race_groups.specs.Found.{EachGroup, HasFirstDifference, HasItsCause, TellsOfCuts, TellsOfCutsThroughout, TellsOfNone, TellsOfNoneThroughout};
 
@@ -94,6 +94,7 @@ pub fn find_races<W: Watcher>(
     ensures cuts_exhausted { IfOk result (TellsOfCutsThroughout machine.now limits.now) }
     ensures entries { IfOk result (λ races. TellsOfEntries (machine_rules machine.now) limits.now races.search) }
     ensures steps { IfOk result (λ races. TellsOfSteps (machine_rules machine.now) limits.now races.search) }
+    ensures stopped { IfOk result (λ races. TellsOfStop (W.stopped watcher.new) races.search) }
 {
     machine_law();
     run_law();

@@ -1,8 +1,7 @@
 // From files to their races by causes.
 
 ghost use Rattle.std.specs.Prelude.{◌≡◌, IfOk, IfErr};
-ghost use Rattle.explore.specs.Ranked.{TellsOfEntries, TellsOfStop};
-ghost use Rattle.vmachine.specs.Machines.{machine_rules};
+ghost use Rattle.explore.specs.Ranked.{TellsOfStop};
 ghost use Rattle.vsrc.specs.Source.{file_bytes};
 ghost use Rattle.race_groups.specs.Found.{EachGroup, HasFirstDifference, HasItsCause, TellsOfCuts, TellsOfCutsThroughout, TellsOfNone, TellsOfNoneThroughout};
 ghost use Rattle.vrace.specs.Request.{request_of};
@@ -13,11 +12,11 @@ use crate::design::placed_design_of;
 use crate::fault::Fault;
 use crate::machine::machine_in;
 use crate::options::Options;
-use explore::Watcher;
 use race_groups::{Races, Scope, find_races};
 use std::alloc::Global;
 use trace_text::Origins;
 use vmachine::Machine;
+use vreport::{Budget, entry_bytes};
 
 /// The races of files, the machine whose runs differ so, and where the statements of its design begin.
 #[derive(Drop)]
@@ -27,7 +26,7 @@ pub struct FoundRaces {
     pub races: Races,
 }
 
-/// Explores the files by time, on the caller's own thread: every run of at most `options.limits.depart` departures from the default
+/// Explores the files by time, within a budget, on the caller's own thread: every run of at most `options.limits.depart` departures from the default
 /// order; and tells what two of them differ in, each difference under the two statements that are to blame (docs/RACES.md).
 ///
 /// Each difference told is one, and each cause is that of its log. Where none is told, no two such runs differ from the time
@@ -36,12 +35,12 @@ pub struct FoundRaces {
 ///
 /// Refusals, in the order in which they are looked for: E904 where the files together are longer than 16,777,216 bytes; E110 to
 /// E114, E101, E102, E2xx and E3xx where their text has no design; E901.
-pub fn find_races_in<W: Watcher>(
+pub fn find_races_in<B: Budget>(
     alloc: Global,
     files: &[Vec<u8>],
     options: &Options<'_>,
     scope: &Scope,
-    watcher: &mut W,
+    budget: &mut B,
 ) -> Result<FoundRaces, Fault>
     ensures searched { IfOk result (λ found.
         IsSearched (file_bytes files.now) (request_of options.now) found.machine) }
@@ -55,7 +54,7 @@ pub fn find_races_in<W: Watcher>(
     ensures cuts { IfOk result (λ found. TellsOfCuts found.machine options.now.limits found.races) }
     ensures cuts_exhausted { IfOk result (λ found.
         TellsOfCutsThroughout found.machine options.now.limits found.races) }
-    ensures stopped { IfOk result (λ found. TellsOfStop (W.stopped watcher.new) found.races.search) }
+    ensures stopped { IfOk result (λ found. TellsOfStop (B.stopped budget.new) found.races.search) }
     ensures reason { IfErr result (IsDesignFault (file_bytes files.now) (request_of options.now).top) }
 {
     let placed = placed_design_of(alloc, files, options.top)?;
@@ -67,7 +66,8 @@ pub fn find_races_in<W: Watcher>(
         options.departures,
         options.looked,
     )?;
-    let races = find_races(alloc, &machine, &options.limits, scope, watcher)?;
+    budget.reckon(entry_bytes(&machine));
+    let races = find_races(alloc, &machine, &options.limits, scope, budget)?;
     Ok(FoundRaces {
         machine,
         origins: placed.origins,

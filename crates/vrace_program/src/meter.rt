@@ -49,6 +49,7 @@ pub struct Meter<'r, R> {
     shown: u64,
     spent: Spent,
     is_over: bool,
+    opened: u64,
 }
 
 impl<'r, R: Clock + Eprint> Meter<'r, R> {
@@ -63,11 +64,17 @@ impl<'r, R: Clock + Eprint> Meter<'r, R> {
             shown: 0,
             spent: Spent::Time,
             is_over: false,
+            opened: 0,
         }
     }
 
-    // Milliseconds since it was begun; without a clock more than is ever allowed.
-    fn passed(&self) -> u64 {
+    /// How many entries were opened, as far as it was told.
+    pub fn states(&self) -> u64 {
+        self.opened
+    }
+
+    /// Milliseconds since it was begun; without a clock more than is ever allowed.
+    pub fn passed(&self) -> u64 {
         let Some(begun) = self.begun else {
             return u64::MAX;
         };
@@ -136,6 +143,7 @@ impl<'r, R: Clock + Eprint> Watcher for Meter<'r, R> {
     ghost stopped = { λ meter. meter.is_over ≡ true };
 
     fn go_on(&mut self, progress: &Progress) -> bool {
+        self.opened = progress.entries_opened as u64;
         self.is_over = self.has_spent(progress);
         !self.is_over
     }

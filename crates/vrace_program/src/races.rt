@@ -1,20 +1,27 @@
 // The races of files, told to people.
 
-use crate::meter::Meter;
-use crate::words::{RaceWords, Request};
-use crate::{Stop, finish, texts};
+use crate::meter::{Allowance, Meter};
+use crate::words::{RaceWords, Request, Search};
+use crate::{Stop, finish, options_of, texts};
 use byte_sinks::Metered;
-use explore::{RankedFindings, RankedStatus};
 use race_groups::{Races, Scope};
 use race_text::{Sources, Told, races_text};
 use std::alloc::Global;
 use std::io;
 use std::io::{BufWriter, Write};
 use std::process::ExitCode;
-use vrace::{Budget, FoundRaces, Options, Spent, find_races_in};
+use std::rt::Clock;
+use vrace::{Budget, Fault, Options, RankedStatus, Spent, find_races_in};
 
 // How many of the differences that follow are named, unless all are.
 const NAMED: usize = 3;
+
+// What a search may take of which nothing is said.
+const NO_LIMIT: Allowance = Allowance {
+    seconds: None,
+    memory: None,
+    progress: false,
+};
 
 // By which option the search was stopped, where it was.
 fn stopped_by(spent: Spent) -> &'static [u8] {
@@ -83,15 +90,14 @@ pub fn tell_races(
 ) -> Result<ExitCode, Stop> {
     let options = options_of(request, search)?;
     let texts = texts(rt, &request.files)?;
-    let mut meter = Meter::new(rt, search.allowance.unwrap_or(NOTHING));
+    let mut meter = Meter::new(rt, search.allowance.unwrap_or(NO_LIMIT));
     let (text, code) = text_of(rt.alloc(), &request.files, &texts, &options, words, &mut meter)?;
     let Ok(buffered) = BufWriter::new(rt.alloc(), io::writer(rt)) else {
         return Err(Stop::NoMemory);
     };
     let mut writer = Metered::new(buffered);
-    match writer.write(&text) {
-        Ok(()) => {}
-        Err(_) => return Err(Stop::Refused(Fault::Write)),
+    if writer.write_all(&text).is_err() {
+        return Err(Stop::Refused(Fault::Write));
     }
     finish(&mut writer)?;
     Ok(code)

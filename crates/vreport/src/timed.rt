@@ -46,8 +46,8 @@ pub struct TimedReport {
     pub held: Vec<Option<HeldText>>,
 }
 
-// How many bytes an entry is reckoned to take: 24 a variable, 88 a process, and 500 beside.
-fn entry_bytes(machine: &Machine) -> u64 {
+/// How many bytes an entry of a search is reckoned to take: 24 a variable, 88 a process, and 500 beside.
+pub fn entry_bytes(machine: &Machine) -> u64 {
     let design = machine.design();
     let variables = 24u64.saturating_mul(design.variables.len() as u64);
     let processes = 88u64.saturating_mul(design.processes.len() as u64);
