@@ -7,6 +7,7 @@ use cause::{Actor, Blamed, Cause, Thing};
 use std::alloc::Global;
 use vdesign::action::{Action, Target, Targets};
 use vdesign::design::Design;
+use vsrc::Place;
 
 // How many bytes of a statement are shown.
 const SOURCE: usize = 40;
@@ -179,7 +180,7 @@ fn widths_of(rows: &[Row]) -> (usize, usize) {
     (place, source)
 }
 
-/// A line for each of the two statements: place, source, and what it does to what both touch. After one that drives a port connection
+/// A line for each of the two statements, in the order of the parent's run: place, source, and what it does to what both touch. After one that drives a port connection
 /// or an `assign`, a line for that.
 pub fn put_statements(
     alloc: Global,
@@ -190,8 +191,8 @@ pub fn put_statements(
 ) -> Result<(), NoMemory> {
     let mut rows = Vec::new(alloc);
     let things = cause.things.as_slice();
-    push_rows(alloc, &mut rows, design, sources, &cause.first, things)?;
     push_rows(alloc, &mut rows, design, sources, &cause.second, things)?;
+    push_rows(alloc, &mut rows, design, sources, &cause.first, things)?;
     let (place, source) = widths_of(&rows);
     for row in &rows {
         text.extend_from_slice(b"    ")?;
@@ -205,18 +206,13 @@ pub fn put_statements(
     Ok(())
 }
 
-/// Which of the two comes first: `line 10`; where both stand in one line `column 24`, where they stand in two files `tb.v:10`.
-pub fn put_which(
+// Which of two places comes first.
+fn put_first_place(
     text: &mut Vec<u8>,
     sources: &Sources<'_>,
-    one: &Blamed,
-    other: &Blamed,
+    here: Place,
+    there: Place,
 ) -> Result<(), NoMemory> {
-    let (Some(here), Some(there)) = (sources.place(one.statement), sources.place(other.statement))
-    else {
-        text.extend_from_slice(b"one order")?;
-        return Ok(());
-    };
     if here.file != there.file {
         text.extend_from_slice(sources.name(here.file).as_bytes())?;
         text.push(b':')?;
@@ -228,6 +224,40 @@ pub fn put_which(
         text.extend_from_slice(b"column ")?;
         put_number(text, (here.column as u64).saturating_add(1))?;
     }
+    Ok(())
+}
+
+// Which of the two comes first: `line 10`; where both stand in one line `column 24`, where they stand in two files `tb.v:10`; and where
+// they are one statement, of two instances, the one that is listed first or second.
+fn put_first(
+    text: &mut Vec<u8>,
+    sources: &Sources<'_>,
+    one: &Blamed,
+    other: &Blamed,
+    listed: &[u8],
+) -> Result<(), NoMemory> {
+    match (sources.place(one.statement), sources.place(other.statement)) {
+        (Some(here), Some(there)) if here != there => put_first_place(text, sources, here, there)?,
+        _ => text.extend_from_slice(listed)?,
+    }
     text.extend_from_slice(b" first")?;
     Ok(())
+}
+
+/// That the one comes first which does so in the parent's run.
+pub fn put_usual_order(
+    text: &mut Vec<u8>,
+    sources: &Sources<'_>,
+    cause: &Cause,
+) -> Result<(), NoMemory> {
+    put_first(text, sources, &cause.second, &cause.first, b"the upper one")
+}
+
+/// That the other one comes first.
+pub fn put_other_order(
+    text: &mut Vec<u8>,
+    sources: &Sources<'_>,
+    cause: &Cause,
+) -> Result<(), NoMemory> {
+    put_first(text, sources, &cause.first, &cause.second, b"the lower one")
 }

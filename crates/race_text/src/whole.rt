@@ -1,7 +1,7 @@
 // The text of all races.
 
 use crate::cause::put_statements;
-use crate::difference::{put_difference, put_name, put_sides};
+use crate::difference::{Subject, put_difference, put_name, put_sides, rows_of, time_of};
 use crate::pieces::{put_count, put_number};
 use crate::place::Sources;
 use crate::summary::{Told, put_summary};
@@ -13,21 +13,6 @@ use vmachine::Machine;
 
 // How many of those that follow are named, unless all are.
 const NAMED: usize = 3;
-
-// `race 1: tb.b is 1 or 0 at 5`
-fn put_heading(
-    text: &mut Vec<u8>,
-    machine: &Machine,
-    number: usize,
-    difference: &Difference,
-) -> Result<(), NoMemory> {
-    text.extend_from_slice(b"race ")?;
-    put_number(text, number as u64)?;
-    text.extend_from_slice(b": ")?;
-    put_difference(text, machine, difference)?;
-    text.push(b'\n')?;
-    Ok(())
-}
 
 // The two statements, or that they weren't found.
 fn put_cause(
@@ -94,7 +79,7 @@ fn put_more(
 
 // How a race at time 0 is mostly cured.
 fn put_cure(text: &mut Vec<u8>, machine: &Machine, difference: &Difference) -> Result<(), NoMemory> {
-    if difference.time(machine) == 0 {
+    if time_of(machine, difference) == 0 {
         text.extend_from_slice(b"    at time 0: give the value in the declaration, as in `reg a = 0;`, or read it after a delay, as in `#1`\n")?;
     }
     Ok(())
@@ -104,15 +89,25 @@ fn put_cure(text: &mut Vec<u8>, machine: &Machine, difference: &Difference) -> R
 fn put_group(
     alloc: Global,
     text: &mut Vec<u8>,
-    machine: &Machine,
-    sources: &Sources<'_>,
-    group: &Group,
-    told: &Told,
+    subject: Subject<'_>,
+    number: usize,
+    all: bool,
 ) -> Result<(), NoMemory> {
+    let Subject {
+        machine,
+        sources,
+        group,
+    } = subject;
+    let rows = rows_of(alloc, subject)?;
+    text.extend_from_slice(b"race ")?;
+    put_number(text, number as u64)?;
+    text.extend_from_slice(b": ")?;
+    put_difference(text, subject, &rows)?;
+    text.push(b'\n')?;
     put_cause(alloc, text, machine, sources, group)?;
-    put_sides(alloc, text, machine, sources, group)?;
+    put_sides(text, subject, &rows)?;
     put_cure(text, machine, &group.first)?;
-    put_more(text, machine.design(), group, told.all)
+    put_more(text, machine.design(), group, all)
 }
 
 /// The races, each by its cause, and what wasn't looked at.
@@ -125,8 +120,12 @@ pub fn races_text(
 ) -> Result<Vec<u8>, NoMemory> {
     let mut text = Vec::new(alloc);
     for (place, group) in races.groups.iter().enumerate() {
-        put_heading(&mut text, machine, place.saturating_add(1), &group.first)?;
-        put_group(alloc, &mut text, machine, sources, group, told)?;
+        let subject = Subject {
+            machine,
+            sources,
+            group,
+        };
+        put_group(alloc, &mut text, subject, place.saturating_add(1), told.all)?;
     }
     put_summary(&mut text, machine, races, told)?;
     Ok(text)
