@@ -1,6 +1,6 @@
 //! The program `vrace`. In go words and Verilog; out comes a report, a value change dump or printed lines on standard output, or one line
 //! with the number of a fault on standard error. What an exploration writes is the contract of `vrace::explore_text_alone`,
-//! with several workers of `vrace::explore_text`, and by time of `vrace::explore_text_in_time`; what a replay writes that of `vrace::replay_text`.
+//! with several workers of `vrace::explore_text`, and by time of `vrace::explore_text_in_time`; what `races` tells is found by `vrace::find_races_in`; what a replay writes that of `vrace::replay_text`.
 #![tactic(auto)]
 
 mod explanations;
