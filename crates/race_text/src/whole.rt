@@ -66,7 +66,7 @@ fn put_more(
     }
     text.extend_from_slice(b"    and ")?;
     put_count(text, group.more, b"more difference")?;
-    text.extend_from_slice(b" that follow, up to ")?;
+    text.extend_from_slice(b", up to ")?;
     put_number(text, group.last)?;
     if all {
         text.push(b'\n')?;
