@@ -26,7 +26,7 @@ use Rattle.velab_declaration.specs.Variables.{port_declaration, declarations, po
 use Rattle.velab_process.specs.Statements.{Table}
 use Rattle.velab_process.specs.Processes.{Processes, with_begins_before, lower_items}
 use Rattle.velab_process.specs.Connections.{only_name, lower_input, lower_output, lower_connection, lower_join, lower_joins}
-use Rattle.vhierarchy.specs.Instances.{barring, Instantiation, lower_instance, lower_list, named_again, lower_instances_of, lower_instances_by, lower_instances, Part, Context, base_of, lower_names, lower_own, lower_own_variables, lower_own_processes, driven_by, scope_drivers_by, with_own, few_enough}
+use Rattle.vhierarchy.specs.Instances.{barring, Instantiation, lower_instance, lower_list, named_again, lower_instances_of, lower_instances_by, lower_instances, Part, Context, base_of, has_room, lower_names, lower_own, lower_own_variables, lower_own_processes, driven_by, scope_drivers_by, with_own, few_enough}
 use Rattle.elaboration_law.specs.Widths.{Worth, is_sized, is_sized_if}
 use Rattle.elaboration_law.specs.Worths.{are_set_in, are_ranged, is_port_ranged, is_item_ranged}
 use Rattle.elaboration_law.specs.WrongWidths.{Instantiated, constants_in, worth_in, is_connected, is_sized_item, has_right_widths}
@@ -196,7 +196,7 @@ module _ (part : Part) (context : Context) (outside : Text → Worth) (round : I
   names_judged =
       barring_judges is_width set (first_again (declared_names context.unit)) Doubled _ refl
       (provided_judges is_width set (nat_le (length part.variables + length (declared_names context.unit)) 1024) TooMany (Some context.name) _ refl
-      (provided_judges is_width set (nat_le part.events 4294967295) TooMany (Some context.name) _ refl
+      (provided_judges is_width set (has_room part context) TooMany (Some context.name) _ refl
       (by (item_scope (base_of part context) context.unit) (scope_sizes (base_of part context) context.unit outside round.vectors outer))))
     where
       by : (a : Result Scope ElabFault) → AllAdded context.overrides outside round.vectors outer constants set a → Judges is_width set a
