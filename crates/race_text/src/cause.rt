@@ -180,8 +180,8 @@ fn widths_of(rows: &[Row]) -> (usize, usize) {
     (place, source)
 }
 
-/// A line for each of the two statements, in the order of the parent's run: place, source, and what it does to what both touch. After one that drives a port connection
-/// or an `assign`, a line for that.
+/// A line for each of the two statements, in the order of the parent's run: place, source, and what it does to what both touch. After one
+/// that drives a port connection or an `assign`, a line for that.
 pub fn put_statements(
     alloc: Global,
     text: &mut Vec<u8>,

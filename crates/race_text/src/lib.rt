@@ -5,8 +5,8 @@
 
 mod cause;
 mod difference;
-mod place;
 mod pieces;
+mod place;
 mod summary;
 mod value;
 mod whole;

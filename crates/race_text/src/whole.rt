@@ -55,12 +55,7 @@ fn put_all_names(text: &mut Vec<u8>, design: &Design, names: &[Name]) -> Result<
 }
 
 // What follows from the same two statements.
-fn put_more(
-    text: &mut Vec<u8>,
-    design: &Design,
-    group: &Group,
-    all: bool,
-) -> Result<(), NoMemory> {
+fn put_more(text: &mut Vec<u8>, design: &Design, group: &Group, all: bool) -> Result<(), NoMemory> {
     if group.more == 0 {
         return Ok(());
     }
@@ -78,9 +73,15 @@ fn put_more(
 }
 
 // How a race at time 0 is mostly cured.
-fn put_cure(text: &mut Vec<u8>, machine: &Machine, difference: &Difference) -> Result<(), NoMemory> {
+fn put_cure(
+    text: &mut Vec<u8>,
+    machine: &Machine,
+    difference: &Difference,
+) -> Result<(), NoMemory> {
     if time_of(machine, difference) == 0 {
-        text.extend_from_slice(b"    at time 0: give the value in the declaration, as in `reg a = 0;`, or read it after a delay, as in `#1`\n")?;
+        text.extend_from_slice(
+            b"    at time 0: give the value in the declaration, as in `reg a = 0;`, or read it after a delay, as in `#1`\n",
+        )?;
     }
     Ok(())
 }

@@ -29,8 +29,8 @@ use vrace::{
 };
 use words::{
     Request, Search, Wanted, commands, files_of, has_dashed_log, has_dashed_report, has_dashed_top,
-    has_joined_letters, log_of, race_request_of, race_search_of, race_words_of, report_of, request_of,
-    search_of, steps_of, until_of, wanted_of,
+    has_joined_letters, log_of, race_request_of, race_search_of, race_words_of, report_of,
+    request_of, search_of, steps_of, until_of, wanted_of,
 };
 use workpool::OpenGate;
 
@@ -376,7 +376,12 @@ fn races_by<'a>(rt: &HostRuntime, matches: &ArgMatches<'a>) -> Result<ExitCode, 
     let Ok(request) = race_request_of(rt.alloc(), matches) else {
         return Err(Stop::NoMemory);
     };
-    tell_races(rt, &request, &race_search_of(matches), race_words_of(matches))
+    tell_races(
+        rt,
+        &request,
+        &race_search_of(matches),
+        race_words_of(matches),
+    )
 }
 
 // Checks what the words ask for.

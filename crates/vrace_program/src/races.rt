@@ -44,7 +44,11 @@ fn code_of(races: &Races) -> ExitCode {
 }
 
 // What is told beside the races.
-fn told_of<R: Clock + Eprint>(options: &Options<'_>, words: RaceWords, meter: &Meter<'_, R>) -> Told {
+fn told_of<R: Clock + Eprint>(
+    options: &Options<'_>,
+    words: RaceWords,
+    meter: &Meter<'_, R>,
+) -> Told {
     Told {
         departures: options.limits.depart,
         from: words.from,
@@ -91,7 +95,14 @@ pub fn tell_races(
     let options = options_of(request, search)?;
     let texts = texts(rt, &request.files)?;
     let mut meter = Meter::new(rt, search.allowance.unwrap_or(NO_LIMIT));
-    let (text, code) = text_of(rt.alloc(), &request.files, &texts, &options, words, &mut meter)?;
+    let (text, code) = text_of(
+        rt.alloc(),
+        &request.files,
+        &texts,
+        &options,
+        words,
+        &mut meter,
+    )?;
     let Ok(buffered) = BufWriter::new(rt.alloc(), io::writer(rt)) else {
         return Err(Stop::NoMemory);
     };

@@ -6,12 +6,12 @@ use Rattle.velab_expr.specs.Answers.{behind}
 use Rattle.velab_expr.proofs.AnswerLemmas.{goes_behind}
 use Rattle.velab_expr.proofs.ListLemmas.{drop_at}
 use Rattle.velab_process.specs.Statements.{lower_label, lower_labels}
-use Rattle.velab_process.proofs.statement.put_labels.Goals as goal
+use Rattle.velab_process.proofs.elaborator.Elaborator.put_labels.Goals as goal
 
 pub loop-label-preserved : goal.loop-label-preserved
 loop-label-preserved c =
-    let words = words_of c.args.tokens.now in
-    let scope = c.args.scope.now in
+    let words = words_of c.args.self.now.tokens.now in
+    let scope = c.args.self.now.scope.now in
     let body = c.args.body.now in
     let rest = drop (c.loop-label.label-index + 1) c.args.labels.now in
     goes_behind c.loop-label.into.items (lower_label scope body (tree_of words c.label-item.result)) (lower_labels scope body (trees_of words rest))

@@ -7,12 +7,12 @@ use Rattle.velab_expr.specs.declared.fault.ElabFault.{ElabFault}
 use Rattle.velab_expr.proofs.ListLemmas.{drop_at}
 use Rattle.velab_process.specs.Prints.{lower_argument, lower_arguments}
 use Rattle.velab_process.proofs.LineLemmas.{Continues, goes}
-use Rattle.velab_process.proofs.print.put_arguments.Goals as goal
+use Rattle.velab_process.proofs.elaborator.Elaborator.put_arguments.Goals as goal
 
 pub loop-one-preserved : goal.loop-one-preserved
 loop-one-preserved c =
-    let words = words_of c.args.tokens.now in
-    let scope = c.args.scope.now in
+    let words = words_of c.args.self.now.tokens.now in
+    let scope = c.args.self.now.scope.now in
     let all = lower_arguments scope (map (argument_tree words) c.args.arguments.now) in
     let rest = drop (c.loop-one.one-index + 1) c.args.arguments.now in
     goes c.args.printer.now all (lower_argument scope (argument_tree words c.one-item.result)) (lower_arguments scope (map (argument_tree words) rest))

@@ -6,12 +6,12 @@ use Rattle.velab_expr.proofs.ListLemmas.{drop_at}
 use Rattle.velab_process.specs.Processes.{with_begins_before, lower_processes}
 use Rattle.velab_process.specs.Inner.{drives_in}
 use Rattle.velab_process.proofs.ProcessLemmas.{processes_put, processes_refused, processes_split}
-use Rattle.velab_process.proofs.statement.lower_drives.Goals as goal
+use Rattle.velab_process.proofs.elaborator.Elaborator.lower_drives.Goals as goal
 
 pub loop-one-preserved : goal.loop-one-preserved
 loop-one-preserved c =
-    let words = words_of c.args.tokens.now in
-    let scope = c.args.scope.now in
+    let words = words_of c.args.self.now.tokens.now in
+    let scope = c.args.self.now.scope.now in
     let front = drives_in words (c.one-item.result ∷ []) in
     let rest = drives_in words (drop (c.loop-one.one-index + 1) c.args.list.now) in
     processes_put c.loop-one.into.items (λ t. lower_processes scope t rest) (lower_processes scope c.loop-one.table front)
@@ -24,8 +24,8 @@ loop-one-preserved c =
 
 pub returns-in_err-lower_setting : goal.returns-in_err-lower_setting
 returns-in_err-lower_setting c =
-    let words = words_of c.args.tokens.now in
-    let scope = c.args.scope.now in
+    let words = words_of c.args.self.now.tokens.now in
+    let scope = c.args.self.now.scope.now in
     let before = c.loop-one.into.items in
     let front = drives_in words (c.one-item.result ∷ []) in
     let rest = drives_in words (drop (c.loop-one.one-index + 1) c.args.list.now) in

@@ -11,27 +11,27 @@ use Rattle.velab_expr.proofs.ListLemmas.{drop_at}
 use Rattle.velab_process.specs.Statements.{Lowered, with_places_before, with_branches_before, lower_assignment, lower_statement, lower_all, lower_branch, lower_branches}
 use Rattle.velab_process.proofs.BranchLemmas.{case_tree, branch_put}
 use Rattle.velab_process.proofs.StatementLemmas.{block_trees, statement_put}
-use Rattle.velab_process.proofs.statement.+statements.Goals as goal
+use Rattle.velab_process.proofs.elaborator.Elaborator.+statements.Goals as goal
 
 pub lower-returns-in-Block : goal.lower-returns-in-Block
 lower-returns-in-Block t c =
     subst (λ (s : StatementTree). Makes c.lower_all.result (record { table = c.lower_all.new.table; places = c.lower_all.new.into.items })
-    (with_places_before c.args.into.now.items (lower_statement c.args.scope.now c.args.table.now s)))
-    (block_trees (words_of c.args.tokens.now) c.args.statement.now c.in-Block.list c.deref.result.now c.in-Block.is c.deref.ensures.value)
+    (with_places_before c.args.into.now.items (lower_statement c.args.self.now.scope.now c.args.table.now s)))
+    (block_trees (words_of c.args.self.now.tokens.now) c.args.statement.now c.in-Block.list c.deref.result.now c.in-Block.is c.deref.ensures.value)
     c.lower_all.ensures
 
 pub lower-returns-in-Case : goal.lower-returns-in-Case
 lower-returns-in-Case t c =
     subst (λ (s : StatementTree). Makes c.lower_case.result (record { table = c.lower_case.new.table; places = c.lower_case.new.into.items })
-    (with_places_before c.args.into.now.items (lower_statement c.args.scope.now c.args.table.now s)))
-    (case_tree (words_of c.args.tokens.now) c.args.statement.now c.in-Case.at c.in-Case.kind c.in-Case.value c.in-Case.branches
+    (with_places_before c.args.into.now.items (lower_statement c.args.self.now.scope.now c.args.table.now s)))
+    (case_tree (words_of c.args.self.now.tokens.now) c.args.statement.now c.in-Case.at c.in-Case.kind c.in-Case.value c.in-Case.branches
     c.deref-in-Case-2.result.now c.deref-in-Case.result.now c.in-Case.is c.deref-in-Case-2.ensures c.deref-in-Case.ensures.value)
     c.lower_case.ensures
 
 pub lower_all-loop-statement-preserved : goal.lower_all-loop-statement-preserved
 lower_all-loop-statement-preserved t c =
-    let words = words_of c.args.tokens.now in
-    let scope = c.args.scope.now in
+    let words = words_of c.args.self.now.tokens.now in
+    let scope = c.args.self.now.scope.now in
     let rest = drop (c.loop-statement.statement-index + 1) c.args.statements.now in
     statement_put c.loop-statement.into.items (λ table. lower_all scope table (statement_trees words rest))
     (lower_statement scope c.loop-statement.table (statement_tree words c.statement-item.result))
@@ -42,8 +42,8 @@ lower_all-loop-statement-preserved t c =
 
 pub lower_branches-loop-branch-preserved : goal.lower_branches-loop-branch-preserved
 lower_branches-loop-branch-preserved t c =
-    let words = words_of c.args.tokens.now in
-    let scope = c.args.scope.now in
+    let words = words_of c.args.self.now.tokens.now in
+    let scope = c.args.self.now.scope.now in
     let rest = drop (c.loop-branch.branch-index + 1) c.args.branches.now in
     branch_put c.loop-branch.into.items c.loop-branch.otherwise.items (λ table. lower_branches scope table (branch_trees words rest))
     (lower_branch scope c.loop-branch.table (branch_tree words c.branch-item.result))
@@ -54,8 +54,8 @@ lower_branches-loop-branch-preserved t c =
 
 pub lower-returns-in_ok-lower_assignment-in-For : goal.lower-returns-in_ok-lower_assignment-in-For
 lower-returns-in_ok-lower_assignment-in-For t c =
-    let words = words_of c.args.tokens.now in
-    let scope = c.args.scope.now in
+    let words = words_of c.args.self.now.tokens.now in
+    let scope = c.args.self.now.scope.now in
     let into = c.args.into.now.items in
     let target = target_tree words c.in-For.target in
     let next = target_tree words c.in-For.next_target in
