@@ -1,6 +1,6 @@
-// What `vrace races` tells people (docs/RACES.md, "The races of a testbench"). In go the races that a search found, by their causes, and the
-// files that they are of; out comes the text.
-// No law is claimed: what is told is looked at by the tests (tests/races).
+// What `vrace races` tells people (docs/RACES.md, "The races of a testbench"). In go the races that a search found, by their causes, and
+// the files that they are of; out comes the text.
+// No law is claimed: how it is told the cases in tests/cases compare.
 #![tactic(auto)]
 
 mod cause;
