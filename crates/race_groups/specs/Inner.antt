@@ -58,21 +58,6 @@ pub record Adds (setting : Setting) (P : Difference → Type 0) (old new : List 
 abbrev pub setting_of : RaceGroups → Setting
 setting_of kept = kept.causes.machine.now
 
--- such groups were added, and nothing else was changed
-pub record AddsGroups (P : Difference → Type 0) (old new : RaceGroups) : Type 0 where
-  pub machine : setting_of new ≡ setting_of old
-  pub from : new.scope.from ≡ old.scope.from
-  pub ends : new.ends.items ≡ old.ends.items
-  pub cut : new.cut_runs ≡ old.cut_runs
-  pub adds : Adds (setting_of old) P (tolds_of old.groups.items) (tolds_of new.groups.items)
-
--- of this difference alone, or of one of these
-abbrev pub AddsOf : Difference → RaceGroups → RaceGroups → Type 0
-AddsOf difference old new = AddsGroups (λ d. d ≡ difference) old new
-
-abbrev pub AddsOfSome : List Difference → RaceGroups → RaceGroups → Type 0
-AddsOfSome differences old new = AddsGroups (Contains differences) old new
-
 -- ---- ends
 
 -- what is seen of a state in which a run ends
@@ -123,6 +108,15 @@ pub record SumsUp (setting : Setting) (ends old new : List (MachineState × List
 -- the differences that a slot gave
 abbrev pub differences_in : FoundInSlot → List Difference
 differences_in found = map Values found.races.items ++ map Lines found.line_races.items
+
+-- all that a slot gave was taken
+pub record TakesAll (found : FoundInSlot) (old new : RaceGroups) : Type 0 where
+  pub machine : setting_of new ≡ setting_of old
+  pub from : new.scope.from ≡ old.scope.from
+  pub cut : new.cut_runs ≡ old.cut_runs
+  pub adds : Adds (setting_of old) (Contains (differences_in found)) (tolds_of old.groups.items) (tolds_of new.groups.items)
+  pub none : new.groups.items ≡ [] → differences_in found ≡ []
+  pub ends : SumsUp (setting_of old) (pairs_of found.ends.items) (pairs_of old.ends.items) (pairs_of new.ends.items)
 
 -- what a slot gave was taken: from the scope's time on
 pub record TakesSlot (time : ℕ) (found : FoundInSlot) (old new : RaceGroups) : Type 0 where
@@ -212,3 +206,22 @@ collects_nothing kept = record {
   from = refl;
   kept = λ before so. subst (KeepsGroups (setting_of kept) kept.scope.from kept) (sym (append-nil before)) so;
 }
+
+-- ---- what is told
+
+-- these ends are the difference
+abbrev pub TellsEnds : List (FoundMark MachineState) → Difference → Type 0
+TellsEnds ends (Values race) = ⊥
+TellsEnds ends (Lines race) = ⊥
+TellsEnds ends (Ends list) = list.items ≡ ends
+
+-- the group tells them, with their cause
+pub record IsGroupOfEnds (setting : Setting) (ends : List (FoundMark MachineState)) (group : Group) : Type 0 where
+  pub caused : IsCaused setting (told group)
+  pub tells : TellsEnds ends group.first
+
+-- the groups that were kept, or, where there is none and two ends aren't alike, a group of these
+pub record AreTold (setting : Setting) (kept : RaceGroups) (groups : List Group) : Type 0 where
+  pub none : groups ≡ [] → (kept.groups.items ≡ []) × (length kept.ends.items ≤ 1)
+  pub each : (group : Group) → Contains groups group →
+      Contains kept.groups.items group ⊎ ((1 < length kept.ends.items) × IsGroupOfEnds setting kept.ends.items group)

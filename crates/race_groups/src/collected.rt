@@ -1,19 +1,15 @@
 // The groups of closed slots.
 
-ghost use Rattle.std.specs.Prelude.{◌≡◌, ◌≢◌, ◌<◌, ◌≤◌, ◌++◌, [], IfSome, length, map, take, IfOk, OnErr, OnOk, true};
-ghost use Rattle.vmodel.specs.Run.{Setting};
-ghost use Rattle.cause.specs.Causes.{IsCause};
-ghost use Rattle.race_groups.specs.Inner.{Adds, AddsOf, AddsOfSome, GrowsBehind, KeepsGroups, StaysSo, TakesSlot, setting_of, tolds_of};
+ghost use Rattle.std.specs.Prelude.{◌≡◌, [], false, take, OnErr, OnOk};
+ghost use Rattle.race_groups.specs.Inner.{GrowsBehind, KeepsGroups, TakesAll, TakesSlot, setting_of};
 
-use crate::causes::{Causes, Placed};
+use crate::causes::Causes;
 use crate::ends::{put_ends, some_is_cut};
-use crate::group::{Difference, Group, Name, Scope};
-use crate::slot_race::SlotRace;
+use crate::group::{Group, Scope};
+use crate::groups::put_all;
 use basis::NoMemory;
-use cause::Cause;
 use explore::{Collector, FoundMark, RankMarks};
 use racebook::{FoundInSlot, found_in};
-use sched_core::Log;
 use statebook::Limits;
 use std::alloc::Global;
 use vmachine::{Machine, MachineState};
@@ -30,37 +26,16 @@ pub(crate) struct RaceGroups<'m> {
     pub(crate) cut_runs: bool,
 }
 
-// The difference joins the group at the place.
-fn follow(groups: &mut Vec<Group>, place: usize, name: Name, names: usize) -> Result<(), NoMemory>
-    requires { place < length groups.old.items }
-    ensures { tolds_of groups.new.items ≡ tolds_of groups.old.items }
-{
-    let group = &mut groups[place];
-    group.follow(name, names)
+// How many differences a slot gave.
+fn count_of(found: &FoundInSlot) -> u64 {
+    (found.races.len() as u64).saturating_add(found.line_races.len() as u64)
 }
 
-// A group of its own.
-fn open<R: SlotRace>(
-    alloc: Global,
-    groups: &mut Vec<Group>,
-    cause: Option<Cause>,
-    log: &Log,
-    race: &R,
-) -> Result<(), NoMemory>
-    ensures adds { (setting : Setting) → IfSome cause (IsCause setting log.now) →
-        Adds setting (λ d. d ≡ R.difference race.now) (tolds_of groups.old.items) (tolds_of groups.new.items) }
-    ensures some { OnOk result (0 < length groups.new.items) }
+// Whether one of both holds.
+fn either(one: bool, other: bool) -> bool
+    ensures { result ≡ false → (one ≡ false) × (other ≡ false) }
 {
-    let name = race.name();
-    groups.push(Group {
-        cause,
-        log: log.copy()?,
-        first: race.whole(alloc)?,
-        next: Vec::new(alloc),
-        more: 0,
-        last: name.time,
-    })?;
-    Ok(())
+    one || other
 }
 
 impl<'m> RaceGroups<'m> {
@@ -85,59 +60,24 @@ impl<'m> RaceGroups<'m> {
         }
     }
 
-    // The difference, by the log of one side. Where the group isn't new, it is counted there only if it wasn't yet.
-    fn put_side<R: SlotRace>(&mut self, race: &R, log: &Log, counted: bool) -> Result<(), NoMemory>
-        requires { counted ≡ true → 0 < length self.old.groups.items }
-        ensures adds { AddsOf (R.difference race.now) self.old self.new }
-        ensures some { OnOk result (0 < length self.new.groups.items) }
+    // All that a slot gave.
+    fn put_found(&mut self, found: FoundInSlot) -> Result<(), NoMemory>
+        ensures ok { OnOk result (TakesAll found self.old self.new) }
+        ensures grows { GrowsBehind self.old self.new }
     {
-        match self.causes.place(&self.groups, log)? {
-            Placed::With(place) => {
-                if counted {
-                    return Ok(());
-                }
-                follow(&mut self.groups, place, race.name(), self.scope.names)
-            }
-            Placed::Apart(cause) => { open(self.causes.alloc, &mut self.groups, cause, log, race) }
-        }
-    }
-
-    // One difference: it counts to the group of its first side that has departures.
-    fn put<R: SlotRace>(&mut self, race: &R) -> Result<(), NoMemory>
-        ensures adds { AddsOf (R.difference race.now) self.old self.new }
-        ensures some { OnOk result (0 < length self.new.groups.items) }
-    {
-        let mut counted = false;
-        for side in 0..race.sides() {
-            if let Some(log) = race.departed(side) {
-                self.put_side(race, log, counted)?;
-                counted = true;
-            }
-        }
-        if counted {
-            return Ok(());
-        }
-        let none = Log::new(self.causes.alloc);
-        self.put_side(race, &none, false)
-    }
-
-    // Each of these differences.
-    fn put_all<R: SlotRace>(&mut self, races: &[R]) -> Result<(), NoMemory>
-        ensures adds { AddsOfSome (map R.difference races.now) self.old self.new }
-        ensures some { OnOk result (self.new.groups.items ≡ [] → races.now ≡ []) }
-    {
-        for race in races {
-            self.put(race)?;
-        }
-        Ok(())
-    }
-
-    // What a slot gave that isn't told: its differences are counted.
-    fn pass_over(&mut self, found: &FoundInSlot)
-        ensures { AddsOfSome [] self.old self.new }
-    {
-        let count = (found.races.len() as u64).saturating_add(found.line_races.len() as u64);
-        self.ignored = self.ignored.saturating_add(count);
+        let FoundInSlot {
+            races,
+            line_races,
+            ends,
+        } = found;
+        put_all(&mut self.causes, &mut self.groups, self.scope.names, &races)?;
+        put_all(
+            &mut self.causes,
+            &mut self.groups,
+            self.scope.names,
+            &line_races,
+        )?;
+        put_ends(self.causes.machine, &mut self.ends, ends)
     }
 
     // What the slot of this time gave.
@@ -145,16 +85,13 @@ impl<'m> RaceGroups<'m> {
         ensures ok { OnOk result (TakesSlot time found self.old self.new) }
         ensures grows { GrowsBehind self.old self.new }
     {
-        if some_is_cut(self.causes.machine, &found.ends) {
-            self.cut_runs = true;
-        }
+        let is_cut = some_is_cut(self.causes.machine, &found.ends);
+        self.cut_runs = either(self.cut_runs, is_cut);
         if time < self.scope.from {
-            self.pass_over(&found);
+            self.ignored = self.ignored.saturating_add(count_of(&found));
             return Ok(());
         }
-        self.put_all(&found.races)?;
-        self.put_all(&found.line_races)?;
-        put_ends(self.causes.machine, &mut self.ends, found.ends)
+        self.put_found(found)
     }
 
     // No more than so many groups and ends.
@@ -182,7 +119,8 @@ impl<'m> Collector<MachineState> for RaceGroups<'m> {
         ensures err { OnErr result (StaysAs CollectsGroups self.old self.new) }
     {
         let found = found_in(self.causes.alloc, self.causes.machine, closed.marks)?;
-        let (groups, ends) = (self.groups.len(), self.ends.len());
+        let groups = self.groups.len();
+        let ends = self.ends.len();
         match self.put_slot(closed.rank, found) {
             Ok(()) => Ok(()),
             Err(refused) => {

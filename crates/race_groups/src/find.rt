@@ -4,6 +4,7 @@ ghost use Rattle.std.specs.Prelude.{IfOk};
 ghost use Rattle.explore.specs.Ranked.{TellsOfEntries, TellsOfSteps, TellsOfStop};
 ghost use Rattle.vmachine.specs.Machines.{machine_rules};
 ghost use Rattle.race_groups.specs.Found.{EachGroup, HasFirstDifference, HasItsCause, TellsOfCuts, TellsOfCutsThroughout, TellsOfNone, TellsOfNoneThroughout};
+ghost use Rattle.race_groups.specs.Inner.{AreTold, IsGroupOfEnds, setting_of};
 
 use crate::causes::{Causes, Placed};
 use crate::collected::RaceGroups;
@@ -38,37 +39,43 @@ fn time_of(machine: &Machine, ends: &[FoundMark<MachineState>]) -> u64 {
 }
 
 // The group of ends that differ.
-fn group_of_ends(
-    causes: &mut Causes,
-    ends: Vec<FoundMark<MachineState>>,
-) -> Result<Group, NoMemory> {
-    let log = departed_log(causes.alloc, &ends)?;
+fn group_of_ends(causes: &mut Causes, ends: Vec<FoundMark<MachineState>>) -> Result<Group, NoMemory>
+    ensures { IfOk result (IsGroupOfEnds causes.old.machine.now ends.items) }
+{
+    let alloc = causes.alloc;
+    let log = departed_log(alloc, &ends)?;
+    let last = time_of(causes.machine, &ends);
     let cause = match causes.place(&[], &log)? {
         Placed::With(_) => None,
         Placed::Apart(cause) => cause,
     };
-    let last = time_of(causes.machine, &ends);
     Ok(Group {
         cause,
         log,
         first: Difference::Ends(ends),
-        next: Vec::new(causes.alloc),
+        next: Vec::new(alloc),
         more: 0,
         last,
     })
 }
 
 // The groups that are told: where there is none, and two ends differ, one of these.
-fn groups_told(mut found: RaceGroups) -> Result<Vec<Group>, NoMemory> {
+fn groups_told(found: RaceGroups) -> Result<Vec<Group>, NoMemory>
+    ensures { IfOk result (λ groups. AreTold (setting_of found.entry) found.entry groups.items) }
+{
     let RaceGroups {
         mut causes,
         mut groups,
         ends,
         ..
     } = found;
-    if groups.is_empty() && ends.len() > 1 {
-        groups.push(group_of_ends(&mut causes, ends)?)?;
+    if !groups.is_empty() {
+        return Ok(groups);
     }
+    if ends.len() <= 1 {
+        return Ok(groups);
+    }
+    groups.push(group_of_ends(&mut causes, ends)?)?;
     Ok(groups)
 }
 
@@ -101,8 +108,9 @@ pub fn find_races<W: Watcher>(
     let mut found = RaceGroups::new(alloc, machine, limits, scope);
     let search = explore_ranked(alloc, machine, limits, &mut found, watcher);
     let (ignored, cut_runs) = (found.ignored, found.cut_runs);
+    let groups = groups_told(found)?;
     Ok(Races {
-        groups: groups_told(found)?,
+        groups,
         ignored,
         cut_runs,
         search,

@@ -9,6 +9,7 @@ mod collected;
 mod ends;
 mod find;
 mod group;
+mod groups;
 mod slot_race;
 
 pub use find::find_races;
