@@ -18,8 +18,8 @@ pub adds_none : (setting : Setting) (P : Difference → Type 0) (old new : List 
 adds_none setting P old new is = record {
   more = [];
   is = is ∙ sym (append-nil old);
-  causes = λ t has. absurd (nothing_in t has);
-  firsts = λ t has. absurd (nothing_in t has);
+  causes = λ t has. nothing_in t has;
+  firsts = λ t has. nothing_in t has;
 }
 
 pub adds_on : (setting : Setting) (P : Difference → Type 0) (old mid new : List Told) → Adds setting P old mid → Adds setting P mid new → Adds setting P old new
@@ -41,7 +41,7 @@ adds_weaker setting P Q old new from a = record { more = a.more; is = a.is; caus
 
 only : (t u : Told) → Contains (t ∷ []) u → t ≡ u
 only t u has = elim (Contains-push_cases [] t u has) [
-  | inl none ↦ absurd (nothing_in u none)
+  | inl none ↦ nothing_in u none
   | inr is ↦ is
 ]
 

@@ -104,7 +104,7 @@ module _ (setting : Setting) (from : ℕ) (closings : List (Closing MachineState
   more_alike : (one : Pair) → new_ends ≡ one ∷ [] → OfEachFrom from all (λ marks. OfEnds setting marks (λ l. AllAlike setting l one))
   more_alike one e = each_more closings c (λ d. from ≤ d.rank → OfEnds setting d.marks (λ l. AllAlike setting l one))
       (elim (front_of_one ends in_front.0 one (sym in_front.1 ∙ e)) [
-        | inl none ↦ (λ i d at late. ([], kept.no_end none i d at late, λ end has. absurd (nothing_in end has)))
+        | inl none ↦ (λ i d at late. ([], kept.no_end none i d at late, λ end has. nothing_in end has))
         | inr same ↦ kept.alike one same
       ])
       (λ late. (taken, is.ends, (sums late).alike one e))
@@ -132,10 +132,10 @@ module _ (setting : Setting) (from : ℕ) (closings : List (Closing MachineState
 
 pub kept_none : (setting : Setting) (from : ℕ) (tolds : List Told) (ends : List Pair) → tolds ≡ [] → ends ≡ [] → AreGroupsOf setting from tolds ends false []
 kept_none setting from tolds ends no_told no_end = record {
-  causes = λ t has. absurd (nothing_in t (subst (λ (l : List Told). Contains l t) no_told has));
-  firsts = λ t has. absurd (nothing_in t (subst (λ (l : List Told). Contains l t) no_told has));
+  causes = λ t has. nothing_in t (subst (λ (l : List Told). Contains l t) no_told has);
+  firsts = λ t has. nothing_in t (subst (λ (l : List Told). Contains l t) no_told has);
   none = λ e i c at. absurd (cc);
-  ends = λ end has. absurd (nothing_in end (subst (λ (l : List Pair). Contains l end) no_end has));
+  ends = λ end has. nothing_in end (subst (λ (l : List Pair). Contains l end) no_end has);
   no_end = λ e i c at. absurd (cc);
   alike = λ one e i c at. absurd (cc);
   unlike = λ one other at at'. absurd (let e = ap (λ (l : List Pair). slice_get l 0) no_end in cc);
@@ -204,7 +204,7 @@ told_of_ends setting kept groups group two none is of =
     record {
       none = λ e. absurd (let f = sym here ∙ e in cc);
       each = λ g has. elim (Contains-push_cases [] group g (subst (λ (l : List Group). Contains l g) here has)) [
-        | inl nowhere ↦ absurd (nothing_in g nowhere)
+        | inl nowhere ↦ nothing_in g nowhere
         | inr same ↦ inr (two, subst (IsGroupOfEnds setting kept.ends.items) same of)
       ];
     }

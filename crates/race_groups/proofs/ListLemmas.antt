@@ -2,32 +2,29 @@
 use Rattle.std.proofs.Common.{◌≡◌, ℕ, zero, suc, ◌+◌, ◌<◌, ◌≤◌, ◌⊎◌, List, [], ◌∷◌, ◌++◌, length, map, drop, slice_get, Some, refl, sym, ap, ◌∙◌, inl, inr, append-nil, arith}
 use Rattle.std.specs.List.{Contains}
 use Rattle.std.proofs.lemmas.Option.{same_Some}
-use Rattle.basis.proofs.Lists.{at_contains}
+use Rattle.basis.proofs.Lists.{at_contains, of_mapped}
 use Rattle.racebook.proofs.ListLemmas.{contains_at}
 
-pub nothing_in : {A : Type 0} (x : A) → Contains [] x → ⊥
+-- nothing stands in the empty list
+pub nothing_in : {A P : Type 0} (x : A) → Contains [] x → P
 nothing_in x has = let p = at_contains [] x has in let q = p.1 in absurd cc
-
-in_map : {A B : Type 0} (f : A → B) (xs : List A) (i : ℕ) (y : B) → slice_get (map f xs) i ≡ Some y → (x : A) × (slice_get xs i ≡ Some x) × (f x ≡ y)
-in_map f [] i y at = absurd cc
-in_map f (x ∷ xs) zero y at = (x, refl, same_Some (f x) y at)
-in_map f (x ∷ xs) (suc i) y at = in_map f xs i y at
 
 -- what stands among the images is one of an element
 pub from_map : {A B : Type 0} (f : A → B) (xs : List A) (y : B) → Contains (map f xs) y → (x : A) × Contains xs x × (f x ≡ y)
 from_map f xs y has =
     let p = at_contains (map f xs) y has in
-    let m = in_map f xs p.0 y p.1 in
+    let m = of_mapped f xs p.0 y p.1 in
     (m.0, contains_at xs p.0 m.0 m.1, m.2)
 
-pub map_at : {A B : Type 0} (f : A → B) (xs : List A) (i : ℕ) (x : A) → slice_get xs i ≡ Some x → slice_get (map f xs) i ≡ Some (f x)
-map_at f [] i x at = absurd cc
-map_at f (y ∷ xs) zero x at = ap (λ z. Some (f z)) (same_Some y x at)
-map_at f (y ∷ xs) (suc i) x at = map_at f xs i x at
+-- the element at a place is mapped to that at the same place
+at_mapped : {A B : Type 0} (f : A → B) (xs : List A) (i : ℕ) (x : A) → slice_get xs i ≡ Some x → Some (f x) ≡ slice_get (map f xs) i
+at_mapped f [] i x at = absurd cc
+at_mapped f (y ∷ xs) zero x at = ap (λ z. Some (f z)) (sym (same_Some y x at))
+at_mapped f (y ∷ xs) (suc i) x at = at_mapped f xs i x at
 
 -- an image of an element
 pub to_map : {A B : Type 0} (f : A → B) (xs : List A) (x : A) → Contains xs x → Contains (map f xs) (f x)
-to_map f xs x has = let p = at_contains xs x has in contains_at (map f xs) p.0 (f x) (map_at f xs p.0 x p.1)
+to_map f xs x has = let p = at_contains xs x has in contains_at (map f xs) p.0 (f x) (sym (at_mapped f xs p.0 x p.1))
 
 pub no_image : {A B : Type 0} (f : A → B) (xs : List A) → map f xs ≡ [] → xs ≡ []
 no_image f [] none = refl

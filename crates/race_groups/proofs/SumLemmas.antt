@@ -29,7 +29,7 @@ sums_none setting old = record {
   is = sym (append-nil old);
   among = λ end has. has;
   none = λ e. refl;
-  alike = λ one e end has. absurd (nothing_in end has);
+  alike = λ one e end has. nothing_in end has;
   unlike = λ un. un;
 }
 
@@ -45,7 +45,7 @@ sums_on setting ends others old mid new a b = record {
   none = λ e. (let before = a.none (none_in_front mid b.more (sym b.is ∙ e)) in ap (λ l. l ++ others) before ∙ b.none e);
   alike = λ one e end has. elim (Contains-append_cases ends others end has) [
     | inl first ↦ elim (front_of_one mid b.more one (sym b.is ∙ e)) [
-      | inl none ↦ absurd (nothing_in end (subst (λ (l : List Pair). Contains l end) (a.none none) first))
+      | inl none ↦ nothing_in end (subst (λ (l : List Pair). Contains l end) (a.none none) first)
       | inr is ↦ a.alike one is end first
     ]
     | inr second ↦ b.alike one e end second
@@ -93,7 +93,7 @@ turned setting s r like = λ t u st su. sym (like u t su st)
 
 alone : (one end : Pair) → Contains (one ∷ []) end → one ≡ end
 alone one end has = elim (Contains-push_cases [] one end has) [
-  | inl none ↦ absurd (nothing_in end none)
+  | inl none ↦ nothing_in end none
   | inr is ↦ is
 ]
 
@@ -112,7 +112,7 @@ module _ (setting : Setting) (found : FoundMark MachineState) where
   sums_full (x ∷ y ∷ xs) many = record {
     more = [];
     is = sym (append-nil (pairs_of (x ∷ y ∷ xs)));
-    among = λ end has. absurd (nothing_in end has);
+    among = λ end has. nothing_in end has;
     none = λ e. absurd (cc);
     alike = λ one e. absurd (let f = ap (drop 1) e in cc);
     unlike = λ un. un;
@@ -127,7 +127,7 @@ module _ (setting : Setting) (found : FoundMark MachineState) where
       record {
         more = [];
         is = refl;
-        among = λ end has. absurd (nothing_in end has);
+        among = λ end has. nothing_in end has;
         none = λ e. absurd (cc);
         alike = λ k e end has. (let same : k ≡ (x.state, x.log) = sym (same_Some (x.state, x.log) k (ap (λ (l : List Pair). slice_get l 0) e)) in
             let here : pair ≡ end = alone pair end has in
