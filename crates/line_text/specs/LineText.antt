@@ -9,7 +9,7 @@ use Rattle.vdesign.specs.declared.print.Piece.TheVariants.{Text, Value}
 use Rattle.value_text.specs.ValueText.{binary, hexadecimal, decimal_text, short_decimal, time_text, short_time}
 use Rattle.vvalue.specs.Value.{Environment, by_itself}
 
--- 17.1.1.2: a value in a form; a time is told in units of the precision, of which so many make one of its own (19.8)
+-- 17.1.1.2: a value in a form; a time is told in units of the precision, of which so many make one of its own (17.3.2, 19.8)
 abbrev pub shown_as : Form → ℕ → Vector → List ℕ
 shown_as Binary factor v = binary v
 shown_as Hexadecimal factor v = hexadecimal v

@@ -19,7 +19,7 @@ watched_values design place time values = watched (environment_at design values 
 abbrev pub line_at : Design → ℕ → ℕ → List Vector → List ℕ
 line_at design place time values = line_of (environment_at design values time) (pieces_at design place)
 
--- one that has printed prints again where an argument differs from what it last showed
+-- one that has printed prints again where an argument differs, at the end of a slot (own), from what it last showed
 abbrev pub due_again : Design → ℕ → List Vector → ℕ → List Vector → Option ℕ
 due_again design place last time values = if values_same last (watched_values design place time values) then None else Some place
 

@@ -1,5 +1,5 @@
 -- *product rule*: How large a module is: what its instances have together is limited (E309). Each statement counts 1, and so does each name,
--- number and operator in it, each thing that is declared or connected, and each letter of a string that is printed or of a path that is dumped.
+-- number and operator in it, each thing that is declared or connected by name, and each letter of a string that is printed or of a path that is dumped.
 use Rattle.std.specs.Prelude.{ℕ, ◌+◌, List, [], ◌∷◌, length, Option, None, Some}
 use Rattle.vast.specs.NumberedWords.{Word}
 use Rattle.vast.specs.NumberedExpressions as text

@@ -1,5 +1,5 @@
--- *product rule*: Races: clause 11 of IEEE 1364-2005 leaves the order of events open (11.4.1, 11.4.2). Where two orders that it allows
--- give a variable two values at the end of one time slot, that is a race.
+-- *product rule*: Races: clause 11 of IEEE 1364-2005 leaves the order of events open (11.4.1, 11.4.2). Where two runs of one setting, which
+-- differ in this order alone, have two values of a variable at the end of one time slot, that is a race.
 use Rattle.std.specs.Prelude.{◌≡◌, ◌≢◌, ℕ, ◌<◌, ◌≤◌, List, length, slice_get, Some}
 use Rattle.vbits.specs.Vectors.{Vector}
 use Rattle.sched_core.specs.Rules.{IsRun, NamesBelow}

@@ -250,7 +250,7 @@ does scope now held (executing (event control body)) rest = suspends (waits (ter
 does scope now held (executing (wait_for condition body)) rest =
     if holds now (resolved scope condition) then moves (before body rest)
     else suspends (waits (any_of scope (names_in condition))) (executing (wait_for condition body) ∷ rest)
--- 6.1: it writes, waits for a change of what is read, and writes again
+-- 6.1, 11.6.1: it writes, waits for a change of what is read, and writes again
 does scope now held (driving outside name inside value) rest = record {
   effect = record nothing {
     wrote = assigned_parts now (Whole (number_of outside name) ∷ []) (resolved inside value);

@@ -82,7 +82,7 @@ right_in places text = replicate (places - length text) 32 ++ text
 abbrev pub decimal_text : Vector → List ℕ
 decimal_text v = right_in (length (longest v.signed (length v.letters))) (short_decimal v)
 
--- ---- a time: the value in units of the precision, so many to one (19.8)
+-- ---- a time: the value in units of the precision, so many to one (19.8; how `%t` shows it, 17.3.2)
 
 abbrev pub short_time : ℕ → Vector → List ℕ
 short_time factor v = amount_text v factor (amount_of v)

@@ -13,7 +13,7 @@ pub record RangeOf (W : Type 0) : Type 0 where
   pub left : ExpressionOf W
   pub right : ExpressionOf W
 
--- 4.2, 4.5: signed, and a range
+-- 4.2.1, 4.2.2, 4.3.1: signed, and a range
 pub record TypeOf (W : Type 0) : Type 0 where
   pub signed : Bool
   pub range : Option (RangeOf W)
@@ -305,7 +305,7 @@ fits_head_parameters levels (parameter ∷ more) =
 abbrev pub fits_connection : ℕ → ConnectionTree → Bool
 fits_connection levels connection = is_name connection.name && fits_optional levels connection.value
 
--- no connection at all is one by order
+-- no connection at all is one by order, of parameters, too (own)
 abbrev pub fits_connections : ℕ → ConnectionsTree → Bool
 fits_connections levels (by_order values) = list_all (fits_value levels) values
 fits_connections levels (by_name connections) = nat_le 1 (length connections) && list_all (fits_connection levels) connections
@@ -329,6 +329,7 @@ fits_body levels statement = fits_statement statement && nat_le (statement_depth
 
 abbrev pub fits_item : ℕ → ItemTree → Bool
 fits_item levels (parameters local type settings) = fits_parameter_type levels type && are_some (fits_setting levels) settings
+-- names with and without a value may stand in one declaration, of nets, too (own)
 fits_item levels (declaration kind declared) = fits_declaration_kind levels kind && are_some (fits_declared levels) declared
 fits_item levels (events names) = are_some is_name names
 fits_item levels (assignments list) = are_some (fits_setting levels) list

@@ -10,7 +10,7 @@ use Rattle.basis.specs.Letters.{begins_name, is_in_name}
 abbrev pub Text : Type 0
 Text = List ℕ
 
--- the reserved words of this product (docs/LANGUAGE.md), in the order of their letters
+-- the reserved words of this product, in the order of their letters: not all of the standard's (own; docs/LANGUAGE.md, "Words")
 unfoldable pub reserved_words : List (List ℕ)
 reserved_words =
     codes "always" ∷ codes "and" ∷ codes "assign" ∷ codes "automatic" ∷ codes "begin" ∷ codes "buf" ∷ codes "bufif0"
@@ -30,7 +30,7 @@ reserved_words =
     ∷ codes "unsigned" ∷ codes "use" ∷ codes "uwire" ∷ codes "wait" ∷ codes "wand" ∷ codes "while" ∷ codes "wire"
     ∷ codes "wor" ∷ codes "xnor" ∷ codes "xor" ∷ []
 
--- 3.7.2
+-- 3.7.2, of the words above (own)
 abbrev pub is_reserved : List ℕ → Bool
 is_reserved word = list_any (λ reserved. bytes_eq reserved word) reserved_words
 

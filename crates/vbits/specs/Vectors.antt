@@ -19,7 +19,7 @@ pub record Vector : Type 0 where
 unfoldable pub filled : ℕ → Bit4 → Vector
 filled count letter = record { letters = replicate count letter; signed = false }
 
--- one unsigned letter: what comparisons, reductions and truth give (5.1.7, 5.1.8, 5.1.11)
+-- one unsigned letter: what comparisons, reductions and truth give (5.1.7, 5.1.8, 5.1.9, 5.1.11)
 unfoldable pub single : Bit4 → Vector
 single letter = record { letters = letter ∷ []; signed = false }
 
@@ -58,7 +58,8 @@ concat left right = record { letters = right.letters ++ left.letters; signed = f
 
 -- ---- bitwise operators (5.1.10), and the join of `?:` (5.1.13)
 
--- a result is signed where both operands are (5.5.1)
+-- a result is signed where both operands are (5.5.1); letter by letter, as the tables of 5.1.10 have it, also where a signed operand has x or z
+-- (5.5.4 can be read otherwise)
 unfoldable pub bitwise : (Bit4 → Bit4 → Bit4) → Vector → Vector → Vector
 bitwise table v w = record {
   letters = map (λ pair. table pair.0 pair.1) (zip v.letters w.letters);

@@ -30,4 +30,4 @@ pub record Design : Type 0 where
   pub variables : List Variable
   pub scopes : List Scope
   pub actions : List Action
-  pub processes : List (List ℕ)  -- the places at which each begins, in order (9.9.1)
+  pub processes : List (List ℕ)  -- the places at which each begins, in order (9.9.1, 9.9.2, 6.1)

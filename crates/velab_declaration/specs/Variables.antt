@@ -79,7 +79,7 @@ pub record ScopeDrivers : Type 0 where
   pub name : Text
   pub driven : List Text
 
--- what each bit is until it is first written: z of a net that nothing drives, and else x (4.2.2, 4.6.1)
+-- what each bit is until it is first written: z of a net that nothing drives (4.2.1), and else x (4.2.2; of a net that is driven, own)
 abbrev pub start_by : ScopeDrivers → Kind → Text → Bit4
 start_by drivers Reg text = X
 start_by drivers Integer text = X

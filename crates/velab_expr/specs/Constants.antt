@@ -26,7 +26,7 @@ measured word tree = unflawed (flaw_of nothing tree) word (worth tree)
 abbrev pub is_negative : Vector → Bool
 is_negative value = is_one (sign_letter value)
 
--- 0 to 65535, where the value is known and not negative
+-- 0 to 65535, where the value is known; a negative bound (4.3.1) is none here (own)
 abbrev pub bound_in : Vector → Option ℕ
 bound_in value =
     if is_negative value then None

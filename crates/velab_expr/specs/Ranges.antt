@@ -1,4 +1,4 @@
--- *trusted*: Ranges (IEEE 1364-2005, 4.3.1): two bounds, at most 64 bits apart.
+-- *trusted*: Ranges (IEEE 1364-2005, 4.3.1): two bounds, with at most 64 bits from one to the other (own).
 use Rattle.std.specs.Prelude.{ℕ, ◌+◌, ◌-◌, max, min, nat_le, Option, None, Some, Result, Ok}
 use Rattle.vast.specs.NumberedWords.{Word}
 use Rattle.vast.specs.NumberedExpressions as text

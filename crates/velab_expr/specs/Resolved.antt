@@ -52,7 +52,7 @@ abbrev pub count_of : text.ExpressionTrees → ℕ
 count_of text.none = 0
 count_of (text.first one more) = count_of more + 1
 
--- a vector has at most 64 bits, and each part has one at least
+-- a vector has at most 64 bits (own), and each part has one at least
 abbrev pub few : text.ExpressionTrees → Result ExpressionTree ElabFault → Result ExpressionTree ElabFault
 few parts whole = provided (nat_le (count_of parts) 64) Width (first_among parts) whole
 

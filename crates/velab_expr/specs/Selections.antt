@@ -24,7 +24,7 @@ dotted_path (name ∷ more) = name.letters ++ flat_map (λ one. 46 ∷ one.lette
 abbrev pub chosen_of : ℕ → Text → Chosen
 chosen_of levels path = record { path = path; levels = levels }
 
--- with a number alone the top is meant (own)
+-- with a number alone the top is meant (own); a path begins at the top (own)
 abbrev pub chosen_by : Text → ℕ → List (List Word) → List Chosen
 chosen_by top levels [] = chosen_of levels top ∷ []
 chosen_by top levels (path ∷ more) = map (λ names. chosen_of levels (dotted_path names)) (path ∷ more)

@@ -26,7 +26,7 @@ when_of printing.Monitor = AtChange
 abbrev pub between_quotes : Text → Text
 between_quotes letters = take (length letters - 2) (drop 1 letters)
 
--- 17.1.3: a monitor watches an argument, but `$time` alone
+-- 17.1.3: a monitor watches an argument, but `$time` alone, without parentheses round it (own)
 abbrev pub is_watched : text.ExpressionTree → Bool
 is_watched (text.time word) = false
 is_watched _ = true

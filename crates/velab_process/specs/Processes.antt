@@ -31,7 +31,8 @@ pub record Processes : Type 0 where
 abbrev pub with_begins_before : List (List ℕ) → Result Processes ElabFault → Result Processes ElabFault
 with_begins_before before answer = answer >>= λ processes. Ok (record { table = processes.table; begins = before ++ processes.begins })
 
--- 6.1: it writes, and it writes again at any change of a name that is read
+-- 6.1, 11.6.1, and for the connections of ports 11.6.6: it writes, and it writes again at any change of a name that is read. Evaluation and
+-- update are one step (own): a change that is taken back before the step comes isn't seen
 abbrev pub lower_drive : Scope → Table → Word → text.ExpressionTree → Result Lowered ElabFault
 lower_drive scope table name value =
     lower_variable scope name >>= λ net.
@@ -47,7 +48,7 @@ lower_processes scope table [] = Ok (record { table = table; begins = [] })
 lower_processes scope table (process ∷ rest) =
     lower_process scope table process >>= λ front. with_begins_before (front.places ∷ []) (lower_processes scope front.table rest)
 
--- `reg a = e` is an `initial a = e` at its place (6.2.1), and `wire a = e` drives a (6.1.1)
+-- `reg a = e` is an `initial a = e` at its place (6.2.1; that e may name variables is own), and `wire a = e` drives a (6.1.1)
 abbrev pub process_by : NetKind → Word → text.ExpressionTree → ProcessTree
 process_by net.Wire letters value = continuous letters value
 process_by net.Reg letters value = procedural (assign (written.whole letters) None value)

@@ -305,7 +305,7 @@ variable_paths part = map (λ v. v.name) part.variables
 abbrev pub scope_paths : Part → List Text
 scope_paths part = map (λ s. s.path) part.scopes
 
--- a path of a `$dumpvars` is a scope's (18.1.2)
+-- a path of a `$dumpvars` is a scope's (18.1.2), named from the top on (own)
 abbrev pub broken_path : List Text → List Text → Text → Option Rule
 broken_path scopes variables path =
     if is_declared scopes path then None
@@ -337,8 +337,8 @@ broken_selection scopes variables NoOperation = None
 broken_selection scopes variables Finish = None
 broken_selection scopes variables Stop = None
 
--- of no two variables the paths are alike, which two only are where names are, so that it is told before; nor of two scopes; and what is
--- dumped is there
+-- no two variables have one path, nor have two scopes (where they had, two names would be alike, and that is told before); and each path that
+-- is dumped is there
 abbrev pub broken_paths : Word → Part → Option ElabFault
 broken_paths top part =
     option_or (broken_if (has_double (variable_paths part)) rule.Doubled (Some top))

@@ -27,7 +27,7 @@ abbrev pub is_apostrophe : ℕ → Bool
 is_apostrophe c = c == 39
 
 abbrev pub is_in : Set → ℕ → Bool
--- space, tab, line feed, carriage return, form feed (3.2)
+-- space, tab, line feed, form feed (3.2), and carriage return (own)
 is_in Blanks c = c == 32 || c == 9 || c == 10 || c == 13 || c == 12
 -- letters, digits, _ and $ (3.7)
 is_in Words c = is_ascii_alphabetic c || is_ascii_digit c || c == 95 || c == 36

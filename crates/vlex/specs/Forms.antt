@@ -51,7 +51,7 @@ with_digit n c = if is_underscore c then n else 10 * n + (c - 48)
 abbrev pub spelled_number : List ℕ → ℕ
 spelled_number = fold with_digit 0
 
--- a size is 1 to 64
+-- a size is 1 to 64 (own), which zeros may stand before (own)
 abbrev pub is_size : List ℕ → Bool
 is_size digits = list_all (is_in Decimals) digits && nat_le 1 (spelled_number digits) && nat_le (spelled_number digits) 64
 

@@ -1,4 +1,5 @@
--- *trusted*: `Choices` (IEEE 1364-2005, 11.4.1, 11.4.2): what may be taken next, choice 0 by default.
+-- *product rule*: `Choices`: what may be taken next, choice 0 by default. It is a part of what IEEE 1364-2005 allows (11.4.1, 11.4.2): a
+-- process may be interrupted between two statements in grain statement, in grain process where it suspends, and never within one.
 use Rattle.std.specs.Prelude.{ℕ, ◌<◌, if◌then◌else◌, is_some, List, [], ◌∷◌, ◌++◌, Option, Some, None, map, drop}
 use Rattle.vmodel.specs.declared.part.Part.{Part}
 use Rattle.vmodel.specs.declared.choice.Choice.{Choice}

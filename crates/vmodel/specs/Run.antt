@@ -19,7 +19,7 @@ use Rattle.vmodel.specs.History.{History}
 use Rattle.vmodel.specs.Same.{state_same}
 use Rattle.vmodel.specs.Step.{frames, next, items_of, slot_end_of}
 
--- a variable starts at x, a net that nothing drives at z (4.2.2, 4.6)
+-- a variable starts at x (4.2.2), a net that nothing drives at z (4.2.1), one that is driven at x (own)
 abbrev pub opening_value : Variable → Vector
 opening_value variable = with_sign (filled variable.length variable.start) variable.signed
 
@@ -27,13 +27,13 @@ opening_value variable = with_sign (filled variable.length variable.start) varia
 abbrev pub opening_process : List ℕ → Process
 opening_process places = record { continuation = frames places []; held = None; waits = None }
 
--- 9.9.1: the numbers of the processes that have something to do, from n on
+-- 9.9.1, 9.9.2, 6.1: the numbers of the processes that have something to do, from n on
 abbrev pub busy_from : ℕ → List (List ℕ) → List ℕ
 busy_from n [] = []
 busy_from n ([] ∷ rest) = busy_from (suc n) rest
 busy_from n ((place ∷ places) ∷ rest) = n ∷ busy_from (suc n) rest
 
--- 9.9.1: at time 0 these processes are active, and nothing else is there
+-- 9.9.1, 9.9.2, 6.1: at time 0 these processes are active, and nothing else is there
 abbrev pub opening_queue : List ℕ → ℕ → Grain → Queue
 opening_queue active until grain = record {
   grain = grain;

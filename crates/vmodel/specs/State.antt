@@ -7,7 +7,7 @@ use Rattle.vmodel.specs.Queue.{Queue}
 use Rattle.sched_core.specs.declared.end.Cause.{Cause}
 use Rattle.vmodel.specs.declared.process.Frame.{Frame}
 
--- what a process stands at (9.9.1)
+-- what a process stands at (11.2)
 pub record Process : Type 0 where
   pub continuation : List Frame  -- what it has left, the first of it first
   pub held : Option Vector  -- the value that a suspended assignment holds (9.7.7)

@@ -94,10 +94,10 @@ abbrev pub execute : ℕ → Action → List Frame → Environment → StepResul
 execute place (Assign targets value) after now = record { continuation = after; effect = record quiet { wrote = assigned_parts now targets value } }
 -- 9.2.2, 11.6.4: `targets <= value` takes value and targets, and posts the update
 execute place (Nonblocking targets value) after now = record { continuation = after; effect = record quiet { posted = Some (post_after 0 (assigned_parts now targets value)) } }
--- 9.7.7: `targets = #amount value` takes value and delay, and sleeps until it writes
+-- 9.7.7, 11.6.3: `targets = #amount value` takes value and delay, and sleeps until it writes
 execute place (AssignDelayed amount targets value) after now =
     record { continuation = Writing place ∷ after; effect = record quiet { held = Some (held_value now targets value); disposition = Delayed (delay_of now amount) } }
--- 9.2.2, 9.7.7: `targets <= #amount value` takes value, targets and delay, and posts the update for then
+-- 9.2.2, 9.7.7, 11.6.4: `targets <= #amount value` takes value, targets and delay, and posts the update for then
 execute place (NonblockingDelayed amount targets value) after now =
     record { continuation = after; effect = record quiet { posted = Some (post_after (delay_of now amount) (assigned_parts now targets value)) } }
 -- 9.7.3: `-> event` wakes what waits for the event; where nothing does, it is lost
@@ -119,11 +119,11 @@ execute place (Forever body) after now = record { continuation = frames body (Ex
 execute place (Delay amount body) after now = record { continuation = frames body after; effect = record quiet { disposition = Delayed (delay_of now amount) } }
 -- 9.7.2: `@(terms)` waits, and the body comes after it
 execute place (EventControl terms body) after now = record { continuation = frames body after; effect = record quiet { disposition = Waiting place } }
--- 9.7.6: `wait (condition)` goes on to its body, or waits and then tests once more
+-- 9.7.6: `wait (condition)` goes on to its body, or waits and then tests once more; a condition that held only until then isn't seen (own)
 execute place (Wait condition terms body) after now =
     if holds now condition then record { continuation = frames body after; effect = quiet }
     else record { continuation = Executing place ∷ after; effect = record quiet { disposition = Waiting place } }
--- 6.1: `assign net = value` writes, waits for a change, and writes again
+-- 6.1, 11.6.1: `assign net = value` writes, waits for a change, and writes again, each in one step (own)
 execute place (ContinuousAssign net value terms) after now =
     record { continuation = Executing place ∷ after; effect = record quiet { wrote = assigned_parts now (WholeTarget net ∷ []) value; disposition = Waiting place } }
 -- 17.1: `$display(..)`, `$strobe(..)`, `$monitor(..)`
@@ -135,7 +135,7 @@ execute place (Dump asked) after now = record { continuation = after; effect = r
 execute place NoOperation after now = record { continuation = after; effect = quiet }
 -- 17.4.1: `$finish`
 execute place Finish after now = record { continuation = after; effect = record quiet { cause = Some Finished } }
--- 17.4.2: `$stop`
+-- 17.4.2: `$stop`, which ends the run, as nobody is there to go on (own)
 execute place Stop after now = record { continuation = after; effect = record quiet { cause = Some Stopped } }
 
 -- 9.6: what the start of a turn of the action at a place does, where so many turns are left: the body comes, and then the turns
@@ -144,7 +144,7 @@ abbrev pub execute_turn : ℕ → ℕ → Action → List Frame → StepResult
 execute_turn place n (Repeat count body) after = record { continuation = frames body (turns_left place (n - 1) after); effect = quiet }
 execute_turn place n _ after = record { continuation = Repeating place n ∷ after; effect = quiet }
 
--- 9.7.7: what the second step of the suspended assignment at a place does, with the value that its process holds: the targets are
+-- 9.7.7, 11.6.3: what the second step of the suspended assignment at a place does, with the value that its process holds: the targets are
 -- found now, and written. No other action than `targets = #amount value` has such a step
 abbrev pub resume : ℕ → Action → List Frame → Option Vector → Environment → StepResult
 resume place (AssignDelayed amount targets value) after held now = record { continuation = after; effect = record quiet { wrote = resumed_parts now targets held } }
@@ -278,8 +278,8 @@ with_step p step s = record s {
   cause = step.effect.cause;
 }
 
--- 9.7.2, 9.7.3: what waits for a change of the values from what they were goes on, in the same step, and so does what waits for the
--- event that the step triggers
+-- 9.7.2, 9.7.3: processes that wait for a change between these values and those before go on, in the same step, and so do those that wait
+-- for the event that the step triggers
 abbrev pub with_woken : Design → List Vector → Option ℕ → State → State
 with_woken design before triggered s =
     let comes = wakes design.actions before s.values triggered in
@@ -295,7 +295,7 @@ transition_with design p step s = complete step.effect (with_woken design s.valu
 abbrev pub no_transition : State → Transition
 no_transition s = record { state = s; effect = quiet; monitors = [] }
 
--- 17.7.1: a time in units in which delays are written
+-- 17.7.1: a time in units in which delays are written. Every time of a run is a multiple of its unit, so nothing is rounded
 abbrev pub written_time : ℕ → ℕ → ℕ
 written_time time zero = zero
 written_time time (suc n) = time / suc n

@@ -53,7 +53,7 @@ assigned_parts now targets e = given_parts now targets (right_side now (targets_
 abbrev pub held_value : Environment → List Target → ExpressionTree → Vector
 held_value now targets e = right_side now (max 1 (min 64 (targets_size now targets))) e
 
--- 9.7.7: the parts that it writes when its time has come, to the targets as they are then; nothing, where none is held
+-- 11.6.3: the parts that it writes when its time has come, to the targets as they are then; nothing, where none is held
 abbrev pub resumed_parts : Environment → List Target → Option Vector → List Part
 resumed_parts now targets None = []
 resumed_parts now targets (Some value) = given_parts now targets (resize value (targets_size now targets))

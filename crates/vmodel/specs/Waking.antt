@@ -1,5 +1,5 @@
--- *trusted*: What wakes a process that waits (IEEE 1364-2005, 9.7.2, 9.7.3): a change, which is the difference of a variable before and
--- after a step, or that the step triggers a named event.
+-- *trusted*: What wakes a process that waits (IEEE 1364-2005, 9.7.2, 9.7.3, of `wait` 9.7.6, of `assign` 6.1): a change, which is the
+-- difference of a variable before and after a step (own), or that the step triggers a named event.
 use Rattle.std.specs.Prelude.{ℕ, suc, Bool, false, not, ◌||◌, if◌then◌else◌, ◌==◌, nat_lt, List, [], ◌∷◌, Option, Some, None, slice_get, unwrap_or}
 use Rattle.vbits.specs.declared.bit4.Bit4.{Bit4}
 use Rattle.vbits.specs.declared.bit4.Bit4.TheVariants.{Zero, One, X, Z}

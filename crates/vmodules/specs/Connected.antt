@@ -53,7 +53,7 @@ abbrev pub misfit_if : Word → List Text → Option ConnectionsTree → Option 
 misfit_if whose names None = None
 misfit_if whose names (Some connections) = misfit whose names connections
 
--- 4.10.1, 12.2: the parameters of an item that can be overridden
+-- 4.10.1, 4.10.2, 12.2: the parameters of an item that can be overridden
 abbrev pub open_by : ItemTree → List Word
 open_by (parameters local type settings) = if local then [] else map (λ setting. setting.name) settings
 open_by (declaration kind declared) = []

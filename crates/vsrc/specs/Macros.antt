@@ -119,7 +119,7 @@ abbrev pub given : (List ℕ → Made → Result Made Refusal) → ℕ → ℕ �
 given nested at zero text made = Ok made
 given nested at (suc n) text made = and_then (piece nested at text made) (given nested at n (drop (piece_len text) text))
 
--- a name that is no word of a directive may be a macro's
+-- a name that is no word of a directive may be a macro's; only the words of this product's directives are barred (own)
 abbrev pub may_be_macro : List ℕ → Bool
 may_be_macro [] = false
 may_be_macro (c ∷ cs) = if is_some (directive_of (c ∷ cs)) then false else true
@@ -136,7 +136,7 @@ text_for macros at name = looked_up (may_be_macro name) (macros name) at
 abbrev pub counted : Made → Made
 counted made = record { text = made.text; origins = made.origins; uses = made.uses + 1 }
 
--- 19.3.2: what a use of the name makes, where the use in the files stands at `at` and so many levels are left
+-- 19.3.1: what a use of the name makes, pasted to what stands on both sides (own), where the use in the files stands at `at` and so many levels are left
 unfoldable pub used : ℕ → Macros → ℕ → List ℕ → Made → Result Made Refusal
 used zero macros at name made = and_then (text_for macros at name) (λ text. Err (refused_at at Limit))
 used (suc levels) macros at name made =

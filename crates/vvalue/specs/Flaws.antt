@@ -56,7 +56,7 @@ flaw_of now (apply operator o) = flaw_of now o
 flaw_of now (combine operator left right) = option_or (flaw_of now left) (flaw_of now right)
 flaw_of now (conditional condition when_true when_false) =
     option_or (flaw_of now condition) (option_or (flaw_of now when_true) (flaw_of now when_false))
-flaw_of now (joined left right) =  -- 5.1.14: at most 64 bits
+flaw_of now (joined left right) =  -- 5.1.14; at most 64 bits (own); a number without a size has 32 bits here, too (own)
     option_or (flaw_of now left) (option_or (flaw_of now right) (unless (nat_le (size_of now left + size_of now right) 64) Size))
 flaw_of now (repeated count o) =  -- 5.1.14: at least once
     option_or (flaw_of now o) (unless (nat_le 1 count && nat_le (count * size_of now o) 64) Size)
@@ -73,5 +73,5 @@ first_target_flaw now [] = None
 first_target_flaw now (one ∷ more) = option_or (target_flaw now one) (first_target_flaw now more)
 
 abbrev pub targets_flaw : Environment → List Target → Option Flaw
-targets_flaw now targets =  -- 5.1.14: at most 64 bits
+targets_flaw now targets =  -- 5.1.14; at most 64 bits (own)
     option_or (first_target_flaw now targets) (unless (nat_le (targets_size now targets) 64) Size)

@@ -25,7 +25,8 @@ place_at now n index = option_and_then (place_in (bounds_of now n)) (index_in (b
 abbrev pub falls : Bounds → Bool
 falls bounds = nat_le bounds.right bounds.left
 
--- 5.2.1: whether they fall in what is declared and in a part of it: a single bit, `[3:3]`, is in both orders, so that the other tells
+-- 5.2.1: whether bounds fall both in what is declared and in a part of it. Of a single bit, `[3:3]`, it is said in both orders, so the other
+-- bounds decide
 abbrev pub both_fall : Bounds → Bounds → Bool
 both_fall declared selected = falls declared && falls selected
 

@@ -231,7 +231,7 @@ size_and_sign size signed = record { size = size; signed = signed }
 abbrev pub own : Environment → ExpressionTree → SizeAndSign
 own now e = size_and_sign (size_of now e) (is_signed now e)
 
--- 5.5.1: operands that are compared
+-- 5.4.1, 5.5.1: operands that are compared
 abbrev pub common : SizeAndSign → SizeAndSign → SizeAndSign
 common left right = size_and_sign (max left.size right.size) (left.signed && right.signed)
 
@@ -266,8 +266,8 @@ binary_value (Compares operator) v w = compared_value operator v w
 binary_value (Combines operator) v w = combined_value operator v w
 binary_value (Shifts operator) v w = shifted_value operator v w
 
--- 5.4, 5.5: the value where it stands. What takes its operands by themselves, or at a size of their own, is extended to that. A
--- number that spreads is extended by its leftmost letter (3.5.1)
+-- 5.4, 5.5: the value where it stands. Where an operator takes its operands by themselves, or at a size of their own, its result is then
+-- extended to the size of where it stands. A number that spreads is extended by its leftmost letter (3.5.1)
 abbrev pub value_of : Environment → ExpressionTree → SizeAndSign → Vector
 value_of now (constant c) here = extended_value c.value (c.spreads || here.signed) here
 value_of now (variable n) here = fitted_value (value_at now n) here
