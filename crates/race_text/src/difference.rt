@@ -1,8 +1,8 @@
 // What runs differ in, and its sides: what is so in each of them, and the order in which it comes about.
 
-use crate::cause::{put_other_order, put_usual_order};
 use crate::pieces::{put_cut, put_number, put_padded};
 use crate::place::Sources;
+use crate::statements::{put_other_order, put_usual_order};
 use crate::value::put_value;
 use basis::NoMemory;
 use explore::FoundMark;
