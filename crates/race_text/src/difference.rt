@@ -209,7 +209,7 @@ pub fn rows_of(alloc: Global, subject: Subject<'_>) -> Result<Vec<Row>, NoMemory
 fn put_joined(text: &mut Vec<u8>, rows: &[Row]) -> Result<(), NoMemory> {
     for (place, row) in rows.iter().enumerate() {
         if place > 0 {
-            let joint: &[u8] = if place + 1 == rows.len() {
+            let joint: &[u8] = if place.saturating_add(1) == rows.len() {
                 b" or "
             } else {
                 b", "
