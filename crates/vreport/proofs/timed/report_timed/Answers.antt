@@ -1,4 +1,4 @@
-use Rattle.std.proofs.Common.{ℕ, List, ap, ◌∙◌, map, subst, sym}
+use Rattle.std.proofs.Common.{ℕ, List, ap, ◌∙◌, map, refl, subst, sym}
 use Rattle.report_text.specs.Report.{End}
 use Rattle.report_text.specs.WellFormed.{Each}
 use Rattle.explore.specs.Ranked.{pairs_of}
