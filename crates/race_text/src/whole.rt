@@ -112,11 +112,11 @@ fn put_group(
 }
 
 /// The races, each by its cause, and what wasn't looked at.
-pub fn races_text(
+pub fn races_text<'a>(
     alloc: Global,
-    machine: &Machine,
-    sources: &Sources<'_>,
-    races: &Races,
+    machine: &'a Machine,
+    sources: &'a Sources<'a>,
+    races: &'a Races,
     told: &Told,
 ) -> Result<Vec<u8>, NoMemory> {
     let mut text = Vec::new(alloc);
