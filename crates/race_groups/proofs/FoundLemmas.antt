@@ -1,10 +1,12 @@
 -- What a search for races tells, by what it was handed on.
 use Rattle.std.specs.Prelude.{⊤}
-use Rattle.std.proofs.Common.{◌≡◌, ◌≢◌, ℕ, ◌<◌, ◌≤◌, ◌⊎◌, Bool, true, false, List, [], ◌∷◌, ◌++◌, length, map, slice_get, Option, Some, IfSome, refl, sym, ap, ◌∙◌, subst, inl, inr, arith}
+use Rattle.std.proofs.Common.{◌≡◌, ◌≢◌, ℕ, ◌<◌, ◌≤◌, ◌==◌, ◌⊎◌, Bool, true, false, cond, List, [], ◌∷◌, ◌++◌, length, map, slice_get, Option, Some, None, IfSome, refl, sym, ap, ◌∙◌, subst, inl, inr, arith}
 use Rattle.std.specs.List.{Contains}
+use Rattle.std.specs.Option.{IsSome}
 use Rattle.std.proofs.lemmas.Bool.{cases_lt}
+use Rattle.std.proofs.lemmas.Bool.Decides.{nat_tests}
 use Rattle.std.proofs.lemmas.List.{length-map}
-use Rattle.std.proofs.lemmas.Option.{same_Some}
+use Rattle.std.proofs.lemmas.Option.{IfSome_then, same_Some}
 use Rattle.basis.proofs.Lists.{at_contains, listed_place}
 use Rattle.sched_core.specs.Replay.{EndsAfter}
 use Rattle.sched_core.specs.Rules.{IsRun, stands}
@@ -30,7 +32,7 @@ use Rattle.racebook.specs.LineRaces.{IsLineRace, TwoRunsPrint}
 use Rattle.racebook.specs.InTime.{EachEnd, IsEndOfRun}
 use Rattle.racebook.specs.Inner.{AreEndsOf, GoesOn}
 use Rattle.racebook.proofs.FoundLemmas.{Alike, AllStand, AreEndsListed, HasVariables, MarkAlike, RunHere, RunThere, end_marked, lines_at, lines_found, races_at, races_found}
-use Rattle.racebook.proofs.InTimeLemmas.{RankIsTime, ended_here, if_some, told_where_ended}
+use Rattle.racebook.proofs.InTimeLemmas.{RankIsTime, told_where_ended}
 use Rattle.racebook.proofs.ListLemmas.{contains_at}
 use Rattle.race_groups.specs.declared.collected.RaceGroups.{RaceGroups}
 use Rattle.race_groups.specs.declared.group.Difference.{Difference}
@@ -42,6 +44,14 @@ use Rattle.race_groups.proofs.ListLemmas.{at_most_one, nothing_in, to_map}
 
 abbrev Pair : Type 0
 Pair = MachineState × List (ℕ × ℕ)
+
+-- where a run has ended no choice is left
+left_none : (n : ℕ) (b : Bool) (end : End) → IsSome (cond b (Some end) None) → (n == 0) ≡ b → n ≡ 0
+left_none n true end is e = grind (arith, nat_tests)
+left_none n false end is e = absurd (cc)
+
+ended_now : (t : State) → IsSome (end_in t) → 0 ≡ length (choices t)
+ended_now t is = sym (left_none (length (choices t)) (length (choices t) == 0) (end_of t) is refl)
 
 -- two of one shape, in which runs have ended, are alike
 alike_ends : (t u : State) → length (choices t) ≡ 0 → length (choices u) ≡ 0 → shape_of t ≡ shape_of u → EndsAlike t u
@@ -96,7 +106,7 @@ module _ (setting : Setting) (alike : Alike setting) (all : AllStand setting) (t
       let st : Stands setting end.0 t = alike (stands (machine_rules setting) end.1 f.steps) end.0 t (all end.1 f.steps) f.at in
       record {
         steps = f.steps;
-        ends = record { run = there end.1 f.steps f.run; end = width_is setting t ∙ ended_here t (o.ended t st); names = f.names };
+        ends = record { run = there end.1 f.steps f.run; end = width_is setting t ∙ sym (ended_now t (o.ended t st)); names = f.names };
         stands = st;
         within = f.within;
         short = f.short;
@@ -259,21 +269,19 @@ module _ (setting : Setting) (alike : Alike setting) (all : AllStand setting) (t
   AllTo top = HandsOnAllTo (machine_rules setting) limits (rank_of setting) hands.closings top
 
   pub told_to : tolds ≡ [] → length (pairs_of ends) ≤ 1 → IfSome findings.closed (λ top. NoneDiffer setting limits.depart (λ time. (from ≤ time) × (time ≤ top)))
-  told_to none few = if_some findings.closed AllTo (λ top. NoneDiffer setting limits.depart (λ time. (from ≤ time) × (time ≤ top)))
-      (λ top covered. none_differ (λ time. (from ≤ time) × (time ≤ top)) (λ log steps short run mark within.
+  told_to none few = IfSome_then findings.closed hands.covered (λ top covered. none_differ (λ time. (from ≤ time) × (time ≤ top)) (λ log steps short run mark within.
       (let at = ranked (stands (machine_rules setting) log steps) (state_after setting log steps) (all log steps) in
       let le = within.1 in
-      covered log steps short (here log steps run) mark (omega arith))) (λ time within. within.0) none few) hands.covered
+      covered log steps short (here log steps run) mark (omega arith))) (λ time within. within.0) none few)
 
   pub told_throughout : tolds ≡ [] → length (pairs_of ends) ≤ 1 → findings.status ≡ Exhausted → NoneDiffer setting limits.depart (λ time. from ≤ time)
   told_throughout none few e =
       none_differ (λ time. from ≤ time) (λ log steps short run mark within. hands.exhausted e log steps short (here log steps run) mark) (λ time within. within) none few
 
   pub cuts_to : cut ≡ false → IfSome findings.closed (λ top. NoneIsCut setting limits.depart (λ time. time ≤ top))
-  cuts_to none = if_some findings.closed AllTo (λ top. NoneIsCut setting limits.depart (λ time. time ≤ top))
-      (λ top covered. none_cut (λ time. time ≤ top) (λ log steps short run mark within.
+  cuts_to none = IfSome_then findings.closed hands.covered (λ top covered. none_cut (λ time. time ≤ top) (λ log steps short run mark within.
       (let at = ranked (stands (machine_rules setting) log steps) (state_after setting log steps) (all log steps) in
-      covered log steps short (here log steps run) mark (omega arith))) none) hands.covered
+      covered log steps short (here log steps run) mark (omega arith))) none)
 
   pub cuts_throughout : cut ≡ false → findings.status ≡ Exhausted → NoneIsCut setting limits.depart (λ time. ⊤)
   cuts_throughout none e = none_cut (λ time. ⊤) (λ log steps short run mark within. hands.exhausted e log steps short (here log steps run) mark) none

@@ -1,8 +1,8 @@
 // What runs differ in, and its sides: what is so in each of them, and the order in which it comes about.
 
-use crate::cause::{put_other_order, put_usual_order};
 use crate::pieces::{put_cut, put_number, put_padded};
 use crate::place::Sources;
+use crate::statements::{put_other_order, put_usual_order};
 use crate::value::put_value;
 use basis::NoMemory;
 use explore::FoundMark;
@@ -209,7 +209,7 @@ pub fn rows_of(alloc: Global, subject: Subject<'_>) -> Result<Vec<Row>, NoMemory
 fn put_joined(text: &mut Vec<u8>, rows: &[Row]) -> Result<(), NoMemory> {
     for (place, row) in rows.iter().enumerate() {
         if place > 0 {
-            let joint: &[u8] = if place + 1 == rows.len() {
+            let joint: &[u8] = if place.saturating_add(1) == rows.len() {
                 b" or "
             } else {
                 b", "

@@ -3,10 +3,10 @@
 // No law is claimed: how it is told the cases in tests/cases compare.
 #![tactic(auto)]
 
-mod cause;
 mod difference;
 mod pieces;
 mod place;
+mod statements;
 mod summary;
 mod value;
 mod whole;

@@ -26,7 +26,10 @@ fn line_of(text: &[u8], number: usize) -> &[u8] {
     for _ in 1..number {
         match memchr(b'\n', rest) {
             None => return &[],
-            Some(at) => rest = &rest[at + 1..],
+            Some(at) => match rest.get(at.saturating_add(1)..) {
+                None => return &[],
+                Some(after) => rest = after,
+            },
         }
     }
     first_line(rest)

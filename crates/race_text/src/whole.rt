@@ -1,9 +1,9 @@
 // The text of all races.
 
-use crate::cause::put_statements;
 use crate::difference::{Subject, put_difference, put_name, put_sides, rows_of, time_of};
 use crate::pieces::{put_count, put_number};
 use crate::place::Sources;
+use crate::statements::put_statements;
 use crate::summary::{Told, put_summary};
 use basis::NoMemory;
 use race_groups::{Difference, Group, Name, Races};
@@ -112,11 +112,11 @@ fn put_group(
 }
 
 /// The races, each by its cause, and what wasn't looked at.
-pub fn races_text(
+pub fn races_text<'a>(
     alloc: Global,
-    machine: &Machine,
-    sources: &Sources<'_>,
-    races: &Races,
+    machine: &'a Machine,
+    sources: &'a Sources<'a>,
+    races: &'a Races,
     told: &Told,
 ) -> Result<Vec<u8>, NoMemory> {
     let mut text = Vec::new(alloc);
