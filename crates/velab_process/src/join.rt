@@ -126,8 +126,9 @@ impl<'a> Connector<'a> {
         into: &mut Vec<Places>,
     ) -> Result<(), OrMemory<ElabFault>>
         ensures { Makes result (record { table = table.new; begins = into.new.items })
-            (with_begins_before into.old.items (spec.lower_join (numbered (words_of self.now.tokens.now) self.now.whose)
-            self.now.outer.now self.now.inner.now table.old (port_form (words_of self.now.tokens.now) port.now)
+            (with_begins_before into.old.items (spec.lower_join
+            (numbered (words_of self.now.tokens.now) self.now.whose) self.now.outer.now
+            self.now.inner.now table.old (port_form (words_of self.now.tokens.now) port.now)
             (Some (text_tree (words_of self.now.tokens.now) value.now)))) }
     {
         let action = self.connection_action(port, value)?;
@@ -143,8 +144,8 @@ impl<'a> Connector<'a> {
         into: &mut Vec<Places>,
     ) -> Result<(), OrMemory<ElabFault>>
         ensures { Makes result (record { table = table.new; begins = into.new.items })
-            (with_begins_before into.old.items (join_of (words_of self.now.tokens.now) self.now.whose self.now.outer.now
-            self.now.inner.now connections.now table.old port.now)) }
+            (with_begins_before into.old.items (join_of (words_of self.now.tokens.now) self.now.whose
+            self.now.outer.now self.now.inner.now connections.now table.old port.now)) }
     {
         match connections.value(letters(self.tokens, port.name)) {
             None => Ok(()),
@@ -161,8 +162,8 @@ impl<'a> Connector<'a> {
         into: &mut Vec<Places>,
     ) -> Result<(), OrMemory<ElabFault>>
         ensures { Makes result (record { table = table.new; begins = into.new.items })
-            (with_begins_before into.old.items (joins_of (words_of self.now.tokens.now) self.now.whose self.now.outer.now
-            self.now.inner.now connections.now table.old ports.now)) }
+            (with_begins_before into.old.items (joins_of (words_of self.now.tokens.now) self.now.whose
+            self.now.outer.now self.now.inner.now connections.now table.old ports.now)) }
     {
         for port in ports {
             self.lower_join(connections, port, table, into)?;

@@ -1,6 +1,6 @@
 // Processes: what statements have to do, their names resolved (clause 9).
 ghost use Rattle.std.specs.Prelude.{None, Some, ◌≡◌, ◌<◌, ◌≤◌, ◌+◌, ◌^◌, [], ◌++◌, ◌∷◌, Ok, true, false, length, map, option_map, List, OnOk};
-ghost use Rattle.velab_expr.specs.Answers.{Gives, Makes, behind};
+ghost use Rattle.velab_expr.specs.Answers.{Makes, behind};
 ghost use Rattle.velab_expr.specs.Inner.{symbols_in};
 ghost use Rattle.velab_process.specs.Prints.{when_of};
 ghost use Rattle.velab_process.specs.Statements as spec;
@@ -11,7 +11,6 @@ ghost use Rattle.velab_process.specs.Inner.{Begins, lower_loop as spec_loop, sta
 ghost use Rattle.vast.specs.Words.{Text};
 ghost use Rattle.vast.specs.NumberedTrees.{tree_of as text_tree, trees_of};
 ghost use Rattle.vast.specs.NumberedTrees.{target_tree, delay_tree, argument_tree, task_tree, event_tree, statement_tree, statement_trees, branch_tree, branch_trees};
-ghost use Rattle.vast.specs.NumberedTrees.{item_tree};
 ghost use Rattle.vast.specs.NumberedWords.{numbered};
 ghost use Rattle.vexpr_parse.specs.Texts.{words_of};
 ghost use Rattle.vast.specs.NumberedStatements.{case_of, assign, whole, print};
@@ -20,7 +19,7 @@ ghost use Rattle.vast.specs.NumberedStatements as written;
 use crate::elaborator::Elaborator;
 use crate::print::when_of;
 use crate::wait::{condition_terms, event_terms};
-use basis::{NoMemory, OrMemory};
+use basis::OrMemory;
 use std::alloc::Global;
 use std::marker::Model;
 use vast::expression::Expression as Value;
@@ -293,7 +292,8 @@ impl<'a> Elaborator<'a> {
         into: &mut Vec<usize>,
     ) -> Result<(), OrMemory<ElabFault>>
         ensures { Makes result (record { table = table.new; places = into.new.items })
-            (with_places_before into.old.items (spec.lower_task self.now.scope.now table.old (task_tree (words_of self.now.tokens.now) task.now))) }
+            (with_places_before into.old.items (spec.lower_task self.now.scope.now table.old
+            (task_tree (words_of self.now.tokens.now) task.now))) }
     {
         match task {
             Task::Print { kind, arguments } => self.lower_print(at, *kind, arguments, table, into),
@@ -333,7 +333,8 @@ impl<'a> Elaborator<'a> {
         into: &mut Vec<usize>,
     ) -> Result<(), OrMemory<ElabFault>>
         ensures { Makes result (record { table = table.new; places = into.new.items })
-            (with_places_before into.old.items (lower_statement self.now.scope.now table.old (statement_tree (words_of self.now.tokens.now) statement.now))) }
+            (with_places_before into.old.items (lower_statement self.now.scope.now table.old
+            (statement_tree (words_of self.now.tokens.now) statement.now))) }
     {
         match statement {
             Statement::Empty => Ok(()),
@@ -674,7 +675,8 @@ impl<'a> Elaborator<'a> {
           branches = into.new.items;
           otherwise = otherwise.new.items;
         }) (with_branches_before into.old.items otherwise.old.items
-            (spec.lower_branches self.now.scope.now table.old (branch_trees (words_of self.now.tokens.now) branches.now))) }
+            (spec.lower_branches self.now.scope.now table.old
+            (branch_trees (words_of self.now.tokens.now) branches.now))) }
     {
         for branch in branches {
             self.lower_branch(branch, table, into, otherwise)?;
@@ -696,7 +698,8 @@ impl<'a> Elaborator<'a> {
           branches = into.new.items;
           otherwise = otherwise.new.items;
         }) (with_branches_before into.old.items otherwise.old.items
-            (spec.lower_branch self.now.scope.now table.old (branch_tree (words_of self.now.tokens.now) branch.now))) }
+            (spec.lower_branch self.now.scope.now table.old
+            (branch_tree (words_of self.now.tokens.now) branch.now))) }
     {
         match branch {
             Branch::Labelled { labels, body } => {
@@ -846,8 +849,8 @@ impl<'a> Elaborator<'a> {
         into: &mut Vec<Places>,
     ) -> Result<(), OrMemory<ElabFault>>
         ensures { Makes result (record { table = table.new; begins = into.new.items })
-            (with_begins_before into.old.items (processes_of_item (words_of self.now.tokens.now) self.now.scope.now table.old
-            item.now)) }
+            (with_begins_before into.old.items (processes_of_item (words_of self.now.tokens.now)
+            self.now.scope.now table.old item.now)) }
     {
         match item {
             ModuleItem::Initial { statement, .. } => {
