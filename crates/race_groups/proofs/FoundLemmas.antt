@@ -1,10 +1,8 @@
 -- What a search for races tells, by what it was handed on.
 use Rattle.std.specs.Prelude.{⊤}
-use Rattle.std.proofs.Common.{◌≡◌, ◌≢◌, ℕ, ◌<◌, ◌≤◌, ◌==◌, ◌⊎◌, Bool, true, false, cond, List, [], ◌∷◌, ◌++◌, length, map, slice_get, Option, Some, None, IfSome, refl, sym, ap, ◌∙◌, subst, inl, inr, arith}
+use Rattle.std.proofs.Common.{◌≡◌, ◌≢◌, ℕ, ◌<◌, ◌≤◌, ◌⊎◌, Bool, true, false, List, [], ◌∷◌, ◌++◌, length, map, slice_get, Option, Some, IfSome, refl, sym, ap, ◌∙◌, subst, inl, inr, arith}
 use Rattle.std.specs.List.{Contains}
-use Rattle.std.specs.Option.{IsSome}
 use Rattle.std.proofs.lemmas.Bool.{cases_lt}
-use Rattle.std.proofs.lemmas.Bool.Decides.{nat_tests}
 use Rattle.std.proofs.lemmas.List.{length-map}
 use Rattle.std.proofs.lemmas.Option.{IfSome_then, same_Some}
 use Rattle.basis.proofs.Lists.{at_contains, listed_place}
@@ -32,7 +30,7 @@ use Rattle.racebook.specs.LineRaces.{IsLineRace, TwoRunsPrint}
 use Rattle.racebook.specs.InTime.{EachEnd, IsEndOfRun}
 use Rattle.racebook.specs.Inner.{AreEndsOf, GoesOn}
 use Rattle.racebook.proofs.FoundLemmas.{Alike, AllStand, AreEndsListed, HasVariables, MarkAlike, RunHere, RunThere, end_marked, lines_at, lines_found, races_at, races_found}
-use Rattle.racebook.proofs.InTimeLemmas.{RankIsTime, told_where_ended}
+use Rattle.racebook.proofs.InTimeLemmas.{RankIsTime, ended_here, told_where_ended}
 use Rattle.racebook.proofs.ListLemmas.{contains_at}
 use Rattle.race_groups.specs.declared.collected.RaceGroups.{RaceGroups}
 use Rattle.race_groups.specs.declared.group.Difference.{Difference}
@@ -44,14 +42,6 @@ use Rattle.race_groups.proofs.ListLemmas.{at_most_one, nothing_in, to_map}
 
 abbrev Pair : Type 0
 Pair = MachineState × List (ℕ × ℕ)
-
--- where a run has ended no choice is left
-left_none : (n : ℕ) (b : Bool) (end : End) → IsSome (cond b (Some end) None) → (n == 0) ≡ b → n ≡ 0
-left_none n true end is e = grind (arith, nat_tests)
-left_none n false end is e = absurd (cc)
-
-ended_now : (t : State) → IsSome (end_in t) → 0 ≡ length (choices t)
-ended_now t is = sym (left_none (length (choices t)) (length (choices t) == 0) (end_of t) is refl)
 
 -- two of one shape, in which runs have ended, are alike
 alike_ends : (t u : State) → length (choices t) ≡ 0 → length (choices u) ≡ 0 → shape_of t ≡ shape_of u → EndsAlike t u
@@ -106,7 +96,7 @@ module _ (setting : Setting) (alike : Alike setting) (all : AllStand setting) (t
       let st : Stands setting end.0 t = alike (stands (machine_rules setting) end.1 f.steps) end.0 t (all end.1 f.steps) f.at in
       record {
         steps = f.steps;
-        ends = record { run = there end.1 f.steps f.run; end = width_is setting t ∙ sym (ended_now t (o.ended t st)); names = f.names };
+        ends = record { run = there end.1 f.steps f.run; end = width_is setting t ∙ ended_here t (o.ended t st); names = f.names };
         stands = st;
         within = f.within;
         short = f.short;

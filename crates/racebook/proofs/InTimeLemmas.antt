@@ -40,7 +40,7 @@ no_choice : (n : ℕ) (b : Bool) (end : End) → (n == 0) ≡ b → IsSome (cond
 no_choice n true end e is = grind (arith, nat_tests)
 no_choice n false end e is = absurd (cc)
 
-ended_here : (t : State) → IsSome (end_in t) → length (choices t) ≡ 0
+pub ended_here : (t : State) → IsSome (end_in t) → length (choices t) ≡ 0
 ended_here t is = no_choice (length (choices t)) (length (choices t) == 0) (end_of t) refl is
 
 pub told_where_ended : (t : State) → length (choices t) ≡ 0 → end_in t ≡ Some (end_of t)
