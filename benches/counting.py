@@ -17,13 +17,16 @@ def program_of(crate):
     return str(Path(__file__).resolve().parents[1] / "crates" / crate / "out" / crate)
 
 
-def parts_of(names):
-    """The parts that the words behind the program's path name, or all of them."""
-    named = sys.argv[2:] or list(names)
-    unknown = [name for name in named if name not in names]
+def run_parts(crate, parts):
+    """Runs the parts that the words after the program's path name, or all of them, each of which answers whether its limits hold. Ends
+    the measure: with status 0 where all hold."""
+    program = program_of(crate)
+    named = sys.argv[2:] or list(parts)
+    unknown = [name for name in named if name not in parts]
     if unknown:
-        sys.exit(f"no part is named {', '.join(unknown)}; there are {', '.join(names)}")
-    return named
+        sys.exit(f"no part is named {', '.join(unknown)}; there are {', '.join(parts)}")
+    kept = [parts[name](program) for name in named]
+    sys.exit(0 if all(kept) else 1)
 
 
 def counted(program, words, text=b"", at=None):

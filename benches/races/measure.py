@@ -29,7 +29,7 @@ import time
 from pathlib import Path
 
 sys.path.insert(0, str(Path(__file__).resolve().parents[1]))
-from counting import beside_vvp, counted, counted_in, parts_of, peak_bytes, program_of
+from counting import beside_vvp, counted, counted_in, peak_bytes, run_parts
 
 TEXT = Path(__file__).resolve().parent / "text"
 QUEUE = Path(__file__).resolve().parents[2] / "examples/fifo-two-clocks/tb.v"
@@ -214,11 +214,5 @@ PARTS = {"shared": measured_shared, "pipeline": measured_pipeline, "handshake": 
          "holding": measured_holding}
 
 
-def main():
-    program = program_of("vrace_program")
-    kept = [PARTS[part](program) for part in parts_of(PARTS)]
-    return 0 if all(kept) else 1
-
-
 if __name__ == "__main__":
-    sys.exit(main())
+    run_parts("vrace_program", PARTS)

@@ -28,7 +28,7 @@ import sys
 from pathlib import Path
 
 sys.path.insert(0, str(Path(__file__).resolve().parents[1]))
-from counting import beside_vvp, counted, parts_of, peak_bytes, program_of
+from counting import beside_vvp, counted, peak_bytes, run_parts
 
 UNIT = """module counter_%d;
   reg [7:0] count, next; // a line of comment
@@ -268,12 +268,14 @@ PARTS = {"reading": reading, "refusals": refusals, "steps": steps, "shared": of_
          "elaboration": elaboration, "passes": passes}
 
 
-def main():
-    program = program_of("vrace_program")
-    for part in parts_of(PARTS):
-        PARTS[part](program)
-    return 1 if OVER else 0
+def kept_by(part):
+    """The part as one that answers whether nothing that it tells is over its limit."""
+    def run(program):
+        OVER.clear()
+        part(program)
+        return not OVER
+    return run
 
 
 if __name__ == "__main__":
-    sys.exit(main())
+    run_parts("vrace_program", {name: kept_by(part) for name, part in PARTS.items()})

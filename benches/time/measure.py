@@ -19,7 +19,7 @@ import time
 from pathlib import Path
 
 sys.path.insert(0, str(Path(__file__).resolve().parents[1]))
-from counting import counted, parts_of, program_of
+from counting import counted, run_parts
 
 TOP = Path(__file__).resolve().parents[1]
 QUEUE = TOP.parent / "examples/fifo-two-clocks/tb.v"
@@ -109,11 +109,5 @@ def measured_choices(program):
 PARTS = {"pipeline": measured_pipeline, "queue": measured_queue, "choices": measured_choices}
 
 
-def main():
-    program = program_of("vrace_program")
-    kept = [PARTS[part](program) for part in parts_of(PARTS)]
-    return 0 if all(kept) else 1
-
-
 if __name__ == "__main__":
-    sys.exit(main())
+    run_parts("vrace_program", PARTS)
