@@ -10,7 +10,7 @@ use Rattle.explore.specs.Found.{AllFewest, AreFound, HasEntries, IsListedMark}
 use Rattle.explore.specs.declared.rank_marks.FoundMark.{FoundMark}
 use Rattle.explore.specs.declared.rank_marks.RankMarks.{RankMarks}
 use Rattle.explore.specs.declared.ranked_findings.RankedFindings.{RankedFindings}
-use Rattle.explore.specs.declared.ranked_findings.RankedReason.TheVariants.{Entries, Steps}
+use Rattle.explore.specs.declared.ranked_findings.RankedReason.TheVariants.{Entries, Steps, Stopped}
 use Rattle.explore.specs.declared.ranked_findings.RankedStatus.TheVariants.{Exhausted, Cut}
 
 -- The marks that were handed on as a rank was closed, each with its log.
@@ -69,6 +69,10 @@ TellsOfEntries r limits findings = findings.status ≡ Cut Entries → HasEntrie
 -- `Cut(Steps)` is said only where a run takes more steps
 abbrev pub TellsOfSteps : {S : Type 0} → Rules S → Limits → RankedFindings → Type 0
 TellsOfSteps r limits findings = findings.status ≡ Cut Steps → SomeRunExceeds r limits
+
+-- `Cut(Stopped)` is said only where the watcher said so
+abbrev pub TellsOfStop : Type 0 → RankedFindings → Type 0
+TellsOfStop IsStopped findings = findings.status ≡ Cut Stopped → IsStopped
 
 -- The marks of a rank were collected behind whatever was before.
 abbrev pub CollectsMore : {C S : Type 0} → (C → List (Closing S) → C → Type 0) → C → Closing S → C → Type 0

@@ -1,6 +1,6 @@
 // Who takes what a search that goes by rank finds, and who is asked whether it is to go on.
 
-ghost use Rattle.std.specs.Prelude.{List, [], OnOk, OnErr};
+ghost use Rattle.std.specs.Prelude.{◌≡◌, false, List, [], OnOk, OnErr};
 ghost use Rattle.explore.specs.Ranked.{Closing, CollectsMore, StaysAs, closing_of};
 
 use crate::rank_marks::RankMarks;
@@ -16,22 +16,31 @@ pub trait Collector<S> {
         ensures ok { OnOk result (CollectsMore collects self.old (closing_of closed) self.new) }
         ensures err { OnErr result (StaysAs collects self.old self.new) };
 
+    /// How much it has found by now; a watcher is shown it.
+    fn found_count(&self) -> usize;
+
     /// To collect nothing changes nothing.
     ghost none: { (me : Self) → collects me [] me };
 }
 
 /// How far a search that goes by rank has come: the rank under way, how many entries were opened in all, how
-/// many of them are held, those of this rank and those that wait at later ones, and how many ranks were closed.
+/// many of them are held, those of this rank and those that wait at later ones, how many ranks were closed, and how much
+/// the collector found in these.
 #[derive(Clone, Copy, Debug)]
 pub struct Progress {
     pub rank: u64,
     pub entries_opened: usize,
     pub entries_held: usize,
     pub ranks_closed: u64,
+    pub found: usize,
 }
 
 /// Who watches a search.
 pub trait Watcher {
+    /// It said that the search is to stop.
+    ghost stopped: { Self → Type 0 };
+
     /// Whether the search is to go on. It is asked once for each entry that is taken.
-    fn go_on(&mut self, progress: &Progress) -> bool;
+    fn go_on(&mut self, progress: &Progress) -> bool
+        ensures stops { result ≡ false → stopped self.new };
 }

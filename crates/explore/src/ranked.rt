@@ -3,7 +3,7 @@
 ghost use Rattle.std.specs.Prelude.{◌≡◌, IfOk, OnErr, OnOk};
 ghost use Rattle.basis.specs.Reasons.{IfFault};
 ghost use Rattle.basis.specs.declared.memory.OrMemory.TheVariants.{Fault};
-ghost use Rattle.explore.specs.Ranked.{HandsOn, StaysAs, TellsOfEntries, TellsOfSteps};
+ghost use Rattle.explore.specs.Ranked.{HandsOn, StaysAs, TellsOfEntries, TellsOfSteps, TellsOfStop};
 ghost use Rattle.explore.specs.Inner.RankedSearches.{AllAreLedOn, GoesFrom, HasClosed, HasHandedOn, IsFollowed, IsRankedSearch, IsWhy, NoneBelow};
 
 use crate::alone::open_search;
@@ -118,7 +118,7 @@ fn close_rank<P: Ranked, C: Collector<P::State>, W: Watcher>(
     watcher: &mut W,
 ) -> Result<bool, OrMemory<Halt>>
     requires searching { IsRankedSearch (P.rules space.now) limits.now (P.ranks space.now) search.old }
-    ensures why { IfFault result (IsWhy (P.rules space.now) limits.now) }
+    ensures why { IfFault result (IsWhy (P.rules space.now) limits.now (W.stopped watcher.new)) }
     ensures kept { OnErr result (StaysAs C.collects collector.old collector.new) }
     ensures closed { OnOk result (GoesFrom C.collects
         (HasHandedOn (P.rules space.now) limits.now (P.ranks space.now) search.old.current.rank)
@@ -128,7 +128,8 @@ fn close_rank<P: Ranked, C: Collector<P::State>, W: Watcher>(
         (IsFollowed (P.rules space.now) limits.now (P.ranks space.now) search.old.current.rank search.new) }
 {
     forget_ways(alloc, space, limits, search)?;
-    visit_rank(alloc, space, limits, search, watcher)?;
+    let found = collector.found_count();
+    visit_rank(alloc, space, limits, search, found, watcher)?;
     hand_on(alloc, space, limits, search, collector)?;
     Ok(go_on(space, limits, search))
 }
@@ -137,6 +138,7 @@ fn close_rank<P: Ranked, C: Collector<P::State>, W: Watcher>(
 fn reason_of(halt: OrMemory<Halt>) -> RankedReason
     ensures entries { result ≡ RankedReason.Entries → halt ≡ Fault Halt.Entries }
     ensures steps { result ≡ RankedReason.Steps → halt ≡ Fault Halt.Steps }
+    ensures stopped { result ≡ RankedReason.Stopped → halt ≡ Fault Halt.Stopped }
 {
     match halt {
         OrMemory::Fault(Halt::Entries) => RankedReason::Entries,
@@ -168,6 +170,7 @@ fn go_through<P: Ranked, C: Collector<P::State>, W: Watcher>(
         (λ closings. C.collects collector.old closings collector.new) result }
     ensures entries { TellsOfEntries (P.rules space.now) limits.now result }
     ensures steps { TellsOfSteps (P.rules space.now) limits.now result }
+    ensures stopped { TellsOfStop (W.stopped watcher.new) result }
 {
     let mut closed = None;
     loop {
@@ -200,7 +203,8 @@ fn go_through<P: Ranked, C: Collector<P::State>, W: Watcher>(
 /// most `limits.depart` departures reaches was handed on, after however many steps; where the status is `Exhausted`,
 /// that is so of every mark. Where it is `Cut(Entries)`, there are at least
 /// `limits.entries` entries; where `Cut(Steps)`, some run of at most `limits.depart` departures takes more than
-/// `limits.steps` steps. A rank in which some way takes more steps than the limit isn't closed.
+/// `limits.steps` steps; where `Cut(Stopped)`, the watcher said so. A rank in which some way takes more steps than the limit
+/// isn't closed.
 ///
 /// Want of memory, the collector's too, cuts the search as the limits do.
 pub fn explore_ranked<P: Ranked, C: Collector<P::State>, W: Watcher>(
@@ -214,6 +218,7 @@ pub fn explore_ranked<P: Ranked, C: Collector<P::State>, W: Watcher>(
         (λ closings. C.collects collector.old closings collector.new) result }
     ensures entries { TellsOfEntries (P.rules space.now) limits.now result }
     ensures steps { TellsOfSteps (P.rules space.now) limits.now result }
+    ensures stopped { TellsOfStop (W.stopped watcher.new) result }
 {
     match open_ranked(alloc, space, limits) {
         Ok(search) => go_through(alloc, space, limits, search, collector, watcher),

@@ -18,10 +18,11 @@ fn may_go_on<P: Ranked, W: Watcher>(
     space: &P,
     limits: &Limits,
     search: &RankedSearch<P::State>,
+    found: usize,
     watcher: &mut W,
 ) -> Result<(), OrMemory<Halt>>
     requires { IsRankedSearch (P.rules space.now) limits.now (P.ranks space.now) search.now }
-    ensures why { IfFault result (IsWhy (P.rules space.now) limits.now) }
+    ensures why { IfFault result (IsWhy (P.rules space.now) limits.now (W.stopped watcher.new)) }
 {
     if search.opened >= limits.entries as usize {
         return Err(OrMemory::Fault(Halt::Entries));
@@ -31,6 +32,7 @@ fn may_go_on<P: Ranked, W: Watcher>(
         entries_opened: search.opened,
         entries_held: search.held,
         ranks_closed: search.closed,
+        found,
     };
     if watcher.go_on(&progress) {
         Ok(())
@@ -45,11 +47,12 @@ fn visit_budget<P: Ranked, W: Watcher>(
     space: &P,
     limits: &Limits,
     search: &mut RankedSearch<P::State>,
+    found: usize,
     watcher: &mut W,
     budget: u32,
 ) -> Result<(), OrMemory<Halt>>
     requires { IsRankedSearch (P.rules space.now) limits.now (P.ranks space.now) search.old }
-    ensures why { IfFault result (IsWhy (P.rules space.now) limits.now) }
+    ensures why { IfFault result (IsWhy (P.rules space.now) limits.now (W.stopped watcher.new)) }
     ensures searching { OnOk result
         (IsRankedSearch (P.rules space.now) limits.now (P.ranks space.now) search.new) }
     ensures grows { OnOk result (RankGrows search.old search.new budget) }
@@ -58,7 +61,7 @@ fn visit_budget<P: Ranked, W: Watcher>(
     let mut place = 0;
     while place < search.current.book.len() {
         if search.current.book.read(place).budget == budget {
-            may_go_on(space, limits, search, watcher)?;
+            may_go_on(space, limits, search, found, watcher)?;
             visit_entry(alloc, space, limits, search, place)?;
         }
         place += 1;
@@ -66,16 +69,17 @@ fn visit_budget<P: Ranked, W: Watcher>(
     Ok(())
 }
 
-/// Visits the entries of the rank by their departures, those with none first.
+/// Visits the entries of the rank by their departures, those with none first. So much was found before.
 pub fn visit_rank<P: Ranked, W: Watcher>(
     alloc: Global,
     space: &P,
     limits: &Limits,
     search: &mut RankedSearch<P::State>,
+    found: usize,
     watcher: &mut W,
 ) -> Result<(), OrMemory<Halt>>
     requires { IsRankedSearch (P.rules space.now) limits.now (P.ranks space.now) search.old }
-    ensures why { IfFault result (IsWhy (P.rules space.now) limits.now) }
+    ensures why { IfFault result (IsWhy (P.rules space.now) limits.now (W.stopped watcher.new)) }
     ensures searching { OnOk result
         (IsRankedSearch (P.rules space.now) limits.now (P.ranks space.now) search.new) }
     ensures rank { OnOk result (search.new.current.rank ≡ search.old.current.rank) }
@@ -87,6 +91,7 @@ pub fn visit_rank<P: Ranked, W: Watcher>(
             space,
             limits,
             search,
+            found,
             watcher,
             limits.depart - departures,
         )?;

@@ -5,7 +5,7 @@ ghost use Rattle.basis.specs.Reasons.{IfFault};
 ghost use Rattle.statebook.specs.Inner.Forced.{MayBeAdded};
 ghost use Rattle.explore.specs.Inner.Exploring.{AllowsAt};
 ghost use Rattle.explore.specs.Inner.Ways.{AllComeTo, IsSearching};
-ghost use Rattle.explore.specs.Inner.RankedSearches.{AreInOrder, HasDominator, IsHeld, IsLedOn, IsMetAt, IsRankedSearch, IsWhy, Meets, RankGrows, RankGrowsFrom};
+ghost use Rattle.explore.specs.Inner.RankedSearches.{AreInOrder, HasDominator, IsHeld, IsLedOn, IsMetAt, IsRankedSearch, IsWhyUntold, Meets, RankGrows, RankGrowsFrom};
 
 use crate::halt::Halt;
 use crate::next::next_entry;
@@ -99,7 +99,7 @@ fn keep_choice<P: Ranked>(
     requires searching { IsRankedSearch (P.rules space.now) limits.now (P.ranks space.now) search.old }
     requires place { place < length search.old.current.book.entries }
     requires choice { AllowsAt (P.rules space.now) search.old.current.book place choice }
-    ensures why { IfFault result (IsWhy (P.rules space.now) limits.now) }
+    ensures why { IfFault result (IsWhyUntold (P.rules space.now) limits.now) }
     ensures met { OnOk result (IsMetAt (P.rules space.now) search.new place choice) }
     ensures searching { OnOk result
         (IsRankedSearch (P.rules space.now) limits.now (P.ranks space.now) search.new) }
@@ -134,7 +134,7 @@ pub fn visit_entry<P: Ranked>(
 ) -> Result<(), OrMemory<Halt>>
     requires searching { IsRankedSearch (P.rules space.now) limits.now (P.ranks space.now) search.old }
     requires place { place < length search.old.current.book.entries }
-    ensures why { IfFault result (IsWhy (P.rules space.now) limits.now) }
+    ensures why { IfFault result (IsWhyUntold (P.rules space.now) limits.now) }
     ensures leads { OnOk result (IsLedOn (P.rules space.now) search.new place) }
     ensures searching { OnOk result
         (IsRankedSearch (P.rules space.now) limits.now (P.ranks space.now) search.new) }

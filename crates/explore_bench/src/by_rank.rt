@@ -11,20 +11,27 @@ use statebook::Limits;
 use std::alloc::Global;
 use std::io;
 
-// Lets so many entries be taken. It keeps how many were, the most that were held, and what it was shown last.
+// Lets so many entries be taken. It keeps how many were, whether it stopped the search then, the most that were held, and what it was
+// shown last.
 #[derive(Drop)]
 struct Counter {
     most: u32,
     taken: u32,
+    is_over: bool,
     held: usize,
     shown: Option<Progress>,
 }
 
 impl Watcher for Counter {
+    ghost use Rattle.std.specs.Prelude.{◌≡◌, true};
+
+    ghost stopped = { λ counter. counter.is_over ≡ true };
+
     fn go_on(&mut self, progress: &Progress) -> bool {
         self.held = self.held.max(progress.entries_held);
         self.shown = Some(*progress);
         if self.taken == self.most {
+            self.is_over = true;
             return false;
         }
         self.taken = self.taken.saturating_add(1);
@@ -81,6 +88,7 @@ pub fn explore_by_rank(
     let mut counter = Counter {
         most,
         taken: 0,
+        is_over: false,
         held: 0,
         shown: None,
     };

@@ -36,5 +36,9 @@ impl Collector<Square> for KeptMarks {
         Ok(())
     }
 
+    fn found_count(&self) -> usize {
+        self.ranks.len()
+    }
+
     ghost none = { collects_none };
 }

@@ -18,13 +18,21 @@ pub const WRITTEN_TWICE: &[u8] = b"module tb; reg a, b;
 initial begin #1 a = 0; #2 b = 0; end
 initial begin #1 a = 1; #2 b = 1; end endmodule";
 
-// Goes on up to this time.
+// Goes on up to this time, and keeps whether it stopped the search there.
 #[derive(Drop)]
-struct UpTo(u64);
+struct UpTo {
+    top: u64,
+    is_over: bool,
+}
 
 impl Watcher for UpTo {
+    ghost use Rattle.std.specs.Prelude.{◌≡◌, true};
+
+    ghost stopped = { λ watcher. watcher.is_over ≡ true };
+
     fn go_on(&mut self, progress: &Progress) -> bool {
-        progress.rank <= self.0
+        self.is_over = progress.rank > self.top;
+        !self.is_over
     }
 }
 
@@ -42,7 +50,11 @@ pub fn machine(alloc: Global, text: &[u8]) -> Result<Machine, Fail> {
 fn search(alloc: Global, top: u64) -> Result<TimedFindings, Fail> {
     let machine = machine(alloc, WRITTEN_TWICE)?;
     let limits = Limits::new(1, 1_000, 1_000).ok_or("limits")?;
-    Ok(explore_in_time(alloc, &machine, &limits, &mut UpTo(top)))
+    let mut watcher = UpTo {
+        top,
+        is_over: false,
+    };
+    Ok(explore_in_time(alloc, &machine, &limits, &mut watcher))
 }
 
 // Whether the race is of this time and variable, of the values 0 and 1, the second without a departure.

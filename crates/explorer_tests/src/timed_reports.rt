@@ -8,16 +8,24 @@ use std::alloc::Global;
 use std::test::Fail;
 use vreport::{Budget, Spent, TimedReport, report_in_time};
 
-// Lets so many entries be taken.
+// Lets so many entries be taken, and keeps whether it stopped the search then.
 #[derive(Drop)]
 struct Entries {
     left: u32,
+    is_over: bool,
 }
 
 impl Watcher for Entries {
+    ghost use Rattle.std.specs.Prelude.{◌≡◌, true};
+
+    ghost stopped = { λ entries. entries.is_over ≡ true };
+
     fn go_on(&mut self, _progress: &Progress) -> bool {
         match self.left.checked_sub(1) {
-            None => false,
+            None => {
+                self.is_over = true;
+                false
+            }
             Some(left) => {
                 self.left = left;
                 true
@@ -41,7 +49,10 @@ impl Budget for Entries {
 fn report(alloc: Global, entries: u32) -> Result<TimedReport, Fail> {
     let machine = machine(alloc, WRITTEN_TWICE)?;
     let limits = Limits::new(2, 1_000, 10_000).ok_or("limits")?;
-    let mut budget = Entries { left: entries };
+    let mut budget = Entries {
+        left: entries,
+        is_over: false,
+    };
     let told = report_in_time(alloc, &machine, &limits, &mut budget);
     Ok(told.ok().ok_or("report")?)
 }

@@ -1,7 +1,7 @@
 // A search that goes by time, which keeps of each slot its races and the ends alone.
 
 ghost use Rattle.std.specs.Prelude.{◌≡◌, IfOk};
-ghost use Rattle.explore.specs.Ranked.{TellsOfEntries, TellsOfSteps, pairs_of};
+ghost use Rattle.explore.specs.Ranked.{TellsOfEntries, TellsOfSteps, TellsOfStop, pairs_of};
 ghost use Rattle.vmachine.specs.Machines.{machine_rules};
 ghost use Rattle.racebook.specs.InTime.{EachEnd, HasFewestToEnd, IsEndOfRun, KeepsEndsThroughout, KeepsEndsTo, ListsLineRacesThroughout, ListsLineRacesTo, ListsRacesThroughout, ListsRacesTo};
 ghost use Rattle.racebook.specs.LineRaces.{AreAllSidesInOrder, AreLineRacesInOrder, EachLineRace, HasFewestOfLines, IsLineRace};
@@ -46,6 +46,7 @@ pub fn explore_in_time<W: Watcher>(
     ensures ends_fewest { EachEnd (HasFewestToEnd machine.now) (pairs_of result.ends.items) }
     ensures entries { TellsOfEntries (machine_rules machine.now) limits.now result.search }
     ensures steps { TellsOfSteps (machine_rules machine.now) limits.now result.search }
+    ensures stopped { TellsOfStop (W.stopped watcher.new) result.search }
 {
     machine_law();
     run_law();

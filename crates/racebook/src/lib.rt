@@ -20,4 +20,5 @@ pub use book::{line_races, races};
 pub use in_time::explore_in_time;
 pub use line_race::{LineRace, Side};
 pub use race::{Race, Witness};
+pub use slots::{FoundInSlot, found_in};
 pub use timed_findings::TimedFindings;

@@ -24,12 +24,12 @@ pub struct ClosedSlots<'m> {
     pub ends: Vec<FoundMark<MachineState>>,
 }
 
-// What one slot gave.
+/// What one slot gave: its races, its races of lines and the states in which runs end.
 #[derive(Drop)]
 pub struct FoundInSlot {
-    races: Vec<Race>,
-    line_races: Vec<LineRace>,
-    ends: Vec<FoundMark<MachineState>>,
+    pub races: Vec<Race>,
+    pub line_races: Vec<LineRace>,
+    pub ends: Vec<FoundMark<MachineState>>,
 }
 
 impl<'m> ClosedSlots<'m> {
@@ -94,8 +94,8 @@ fn ends_among(
     Ok(ends)
 }
 
-// What these marks of one slot give.
-fn found_in(
+/// What these marks of one slot give. E901 is the only refusal.
+pub fn found_in(
     alloc: Global,
     machine: &Machine,
     marks: Vec<FoundMark<MachineState>>,
@@ -126,6 +126,10 @@ impl<'m> Collector<MachineState> for ClosedSlots<'m> {
     {
         let found = found_in(self.alloc, self.machine, closed.marks)?;
         self.put(found)
+    }
+
+    fn found_count(&self) -> usize {
+        self.races.len().saturating_add(self.line_races.len())
     }
 
     ghost none = { collects_nothing };

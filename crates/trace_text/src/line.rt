@@ -49,8 +49,8 @@ impl Origins {
         Origins { places }
     }
 
-    // The place of the action of this number, if it is known.
-    fn place(&self, action: usize) -> Option<Place>
+    /// The place of the action of this number, if it is known.
+    pub fn place(&self, action: usize) -> Option<Place>
         ensures { result ≡ spec.known_place (slice_get self.now action) }
     {
         match self.places.get(action) {

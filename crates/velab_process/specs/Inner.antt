@@ -19,10 +19,11 @@ use Rattle.velab_expr.specs.declared.fault.ElabFault.{ElabFault}
 use Rattle.velab_expr.specs.Answers.{◌>>=◌, Refuses}
 use Rattle.velab_expr.specs.Scopes.{Scope}
 use Rattle.vast.specs.NumberedExpressions as text
-use Rattle.vast.specs.NumberedStatements.{StatementTree, TargetTree}
+use Rattle.vast.specs.NumberedStatements.{StatementTree, TargetTree, empty, block, assign, nonblocking, trigger, if_true, if_else, case_of, while_true, repeat_times, forever, for_loop, wait_for, delay, event, task}
 use Rattle.vdesign.specs.declared.action.Action.TheVariants.{While}
 use Rattle.velab_expr.specs.FirstWords.{first_in}
 use Rattle.velab_expr.specs.Resolved.{lower_expression}
+use Rattle.velab_process.specs.Waits.{names_in, read_by_delay, read_by_assignment, read_by_task, read_by, read_by_all, read_by_branches}
 use Rattle.velab_process.specs.Statements.{Table, Lowered, lowered_action, with_places_before, lower_assignment, lower_statement}
 use Rattle.velab_process.specs.Processes.{Processes, lower_processes, lower_items, process_trees_by, ProcessTree, process_of, driven_by}
 use Rattle.velab_process.specs.Connections.{lower_join, lower_joins}
@@ -41,6 +42,47 @@ lower_loop scope table condition body next_target next_value =
     lower_statement scope table body >>= λ inner.
     with_places_before inner.places (lower_assignment true scope inner.table next_target None next_value) >>= λ turn.
     Ok (lowered_action turn.table (first_in condition) (While test turn.places))
+
+-- ---- what a statement reads, in two parts
+
+-- outside of the statements that stand in it
+abbrev pub own_read : StatementTree → List Word
+own_read empty = []
+own_read (block statements) = []
+own_read (assign target amount value) = read_by_assignment target amount value
+own_read (nonblocking target amount value) = read_by_assignment target amount value
+own_read (trigger letters) = []
+own_read (if_true condition body) = names_in condition
+own_read (if_else condition body other) = names_in condition
+own_read (case_of kind value branches) = names_in value
+own_read (while_true condition body) = names_in condition
+own_read (repeat_times count body) = names_in count
+own_read (forever body) = []
+own_read (for_loop target value condition next_target next_value body) =
+    read_by_assignment target None value ++ (names_in condition ++ read_by_assignment next_target None next_value)
+own_read (wait_for condition body) = []
+own_read (delay amount body) = read_by_delay amount
+own_read (event control body) = []
+own_read (task call) = read_by_task call
+
+-- in the statements that stand in it
+abbrev pub inner_read : StatementTree → List Word
+inner_read empty = []
+inner_read (block statements) = read_by_all statements
+inner_read (assign target amount value) = []
+inner_read (nonblocking target amount value) = []
+inner_read (trigger letters) = []
+inner_read (if_true condition body) = read_by body
+inner_read (if_else condition body other) = read_by body ++ read_by other
+inner_read (case_of kind value branches) = read_by_branches branches
+inner_read (while_true condition body) = read_by body
+inner_read (repeat_times count body) = read_by body
+inner_read (forever body) = read_by body
+inner_read (for_loop target value condition next_target next_value body) = read_by body
+inner_read (wait_for condition body) = read_by body
+inner_read (delay amount body) = read_by body
+inner_read (event control body) = read_by body
+inner_read (task call) = []
 
 -- ---- the trees of program's values
 

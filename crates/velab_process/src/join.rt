@@ -39,169 +39,136 @@ pub fn only_name(value: &Value) -> Option<Token>
     }
 }
 
-// One process of one action, behind those that there are, told by this token.
-fn put_process(
+// The ports of an instance: `outer` are the names where it stands, `inner` its own, and `whose` is the token of its name, by which a fault
+// of a connection is told.
+#[derive(Drop)]
+struct Connector<'a> {
     alloc: Global,
-    tokens: &Tokens<'_>,
+    outer: &'a Scope<'a, 'a>,
+    inner: &'a Scope<'a, 'a>,
+    tokens: &'a Tokens<'a>,
     whose: Token,
-    action: Action,
-    table: &mut Table,
-    into: &mut Vec<Places>,
-) -> Result<(), OrMemory<ElabFault>>
-    ensures { Makes result (record { table = table.new; begins = into.new.items })
-        (with_begins_before into.old.items (Ok (spec.one_process table.old
-        (Some (numbered (words_of tokens.now) whose)) action))) }
-{
-    let mut begins = Vec::new(alloc);
-    put(table, &mut begins, whose.number, Some(whose.number), action)?;
-    into.push(Places::new(begins))?;
-    Ok(())
 }
 
-// What drives an input from outside.
-fn input_action(
-    alloc: Global,
-    outer: &Scope<'_, '_>,
-    inner: &Scope<'_, '_>,
-    tokens: &Tokens<'_>,
-    port: Token,
-    value: &Value,
-) -> Result<Action, OrMemory<ElabFault>>
-    ensures { Gives result (lower_input outer.now inner.now
-        (numbered (words_of tokens.now) port) (text_tree (words_of tokens.now) value.now)) }
-{
-    let net = number_of(inner, tokens, port)?;
-    let terms = condition_terms(alloc, outer, tokens, value)?;
-    let value = expression_of(alloc, outer, tokens, value)?;
-    Ok(Action::ContinuousAssign { net, value, terms })
-}
-
-// What an output drives outside. E305 where that is no name alone.
-fn output_action(
-    alloc: Global,
-    outer: &Scope<'_, '_>,
-    inner: &Scope<'_, '_>,
-    tokens: &Tokens<'_>,
-    whose: Token,
-    port: Token,
-    net: Option<Token>,
-) -> Result<Action, OrMemory<ElabFault>>
-    ensures { Gives result (lower_output (numbered (words_of tokens.now) whose) outer.now inner.now
-        (numbered (words_of tokens.now) port) (name_of (words_of tokens.now) net)) }
-{
-    let Some(net) = net else {
-        return Err(refused(Rule::Ports, Some(whose.number)));
-    };
-    let net = number_of(outer, tokens, net)?;
-    let terms = name_terms(alloc, inner, tokens, port)?;
-    let value = expression_of_name(alloc, inner, tokens, port)?;
-    Ok(Action::ContinuousAssign { net, value, terms })
-}
-
-// What drives a port that is connected to this, or is driven by it.
-fn connection_action(
-    alloc: Global,
-    outer: &Scope<'_, '_>,
-    inner: &Scope<'_, '_>,
-    tokens: &Tokens<'_>,
-    whose: Token,
-    port: &PortForm<'_>,
-    value: &Value,
-) -> Result<Action, OrMemory<ElabFault>>
-    ensures { Gives result (lower_connection (numbered (words_of tokens.now) whose) outer.now
-        inner.now (port_form (words_of tokens.now) port.now)
-        (text_tree (words_of tokens.now) value.now)) }
-{
-    if port.output {
-        output_action(
-            alloc,
-            outer,
-            inner,
-            tokens,
-            whose,
-            port.name,
-            only_name(value),
-        )
-    } else {
-        input_action(alloc, outer, inner, tokens, port.name, value)
-    }
-}
-
-// The process of a port that is connected to this.
-fn lower_connected(
-    alloc: Global,
-    outer: &Scope<'_, '_>,
-    inner: &Scope<'_, '_>,
-    tokens: &Tokens<'_>,
-    whose: Token,
-    port: &PortForm<'_>,
-    value: &Value,
-    table: &mut Table,
-    into: &mut Vec<Places>,
-) -> Result<(), OrMemory<ElabFault>>
-    ensures { Makes result (record { table = table.new; begins = into.new.items })
-        (with_begins_before into.old.items (spec.lower_join (numbered (words_of tokens.now) whose)
-        outer.now inner.now table.old (port_form (words_of tokens.now) port.now)
-        (Some (text_tree (words_of tokens.now) value.now)))) }
-{
-    let action = connection_action(alloc, outer, inner, tokens, whose, port, value)?;
-    put_process(alloc, tokens, whose, action, table, into)
-}
-
-// The process of a port, if it is connected.
-fn lower_join(
-    alloc: Global,
-    outer: &Scope<'_, '_>,
-    inner: &Scope<'_, '_>,
-    tokens: &Tokens<'_>,
-    whose: Token,
-    connections: &ConnectionMap<'_, '_>,
-    port: &PortForm<'_>,
-    table: &mut Table,
-    into: &mut Vec<Places>,
-) -> Result<(), OrMemory<ElabFault>>
-    ensures { Makes result (record { table = table.new; begins = into.new.items })
-        (with_begins_before into.old.items (join_of (words_of tokens.now) whose outer.now inner.now
-        connections.now table.old port.now)) }
-{
-    match connections.value(letters(tokens, port.name)) {
-        None => Ok(()),
-        Some(value) => lower_connected(
-            alloc, outer, inner, tokens, whose, port, value, table, into,
-        ),
-    }
-}
-
-// The processes of ports.
-fn lower_joins(
-    alloc: Global,
-    outer: &Scope<'_, '_>,
-    inner: &Scope<'_, '_>,
-    tokens: &Tokens<'_>,
-    whose: Token,
-    connections: &ConnectionMap<'_, '_>,
-    ports: &[PortForm<'_>],
-    table: &mut Table,
-    into: &mut Vec<Places>,
-) -> Result<(), OrMemory<ElabFault>>
-    ensures { Makes result (record { table = table.new; begins = into.new.items })
-        (with_begins_before into.old.items (joins_of (words_of tokens.now) whose outer.now inner.now
-        connections.now table.old ports.now)) }
-{
-    for port in ports {
-        lower_join(
-            alloc,
-            outer,
-            inner,
-            tokens,
-            whose,
-            connections,
-            port,
+impl<'a> Connector<'a> {
+    // One process of one action, behind those that there are.
+    fn put_process(
+        &self,
+        action: Action,
+        table: &mut Table,
+        into: &mut Vec<Places>,
+    ) -> Result<(), OrMemory<ElabFault>>
+        ensures { Makes result (record { table = table.new; begins = into.new.items })
+            (with_begins_before into.old.items (Ok (spec.one_process table.old
+            (Some (numbered (words_of self.now.tokens.now) self.now.whose)) action))) }
+    {
+        let mut begins = Vec::new(self.alloc);
+        put(
             table,
-            into,
+            &mut begins,
+            self.whose.number,
+            Some(self.whose.number),
+            action,
         )?;
+        into.push(Places::new(begins))?;
+        Ok(())
     }
-    Ok(())
+
+    // What drives an input from outside.
+    fn input_action(&self, port: Token, value: &Value) -> Result<Action, OrMemory<ElabFault>>
+        ensures { Gives result (lower_input self.now.outer.now self.now.inner.now
+            (numbered (words_of self.now.tokens.now) port) (text_tree (words_of self.now.tokens.now) value.now)) }
+    {
+        let net = number_of(self.inner, self.tokens, port)?;
+        let terms = condition_terms(self.alloc, self.outer, self.tokens, value)?;
+        let value = expression_of(self.alloc, self.outer, self.tokens, value)?;
+        Ok(Action::ContinuousAssign { net, value, terms })
+    }
+
+    // What an output drives outside. E305 where that is no name alone.
+    fn output_action(&self, port: Token, net: Option<Token>) -> Result<Action, OrMemory<ElabFault>>
+        ensures { Gives result (lower_output (numbered (words_of self.now.tokens.now) self.now.whose)
+            self.now.outer.now self.now.inner.now
+            (numbered (words_of self.now.tokens.now) port) (name_of (words_of self.now.tokens.now) net)) }
+    {
+        let Some(net) = net else {
+            return Err(refused(Rule::Ports, Some(self.whose.number)));
+        };
+        let net = number_of(self.outer, self.tokens, net)?;
+        let terms = name_terms(self.alloc, self.inner, self.tokens, port)?;
+        let value = expression_of_name(self.alloc, self.inner, self.tokens, port)?;
+        Ok(Action::ContinuousAssign { net, value, terms })
+    }
+
+    // What drives a port that is connected to this, or is driven by it.
+    fn connection_action(
+        &self,
+        port: &PortForm<'_>,
+        value: &Value,
+    ) -> Result<Action, OrMemory<ElabFault>>
+        ensures { Gives result (lower_connection (numbered (words_of self.now.tokens.now) self.now.whose)
+            self.now.outer.now self.now.inner.now (port_form (words_of self.now.tokens.now) port.now)
+            (text_tree (words_of self.now.tokens.now) value.now)) }
+    {
+        if port.output {
+            self.output_action(port.name, only_name(value))
+        } else {
+            self.input_action(port.name, value)
+        }
+    }
+
+    // The process of a port that is connected to this.
+    fn lower_connected(
+        &self,
+        port: &PortForm<'_>,
+        value: &Value,
+        table: &mut Table,
+        into: &mut Vec<Places>,
+    ) -> Result<(), OrMemory<ElabFault>>
+        ensures { Makes result (record { table = table.new; begins = into.new.items })
+            (with_begins_before into.old.items (spec.lower_join (numbered (words_of self.now.tokens.now) self.now.whose)
+            self.now.outer.now self.now.inner.now table.old (port_form (words_of self.now.tokens.now) port.now)
+            (Some (text_tree (words_of self.now.tokens.now) value.now)))) }
+    {
+        let action = self.connection_action(port, value)?;
+        self.put_process(action, table, into)
+    }
+
+    // The process of a port, if it is connected.
+    fn lower_join(
+        &self,
+        connections: &ConnectionMap<'_, '_>,
+        port: &PortForm<'_>,
+        table: &mut Table,
+        into: &mut Vec<Places>,
+    ) -> Result<(), OrMemory<ElabFault>>
+        ensures { Makes result (record { table = table.new; begins = into.new.items })
+            (with_begins_before into.old.items (join_of (words_of self.now.tokens.now) self.now.whose self.now.outer.now
+            self.now.inner.now connections.now table.old port.now)) }
+    {
+        match connections.value(letters(self.tokens, port.name)) {
+            None => Ok(()),
+            Some(value) => self.lower_connected(port, value, table, into),
+        }
+    }
+
+    // The processes of ports.
+    fn lower_joins(
+        &self,
+        connections: &ConnectionMap<'_, '_>,
+        ports: &[PortForm<'_>],
+        table: &mut Table,
+        into: &mut Vec<Places>,
+    ) -> Result<(), OrMemory<ElabFault>>
+        ensures { Makes result (record { table = table.new; begins = into.new.items })
+            (with_begins_before into.old.items (joins_of (words_of self.now.tokens.now) self.now.whose self.now.outer.now
+            self.now.inner.now connections.now table.old ports.now)) }
+    {
+        for port in ports {
+            self.lower_join(connections, port, table, into)?;
+        }
+        Ok(())
+    }
 }
 
 /// A process for each port that is connected, in the order of the ports, after the processes that there are. `outer` are the names
@@ -223,15 +190,12 @@ pub fn put_joins(
         (with_begins_before into.old.items (joins_of (words_of tokens.now) whose outer.now inner.now
         connections.now table.old ports.now)) }
 {
-    lower_joins(
+    let connector = Connector {
         alloc,
-        outer,
-        inner,
-        tokens,
+        outer: &*outer,
+        inner: &*inner,
+        tokens: &*tokens,
         whose,
-        connections,
-        ports,
-        table,
-        into,
-    )
+    };
+    connector.lower_joins(connections, ports, table, into)
 }

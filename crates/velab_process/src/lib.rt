@@ -5,6 +5,7 @@
 // The law: each call puts in what its definition lowers the text to, and each fault is a rule that is broken there.
 #![tactic(auto)]
 
+mod elaborator;
 pub mod join;
 mod print;
 pub mod statement;

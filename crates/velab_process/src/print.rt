@@ -11,18 +11,15 @@ ghost use Rattle.velab_process.specs.Inner.{Prints, TakesAnswer, right_pieces as
 ghost use Rattle.velab_process.specs.Prints.{lower_argument, lower_arguments, lower_line};
 ghost use Rattle.velab_process.specs.Prints as spec;
 
-use basis::{NoMemory, OrMemory};
+use crate::elaborator::Elaborator;
+use basis::OrMemory;
 use format_text::Printer;
-use std::alloc::Global;
 use vast::expression::Expression as Value;
 use vast::statement::{Argument, Printing};
 use vdesign::print::{Pieces, When};
-use velab_expr::expression::expression_of;
 use velab_expr::fault::{ElabFault, Rule};
 use velab_expr::first::first_argument;
 use velab_expr::refusal::refused;
-use velab_expr::scope::Scope;
-use vlex::Tokens;
 use vmodules::letters::letters;
 
 /// When a print task prints (17.1.1, 17.1.2, 17.1.3).
@@ -59,50 +56,6 @@ fn is_watched(value: &Value) -> bool
     }
 }
 
-// An argument more. False where the format before it isn't right.
-fn put_argument(
-    alloc: Global,
-    scope: &Scope<'_, '_>,
-    tokens: &Tokens<'_>,
-    printer: &mut Printer,
-    argument: &Argument,
-) -> Result<bool, OrMemory<ElabFault>>
-    ensures { TakesAnswer result (lower_argument scope.now
-        (argument_tree (words_of tokens.now) argument.now))
-        (λ argument is_right. TakesArgument printer.old argument is_right printer.new) }
-{
-    match argument {
-        Argument::Text(word) => {
-            let string = between_quotes(letters(tokens, *word));
-            Ok(printer.string(string)?)
-        }
-        Argument::Value(value) => {
-            let shown = expression_of(alloc, scope, tokens, value)?;
-            Ok(printer.value(is_watched(value), shown)?)
-        }
-    }
-}
-
-// The arguments of a line. False where a format among them, but for the last, isn't right.
-fn put_arguments(
-    alloc: Global,
-    scope: &Scope<'_, '_>,
-    tokens: &Tokens<'_>,
-    printer: &mut Printer,
-    arguments: &[Argument],
-) -> Result<bool, OrMemory<ElabFault>>
-    ensures { TakesAnswer result (lower_arguments scope.now
-        (map (argument_tree (words_of tokens.now)) arguments.now))
-        (λ all is_right. Prints printer.old all is_right printer.new) }
-{
-    let mut is_right = true;
-    for one in arguments {
-        let taken = put_argument(alloc, scope, tokens, printer, one)?;
-        is_right = is_right & taken;
-    }
-    Ok(is_right)
-}
-
 // What there is, where it is right.
 fn right_pieces(is_right: bool, pieces: Option<Pieces>) -> Option<Pieces>
     ensures { result ≡ only_right is_right pieces }
@@ -110,21 +63,58 @@ fn right_pieces(is_right: bool, pieces: Option<Pieces>) -> Option<Pieces>
     if is_right { pieces } else { None }
 }
 
-/// The pieces of a line (17.1.1). E310 where a format isn't right; E303, E306 and E307 as its expressions have them.
-pub fn pieces_in(
-    alloc: Global,
-    scope: &Scope<'_, '_>,
-    tokens: &Tokens<'_>,
-    arguments: &[Argument],
-) -> Result<Pieces, OrMemory<ElabFault>>
-    ensures { Gives result
-        (lower_line scope.now (map (argument_tree (words_of tokens.now)) arguments.now)) }
-{
-    let mut printer = Printer::new(alloc);
-    let is_right = put_arguments(alloc, scope, tokens, &mut printer, arguments)?;
-    let pieces = printer.finish()?;
-    match right_pieces(is_right, pieces) {
-        Some(line) => Ok(line),
-        None => Err(refused(Rule::Kind, first_argument(arguments))),
+impl<'a> Elaborator<'a> {
+    // An argument more. False where the format before it isn't right.
+    fn put_argument(
+        &self,
+        printer: &mut Printer,
+        argument: &Argument,
+    ) -> Result<bool, OrMemory<ElabFault>>
+        ensures { TakesAnswer result (lower_argument self.now.scope.now
+            (argument_tree (words_of self.now.tokens.now) argument.now))
+            (λ argument is_right. TakesArgument printer.old argument is_right printer.new) }
+    {
+        match argument {
+            Argument::Text(word) => {
+                let string = between_quotes(letters(self.tokens, *word));
+                Ok(printer.string(string)?)
+            }
+            Argument::Value(value) => {
+                let shown = self.expression(value)?;
+                Ok(printer.value(is_watched(value), shown)?)
+            }
+        }
+    }
+
+    // The arguments of a line. False where a format among them, but for the last, isn't right.
+    fn put_arguments(
+        &self,
+        printer: &mut Printer,
+        arguments: &[Argument],
+    ) -> Result<bool, OrMemory<ElabFault>>
+        ensures { TakesAnswer result (lower_arguments self.now.scope.now
+            (map (argument_tree (words_of self.now.tokens.now)) arguments.now))
+            (λ all is_right. Prints printer.old all is_right printer.new) }
+    {
+        let mut is_right = true;
+        for one in arguments {
+            let taken = self.put_argument(printer, one)?;
+            is_right = is_right & taken;
+        }
+        Ok(is_right)
+    }
+
+    /// The pieces of a line (17.1.1). E310 where a format isn't right; E303, E306 and E307 as its expressions have them.
+    pub(crate) fn pieces(&self, arguments: &[Argument]) -> Result<Pieces, OrMemory<ElabFault>>
+        ensures { Gives result
+            (lower_line self.now.scope.now (map (argument_tree (words_of self.now.tokens.now)) arguments.now)) }
+    {
+        let mut printer = Printer::new(self.alloc);
+        let is_right = self.put_arguments(&mut printer, arguments)?;
+        let pieces = printer.finish()?;
+        match right_pieces(is_right, pieces) {
+            Some(line) => Ok(line),
+            None => Err(refused(Rule::Kind, first_argument(arguments))),
+        }
     }
 }

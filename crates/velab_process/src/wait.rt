@@ -6,9 +6,9 @@ ghost use Rattle.vast.specs.NumberedWords.{numbered};
 ghost use Rattle.vast.specs.NumberedTrees.{target_tree, target_trees, argument_tree, task_tree, delay_tree, further_term, event_tree, statement_tree, statement_trees, branch_tree, branch_trees};
 ghost use Rattle.vast.specs.Words.{Text};
 ghost use Rattle.vexpr_parse.specs.Texts.{words_of};
-ghost use Rattle.vast.specs.NumberedStatements.{case_of};
 ghost use Rattle.velab_expr.specs.Answers.{Gives, Makes, behind};
 ghost use Rattle.velab_expr.specs.Scopes.{meaning_of as spec_meaning};
+ghost use Rattle.velab_process.specs.Inner.{own_read, inner_read};
 ghost use Rattle.velab_process.specs.Waits as spec;
 ghost use Rattle.velab_process.specs.Waits.{any_of, names_in, names_in_parts, read_by, read_by_all, read_by_target, read_by_targets, read_by_own, read_by_assignment, read_by_argument, read_by_arguments, read_by_task, read_by_delay, lower_term, lower_further, lower_control, heard, read_by_items, read_by_branch, read_by_branches};
 
@@ -16,7 +16,7 @@ use basis::{NoMemory, OrMemory};
 use std::alloc::Global;
 use vast::expression::Expression as Value;
 use vast::statement::{
-    Argument, Branch, CaseKind, Delay, Edge as Side, Event, FurtherTerm, Statement, Target, Task,
+    Argument, Branch, Delay, Edge as Side, Event, FurtherTerm, Statement, Target, Task,
 };
 use vast::token::Token;
 use vdesign::action::{Edge, Term, Terms};
@@ -291,20 +291,19 @@ fn put_labels(
     Ok(())
 }
 
-// Any change of each name that a statement reads.
-#[cycle(reading)]
-fn put_read(
+// Any change of each name that a statement reads itself, outside of the statements that stand in it.
+fn put_own_read(
     scope: &Scope<'_, '_>,
     tokens: &Tokens<'_>,
     statement: &Statement,
     terms: &mut Vec<Term>,
 ) -> Result<(), NoMemory>
     ensures { OnOk result (terms.new.items ≡ terms.old.items
-        ++ any_of scope.now (read_by (statement_tree (words_of tokens.now) statement.now))) }
+        ++ any_of scope.now (own_read (statement_tree (words_of tokens.now) statement.now))) }
 {
     match statement {
         Statement::Empty => Ok(()),
-        Statement::Block(list) => put_all_read(scope, tokens, list, terms),
+        Statement::Block(_) => Ok(()),
         Statement::Assign {
             target,
             delay,
@@ -317,66 +316,79 @@ fn put_read(
             value,
             ..
         } => put_assignment(scope, tokens, target, delay, value, terms),
-        Statement::Delayed { delay, body, .. } => {
-            put_delay(scope, tokens, delay, terms)?;
-            put_read(scope, tokens, body, terms)
-        }
+        Statement::Delayed { delay, .. } => put_delay(scope, tokens, delay, terms),
         Statement::Task { task, .. } => put_task(scope, tokens, task, terms),
         Statement::Trigger { .. } => Ok(()),
-        Statement::If {
-            condition,
-            body,
-            ..
-        } => {
-            put_names(scope, tokens, condition, terms)?;
-            put_read(scope, tokens, body, terms)
-        }
-        Statement::IfElse {
-            condition,
-            body,
-            other,
-            ..
-        } => {
-            put_names(scope, tokens, condition, terms)?;
-            put_read(scope, tokens, body, terms)?;
-            put_read(scope, tokens, other, terms)
-        }
-        Statement::Case {
-            kind,
-            value,
-            branches,
-            ..
-        } => put_case(scope, tokens, *kind, branches, value, terms),
-        Statement::While {
-            condition,
-            body,
-            ..
-        } => {
-            put_names(scope, tokens, condition, terms)?;
-            put_read(scope, tokens, body, terms)
-        }
-        Statement::Repeat { count, body, .. } => {
-            put_names(scope, tokens, count, terms)?;
-            put_read(scope, tokens, body, terms)
-        }
-        Statement::Forever { body, .. } => put_read(scope, tokens, body, terms),
+        Statement::If { condition, .. } => put_names(scope, tokens, condition, terms),
+        Statement::IfElse { condition, .. } => put_names(scope, tokens, condition, terms),
+        Statement::Case { value, .. } => put_names(scope, tokens, value, terms),
+        Statement::While { condition, .. } => put_names(scope, tokens, condition, terms),
+        Statement::Repeat { count, .. } => put_names(scope, tokens, count, terms),
+        Statement::Forever { .. } => Ok(()),
         Statement::For {
             target,
             value,
             condition,
             next_target,
             next_value,
-            body,
             ..
         } => {
             put_assignment(scope, tokens, target, &None, value, terms)?;
             put_names(scope, tokens, condition, terms)?;
-            put_assignment(scope, tokens, next_target, &None, next_value, terms)?;
-            put_read(scope, tokens, body, terms)
+            put_assignment(scope, tokens, next_target, &None, next_value, terms)
         }
+        Statement::Wait { .. } => Ok(()),
+        Statement::OnEvent { .. } => Ok(()),
+    }
+}
+
+// Any change of each name that the statements inside a statement read.
+#[cycle(reading)]
+fn put_inner_read(
+    scope: &Scope<'_, '_>,
+    tokens: &Tokens<'_>,
+    statement: &Statement,
+    terms: &mut Vec<Term>,
+) -> Result<(), NoMemory>
+    ensures { OnOk result (terms.new.items ≡ terms.old.items
+        ++ any_of scope.now (inner_read (statement_tree (words_of tokens.now) statement.now))) }
+{
+    match statement {
+        Statement::Empty => Ok(()),
+        Statement::Block(list) => put_all_read(scope, tokens, list, terms),
+        Statement::Assign { .. } => Ok(()),
+        Statement::Nonblocking { .. } => Ok(()),
+        Statement::Delayed { body, .. } => put_read(scope, tokens, body, terms),
+        Statement::Task { .. } => Ok(()),
+        Statement::Trigger { .. } => Ok(()),
+        Statement::If { body, .. } => put_read(scope, tokens, body, terms),
+        Statement::IfElse { body, other, .. } => {
+            put_read(scope, tokens, body, terms)?;
+            put_read(scope, tokens, other, terms)
+        }
+        Statement::Case { branches, .. } => put_branches(scope, tokens, branches, terms),
+        Statement::While { body, .. } => put_read(scope, tokens, body, terms),
+        Statement::Repeat { body, .. } => put_read(scope, tokens, body, terms),
+        Statement::Forever { body, .. } => put_read(scope, tokens, body, terms),
+        Statement::For { body, .. } => put_read(scope, tokens, body, terms),
         Statement::Wait { body, .. } => put_read(scope, tokens, body, terms),
         Statement::OnEvent { body, .. } => put_read(scope, tokens, body, terms),
     }
+}
+
+// Any change of each name that a statement reads.
+#[cycle(reading)]
+fn put_read(
+    scope: &Scope<'_, '_>,
+    tokens: &Tokens<'_>,
+    statement: &Statement,
+    terms: &mut Vec<Term>,
+) -> Result<(), NoMemory>
+    ensures { OnOk result (terms.new.items ≡ terms.old.items
+        ++ any_of scope.now (read_by (statement_tree (words_of tokens.now) statement.now))) }
+{
+    put_own_read(scope, tokens, statement, terms)?;
+    put_inner_read(scope, tokens, statement, terms)
 }
 
 #[cycle(reading)]
@@ -393,23 +405,6 @@ fn put_all_read(
         put_read(scope, tokens, statement, terms)?;
     }
     Ok(())
-}
-
-#[cycle(reading)]
-fn put_case(
-    scope: &Scope<'_, '_>,
-    tokens: &Tokens<'_>,
-    kind: CaseKind,
-    branches: &[Branch],
-    value: &Value,
-    terms: &mut Vec<Term>,
-) -> Result<(), NoMemory>
-    ensures { OnOk result (terms.new.items ≡ terms.old.items ++ any_of scope.now (read_by
-        (case_of kind (text_tree (words_of tokens.now) value.now)
-        (branch_trees (words_of tokens.now) branches.now)))) }
-{
-    put_names(scope, tokens, value, terms)?;
-    put_branches(scope, tokens, branches, terms)
 }
 
 #[cycle(reading)]

@@ -2,6 +2,7 @@
 use Rattle.std.specs.Prelude.{◌≡◌, ℕ, Bool, true, false, List, Option}
 use Rattle.statebook.specs.declared.limits.Limits.{Limits}
 use Rattle.explore.specs.Found.{HasEntries}
+use Rattle.explore.specs.Ranked.{TellsOfStop}
 use Rattle.vmodel.specs.Run.{Setting, rules_of}
 use Rattle.byte_sinks.specs.Metered.{Grows}
 use Rattle.byte_sinks.specs.declared.metered.Metered.{Metered}
@@ -42,6 +43,10 @@ pub record ReportsInTime {W : Type 0} (contents : W → Option (List ℕ)) (sett
 abbrev pub ReportsAsTold : {W : Type 0} → (W → Option (List ℕ)) → Setting → Limits → TimedReport → Timed → Metered W → Metered W → Type 0
 ReportsAsTold contents setting limits told timed old new =
     (lacked : Spent) → TellsOutcomeInTime lacked told → ReportsInTime contents setting limits lacked timed old new
+
+-- it is told that the search was stopped only where its budget said so
+abbrev pub SaysIfStopped : Type 0 → Timed → Type 0
+SaysIfStopped IsStopped timed = TellsOfStop IsStopped timed.search
 
 -- The report of the files: the writer grew by just its text.
 pub record ExploresInTime {W : Type 0} (contents : W → Option (List ℕ)) (files : List (List ℕ)) (asked : Request) (limits : Limits) (lacked : Spent) (timed : Timed) (old new : Metered W) : Type 0 where

@@ -6,7 +6,7 @@ ghost use Rattle.vdesign.specs.Named.{AreNamed};
 ghost use Rattle.vreport.specs.InTime.{HoldsDumpsInTime, IsReadableInTime, IsTimedExploration, MeansEntriesInTime, ReportsUpTo, TellsBytesInTime};
 ghost use Rattle.vrace.specs.Request.{request_of};
 ghost use Rattle.vrace.specs.Explores.{EndsSearch, IsExploreReason, LeavesReport};
-ghost use Rattle.vrace.specs.ExploresInTime.{ExploresInTime, ReportsAsTold, ReportsInTime, SaysInShort, SaysWhetherRaced};
+ghost use Rattle.vrace.specs.ExploresInTime.{ExploresInTime, ReportsAsTold, ReportsInTime, SaysIfStopped, SaysInShort, SaysWhetherRaced};
 ghost use Rattle.vrace.specs.RunDumps.{failures_after};
 
 use crate::exploring::{machine_of, of_search};
@@ -74,6 +74,7 @@ fn write_timed<W: Write>(
     requires held { HoldsDumpsInTime machine.now told.now }
     ensures ok { IfOk result (λ timed.
         ReportsAsTold W.contents machine.now limits.now told.now timed writer.old writer.new) }
+    ensures search { IfOk result (λ timed. timed.search ≡ told.now.search) }
     ensures err { IfErr result (λ fault.
         EndsSearch W.contents machine.now limits.now writer.old writer.new fault) }
 {
@@ -95,6 +96,7 @@ fn explore_machine_in_time<B: Budget, W: Write>(
     requires until { machine.now.until ≤ 4611686018427387903 }
     ensures ok { IfOk result (λ timed.
         ReportsInTime W.contents machine.now limits.now (B.lacks budget.new) timed writer.old writer.new) }
+    ensures stopped { IfOk result (SaysIfStopped (B.stopped budget.new)) }
     ensures err { IfErr result (λ fault.
         EndsSearch W.contents machine.now limits.now writer.old writer.new fault) }
 {
@@ -111,7 +113,7 @@ fn explore_machine_in_time<B: Budget, W: Write>(
 /// Each end listed is that of a run under its log, with the dump of that run; each race listed is one. Up to the time
 /// `search.closed` every end and every race of runs of at most so many departures is listed, with all its values, and no log
 /// has more departures than needed; where the report says `exhausted`, so it is of all times. It says `cut time` only where
-/// the budget stopped the exploration and says that time was spent.
+/// the budget said that the exploration is to stop, and that time was spent.
 ///
 /// Refusals, in the order in which they are looked for: those of `explore_text_alone`.
 pub fn explore_text_in_time<B: Budget, W: Write>(
@@ -124,6 +126,7 @@ pub fn explore_text_in_time<B: Budget, W: Write>(
     ensures report { IfOk result (λ timed.
         ExploresInTime W.contents (file_bytes files.now) (request_of options.now) options.now.limits
         (B.lacks budget.new) timed writer.old writer.new) }
+    ensures stopped { IfOk result (SaysIfStopped (B.stopped budget.new)) }
     ensures reason { IfErr result (λ fault.
         IsExploreReason (file_bytes files.now) (request_of options.now) options.now.limits fault) }
     ensures left { IfErr result (λ fault.

@@ -1,10 +1,11 @@
 //! The program `vrace`. In go words and Verilog; out comes a report, a value change dump or printed lines on standard output, or one line
 //! with the number of a fault on standard error. What an exploration writes is the contract of `vrace::explore_text_alone`,
-//! with several workers of `vrace::explore_text`, and by time of `vrace::explore_text_in_time`; what a replay writes that of `vrace::replay_text`.
+//! with several workers of `vrace::explore_text`, and by time of `vrace::explore_text_in_time`; what `races` tells is found by `vrace::find_races_in`; what a replay writes that of `vrace::replay_text`.
 #![tactic(auto)]
 
 mod explanations;
 mod meter;
+mod races;
 mod words;
 
 use basis::NoMemory;
@@ -13,6 +14,7 @@ use clap::error::ErrorKind;
 use clap::{ArgMatches, Error};
 use explanations::{explanation_of, show, show_all};
 use meter::{Allowance, Meter};
+use races::tell_races;
 use sched_core::setting::Looked;
 use std::alloc::Global;
 use std::fs::File;
@@ -27,7 +29,8 @@ use vrace::{
 };
 use words::{
     Request, Search, Wanted, commands, files_of, has_dashed_log, has_dashed_report, has_dashed_top,
-    has_joined_letters, log_of, report_of, request_of, search_of, steps_of, until_of, wanted_of,
+    has_joined_letters, log_of, race_request_of, race_search_of, race_words_of, report_of,
+    request_of, search_of, steps_of, until_of, wanted_of,
 };
 use workpool::OpenGate;
 
@@ -365,6 +368,22 @@ fn explore_by<'a, R: Threads + Wait + Sync>(
     explore(rt, threads, &request, &search)
 }
 
+// Tells the races that the words ask for.
+fn races_by<'a>(rt: &HostRuntime, matches: &ArgMatches<'a>) -> Result<ExitCode, Stop> {
+    if has_dashed_top(matches) {
+        return Err(Stop::Usage);
+    }
+    let Ok(request) = race_request_of(rt.alloc(), matches) else {
+        return Err(Stop::NoMemory);
+    };
+    tell_races(
+        rt,
+        &request,
+        &race_search_of(matches),
+        race_words_of(matches),
+    )
+}
+
 // Checks what the words ask for.
 fn check_by<'a>(rt: &HostRuntime, matches: &ArgMatches<'a>) -> Result<ExitCode, Stop> {
     if has_dashed_report(matches) {
@@ -411,6 +430,9 @@ fn run<'a, R: Threads + Wait + Sync>(
     }
     if let Some(matches) = matches.subcommand_matches("explore") {
         return explore_by(rt, threads, matches);
+    }
+    if let Some(matches) = matches.subcommand_matches("races") {
+        return races_by(rt, matches);
     }
     match matches.subcommand_matches("replay") {
         Some(matches) => replay_by(rt, matches),

@@ -48,6 +48,8 @@ pub struct Meter<'r, R> {
     asked: u64,
     shown: u64,
     spent: Spent,
+    is_over: bool,
+    opened: u64,
 }
 
 impl<'r, R: Clock + Eprint> Meter<'r, R> {
@@ -61,11 +63,18 @@ impl<'r, R: Clock + Eprint> Meter<'r, R> {
             asked: 0,
             shown: 0,
             spent: Spent::Time,
+            is_over: false,
+            opened: 0,
         }
     }
 
-    // Milliseconds since it was begun; without a clock more than is ever allowed.
-    fn passed(&self) -> u64 {
+    /// How many entries were opened, as far as it was told.
+    pub fn states(&self) -> u64 {
+        self.opened
+    }
+
+    /// Milliseconds since it was begun; without a clock more than is ever allowed.
+    pub fn passed(&self) -> u64 {
         let Some(begun) = self.begun else {
             return u64::MAX;
         };
@@ -94,6 +103,22 @@ impl<'r, R: Clock + Eprint> Meter<'r, R> {
         }
     }
 
+    // Whether all is spent that it may take: memory, of which each entry is asked, or time, after some entries.
+    fn has_spent(&mut self, progress: &Progress) -> bool {
+        if self.is_full(progress) {
+            self.spent = Spent::Memory;
+            return true;
+        }
+        let asked = self.asked;
+        self.asked = asked.wrapping_add(1);
+        if asked % ENTRIES_A_LOOK != 0 {
+            return false;
+        }
+        let passed = self.passed();
+        self.show(passed, progress);
+        self.is_late(passed)
+    }
+
     // Shows how far the exploration has come, unless it did so just before.
     fn show(&mut self, passed: u64, progress: &Progress) {
         if !self.allowance.progress || passed < self.shown.saturating_add(SHOWN_APART) {
@@ -106,29 +131,21 @@ impl<'r, R: Clock + Eprint> Meter<'r, R> {
             .checked_div(passed)
             .unwrap_or(0);
         let _ = eprintln!(self.rt;
-            "at time {}: {} entries, {} a second",
-            progress.rank, entries, pace
+            "at time {}: {} entries, {} a second, races so far: {}",
+            progress.rank, entries, pace, progress.found
         );
     }
 }
 
 impl<'r, R: Clock + Eprint> Watcher for Meter<'r, R> {
+    ghost use Rattle.std.specs.Prelude.{◌≡◌, true};
+
+    ghost stopped = { λ meter. meter.is_over ≡ true };
+
     fn go_on(&mut self, progress: &Progress) -> bool {
-        if self.is_full(progress) {
-            self.spent = Spent::Memory;
-            return false;
-        }
-        let asked = self.asked;
-        self.asked = asked.wrapping_add(1);
-        if asked % ENTRIES_A_LOOK != 0 {
-            return true;
-        }
-        let passed = self.passed();
-        if self.is_late(passed) {
-            return false;
-        }
-        self.show(passed, progress);
-        true
+        self.opened = progress.entries_opened as u64;
+        self.is_over = self.has_spent(progress);
+        !self.is_over
     }
 }
 

@@ -12,6 +12,9 @@ const PAGES: &str =
 
 Exit status: 0 where all was done, of explore where nothing was missed and no race was found; 1 where explore found a race, or something in a report isn't true; 2 where the call was refused, with one line on standard error (vrace explain NUMBER says what it means); 3 where explore was cut and found no race";
 
+// The latest time that there is.
+const LAST_TIME: u64 = 4_611_686_018_427_387_903;
+
 /// What is to be run, and how.
 #[derive(Drop)]
 pub struct Request<'a> {
@@ -38,11 +41,20 @@ fn grain<'a>(alloc: Global) -> Arg<'a> {
         .default_value("process")
 }
 
-fn hold<'a>(alloc: Global) -> Arg<'a> {
-    Arg::new(alloc, "hold")
-        .long("hold")
+// An option without a value.
+fn flag<'a>(alloc: Global, name: &'a str, help: &'a str) -> Arg<'a> {
+    Arg::new(alloc, name)
+        .long(name)
         .action(ArgAction::SetTrue)
-        .help("Departures may also hold back the processes that stand before the one that is taken")
+        .help(help)
+}
+
+fn hold<'a>(alloc: Global) -> Arg<'a> {
+    flag(
+        alloc,
+        "hold",
+        "Departures may also hold back the processes that stand before the one that is taken",
+    )
 }
 
 fn files<'a>(alloc: Global) -> Arg<'a> {
@@ -85,14 +97,16 @@ fn replay_command<'a>(alloc: Global) -> Result<Command<'a>, NoMemory> {
         "The departures, as step:index joined by commas, or - for none; process/ or statement/ before it names the grain; process-holding/ or statement-holding/ also says that departures may hold back",
     )
     .default_value("-");
-    let trace = Arg::new(alloc, "trace")
-        .long("trace")
-        .action(ArgAction::SetTrue)
-        .help("Prints the steps of the run, a line each, in place of the dump");
-    let lines = Arg::new(alloc, "lines")
-        .long("lines")
-        .action(ArgAction::SetTrue)
-        .help("Prints the lines of $display, $strobe and $monitor, in place of the dump");
+    let trace = flag(
+        alloc,
+        "trace",
+        "Prints the steps of the run, a line each, in place of the dump",
+    );
+    let lines = flag(
+        alloc,
+        "lines",
+        "Prints the lines of $display, $strobe and $monitor, in place of the dump",
+    );
     let command = Command::new(alloc, "replay")
         .about(
             "Writes the value change dump of the run under a log, or its printed lines, or its steps",
@@ -109,52 +123,102 @@ fn replay_command<'a>(alloc: Global) -> Result<Command<'a>, NoMemory> {
     Ok(command)
 }
 
-fn explore_command<'a>(alloc: Global) -> Result<Command<'a>, NoMemory> {
-    let depart = number(
+fn depart<'a>(alloc: Global) -> Arg<'a> {
+    number(
         alloc,
         "depart",
         "The most departures from the default order, 0 to 4",
         "1",
-    );
+    )
+}
+
+fn seconds<'a>(alloc: Global) -> Arg<'a> {
+    limit(
+        alloc,
+        "seconds",
+        "The most seconds before the search is cut; it then goes by time, and what it reports is whole up to where it came",
+    )
+}
+
+const MEMORY: &str =
+    "The most megabytes that entries take, as the program counts them, before such a search is cut";
+
+fn progress<'a>(alloc: Global) -> Arg<'a> {
+    flag(
+        alloc,
+        "progress",
+        "Shows on standard error how far such a search has come",
+    )
+}
+
+fn explore_command<'a>(alloc: Global) -> Result<Command<'a>, NoMemory> {
     let entries = limit(
         alloc,
         "entries",
         "The most states that are visited before the search is cut; where nothing is said 100000, or any number where it goes by time",
     );
-    let lines = Arg::new(alloc, "lines")
-        .long("lines")
-        .action(ArgAction::SetTrue)
-        .help("Compares the lines that slots print, too, in whichever order");
-    let seconds = limit(
+    let lines = flag(
         alloc,
-        "seconds",
-        "The most seconds before the search is cut; it then goes by time, and what it reports is whole up to where it came",
+        "lines",
+        "Compares the lines that slots print, too, in whichever order",
     );
-    let memory = limit(
-        alloc,
-        "memory",
-        "The most megabytes that entries take, as the program counts them, before such a search is cut",
-    );
-    let progress = Arg::new(alloc, "progress")
-        .long("progress")
-        .action(ArgAction::SetTrue)
-        .help("Shows on standard error how far such a search has come");
     let command = Command::new(alloc, "explore")
         .about(
             "Runs every schedule of at most so many departures as --depart says; reports each end and each race",
         )
         .arg(top(alloc))?
         .arg(until(alloc))?
-        .arg(depart)?
+        .arg(depart(alloc))?
         .arg(number(alloc, "steps", "The most steps of one run", "100000"))?
         .arg(entries)?
         .arg(number(alloc, "workers", "How many threads explore, 1 to 64", "1"))?
         .arg(grain(alloc))?
         .arg(hold(alloc))?
         .arg(lines)?
-        .arg(seconds)?
-        .arg(memory)?
-        .arg(progress)?
+        .arg(seconds(alloc))?
+        .arg(limit(alloc, "memory", MEMORY))?
+        .arg(progress(alloc))?
+        .arg(files(alloc))?;
+    Ok(command)
+}
+
+fn races_command<'a>(alloc: Global) -> Result<Command<'a>, NoMemory> {
+    let until = limit(
+        alloc,
+        "until",
+        "The latest time, in units of the precision; where nothing is said there is none",
+    );
+    let from = number(
+        alloc,
+        "ignore-before",
+        "The time, in units of the precision, before which differences are only counted",
+        "0",
+    );
+    let taking = flag(
+        alloc,
+        "taking",
+        "Departures only take a process; none holds back those that stand before it",
+    );
+    let values = flag(
+        alloc,
+        "values",
+        "Compares values alone, and not the lines that slots print",
+    );
+    let all = flag(alloc, "all", "Names all differences of each race");
+    let command = Command::new(alloc, "races")
+        .about("Says which statements race, what differs then, and how to replay each order")
+        .arg(top(alloc))?
+        .arg(until)?
+        .arg(depart(alloc))?
+        .arg(number(alloc, "steps", "The most steps of one run", "1000000"))?
+        .arg(grain(alloc))?
+        .arg(taking)?
+        .arg(values)?
+        .arg(from)?
+        .arg(all)?
+        .arg(seconds(alloc))?
+        .arg(number(alloc, "memory", MEMORY, "2000"))?
+        .arg(progress(alloc))?
         .arg(files(alloc))?;
     Ok(command)
 }
@@ -202,6 +266,7 @@ pub fn commands<'a>(alloc: Global) -> Result<Command<'a>, NoMemory> {
         .subcommand_required(true)
         .subcommand(check_command(alloc)?)?
         .subcommand(explore_command(alloc)?)?
+        .subcommand(races_command(alloc)?)?
         .subcommand(replay_command(alloc)?)?
         .subcommand(explain_command(alloc)?)?;
     Ok(command)
@@ -343,6 +408,50 @@ pub fn search_of(matches: &ArgMatches<'_>) -> Search {
     }
 }
 
+/// What a search for races asks for beside its machine: from which time on differences are told, and whether all are named.
+#[derive(Clone, Copy, Debug)]
+pub struct RaceWords {
+    pub from: u64,
+    pub all: bool,
+}
+
+/// Which differences the words after `races` ask for.
+pub fn race_words_of(matches: &ArgMatches<'_>) -> RaceWords {
+    RaceWords {
+        from: matches.get_one::<u64>("ignore-before").unwrap_or(0),
+        all: matches.get_flag("all"),
+    }
+}
+
+/// How far the words after `races` ask to go: by time, so by one worker.
+pub fn race_search_of(matches: &ArgMatches<'_>) -> Search {
+    Search {
+        depart: matches.get_one::<u64>("depart").unwrap_or(0),
+        entries: None,
+        workers: 1,
+        looked: if matches.get_flag("values") {
+            Looked::Values
+        } else {
+            Looked::Lines
+        },
+        allowance: allowance_of(matches),
+    }
+}
+
+/// What the words after `races` ask for: where no time is said, up to the latest that there is.
+pub fn race_request_of<'a>(
+    alloc: Global,
+    matches: &ArgMatches<'a>,
+) -> Result<Request<'a>, NoMemory> {
+    let departures = if matches.get_flag("taking") {
+        Departures::Taking
+    } else {
+        Departures::Holding
+    };
+    let until = matches.get_one::<u64>("until").unwrap_or(LAST_TIME);
+    request_in(alloc, matches, until, departures)
+}
+
 // Which departures there are.
 fn departures_of(matches: &ArgMatches<'_>) -> Departures {
     if matches.get_flag("hold") {
@@ -354,6 +463,16 @@ fn departures_of(matches: &ArgMatches<'_>) -> Departures {
 
 /// What the words after `replay` and `explore` ask for alike.
 pub fn request_of<'a>(alloc: Global, matches: &ArgMatches<'a>) -> Result<Request<'a>, NoMemory> {
+    request_in(alloc, matches, until_of(matches), departures_of(matches))
+}
+
+// What is to be run, up to this time, with these departures.
+fn request_in<'a>(
+    alloc: Global,
+    matches: &ArgMatches<'a>,
+    until: u64,
+    departures: Departures,
+) -> Result<Request<'a>, NoMemory> {
     let files = files_of(alloc, matches)?;
     let grain = match matches.get_str("grain") {
         Some("statement") => Grain::Statement,
@@ -361,10 +480,10 @@ pub fn request_of<'a>(alloc: Global, matches: &ArgMatches<'a>) -> Result<Request
     };
     Ok(Request {
         top: matches.get_str("top"),
-        until: until_of(matches),
+        until,
         steps: steps_of(matches),
         grain,
-        departures: departures_of(matches),
+        departures,
         files,
     })
 }

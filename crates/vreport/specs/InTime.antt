@@ -3,7 +3,7 @@
 use Rattle.std.specs.Prelude.{◌≡◌, ℕ, ◌≤◌, List, length, map, Option, IfSome}
 use Rattle.statebook.specs.declared.limits.Limits.{Limits}
 use Rattle.explore.specs.Found.{HasEntries}
-use Rattle.explore.specs.Ranked.{TellsOfEntries, TellsOfSteps, pairs_of}
+use Rattle.explore.specs.Ranked.{TellsOfEntries, TellsOfSteps, TellsOfStop, pairs_of}
 use Rattle.explore.specs.declared.ranked_findings.RankedReason.TheVariants.{Memory, Entries, Steps, Stopped}
 use Rattle.explore.specs.declared.ranked_findings.RankedStatus.{RankedStatus}
 use Rattle.explore.specs.declared.ranked_findings.RankedStatus.TheVariants.{Exhausted, Cut}
@@ -87,6 +87,10 @@ TellsOutcomeInTime what told = told.report.outcome ≡ outcome_in_time what told
 -- it says that it was cut for entries only where there are so many that the search may come to
 abbrev pub MeansEntriesInTime : Setting → Limits → TimedReport → Type 0
 MeansEntriesInTime setting limits told = told.report.outcome ≡ outcome.CutEntries → HasEntries (rules_of setting) limits
+
+-- its search is told to have been stopped only where the budget said so
+abbrev pub MeansStopInTime : Type 0 → TimedReport → Type 0
+MeansStopInTime IsStopped told = TellsOfStop IsStopped told.search
 
 -- the dump of each end's run has as many bytes as the end tells
 abbrev pub TellsBytesInTime : Setting → TimedReport → Type 0

@@ -19,6 +19,6 @@ pub use dump::{DumpFront, HeldDump, hold_dump, write_dump, write_from};
 pub use explored::{Explored, report_alone, report_shared};
 pub use law::{agreement_law, report_law};
 pub use report::report_of;
-pub use timed::{Budget, Spent, TimedReport, report_in_time};
+pub use timed::{Budget, Spent, TimedReport, entry_bytes, report_in_time};
 pub use values::{line_of_values, text_of_value};
 pub use write::write_report;

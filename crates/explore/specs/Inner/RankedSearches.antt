@@ -156,11 +156,15 @@ AreLedOnWith r s budget = EachWith s.current.book budget (IsLedOn r s)
 abbrev pub AllAreLedOn : {S : Type 0} → Rules S → RankedSearch S → Type 0
 AllAreLedOn {S} r s = (i : ℕ) (e : Entry S) → slice_get s.current.book.entries i ≡ Some e → IsLedOn r s i
 
--- Why a search stops short: there are so many entries, some run takes more steps, or it was told to.
-abbrev pub IsWhy : {S : Type 0} → Rules S → Limits → Halt → Type 0
-IsWhy r limits Entries = HasEntries r limits
-IsWhy r limits Steps = SomeRunExceeds r limits
-IsWhy r limits Stopped = Unit {0}
+-- Why a search stops short: there are so many entries, some run takes more steps, or it was told to stop.
+abbrev pub IsWhy : {S : Type 0} → Rules S → Limits → Type 0 → Halt → Type 0
+IsWhy r limits IsTold Entries = HasEntries r limits
+IsWhy r limits IsTold Steps = SomeRunExceeds r limits
+IsWhy r limits IsTold Stopped = IsTold
+
+-- The same where nobody tells it to stop.
+abbrev pub IsWhyUntold : {S : Type 0} → Rules S → Limits → Halt → Type 0
+IsWhyUntold r limits halt = IsWhy r limits ⊥ halt
 
 -- No run of at most k departures comes to a mark of a rank above the one and below the other.
 abbrev pub NoneBetween : {S : Type 0} → Rules S → ℕ → (S → ℕ) → ℕ → ℕ → Type 0

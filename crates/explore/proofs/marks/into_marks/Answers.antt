@@ -1,5 +1,5 @@
 use Rattle.std.proofs.Common.{sym, ◌∙◌}
-use Rattle.explore.proofs.TakenMarks.{none_taken, mark_skipped, mark_noted, all_taken, taken_found}
+use Rattle.explore.proofs.TakenMarks.{none_taken, mark_skipped, mark_noted, all_taken}
 use Rattle.explore.proofs.marks.into_marks.Goals as goal
 
 pub loop-entry-init : goal.loop-entry-init

@@ -29,4 +29,5 @@ returns g c =
       ends_fewest = t.ends_fewest;
       entries = c.explore_ranked-search.ensures.entries;
       steps = c.explore_ranked-search.ensures.steps;
+      stopped = c.explore_ranked-search.ensures.stopped;
     }

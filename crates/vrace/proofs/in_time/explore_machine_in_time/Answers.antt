@@ -1,6 +1,7 @@
-use Rattle.std.proofs.Common.{refl, inl}
+use Rattle.std.proofs.Common.{◌≡◌, ◌∙◌, ap, refl, inl, sym}
 use Rattle.std.proofs.lemmas.Result.{IfOk-weaker}
-use Rattle.vrace.specs.ExploresInTime.{ReportsAsTold, ReportsInTime}
+use Rattle.explore.specs.declared.ranked_findings.RankedFindings.{RankedFindings}
+use Rattle.vrace.specs.ExploresInTime.{ReportsAsTold, ReportsInTime, SaysIfStopped}
 use Rattle.vrace.proofs.in_time.explore_machine_in_time.Goals as goal
 
 pub returns-in-Ok-clause-ok : goal.returns-in-Ok-clause-ok
@@ -12,3 +13,8 @@ returns-in-Ok-clause-ok g c =
 
 pub returns-in-Err-clause-err : goal.returns-in-Err-clause-err
 returns-in-Err-clause-err g c = inl (c.of_search.ensures c.args.machine.now c.args.limits.now c.in-Err.ensures.long, refl)
+
+pub returns-in-Ok-clause-stopped : goal.returns-in-Ok-clause-stopped
+returns-in-Ok-clause-stopped g c =
+    IfOk-weaker c.write_timed.result (λ timed. timed.search ≡ c.in-Ok.told.search) (SaysIfStopped (g.B.Watcher.stopped c.report_in_time.new.budget))
+    (λ timed same stopped. c.in-Ok.ensures.stopped (sym (ap (λ (f : RankedFindings). f.status) same) ∙ stopped)) c.write_timed.ensures.search

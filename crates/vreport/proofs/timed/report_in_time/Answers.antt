@@ -1,6 +1,8 @@
-use Rattle.std.proofs.Common.{subst}
+use Rattle.std.proofs.Common.{◌≡◌, ◌∙◌, ap, subst, sym}
+use Rattle.std.proofs.lemmas.Result.{IfOk-weaker}
 use Rattle.std.specs.Prelude.{IfOk}
-use Rattle.vreport.specs.InTime.{TellsOutcomeInTime}
+use Rattle.explore.specs.declared.ranked_findings.RankedFindings.{RankedFindings}
+use Rattle.vreport.specs.InTime.{MeansStopInTime, TellsOutcomeInTime}
 use Rattle.vreport.specs.declared.timed.Spent.{Spent}
 use Rattle.vreport.proofs.timed.report_in_time.Goals as goal
 
@@ -28,3 +30,8 @@ report_timed-requires g c =
 
 pub returns-clause-outcome : goal.returns-clause-outcome
 returns-clause-outcome g c = subst (λ (what : Spent). IfOk c.report_timed.result (TellsOutcomeInTime what)) c.spent.ensures c.report_timed.ensures.outcome
+
+pub returns-clause-stopped : goal.returns-clause-stopped
+returns-clause-stopped g c =
+    IfOk-weaker c.report_timed.result (λ told. told.search ≡ c.explore_in_time-found.result.search) (MeansStopInTime (g.B.Watcher.stopped c.explore_in_time-found.new.watcher))
+    (λ told same stopped. c.explore_in_time-found.ensures.stopped (sym (ap (λ (f : RankedFindings). f.status) same) ∙ stopped)) c.report_timed.ensures.search

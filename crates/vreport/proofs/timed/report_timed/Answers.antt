@@ -1,4 +1,4 @@
-use Rattle.std.proofs.Common.{ℕ, List, ap, ◌∙◌, map, subst, sym}
+use Rattle.std.proofs.Common.{ℕ, List, ap, ◌∙◌, map, refl, subst, sym}
 use Rattle.report_text.specs.Report.{End}
 use Rattle.report_text.specs.WellFormed.{Each}
 use Rattle.explore.specs.Ranked.{pairs_of}
@@ -79,6 +79,7 @@ returns c =
       exploration = explored_in_time setting known limits timed are report races_are lines_are listed c.args.spent outcome_is told.head
           (subst (λ (xs : List End). MayBeTold setting limits xs timed.races.items timed.line_races.items) (sym told.ends) may);
       up_to = tells_up_to setting known limits timed are report races_are lines_are listed;
+      search = refl;
       outcome = outcome_is;
       entries = entries_in_time setting known limits timed are report races_are lines_are listed c.args.spent outcome_is;
       bytes = subst (λ (steps : ℕ). Each (HasBytes setting steps) report.ends) steps_are (subst (λ (xs : List End). Each (HasBytes setting limits.steps) xs) (sym told.ends) c.in_ok-ends.ensures.bytes);

@@ -1,0 +1,5 @@
+pub mod ListLemmas
+pub mod AddsLemmas
+pub mod SumLemmas
+pub mod KeptLemmas
+pub mod FoundLemmas

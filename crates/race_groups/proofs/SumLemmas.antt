@@ -1,0 +1,214 @@
+-- Of the states in which runs end, what tells whether all are alike.
+use Rattle.std.specs.Prelude.{Decides, option_map}
+use Rattle.std.specs.Bool.{MatchBool}
+use Rattle.std.proofs.lemmas.Bool.Decides.{Decides-like}
+use Rattle.std.proofs.Common.{◌≡◌, ◌&&◌, Bool, true, false, Option, ℕ, ◌<◌, ◌≤◌, ◌⊎◌, List, [], ◌∷◌, ◌++◌, length, map, drop, slice_get, Some, refl, sym, ap, ◌∙◌, subst, inl, inr, append-nil, append_assoc, arith}
+use Rattle.std.specs.List.{Contains}
+use Rattle.std.proofs.lemmas.List.{map-append}
+use Rattle.std.proofs.lemmas.List.Elements.{Contains-append_cases, Contains-append_left, Contains-append_right, Contains-push_cases}
+use Rattle.basis.proofs.Lists.{at_contains, place_within}
+use Rattle.explore.specs.Ranked.{pairs_of}
+use Rattle.explore.specs.declared.rank_marks.FoundMark.{FoundMark}
+use Rattle.vmodel.specs.State.{State}
+use Rattle.vmodel.specs.Run.{Setting}
+use Rattle.vmachine.specs.declared.machine_state.MachineState.{MachineState}
+use Rattle.vmachine.specs.Machines.{Stands}
+use Rattle.vmachine.specs.Reads.{end_in}
+use Rattle.vbits.specs.Vectors.{Vector}
+use Rattle.sched_core.specs.declared.end.End.{End}
+use Rattle.std.proofs.lemmas.Option.{same_Some}
+use Rattle.race_groups.specs.Inner.{AllAlike, AreAlike, AreUncut, AreUnlike, FirstTwoUnlike, GrowsTo, IsUncut, Shape, SumsUp, shape_of}
+use Rattle.race_groups.proofs.ListLemmas.{from_map, front_of_one, none_in_front, nothing_in}
+
+abbrev Pair : Type 0
+Pair = MachineState × List (ℕ × ℕ)
+
+pub sums_none : (setting : Setting) (old : List Pair) → SumsUp setting [] old old
+sums_none setting old = record {
+  more = [];
+  is = sym (append-nil old);
+  among = λ end has. has;
+  none = λ e. refl;
+  alike = λ one e end has. nothing_in end has;
+  unlike = λ un. un;
+}
+
+-- one after another
+pub sums_on : (setting : Setting) (ends others old mid new : List Pair) → SumsUp setting ends old mid → SumsUp setting others mid new → SumsUp setting (ends ++ others) old new
+sums_on setting ends others old mid new a b = record {
+  more = a.more ++ b.more;
+  is = b.is ∙ ap (λ l. l ++ b.more) a.is ∙ append_assoc old a.more b.more;
+  among = λ end has. elim (Contains-append_cases a.more b.more end has) [
+    | inl one ↦ Contains-append_left ends others end (a.among end one)
+    | inr other ↦ Contains-append_right ends others end (b.among end other)
+  ];
+  none = λ e. (let before = a.none (none_in_front mid b.more (sym b.is ∙ e)) in ap (λ l. l ++ others) before ∙ b.none e);
+  alike = λ one e end has. elim (Contains-append_cases ends others end has) [
+    | inl first ↦ elim (front_of_one mid b.more one (sym b.is ∙ e)) [
+      | inl none ↦ nothing_in end (subst (λ (l : List Pair). Contains l end) (a.none none) first)
+      | inr is ↦ a.alike one is end first
+    ]
+    | inr second ↦ b.alike one e end second
+  ];
+  unlike = λ un. b.unlike (a.unlike un);
+}
+
+pub grows_on : {A : Type 0} (old mid new : List A) → GrowsTo old mid → GrowsTo mid new → GrowsTo old new
+grows_on old mid new a b = (a.0 ++ b.0, b.1 ∙ ap (λ l. l ++ b.0) a.1 ∙ append_assoc old a.0 b.0)
+
+pub grows_none : {A : Type 0} (old : List A) → GrowsTo old old
+grows_none old = ([], sym (append-nil old))
+
+-- ---- one state after another
+
+-- of the states that were looked at, those in front of what is left
+pub record SumsSoFar (setting : Setting) (all left old kept : List (FoundMark MachineState)) : Type 0 where
+  pub looked_at : List (FoundMark MachineState)
+  pub whole : looked_at ++ left ≡ all
+  pub sums : SumsUp setting (pairs_of looked_at) (pairs_of old) (pairs_of kept)
+  pub grows : GrowsTo old kept
+
+pub sums_start : (setting : Setting) (all left kept : List (FoundMark MachineState)) → left ≡ all → SumsSoFar setting all left kept kept
+sums_start setting all left kept is = record { looked_at = []; whole = is; sums = sums_none setting (pairs_of kept); grows = grows_none kept }
+
+pub sums_next : (setting : Setting) (all left rest old mid new : List (FoundMark MachineState)) (found : FoundMark MachineState) → SumsSoFar setting all left old mid → left ≡ found ∷ rest →
+    SumsUp setting (pairs_of (found ∷ [])) (pairs_of mid) (pairs_of new) → GrowsTo mid new → SumsSoFar setting all rest old new
+sums_next setting all left rest old mid new found so_far first one grows = record {
+  looked_at = so_far.looked_at ++ found ∷ [];
+  whole = append_assoc so_far.looked_at (found ∷ []) rest ∙ ap (λ l. so_far.looked_at ++ l) (sym first) ∙ so_far.whole;
+  sums = subst (λ (l : List Pair). SumsUp setting l (pairs_of old) (pairs_of new)) (sym (map-append (λ (f : FoundMark MachineState). (f.state, f.log)) so_far.looked_at (found ∷ [])))
+      (sums_on setting (pairs_of so_far.looked_at) (pairs_of (found ∷ [])) (pairs_of old) (pairs_of mid) (pairs_of new) so_far.sums one);
+  grows = grows_on old mid new so_far.grows grows;
+}
+
+pub sums_done : (setting : Setting) (all left old kept : List (FoundMark MachineState)) → SumsSoFar setting all left old kept → left ≡ [] → SumsUp setting (pairs_of all) (pairs_of old) (pairs_of kept)
+sums_done setting all left old kept so_far none =
+    let e : so_far.looked_at ≡ all = sym (append-nil so_far.looked_at) ∙ ap (λ l. so_far.looked_at ++ l) (sym none) ∙ so_far.whole in
+    subst (λ (l : List (FoundMark MachineState)). SumsUp setting (pairs_of l) (pairs_of old) (pairs_of kept)) e so_far.sums
+
+-- ---- one state
+
+turned : (setting : Setting) (s r : MachineState) → AreAlike setting s r → AreAlike setting r s
+turned setting s r like = λ t u st su. sym (like u t su st)
+
+alone : (one end : Pair) → Contains (one ∷ []) end → one ≡ end
+alone one end has = elim (Contains-push_cases [] one end has) [
+  | inl none ↦ nothing_in end none
+  | inr is ↦ is
+]
+
+-- a machine's state stands for one state alone
+abbrev pub ForOne : Setting → Type 0
+ForOne setting = (s : MachineState) (t u : State) → Stands setting s t → Stands setting s u → t ≡ u
+
+module _ (setting : Setting) (found : FoundMark MachineState) where
+  abbrev pair : Pair
+  pair = (found.state, found.log)
+
+  -- two unlike ones are kept already
+  pub sums_full : (old : List (FoundMark MachineState)) → 1 < length old → SumsUp setting (pair ∷ []) (pairs_of old) (pairs_of old)
+  sums_full [] many = absurd (omega (arith, many))
+  sums_full (x ∷ []) many = absurd (omega (arith, many))
+  sums_full (x ∷ y ∷ xs) many = record {
+    more = [];
+    is = sym (append-nil (pairs_of (x ∷ y ∷ xs)));
+    among = λ end has. nothing_in end has;
+    none = λ e. absurd (cc);
+    alike = λ one e. absurd (let f = ap (drop 1) e in cc);
+    unlike = λ un. un;
+  }
+
+  -- it is alike the one that is kept
+  pub sums_like : (old : List (FoundMark MachineState)) (one : FoundMark MachineState) → length old ≡ 1 → slice_get old 0 ≡ Some one → AreAlike setting one.state found.state → SumsUp setting (pair ∷ []) (pairs_of old) (pairs_of old)
+  sums_like [] one few at like = absurd (cc)
+  sums_like (x ∷ y ∷ xs) one few at like = absurd (omega (arith, few))
+  sums_like (x ∷ []) one few at like =
+      let is : x ≡ one = same_Some x one at in
+      record {
+        more = [];
+        is = refl;
+        among = λ end has. nothing_in end has;
+        none = λ e. absurd (cc);
+        alike = λ k e end has. (let same : k ≡ (x.state, x.log) = sym (same_Some (x.state, x.log) k (ap (λ (l : List Pair). slice_get l 0) e)) in
+            let here : pair ≡ end = alone pair end has in
+            subst (λ (p : Pair). AreAlike setting p.0 k.0) here (subst (λ (p : Pair). AreAlike setting found.state p.0) (sym same)
+            (subst (λ (f : FoundMark MachineState). AreAlike setting found.state f.state) (sym is) (turned setting one.state found.state like))));
+        unlike = λ un. un;
+      }
+
+  -- it is the first
+  pub sums_first : ForOne setting → (old new : List (FoundMark MachineState)) → old ≡ [] → new ≡ old ++ found ∷ [] → SumsUp setting (pair ∷ []) (pairs_of old) (pairs_of new)
+  sums_first one_only old new none is =
+      let new_is : pairs_of new ≡ pair ∷ [] = ap pairs_of (is ∙ ap (λ (l : List (FoundMark MachineState)). l ++ found ∷ []) none) in
+      let old_is : pairs_of old ≡ [] = ap pairs_of none in
+      record {
+        more = pair ∷ [];
+        is = new_is ∙ ap (λ (l : List Pair). l ++ pair ∷ []) (sym old_is);
+        among = λ end has. has;
+        none = λ e. absurd (let f = sym new_is ∙ e in cc);
+        alike = λ k e end has.
+            (let same : pair ≡ k = same_Some pair k (ap (λ (l : List Pair). slice_get l 0) (sym new_is ∙ e)) in
+            let here : pair ≡ end = alone pair end has in
+            subst (λ (p : Pair). AreAlike setting p.0 k.0) here (subst (λ (p : Pair). AreAlike setting found.state p.0) same (λ t u st su. ap shape_of (one_only found.state t u st su))));
+        unlike = λ un k l at at'. absurd (let f = ap (λ (l : List Pair). slice_get l 1) new_is in cc);
+      }
+
+  -- it is the second, and unlike the first
+  pub sums_second : (old new : List (FoundMark MachineState)) (one : FoundMark MachineState) → length old ≡ 1 → slice_get old 0 ≡ Some one → AreUnlike setting one.state found.state → new ≡ old ++ found ∷ [] →
+      SumsUp setting (pair ∷ []) (pairs_of old) (pairs_of new)
+  sums_second [] new one few at un is = absurd (cc)
+  sums_second (x ∷ y ∷ xs) new one few at un is = absurd (omega (arith, few))
+  sums_second (x ∷ []) new one few at un is =
+      let first : x ≡ one = same_Some x one at in
+      let new_is : pairs_of new ≡ (x.state, x.log) ∷ pair ∷ [] = ap pairs_of is in
+      record {
+        more = pair ∷ [];
+        is = new_is;
+        among = λ end has. has;
+        none = λ e. absurd (let f = sym new_is ∙ e in cc);
+        alike = λ k e. absurd (let f = ap (drop 1) (sym new_is ∙ e) in cc);
+        unlike = λ before k l at_k at_l.
+            (let a : (x.state, x.log) ≡ k = same_Some (x.state, x.log) k (ap (λ (l : List Pair). slice_get l 0) (sym new_is) ∙ at_k) in
+            let b : pair ≡ l = same_Some pair l (ap (λ (l : List Pair). slice_get l 1) (sym new_is) ∙ at_l) in
+            let un_x : AreUnlike setting x.state found.state = subst (λ (f : FoundMark MachineState). AreUnlike setting f.state found.state) (sym first) un in
+            subst (λ (p : Pair). AreUnlike setting k.0 p.0) b (subst (λ (p : Pair). AreUnlike setting p.0 found.state) a un_x));
+      }
+
+-- ---- cuts
+
+pub all_uncut : (setting : Setting) (ends : List (FoundMark MachineState)) (n : ℕ) → length ends ≤ n → ((k : ℕ) (found : FoundMark MachineState) → k < n → slice_get ends k ≡ Some found → IsUncut setting found.state) →
+    AreUncut setting (pairs_of ends)
+all_uncut setting ends n whole each = λ end has.
+    (let m = from_map (λ (f : FoundMark MachineState). (f.state, f.log)) ends end has in
+    let p = at_contains ends m.0 m.1 in
+    let lt = place_within ends p.0 m.0 p.1 in
+    subst (λ (e : Pair). IsUncut setting e.0) m.2 (each p.0 m.0 (omega (arith, lt, whole)) p.1))
+
+-- ---- what tells two states apart
+
+-- of two that are there, what is read of them tells
+pub some_tells : {A B : Type 0} (f : A → B) (b : Bool) (o p : Option A) (x y : A) → o ≡ Some x → p ≡ Some y → Decides b (f x ≡ f y) → Decides b (option_map f o ≡ option_map f p)
+some_tells f b o p x y is is' d =
+    let here : option_map f o ≡ Some (f x) = ap (option_map f) is in
+    let there : option_map f p ≡ Some (f y) = ap (option_map f) is' in
+    Decides-like b (λ same. here ∙ ap Some same ∙ sym there) (λ same. same_Some (f x) (f y) (sym here ∙ same ∙ there)) d
+
+-- what is read of a machine's state is what its state of a run has
+abbrev pub Reads : {V : Type 0} → Setting → MachineState → (State → V) → V → Type 0
+Reads setting s read value = (t : State) → Stands setting s t → value ≡ read t
+
+module _ (setting : Setting) (s r : MachineState) (end end' : Option End) (values values' : List Vector) (printed printed' : Option (List (List ℕ)))
+    (of_end : Reads setting s end_in end) (of_end' : Reads setting r end_in end') (of_values : Reads setting s (λ t. t.values) values) (of_values' : Reads setting r (λ t. t.values) values')
+    (of_printed : Reads setting s (λ t. t.printed) printed) (of_printed' : Reads setting r (λ t. t.printed) printed') where
+  pub told_alike : (a b c : Bool) → Decides a (end ≡ end') → Decides b (values ≡ values') → Decides c (printed ≡ printed') → MatchBool (a && (b && c)) (AreAlike setting s r) (AreUnlike setting s r)
+  told_alike true true true a b c = λ t u st su.
+      (let e : end_in t ≡ end_in u = sym (of_end t st) ∙ a.0 refl ∙ of_end' u su in
+      let v : t.values ≡ u.values = sym (of_values t st) ∙ b.0 refl ∙ of_values' u su in
+      let p : t.printed ≡ u.printed = sym (of_printed t st) ∙ c.0 refl ∙ of_printed' u su in
+      λ i. record { end = e i; values = v i; printed = p i })
+  told_alike false b c one two three = λ t u st su same. absurd (let e = one.1 (of_end t st ∙ ap (λ (x : Shape). x.end) same ∙ sym (of_end' u su)) in cc)
+  told_alike true false c one two three = λ t u st su same. absurd (let e = two.1 (of_values t st ∙ ap (λ (x : Shape). x.values) same ∙ sym (of_values' u su)) in cc)
+  told_alike true true false one two three = λ t u st su same. absurd (let e = three.1 (of_printed t st ∙ ap (λ (x : Shape). x.printed) same ∙ sym (of_printed' u su)) in cc)
+
+pub grows_same : {A : Type 0} (old new : List A) → new ≡ old → GrowsTo old new
+grows_same old new is = ([], is ∙ sym (append-nil old))

@@ -1,0 +1,13 @@
+use Rattle.std.proofs.Common.{refl, ◌∙◌}
+use Rattle.std.proofs.lemmas.Result.{on_ok_weaker}
+use Rattle.race_groups.proofs.KeptLemmas.{takes_all}
+use Rattle.race_groups.proofs.collected.RaceGroups.put_found.Goals as goal
+
+pub returns-clause-ok : goal.returns-clause-ok
+returns-clause-ok c =
+    let setting = c.args.self.now.causes.machine.now in
+    let still = c.put_all-2.ensures.machine ∙ c.put_all.ensures.machine in
+    on_ok_weaker c.put_ends.result
+    (λ sums. takes_all c.args.found c.deref.result.now c.deref-2.result.now c.args.self.now _ c.put_all.new.groups.items setting c.put_all.new.causes.machine.now c.put_all-2.new.causes.machine.now
+    c.deref.ensures.value c.deref-2.ensures.value refl c.put_all.ensures.machine still still refl refl
+    c.put_all.ensures.adds c.in_ok-put_all.ensures.some c.put_all-2.ensures.adds c.in_ok-put_all-2.ensures.some sums) c.put_ends.ensures.sums

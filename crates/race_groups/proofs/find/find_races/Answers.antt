@@ -1,0 +1,29 @@
+use Rattle.std.proofs.Common.{subst, ◌∙◌}
+use Rattle.vmodel.specs.Run.{Setting}
+use Rattle.race_groups.specs.Inner.{AreTold}
+use Rattle.race_groups.proofs.FoundLemmas.{handed_so, is_told}
+use Rattle.race_groups.proofs.find.find_races.Goals as goal
+
+pub returns : goal.returns
+returns g c =
+    let setting = c.args.machine.now in
+    let law = c.machine_law.ensures in
+    let kept = c.explore_ranked-search.new.collector in
+    let findings = c.explore_ranked-search.result in
+    let handed = c.explore_ranked-search.ensures.handed in
+    let hands = handed_so setting c.args.limits.now c.args.scope.now.from c.new-found.result kept findings c.new-found.ensures.machine c.new-found.ensures.from c.new-found.ensures.none handed in
+    let groups = c.in_ok-groups.groups.items in
+    let tells = subst (λ (s : Setting). AreTold s kept groups) (handed.collected.machine ∙ c.new-found.ensures.machine) c.in_ok-groups.ensures in
+    let t = is_told setting (law.same setting) (law.stands setting) (law.runs setting) (law.runs_back setting) (law.mark setting) (c.run_law.ensures.values setting) (law.rank setting)
+    c.args.limits.now c.args.scope.now.from kept findings hands groups tells in
+    record {
+      cause = t.cause;
+      first = t.first;
+      none = t.none;
+      exhausted = t.exhausted;
+      cuts = t.cuts;
+      cuts_exhausted = t.cuts_exhausted;
+      entries = c.explore_ranked-search.ensures.entries;
+      steps = c.explore_ranked-search.ensures.steps;
+      stopped = c.explore_ranked-search.ensures.stopped;
+    }

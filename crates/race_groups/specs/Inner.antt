@@ -1,0 +1,227 @@
+-- *internal*: Words for the contracts of calls within: what is kept of closed slots, group by group.
+use Rattle.std.specs.Prelude.{◌≡◌, ◌≢◌, Bool, false, ℕ, ◌<◌, ◌≤◌, ◌⊎◌, List, [], ◌∷◌, ◌++◌, length, map, slice_get, Option, Some, IfSome}
+use Rattle.std.specs.List.{Contains}
+use Rattle.std.proofs.Common.{append-nil, refl, subst, sym}
+use Rattle.sched_core.specs.declared.end.End.{End}
+use Rattle.sched_core.specs.declared.end.Cause.TheVariants.{Limit}
+use Rattle.explore.specs.Ranked.{Closing, OfEach, pairs_of}
+use Rattle.explore.specs.declared.rank_marks.FoundMark.{FoundMark}
+use Rattle.vbits.specs.Vectors.{Vector}
+use Rattle.vmodel.specs.State.{State}
+use Rattle.vmodel.specs.Run.{Setting}
+use Rattle.vmachine.specs.declared.machine_state.MachineState.{MachineState}
+use Rattle.vmachine.specs.Machines.{Stands}
+use Rattle.vmachine.specs.Reads.{end_in}
+use Rattle.racebook.specs.Races.{Race}
+use Rattle.racebook.specs.LineRaces.{LineRace}
+use Rattle.racebook.specs.Inner.{AreEndsOf, AreLineRacesOf, AreRacesOf, HasEnded}
+use Rattle.racebook.specs.declared.slots.FoundInSlot.{FoundInSlot}
+use Rattle.cause.specs.Causes.{IsCause}
+use Rattle.cause.specs.declared.cause.Cause.{Cause}
+use Rattle.race_groups.specs.declared.causes.Placed.{Placed}
+use Rattle.race_groups.specs.declared.causes.Placed.TheVariants.{With, Apart}
+use Rattle.race_groups.specs.declared.collected.RaceGroups.{RaceGroups}
+use Rattle.race_groups.specs.declared.group.Difference.{Difference}
+use Rattle.race_groups.specs.declared.group.Difference.TheVariants.{Values, Lines, Ends}
+use Rattle.race_groups.specs.declared.group.Group.{Group}
+
+-- ---- groups
+
+-- what stays of a group: its cause, its log and its first difference
+pub record Told : Type 0 where
+  pub cause : Option Cause
+  pub log : List (ℕ × ℕ)
+  pub first : Difference
+
+abbrev pub told : Group → Told
+told group = record { cause = group.cause; log = group.log; first = group.first }
+
+abbrev pub tolds_of : List Group → List Told
+tolds_of groups = map told groups
+
+-- its cause, where it has one, is that of its log
+abbrev pub IsCaused : Setting → Told → Type 0
+IsCaused setting t = IfSome t.cause (IsCause setting t.log)
+
+-- a log belongs to the group at a place, or to none, with its cause
+abbrev pub IsPlaced : Setting → ℕ → List (ℕ × ℕ) → Placed → Type 0
+IsPlaced setting count log (With place) = place < count
+IsPlaced setting count log (Apart cause) = IfSome cause (IsCause setting log)
+
+-- groups stand behind those that there were, of such differences, each with its cause
+pub record Adds (setting : Setting) (P : Difference → Type 0) (old new : List Told) : Type 0 where
+  pub more : List Told
+  pub is : new ≡ old ++ more
+  pub causes : (t : Told) → Contains more t → IsCaused setting t
+  pub firsts : (t : Told) → Contains more t → P t.first
+
+abbrev pub setting_of : RaceGroups → Setting
+setting_of kept = kept.causes.machine.now
+
+-- ---- ends
+
+-- what is seen of a state in which a run ends
+pub record Shape : Type 0 where
+  pub end : Option End
+  pub values : List Vector
+  pub printed : Option (List (List ℕ))
+
+abbrev pub shape_of : State → Shape
+shape_of t = record { end = end_in t; values = t.values; printed = t.printed }
+
+abbrev pub AreAlike : Setting → MachineState → MachineState → Type 0
+AreAlike setting one other = (t u : State) → Stands setting one t → Stands setting other u → shape_of t ≡ shape_of u
+
+abbrev pub AreUnlike : Setting → MachineState → MachineState → Type 0
+AreUnlike setting one other = (t u : State) → Stands setting one t → Stands setting other u → shape_of t ≢ shape_of u
+
+-- no run was cut there by the time limit
+abbrev pub IsUncut : Setting → MachineState → Type 0
+IsUncut setting s = (t : State) (end : End) → Stands setting s t → end_in t ≡ Some end → end.cause ≢ Limit
+
+abbrev pub AreUncut : Setting → List (MachineState × List (ℕ × ℕ)) → Type 0
+AreUncut setting ends = (end : MachineState × List (ℕ × ℕ)) → Contains ends end → IsUncut setting end.0
+
+abbrev pub AllAlike : Setting → List (MachineState × List (ℕ × ℕ)) → MachineState × List (ℕ × ℕ) → Type 0
+AllAlike setting ends one = (end : MachineState × List (ℕ × ℕ)) → Contains ends end → AreAlike setting end.0 one.0
+
+-- the first two, where there are two
+abbrev pub FirstTwoUnlike : Setting → List (MachineState × List (ℕ × ℕ)) → Type 0
+FirstTwoUnlike setting ends = (one other : MachineState × List (ℕ × ℕ)) → slice_get ends 0 ≡ Some one → slice_get ends 1 ≡ Some other →
+    AreUnlike setting one.0 other.0
+
+-- what is new stands behind what there was
+abbrev pub GrowsTo : {A : Type 0} → List A → List A → Type 0
+GrowsTo {A} old new = (more : List A) × (new ≡ old ++ more)
+
+-- of these ends it was kept what tells whether all are alike
+pub record SumsUp (setting : Setting) (ends old new : List (MachineState × List (ℕ × ℕ))) : Type 0 where
+  pub more : List (MachineState × List (ℕ × ℕ))
+  pub is : new ≡ old ++ more
+  pub among : (end : MachineState × List (ℕ × ℕ)) → Contains more end → Contains ends end
+  pub none : new ≡ [] → ends ≡ []
+  pub alike : (one : MachineState × List (ℕ × ℕ)) → new ≡ one ∷ [] → AllAlike setting ends one
+  pub unlike : FirstTwoUnlike setting old → FirstTwoUnlike setting new
+
+-- ---- slots
+
+-- the differences that a slot gave
+abbrev pub differences_in : FoundInSlot → List Difference
+differences_in found = map Values found.races.items ++ map Lines found.line_races.items
+
+-- all that a slot gave was taken
+pub record TakesAll (found : FoundInSlot) (old new : RaceGroups) : Type 0 where
+  pub machine : setting_of new ≡ setting_of old
+  pub from : new.scope.from ≡ old.scope.from
+  pub cut : new.cut_runs ≡ old.cut_runs
+  pub adds : Adds (setting_of old) (Contains (differences_in found)) (tolds_of old.groups.items) (tolds_of new.groups.items)
+  pub none : new.groups.items ≡ [] → differences_in found ≡ []
+  pub ends : SumsUp (setting_of old) (pairs_of found.ends.items) (pairs_of old.ends.items) (pairs_of new.ends.items)
+
+-- what a slot gave was taken: from the scope's time on
+pub record TakesSlot (time : ℕ) (found : FoundInSlot) (old new : RaceGroups) : Type 0 where
+  pub machine : setting_of new ≡ setting_of old
+  pub from : new.scope.from ≡ old.scope.from
+  pub adds : Adds (setting_of old) (Contains (differences_in found)) (tolds_of old.groups.items) (tolds_of new.groups.items)
+  pub none : old.scope.from ≤ time → new.groups.items ≡ [] → differences_in found ≡ []
+  pub before : time < old.scope.from → new.ends.items ≡ old.ends.items
+  pub ends : old.scope.from ≤ time → SumsUp (setting_of old) (pairs_of found.ends.items) (pairs_of old.ends.items) (pairs_of new.ends.items)
+  pub cut : new.cut_runs ≡ false → (old.cut_runs ≡ false) × AreUncut (setting_of old) (pairs_of found.ends.items)
+
+-- what is new stands behind what there was
+pub record GrowsBehind (old new : RaceGroups) : Type 0 where
+  pub machine : setting_of new ≡ setting_of old
+  pub from : new.scope.from ≡ old.scope.from
+  pub groups : GrowsTo (tolds_of old.groups.items) (tolds_of new.groups.items)
+  pub ends : GrowsTo old.ends.items new.ends.items
+  pub cut : new.cut_runs ≡ false → old.cut_runs ≡ false
+
+-- no more is kept than was
+pub record StaysSo (old new : RaceGroups) : Type 0 where
+  pub machine : setting_of new ≡ setting_of old
+  pub from : new.scope.from ≡ old.scope.from
+  pub groups : tolds_of new.groups.items ≡ tolds_of old.groups.items
+  pub ends : new.ends.items ≡ old.ends.items
+  pub cut : new.cut_runs ≡ false → old.cut_runs ≡ false
+
+-- ---- closings
+
+-- the marks of a slot show the difference
+abbrev pub IsShownBy : Setting → List (MachineState × List (ℕ × ℕ)) → Difference → Type 0
+IsShownBy setting marks (Values race) = (races : List Race) × AreRacesOf setting marks races × Contains races race
+IsShownBy setting marks (Lines race) = (races : List LineRace) × AreLineRacesOf setting marks races × Contains races race
+IsShownBy setting marks (Ends ends) = ⊥
+
+pub record IsOfSome (setting : Setting) (closings : List (Closing MachineState)) (difference : Difference) : Type 0 where
+  pub place : ℕ
+  pub closing : Closing MachineState
+  pub at : slice_get closings place ≡ Some closing
+  pub shown : IsShownBy setting closing.marks difference
+
+pub record IsEndOfSome (setting : Setting) (closings : List (Closing MachineState)) (end : MachineState × List (ℕ × ℕ)) : Type 0 where
+  pub place : ℕ
+  pub closing : Closing MachineState
+  pub at : slice_get closings place ≡ Some closing
+  pub among : Contains closing.marks end
+  pub ended : HasEnded setting end.0
+
+-- the marks show no difference
+pub record ShowsNone (setting : Setting) (marks : List (MachineState × List (ℕ × ℕ))) : Type 0 where
+  pub values : AreRacesOf setting marks []
+  pub lines : AreLineRacesOf setting marks []
+
+-- the marks in which runs end are so
+abbrev pub OfEnds : Setting → List (MachineState × List (ℕ × ℕ)) → (List (MachineState × List (ℕ × ℕ)) → Type 0) → Type 0
+OfEnds setting marks P = (ends : List (MachineState × List (ℕ × ℕ))) × AreEndsOf setting marks ends × P ends
+
+-- from this time on it is so of each closing
+abbrev pub OfEachFrom : ℕ → List (Closing MachineState) → (List (MachineState × List (ℕ × ℕ)) → Type 0) → Type 0
+OfEachFrom from closings P = OfEach closings (λ c. from ≤ c.rank → P c.marks)
+
+-- what is kept of closings
+pub record AreGroupsOf (setting : Setting) (from : ℕ) (tolds : List Told) (kept : List (MachineState × List (ℕ × ℕ))) (cut : Bool) (closings : List (Closing MachineState)) : Type 0 where
+  pub causes : (t : Told) → Contains tolds t → IsCaused setting t
+  pub firsts : (t : Told) → Contains tolds t → IsOfSome setting closings t.first
+  pub none : tolds ≡ [] → OfEachFrom from closings (ShowsNone setting)
+  pub ends : (end : MachineState × List (ℕ × ℕ)) → Contains kept end → IsEndOfSome setting closings end
+  pub no_end : kept ≡ [] → OfEachFrom from closings (λ marks. AreEndsOf setting marks [])
+  pub alike : (one : MachineState × List (ℕ × ℕ)) → kept ≡ one ∷ [] →
+      OfEachFrom from closings (λ marks. OfEnds setting marks (λ ends. AllAlike setting ends one))
+  pub unlike : FirstTwoUnlike setting kept
+  pub uncut : cut ≡ false → OfEach closings (λ c. OfEnds setting c.marks (AreUncut setting))
+
+abbrev pub KeepsGroups : Setting → ℕ → RaceGroups → List (Closing MachineState) → Type 0
+KeepsGroups setting from kept closings = AreGroupsOf setting from (tolds_of kept.groups.items) (pairs_of kept.ends.items) kept.cut_runs closings
+
+-- what collecting these closings makes of groups that kept what there was before
+pub record CollectsGroups (first : RaceGroups) (closings : List (Closing MachineState)) (now : RaceGroups) : Type 0 where
+  pub machine : setting_of now ≡ setting_of first
+  pub from : now.scope.from ≡ first.scope.from
+  pub kept : (before : List (Closing MachineState)) → KeepsGroups (setting_of first) first.scope.from first before →
+      KeepsGroups (setting_of first) first.scope.from now (before ++ closings)
+
+pub collects_nothing : (kept : RaceGroups) → CollectsGroups kept [] kept
+collects_nothing kept = record {
+  machine = refl;
+  from = refl;
+  kept = λ before so. subst (KeepsGroups (setting_of kept) kept.scope.from kept) (sym (append-nil before)) so;
+}
+
+-- ---- what is told
+
+-- these ends are the difference
+abbrev pub TellsEnds : List (FoundMark MachineState) → Difference → Type 0
+TellsEnds ends (Values race) = ⊥
+TellsEnds ends (Lines race) = ⊥
+TellsEnds ends (Ends list) = list.items ≡ ends
+
+-- the group tells them, with their cause
+pub record IsGroupOfEnds (setting : Setting) (ends : List (FoundMark MachineState)) (group : Group) : Type 0 where
+  pub caused : IsCaused setting (told group)
+  pub tells : TellsEnds ends group.first
+
+-- the groups that were kept, or, where there is none and two ends aren't alike, a group of these
+pub record AreTold (setting : Setting) (kept : RaceGroups) (groups : List Group) : Type 0 where
+  pub none : groups ≡ [] → (kept.groups.items ≡ []) × (length kept.ends.items ≤ 1)
+  pub each : (group : Group) → Contains groups group →
+      Contains kept.groups.items group ⊎ ((1 < length kept.ends.items) × IsGroupOfEnds setting kept.ends.items group)

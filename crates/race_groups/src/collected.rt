@@ -1,0 +1,138 @@
+// The groups of closed slots.
+
+ghost use Rattle.std.specs.Prelude.{◌≡◌, [], false, take, OnErr, OnOk};
+ghost use Rattle.race_groups.specs.Inner.{GrowsBehind, KeepsGroups, TakesAll, TakesSlot, setting_of};
+
+use crate::causes::Causes;
+use crate::ends::{put_ends, some_is_cut};
+use crate::group::{Group, Scope};
+use crate::groups::put_all;
+use basis::NoMemory;
+use explore::{Collector, FoundMark, RankMarks};
+use racebook::{FoundInSlot, found_in};
+use statebook::Limits;
+use std::alloc::Global;
+use vmachine::{Machine, MachineState};
+
+/// What is kept of closed slots: the groups of their differences, at most two of the states in which runs end, that aren't alike,
+/// and whether a run was cut by the time limit.
+#[derive(Drop)]
+pub(crate) struct RaceGroups<'m> {
+    pub(crate) causes: Causes<'m>,
+    pub(crate) scope: Scope,
+    pub(crate) groups: Vec<Group>,
+    pub(crate) ends: Vec<FoundMark<MachineState>>,
+    pub(crate) ignored: u64,
+    pub(crate) cut_runs: bool,
+}
+
+// How many differences a slot gave.
+fn count_of(found: &FoundInSlot) -> u64 {
+    (found.races.len() as u64).saturating_add(found.line_races.len() as u64)
+}
+
+// Whether one of both holds.
+fn either(one: bool, other: bool) -> bool
+    ensures { result ≡ false → (one ≡ false) × (other ≡ false) }
+{
+    one || other
+}
+
+impl<'m> RaceGroups<'m> {
+    /// None yet.
+    pub(crate) fn new(
+        alloc: Global,
+        machine: &'m Machine,
+        limits: &Limits,
+        scope: &Scope,
+    ) -> RaceGroups<'m>
+        ensures machine { setting_of result ≡ machine.now }
+        ensures from { result.scope.from ≡ scope.now.from }
+        ensures none { KeepsGroups machine.now scope.now.from result [] }
+    {
+        RaceGroups {
+            causes: Causes::new(alloc, machine, limits.steps),
+            scope: *scope,
+            groups: Vec::new(alloc),
+            ends: Vec::new(alloc),
+            ignored: 0,
+            cut_runs: false,
+        }
+    }
+
+    // All that a slot gave.
+    fn put_found(&mut self, found: FoundInSlot) -> Result<(), NoMemory>
+        ensures ok { OnOk result (TakesAll found self.old self.new) }
+        ensures grows { GrowsBehind self.old self.new }
+    {
+        let FoundInSlot {
+            races,
+            line_races,
+            ends,
+        } = found;
+        put_all(&mut self.causes, &mut self.groups, self.scope.names, &races)?;
+        put_all(
+            &mut self.causes,
+            &mut self.groups,
+            self.scope.names,
+            &line_races,
+        )?;
+        put_ends(self.causes.machine, &mut self.ends, ends)
+    }
+
+    // What the slot of this time gave.
+    fn put_slot(&mut self, time: u64, found: FoundInSlot) -> Result<(), NoMemory>
+        ensures ok { OnOk result (TakesSlot time found self.old self.new) }
+        ensures grows { GrowsBehind self.old self.new }
+    {
+        let is_cut = some_is_cut(self.causes.machine, &found.ends);
+        self.cut_runs = either(self.cut_runs, is_cut);
+        if time < self.scope.from {
+            self.ignored = self.ignored.saturating_add(count_of(&found));
+            return Ok(());
+        }
+        self.put_found(found)
+    }
+
+    // No more than so many groups and ends.
+    fn forget_behind(&mut self, groups: usize, ends: usize)
+        ensures machine { setting_of self.new ≡ setting_of self.old }
+        ensures from { self.new.scope.from ≡ self.old.scope.from }
+        ensures groups { self.new.groups.items ≡ take groups self.old.groups.items }
+        ensures ends { self.new.ends.items ≡ take ends self.old.ends.items }
+        ensures cut { self.new.cut_runs ≡ self.old.cut_runs }
+    {
+        self.groups.truncate(groups);
+        self.ends.truncate(ends);
+    }
+}
+
+/// After want of memory nothing of the slot is told.
+impl<'m> Collector<MachineState> for RaceGroups<'m> {
+    ghost use Rattle.explore.specs.Ranked.{CollectsMore, StaysAs, closing_of};
+    ghost use Rattle.race_groups.specs.Inner.{CollectsGroups, collects_nothing};
+
+    ghost collects = { CollectsGroups };
+
+    fn collect(&mut self, closed: RankMarks<MachineState>) -> Result<(), NoMemory>
+        ensures ok { OnOk result (CollectsMore CollectsGroups self.old (closing_of closed) self.new) }
+        ensures err { OnErr result (StaysAs CollectsGroups self.old self.new) }
+    {
+        let found = found_in(self.causes.alloc, self.causes.machine, closed.marks)?;
+        let groups = self.groups.len();
+        let ends = self.ends.len();
+        match self.put_slot(closed.rank, found) {
+            Ok(()) => Ok(()),
+            Err(refused) => {
+                self.forget_behind(groups, ends);
+                Err(refused)
+            }
+        }
+    }
+
+    fn found_count(&self) -> usize {
+        self.groups.len()
+    }
+
+    ghost none = { collects_nothing };
+}

@@ -1,0 +1,82 @@
+// What is told of races: differences, by their causes.
+
+ghost use Rattle.std.specs.Prelude.{◌≡◌};
+ghost use Rattle.race_groups.specs.Inner.{told};
+
+use basis::NoMemory;
+use cause::Cause;
+use explore::{FoundMark, RankedFindings};
+use racebook::{LineRace, Race};
+use sched_core::Log;
+use vmachine::MachineState;
+
+/// Which differences are told.
+#[derive(Clone, Copy, Debug)]
+pub struct Scope {
+    /// Those of slots before this time are only counted.
+    pub from: u64,
+    /// How many of those that follow a group's first are kept by name.
+    pub names: usize,
+}
+
+/// What runs differ in.
+#[derive(Drop)]
+pub enum Difference {
+    /// A variable has two or more values at the end of a slot.
+    Values(Race),
+    /// A slot printed different lines.
+    Lines(LineRace),
+    /// Two states in which runs end, and which differ in time, cause, values, or the lines of the last slot. They are told only
+    /// where no values and no lines differ.
+    Ends(Vec<FoundMark<MachineState>>),
+}
+
+/// A difference by its name: a variable at a time or, where it is of none, the lines of a time.
+#[derive(Clone, Copy, Debug)]
+pub struct Name {
+    pub time: u64,
+    pub variable: Option<usize>,
+}
+
+/// Differences that one cause explains.
+#[derive(Drop)]
+pub struct Group {
+    /// The cause of the run under the log; none where none was found.
+    pub cause: Option<Cause>,
+    /// The log of a side of the first difference.
+    pub log: Log,
+    /// The first difference, whole.
+    pub first: Difference,
+    /// The next ones by name, as many as the scope says, in the order of time.
+    pub next: Vec<Name>,
+    /// How many follow the first, those of `next` too.
+    pub more: u64,
+    /// The time of the last of them; where none follows, that of the first.
+    pub last: u64,
+}
+
+/// What a search for races found, and how far it came.
+#[derive(Drop)]
+pub struct Races {
+    /// In the order of the times of their first differences.
+    pub groups: Vec<Group>,
+    /// How many differences there were before the time from which on they are told.
+    pub ignored: u64,
+    /// Whether a run ended by the time limit.
+    pub cut_runs: bool,
+    pub search: RankedFindings,
+}
+
+impl Group {
+    /// One difference more.
+    pub(crate) fn follow(&mut self, name: Name, names: usize) -> Result<(), NoMemory>
+        ensures { told self.new ≡ told self.old }
+    {
+        if self.next.len() < names {
+            self.next.push(name)?;
+        }
+        self.more = self.more.saturating_add(1);
+        self.last = name.time;
+        Ok(())
+    }
+}

@@ -1,0 +1,139 @@
+// Differences are put into groups.
+
+ghost use Rattle.std.specs.Prelude.{◌≡◌, ◌<◌, [], IfOk, IfSome, OnOk, length, map, true};
+ghost use Rattle.std.specs.List.{Contains};
+ghost use Rattle.vmodel.specs.Run.{Setting};
+ghost use Rattle.cause.specs.Causes.{IsCause};
+ghost use Rattle.race_groups.specs.Inner.{Adds, tolds_of};
+
+use crate::causes::{Causes, Placed};
+use crate::group::{Group, Name};
+use crate::slot_race::SlotRace;
+use basis::NoMemory;
+use cause::Cause;
+use sched_core::Log;
+use std::alloc::Global;
+
+// The difference joins the group at the place.
+#[tactic(auto, using(crate::proofs::AddsLemmas::told_alike))]
+fn follow(groups: &mut Vec<Group>, place: usize, name: Name, names: usize) -> Result<(), NoMemory>
+    requires { place < length groups.old.items }
+    ensures told { tolds_of groups.new.items ≡ tolds_of groups.old.items }
+    ensures some { 0 < length groups.new.items }
+{
+    let group = &mut groups[place];
+    group.follow(name, names)
+}
+
+// A group of its own.
+#[tactic(auto, using(crate::proofs::AddsLemmas::adds_none, crate::proofs::AddsLemmas::adds_group))]
+fn open<R: SlotRace>(
+    alloc: Global,
+    groups: &mut Vec<Group>,
+    cause: Option<Cause>,
+    log: &Log,
+    race: &R,
+) -> Result<(), NoMemory>
+    ensures adds { (setting : Setting) → IfSome cause (IsCause setting log.now) →
+        Adds setting (λ d. d ≡ R.difference race.now) (tolds_of groups.old.items) (tolds_of groups.new.items) }
+    ensures some { OnOk result (0 < length groups.new.items) }
+{
+    let name = race.name();
+    groups.push(Group {
+        cause,
+        log: log.copy()?,
+        first: race.whole(alloc)?,
+        next: Vec::new(alloc),
+        more: 0,
+        last: name.time,
+    })?;
+    Ok(())
+}
+
+// The difference, by the log of one side. Where the group isn't new, it is counted there only if it wasn't yet.
+#[tactic(auto, using(crate::proofs::AddsLemmas::adds_none))]
+fn put_side<R: SlotRace>(
+    causes: &mut Causes<'_>,
+    groups: &mut Vec<Group>,
+    names: usize,
+    race: &R,
+    log: &Log,
+    counted: bool,
+) -> Result<(), NoMemory>
+    ensures machine { causes.new.machine.now ≡ causes.old.machine.now }
+    ensures adds { Adds causes.old.machine.now (λ d. d ≡ R.difference race.now) (tolds_of groups.old.items) (tolds_of groups.new.items) }
+    ensures some { OnOk result (0 < length groups.new.items) }
+{
+    match causes.place(groups, log)? {
+        Placed::With(place) => {
+            if counted {
+                return Ok(());
+            }
+            follow(groups, place, race.name(), names)
+        }
+        Placed::Apart(cause) => open(causes.alloc, groups, cause, log, race),
+    }
+}
+
+// The same, if the side has departures. Answers whether it is counted.
+#[tactic(auto, using(crate::proofs::AddsLemmas::adds_none))]
+fn put_departed<R: SlotRace>(
+    causes: &mut Causes<'_>,
+    groups: &mut Vec<Group>,
+    names: usize,
+    race: &R,
+    side: usize,
+    counted: bool,
+) -> Result<bool, NoMemory>
+    requires { counted ≡ true → 0 < length groups.old.items }
+    ensures machine { causes.new.machine.now ≡ causes.old.machine.now }
+    ensures adds { Adds causes.old.machine.now (λ d. d ≡ R.difference race.now) (tolds_of groups.old.items) (tolds_of groups.new.items) }
+    ensures some { IfOk result (λ is. is ≡ true → 0 < length groups.new.items) }
+{
+    match race.departed(side) {
+        None => Ok(counted),
+        Some(log) => {
+            put_side(causes, groups, names, race, log, counted)?;
+            Ok(true)
+        }
+    }
+}
+
+// One difference: it counts to the group of its first side that has departures.
+fn put<R: SlotRace>(
+    causes: &mut Causes<'_>,
+    groups: &mut Vec<Group>,
+    names: usize,
+    race: &R,
+) -> Result<(), NoMemory>
+    ensures machine { causes.new.machine.now ≡ causes.old.machine.now }
+    ensures adds { Adds causes.old.machine.now (λ d. d ≡ R.difference race.now) (tolds_of groups.old.items) (tolds_of groups.new.items) }
+    ensures some { OnOk result (0 < length groups.new.items) }
+{
+    let mut counted = false;
+    for side in 0..race.sides() {
+        counted = put_departed(causes, groups, names, race, side, counted)?;
+    }
+    if counted {
+        return Ok(());
+    }
+    let none = Log::new(causes.alloc);
+    put_side(causes, groups, names, race, &none, false)
+}
+
+/// Each of these differences.
+pub(crate) fn put_all<R: SlotRace>(
+    causes: &mut Causes<'_>,
+    groups: &mut Vec<Group>,
+    names: usize,
+    races: &[R],
+) -> Result<(), NoMemory>
+    ensures machine { causes.new.machine.now ≡ causes.old.machine.now }
+    ensures adds { Adds causes.old.machine.now (Contains (map R.difference races.now)) (tolds_of groups.old.items) (tolds_of groups.new.items) }
+    ensures some { OnOk result (groups.new.items ≡ [] → races.now ≡ []) }
+{
+    for race in races {
+        put(causes, groups, names, race)?;
+    }
+    Ok(())
+}

@@ -1,0 +1,315 @@
+// What runs differ in, and its sides: what is so in each of them, and the order in which it comes about.
+
+use crate::pieces::{put_cut, put_number, put_padded};
+use crate::place::Sources;
+use crate::statements::{put_other_order, put_usual_order};
+use crate::value::put_value;
+use basis::NoMemory;
+use explore::FoundMark;
+use race_groups::{Difference, Group, Name};
+use racebook::{LineRace, Race};
+use sched_core::bag::Bag;
+use sched_core::end::{Cause, End};
+use sched_core::{Log, LogHead, write_named_log};
+use std::alloc::Global;
+use vdesign::design::Design;
+use vmachine::{Machine, MachineState};
+
+// How many bytes of a printed line are shown.
+const LINE: usize = 60;
+
+/// A side of a difference: the order in which it comes about, what is so then, and the log of a run that shows it.
+#[derive(Drop)]
+pub struct Row {
+    order: Vec<u8>,
+    value: Vec<u8>,
+    log: Vec<u8>,
+}
+
+/// What rows are made of.
+#[derive(Clone, Copy)]
+pub struct Subject<'a> {
+    pub machine: &'a Machine,
+    pub sources: &'a Sources<'a>,
+    pub group: &'a Group,
+}
+
+// The lines that a slot printed, each in quotes.
+fn put_lines(text: &mut Vec<u8>, lines: &Bag) -> Result<(), NoMemory> {
+    let lines = lines.as_slice();
+    if lines.is_empty() {
+        text.extend_from_slice(b"nothing")?;
+    }
+    for (place, line) in lines.iter().enumerate() {
+        if place > 0 {
+            text.extend_from_slice(b" and ")?;
+        }
+        text.push(b'"')?;
+        put_cut(text, line.as_bytes().trim_ascii_end(), LINE)?;
+        text.push(b'"')?;
+    }
+    Ok(())
+}
+
+// `$finish at 10`
+fn put_end(text: &mut Vec<u8>, end: Option<End>) -> Result<(), NoMemory> {
+    let Some(end) = end else {
+        return Ok(());
+    };
+    let cause: &[u8] = match end.cause {
+        Cause::Finish => b"$finish",
+        Cause::Stop => b"$stop",
+        Cause::Quiet => b"its last event",
+        Cause::Limit => b"the time limit",
+    };
+    text.extend_from_slice(cause)?;
+    text.extend_from_slice(b" at ")?;
+    put_number(text, end.time)
+}
+
+// The name of the variable of this number.
+fn put_variable(text: &mut Vec<u8>, design: &Design, number: usize) -> Result<(), NoMemory> {
+    if let Some(variable) = design.variables.get(number) {
+        text.extend_from_slice(&variable.name)?;
+    }
+    Ok(())
+}
+
+// Whether the second log is the first without its last member.
+fn is_parent(log: &Log, parent: &Log) -> bool {
+    match log.members().split_last() {
+        None => false,
+        Some((_, front)) => front == parent.members(),
+    }
+}
+
+// In which order the side under this log comes about.
+fn put_order(text: &mut Vec<u8>, subject: Subject<'_>, log: &Log) -> Result<(), NoMemory> {
+    let Subject { sources, group, .. } = subject;
+    match &group.cause {
+        None => text.extend_from_slice(b"one order")?,
+        Some(cause) => {
+            if log.members() == group.log.members() {
+                put_other_order(text, sources, cause)?;
+            } else if is_parent(&group.log, log) {
+                put_usual_order(text, sources, cause)?;
+            } else {
+                text.extend_from_slice(b"another order")?;
+            }
+        }
+    }
+    if log.members().is_empty() {
+        text.extend_from_slice(b" (the default order)")?;
+    }
+    text.push(b':')?;
+    Ok(())
+}
+
+// The text of the log, with the name of the setting where it has departures.
+fn log_text(alloc: Global, machine: &Machine, log: &Log) -> Result<Vec<u8>, NoMemory> {
+    let head = if log.members().is_empty() {
+        LogHead::Plain
+    } else {
+        LogHead::Named(machine.grain(), machine.departures())
+    };
+    write_named_log(alloc, head, log)
+}
+
+// The side under this log, of which it is still to be said what is so.
+fn row_of(alloc: Global, subject: Subject<'_>, log: &Log) -> Result<Row, NoMemory> {
+    let mut order = Vec::new(alloc);
+    put_order(&mut order, subject, log)?;
+    Ok(Row {
+        order,
+        value: Vec::new(alloc),
+        log: log_text(alloc, subject.machine, log)?,
+    })
+}
+
+// The sides of the default run, or the others, of a variable.
+fn push_values(
+    alloc: Global,
+    rows: &mut Vec<Row>,
+    subject: Subject<'_>,
+    race: &Race,
+    default: bool,
+) -> Result<(), NoMemory> {
+    let Some(variable) = subject.machine.design().variables.get(race.variable) else {
+        return Ok(());
+    };
+    for witness in &race.values {
+        if witness.log.members().is_empty() == default {
+            let mut row = row_of(alloc, subject, &witness.log)?;
+            put_value(&mut row.value, variable, witness.value)?;
+            rows.push(row)?;
+        }
+    }
+    Ok(())
+}
+
+// The same of printed lines.
+fn push_lines(
+    alloc: Global,
+    rows: &mut Vec<Row>,
+    subject: Subject<'_>,
+    race: &LineRace,
+    default: bool,
+) -> Result<(), NoMemory> {
+    for side in &race.sides {
+        if side.log.members().is_empty() == default {
+            let mut row = row_of(alloc, subject, &side.log)?;
+            put_lines(&mut row.value, &side.lines)?;
+            rows.push(row)?;
+        }
+    }
+    Ok(())
+}
+
+// The same of ends.
+fn push_ends(
+    alloc: Global,
+    rows: &mut Vec<Row>,
+    subject: Subject<'_>,
+    ends: &[FoundMark<MachineState>],
+    default: bool,
+) -> Result<(), NoMemory> {
+    for found in ends {
+        if found.log.members().is_empty() == default {
+            let mut row = row_of(alloc, subject, &found.log)?;
+            put_end(&mut row.value, subject.machine.end_of(&found.state))?;
+            rows.push(row)?;
+        }
+    }
+    Ok(())
+}
+
+// The sides of the default run, or the others.
+fn push_rows(
+    alloc: Global,
+    rows: &mut Vec<Row>,
+    subject: Subject<'_>,
+    default: bool,
+) -> Result<(), NoMemory> {
+    match &subject.group.first {
+        Difference::Values(race) => push_values(alloc, rows, subject, race, default),
+        Difference::Lines(race) => push_lines(alloc, rows, subject, race, default),
+        Difference::Ends(ends) => push_ends(alloc, rows, subject, ends, default),
+    }
+}
+
+/// The sides of the group's first difference, that of the default run first.
+pub fn rows_of(alloc: Global, subject: Subject<'_>) -> Result<Vec<Row>, NoMemory> {
+    let mut rows = Vec::new(alloc);
+    push_rows(alloc, &mut rows, subject, true)?;
+    push_rows(alloc, &mut rows, subject, false)?;
+    Ok(rows)
+}
+
+// What is so in the sides: `1 or 0`; `1, 0 or x`.
+fn put_joined(text: &mut Vec<u8>, rows: &[Row]) -> Result<(), NoMemory> {
+    for (place, row) in rows.iter().enumerate() {
+        if place > 0 {
+            let joint: &[u8] = if place.saturating_add(1) == rows.len() {
+                b" or "
+            } else {
+                b", "
+            };
+            text.extend_from_slice(joint)?;
+        }
+        text.extend_from_slice(&row.value)?;
+    }
+    Ok(())
+}
+
+// ` at 5`
+fn put_at(text: &mut Vec<u8>, time: u64) -> Result<(), NoMemory> {
+    text.extend_from_slice(b" at ")?;
+    put_number(text, time)
+}
+
+/// What differs, in one line: `tb.b is 1 or 0 at 5`, `at 5 is printed "PASS" or "FAIL"`, `the run ends by $finish at 10 or its last event
+/// at 7`.
+pub fn put_difference(
+    text: &mut Vec<u8>,
+    subject: Subject<'_>,
+    rows: &[Row],
+) -> Result<(), NoMemory> {
+    match &subject.group.first {
+        Difference::Values(race) => {
+            put_variable(text, subject.machine.design(), race.variable)?;
+            text.extend_from_slice(b" is ")?;
+            put_joined(text, rows)?;
+            put_at(text, race.time)
+        }
+        Difference::Lines(race) => {
+            text.extend_from_slice(b"what is printed")?;
+            put_at(text, race.time)?;
+            text.extend_from_slice(b" is ")?;
+            put_joined(text, rows)
+        }
+        Difference::Ends(_) => {
+            text.extend_from_slice(b"the run ends by ")?;
+            put_joined(text, rows)
+        }
+    }
+}
+
+/// The time of the slot; of ends that of the first.
+pub fn time_of(machine: &Machine, difference: &Difference) -> u64 {
+    match difference {
+        Difference::Values(race) => race.time,
+        Difference::Lines(race) => race.time,
+        Difference::Ends(ends) => match ends.first() {
+            None => 0,
+            Some(found) => machine.end_of(&found.state).map_or(0, |end| end.time),
+        },
+    }
+}
+
+/// A difference by its name: `tb.c at 6`, `lines at 6`.
+pub fn put_name(text: &mut Vec<u8>, design: &Design, name: &Name) -> Result<(), NoMemory> {
+    match name.variable {
+        None => text.extend_from_slice(b"lines")?,
+        Some(number) => put_variable(text, design, number)?,
+    }
+    put_at(text, name.time)
+}
+
+// What comes before the value of a side: `tb.b = `.
+fn put_left(text: &mut Vec<u8>, subject: Subject<'_>) -> Result<(), NoMemory> {
+    match &subject.group.first {
+        Difference::Values(race) => {
+            put_variable(text, subject.machine.design(), race.variable)?;
+            text.extend_from_slice(b" = ")?;
+        }
+        Difference::Lines(_) => {}
+        Difference::Ends(_) => {}
+    }
+    Ok(())
+}
+
+// The greatest width of orders, and of values.
+fn widths_of(rows: &[Row]) -> (usize, usize) {
+    let (mut order, mut value) = (0, 0);
+    for row in rows {
+        order = row.order.len().max(order);
+        value = row.value.len().max(value);
+    }
+    (order, value)
+}
+
+/// A line for each side: the order in which it comes about, what is so then, and how to replay it.
+pub fn put_sides(text: &mut Vec<u8>, subject: Subject<'_>, rows: &[Row]) -> Result<(), NoMemory> {
+    let (order, value) = widths_of(rows);
+    for row in rows {
+        text.extend_from_slice(b"    ")?;
+        put_padded(text, &row.order, order)?;
+        text.extend_from_slice(b"  ")?;
+        put_left(text, subject)?;
+        put_padded(text, &row.value, value)?;
+        text.extend_from_slice(b"  vrace replay --log ")?;
+        text.extend_from_slice(&row.log)?;
+        text.push(b'\n')?;
+    }
+    Ok(())
+}

@@ -1,0 +1,62 @@
+// Where statements stand in the files, and what their lines say.
+
+use memchr::memchr;
+use trace_text::Origins;
+use vsrc::Place;
+
+/// The files, by their names and texts, and for each action of the design where its statement begins, if that is known.
+#[derive(Clone, Copy)]
+pub struct Sources<'a> {
+    pub names: &'a [&'a str],
+    pub texts: &'a [Vec<u8>],
+    pub origins: &'a Origins,
+}
+
+// What stands before the first line feed.
+fn first_line(text: &[u8]) -> &[u8] {
+    match memchr(b'\n', text) {
+        None => text,
+        Some(at) => &text[..at],
+    }
+}
+
+// The line of this number, from 1.
+fn line_of(text: &[u8], number: usize) -> &[u8] {
+    let mut rest = text;
+    for _ in 1..number {
+        match memchr(b'\n', rest) {
+            None => return &[],
+            Some(at) => match rest.get(at.saturating_add(1)..) {
+                None => return &[],
+                Some(after) => rest = after,
+            },
+        }
+    }
+    first_line(rest)
+}
+
+impl<'a> Sources<'a> {
+    /// Where the statement of the action begins, if it is known.
+    pub fn place(&self, action: usize) -> Option<Place> {
+        self.origins.place(action)
+    }
+
+    /// The name of the file of this number, from 1; `-` of standard input.
+    pub fn name(&self, file: usize) -> &'a str {
+        match self.names.get(file.saturating_sub(1)) {
+            None => "-",
+            Some(name) => name,
+        }
+    }
+
+    /// The source from the place to the end of its line.
+    pub fn source(&self, place: Place) -> &'a [u8] {
+        match self.texts.get(place.file.saturating_sub(1)) {
+            None => &[],
+            Some(text) => match line_of(text, place.line).get(place.column..) {
+                None => &[],
+                Some(source) => source,
+            },
+        }
+    }
+}

@@ -1,0 +1,263 @@
+// The two statements that race: where they stand, what they say, and what they do to what both touch.
+
+use crate::pieces::{put_cut, put_number, put_padded};
+use crate::place::Sources;
+use basis::NoMemory;
+use cause::{Actor, Blamed, Cause, Thing};
+use std::alloc::Global;
+use vdesign::action::{Action, Target, Targets};
+use vdesign::design::Design;
+use vsrc::Place;
+
+// How many bytes of a statement are shown.
+const SOURCE: usize = 40;
+
+// The variable that the target is of.
+fn variable_of(target: &Target) -> u32 {
+    match target {
+        Target::Whole(number) => *number,
+        Target::Bit { variable, .. } => *variable,
+        Target::Part { variable, .. } => *variable,
+    }
+}
+
+// Whether one of the targets is of it.
+fn is_target(targets: &Targets, thing: Thing) -> bool {
+    for target in targets.as_slice() {
+        if thing == Thing::Variable(variable_of(target)) {
+            return true;
+        }
+    }
+    false
+}
+
+// What a statement that assigns does to it.
+fn verb_of_targets(targets: &Targets, thing: Thing, verb: &'static [u8]) -> &'static [u8] {
+    if is_target(targets, thing) {
+        verb
+    } else {
+        b"reads"
+    }
+}
+
+// What a step of the action does to it.
+fn verb_of(action: &Action, thing: Thing) -> &'static [u8] {
+    match action {
+        Action::Assign { targets, .. } => verb_of_targets(targets, thing, b"writes"),
+        Action::AssignDelayed { targets, .. } => verb_of_targets(targets, thing, b"writes"),
+        Action::Nonblocking { targets, .. } => verb_of_targets(targets, thing, b"posts to"),
+        Action::NonblockingDelayed { targets, .. } => verb_of_targets(targets, thing, b"posts to"),
+        Action::ContinuousAssign { net, .. } => {
+            if thing == Thing::Variable(*net) {
+                b"writes"
+            } else {
+                b"reads"
+            }
+        }
+        Action::Trigger(_) => b"triggers",
+        Action::EventControl { .. } => b"waits for",
+        Action::Wait { .. } => b"waits for",
+        _ => b"reads",
+    }
+}
+
+// What the visit does to it. An update writes.
+fn verb(design: &Design, blamed: &Blamed, thing: Thing) -> &'static [u8] {
+    match (blamed.actor, design.actions.get(blamed.place)) {
+        (Actor::Process(_), Some(action)) => verb_of(action, thing),
+        _ => b"writes",
+    }
+}
+
+// The name of a variable; events have none in a design.
+fn put_thing(text: &mut Vec<u8>, design: &Design, thing: Thing) -> Result<(), NoMemory> {
+    match thing {
+        Thing::Event(_) => text.extend_from_slice(b"a named event")?,
+        Thing::Variable(number) => {
+            if let Some(variable) = design.variables.get(number as usize) {
+                text.extend_from_slice(&variable.name)?;
+            }
+        }
+    }
+    Ok(())
+}
+
+// The first thing that isn't this one.
+fn other_thing(things: &[Thing], first: Thing) -> Option<Thing> {
+    for thing in things {
+        if *thing != first {
+            return Some(*thing);
+        }
+    }
+    None
+}
+
+// `writes tb.a`, of the first two things that both touch.
+fn put_verbs(
+    text: &mut Vec<u8>,
+    design: &Design,
+    blamed: &Blamed,
+    things: &[Thing],
+) -> Result<(), NoMemory> {
+    let Some(first) = things.first() else {
+        return Ok(());
+    };
+    text.extend_from_slice(verb(design, blamed, *first))?;
+    text.push(b' ')?;
+    put_thing(text, design, *first)?;
+    let Some(second) = other_thing(things, *first) else {
+        return Ok(());
+    };
+    text.extend_from_slice(b", ")?;
+    text.extend_from_slice(verb(design, blamed, second))?;
+    text.push(b' ')?;
+    put_thing(text, design, second)
+}
+
+// A row of the list of statements: where one stands, what it says, and what it does.
+#[derive(Drop)]
+struct Row {
+    place: Vec<u8>,
+    source: Vec<u8>,
+    verbs: Vec<u8>,
+}
+
+// `FILE:LINE:COLUMN`, the column from 1; `-` where that isn't known.
+fn put_place(text: &mut Vec<u8>, sources: &Sources<'_>, action: usize) -> Result<(), NoMemory> {
+    let Some(place) = sources.place(action) else {
+        text.push(b'-')?;
+        return Ok(());
+    };
+    text.extend_from_slice(sources.name(place.file).as_bytes())?;
+    text.push(b':')?;
+    put_number(text, place.line as u64)?;
+    text.push(b':')?;
+    put_number(text, (place.column as u64).saturating_add(1))
+}
+
+// The row of the statement of an action.
+fn row_of(alloc: Global, sources: &Sources<'_>, action: usize) -> Result<Row, NoMemory> {
+    let mut place = Vec::new(alloc);
+    put_place(&mut place, sources, action)?;
+    let mut source = Vec::new(alloc);
+    if let Some(found) = sources.place(action) {
+        put_cut(&mut source, sources.source(found).trim_ascii_end(), SOURCE)?;
+    }
+    Ok(Row {
+        place,
+        source,
+        verbs: Vec::new(alloc),
+    })
+}
+
+// Puts the rows of one of the two: the statement, and where it drives a port connection or an `assign`, that one.
+fn push_rows(
+    alloc: Global,
+    rows: &mut Vec<Row>,
+    design: &Design,
+    sources: &Sources<'_>,
+    blamed: &Blamed,
+    things: &[Thing],
+) -> Result<(), NoMemory> {
+    let mut row = row_of(alloc, sources, blamed.statement)?;
+    if blamed.statement != blamed.place {
+        row.verbs.extend_from_slice(b"drives:")?;
+        rows.push(row)?;
+        row = row_of(alloc, sources, blamed.place)?;
+    }
+    put_verbs(&mut row.verbs, design, blamed, things)?;
+    rows.push(row)?;
+    Ok(())
+}
+
+// The greatest width of places, and of sources.
+fn widths_of(rows: &[Row]) -> (usize, usize) {
+    let (mut place, mut source) = (0, 0);
+    for row in rows {
+        place = row.place.len().max(place);
+        source = row.source.len().max(source);
+    }
+    (place, source)
+}
+
+/// A line for each of the two statements, in the order of the parent's run: place, source, and what it does to what both touch. After one
+/// that drives a port connection or an `assign`, a line for that.
+pub fn put_statements(
+    alloc: Global,
+    text: &mut Vec<u8>,
+    design: &Design,
+    sources: &Sources<'_>,
+    cause: &Cause,
+) -> Result<(), NoMemory> {
+    let mut rows = Vec::new(alloc);
+    let things = cause.things.as_slice();
+    push_rows(alloc, &mut rows, design, sources, &cause.second, things)?;
+    push_rows(alloc, &mut rows, design, sources, &cause.first, things)?;
+    let (place, source) = widths_of(&rows);
+    for row in &rows {
+        text.extend_from_slice(b"    ")?;
+        put_padded(text, &row.place, place)?;
+        text.extend_from_slice(b"  ")?;
+        put_padded(text, &row.source, source)?;
+        text.extend_from_slice(b"  ")?;
+        text.extend_from_slice(&row.verbs)?;
+        text.push(b'\n')?;
+    }
+    Ok(())
+}
+
+// Which of two places comes first.
+fn put_first_place(
+    text: &mut Vec<u8>,
+    sources: &Sources<'_>,
+    here: Place,
+    there: Place,
+) -> Result<(), NoMemory> {
+    if here.file != there.file {
+        text.extend_from_slice(sources.name(here.file).as_bytes())?;
+        text.push(b':')?;
+        put_number(text, here.line as u64)?;
+    } else if here.line != there.line {
+        text.extend_from_slice(b"line ")?;
+        put_number(text, here.line as u64)?;
+    } else {
+        text.extend_from_slice(b"column ")?;
+        put_number(text, (here.column as u64).saturating_add(1))?;
+    }
+    Ok(())
+}
+
+// Which of the two comes first: `line 10`; where both stand in one line `column 24`, where they stand in two files `tb.v:10`; and where
+// they are one statement, of two instances, the one that is listed first or second.
+fn put_first(
+    text: &mut Vec<u8>,
+    sources: &Sources<'_>,
+    one: &Blamed,
+    other: &Blamed,
+    listed: &[u8],
+) -> Result<(), NoMemory> {
+    match (sources.place(one.statement), sources.place(other.statement)) {
+        (Some(here), Some(there)) if here != there => put_first_place(text, sources, here, there)?,
+        _ => text.extend_from_slice(listed)?,
+    }
+    text.extend_from_slice(b" first")?;
+    Ok(())
+}
+
+/// That the one comes first which does so in the parent's run.
+pub fn put_usual_order(
+    text: &mut Vec<u8>,
+    sources: &Sources<'_>,
+    cause: &Cause,
+) -> Result<(), NoMemory> {
+    put_first(text, sources, &cause.second, &cause.first, b"the upper one")
+}
+
+/// That the other one comes first.
+pub fn put_other_order(
+    text: &mut Vec<u8>,
+    sources: &Sources<'_>,
+    cause: &Cause,
+) -> Result<(), NoMemory> {
+    put_first(text, sources, &cause.first, &cause.second, b"the lower one")
+}

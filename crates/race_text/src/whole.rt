@@ -1,0 +1,133 @@
+// The text of all races.
+
+use crate::difference::{Subject, put_difference, put_name, put_sides, rows_of, time_of};
+use crate::pieces::{put_count, put_number};
+use crate::place::Sources;
+use crate::statements::put_statements;
+use crate::summary::{Told, put_summary};
+use basis::NoMemory;
+use race_groups::{Difference, Group, Name, Races};
+use std::alloc::Global;
+use vdesign::design::Design;
+use vmachine::Machine;
+
+// How many of those that follow are named, unless all are.
+const NAMED: usize = 3;
+
+// The two statements, or that they weren't found.
+fn put_cause(
+    alloc: Global,
+    text: &mut Vec<u8>,
+    machine: &Machine,
+    sources: &Sources<'_>,
+    group: &Group,
+) -> Result<(), NoMemory> {
+    match &group.cause {
+        None => {
+            text.extend_from_slice(b"    which statements race was not found\n")?;
+            Ok(())
+        }
+        Some(cause) => put_statements(alloc, text, machine.design(), sources, cause),
+    }
+}
+
+// The first names, in one line.
+fn put_names(text: &mut Vec<u8>, design: &Design, names: &[Name]) -> Result<(), NoMemory> {
+    for (place, name) in names.iter().take(NAMED).enumerate() {
+        if place == 0 {
+            text.extend_from_slice(b": ")?;
+        } else {
+            text.extend_from_slice(b", ")?;
+        }
+        put_name(text, design, name)?;
+    }
+    Ok(())
+}
+
+// All names, a line each.
+fn put_all_names(text: &mut Vec<u8>, design: &Design, names: &[Name]) -> Result<(), NoMemory> {
+    for name in names {
+        text.extend_from_slice(b"        ")?;
+        put_name(text, design, name)?;
+        text.push(b'\n')?;
+    }
+    Ok(())
+}
+
+// What follows from the same two statements.
+fn put_more(text: &mut Vec<u8>, design: &Design, group: &Group, all: bool) -> Result<(), NoMemory> {
+    if group.more == 0 {
+        return Ok(());
+    }
+    text.extend_from_slice(b"    and ")?;
+    put_count(text, group.more, b"more difference")?;
+    text.extend_from_slice(b", up to ")?;
+    put_number(text, group.last)?;
+    if all {
+        text.push(b'\n')?;
+        return put_all_names(text, design, &group.next);
+    }
+    put_names(text, design, &group.next)?;
+    text.push(b'\n')?;
+    Ok(())
+}
+
+// How a race at time 0 is mostly cured.
+fn put_cure(
+    text: &mut Vec<u8>,
+    machine: &Machine,
+    difference: &Difference,
+) -> Result<(), NoMemory> {
+    if time_of(machine, difference) == 0 {
+        text.extend_from_slice(
+            b"    at time 0: give the value in the declaration, as in `reg a = 0;`, or read it after a delay, as in `#1`\n",
+        )?;
+    }
+    Ok(())
+}
+
+// One race: what differs, which two statements race, in which order each side comes about, and what follows.
+fn put_group(
+    alloc: Global,
+    text: &mut Vec<u8>,
+    subject: Subject<'_>,
+    number: usize,
+    all: bool,
+) -> Result<(), NoMemory> {
+    let Subject {
+        machine,
+        sources,
+        group,
+    } = subject;
+    let rows = rows_of(alloc, subject)?;
+    text.extend_from_slice(b"race ")?;
+    put_number(text, number as u64)?;
+    text.extend_from_slice(b": ")?;
+    put_difference(text, subject, &rows)?;
+    text.push(b'\n')?;
+    put_cause(alloc, text, machine, sources, group)?;
+    put_sides(text, subject, &rows)?;
+    put_cure(text, machine, &group.first)?;
+    put_more(text, machine.design(), group, all)
+}
+
+/// The races, each by its cause, and what wasn't looked at.
+pub fn races_text<'a>(
+    alloc: Global,
+    machine: &'a Machine,
+    sources: &'a Sources<'a>,
+    races: &'a Races,
+    told: &Told,
+) -> Result<Vec<u8>, NoMemory> {
+    let mut text = Vec::new(alloc);
+    for (place, group) in races.groups.iter().enumerate() {
+        let subject = Subject {
+            machine,
+            sources,
+            group,
+        };
+        put_group(alloc, &mut text, subject, place.saturating_add(1), told.all)?;
+    }
+    put_summary(&mut text, machine, races, told)?;
+    Ok(text)
+}

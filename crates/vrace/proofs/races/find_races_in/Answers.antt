@@ -1,0 +1,7 @@
+use Rattle.vrace.proofs.races.find_races_in.Goals as goal
+
+pub returns-clause-searched : goal.returns-clause-searched
+returns-clause-searched g c = record {
+  searched = record { are_read = c.in_ok-placed.ensures.read; design = c.in_ok-placed.placed.design; is_design = c.in_ok-placed.ensures.ok };
+  setting_is = c.in_ok-machine.ensures;
+}

@@ -1,0 +1,76 @@
+// From files to their races by causes.
+
+ghost use Rattle.std.specs.Prelude.{◌≡◌, IfOk, IfErr};
+ghost use Rattle.explore.specs.Ranked.{TellsOfStop};
+ghost use Rattle.vsrc.specs.Source.{file_bytes};
+ghost use Rattle.race_groups.specs.Found.{EachGroup, HasFirstDifference, HasItsCause, TellsOfCuts, TellsOfCutsThroughout, TellsOfNone, TellsOfNoneThroughout};
+ghost use Rattle.vrace.specs.Request.{request_of};
+ghost use Rattle.vrace.specs.Explores.{IsSearched};
+ghost use Rattle.vrace.specs.Refusals.{IsDesignFault};
+
+use crate::design::placed_design_of;
+use crate::fault::Fault;
+use crate::machine::machine_in;
+use crate::options::Options;
+use race_groups::{Races, Scope, find_races};
+use std::alloc::Global;
+use trace_text::Origins;
+use vmachine::Machine;
+use vreport::{Budget, entry_bytes};
+
+/// The races of files, the machine whose runs differ so, and where the statements of its design begin.
+#[derive(Drop)]
+pub struct FoundRaces {
+    pub machine: Machine,
+    pub origins: Origins,
+    pub races: Races,
+}
+
+/// Explores the files by time, within a budget, on the caller's own thread: every run of at most `options.limits.depart` departures from the default
+/// order; and tells what two of them differ in, each difference under the two statements that are to blame (docs/RACES.md).
+///
+/// Each difference told is one, and each cause is that of its log. Where none is told, no two such runs differ from the time
+/// `scope.from` on, up to the time `races.search.closed`; where the search is exhausted, at no later time either. Where it isn't said
+/// that a run was cut by the time limit, so none was, up to that time.
+///
+/// Refusals, in the order in which they are looked for: E904 where the files together are longer than 16,777,216 bytes; E110 to
+/// E114, E101, E102, E2xx and E3xx where their text has no design; E901.
+pub fn find_races_in<B: Budget>(
+    alloc: Global,
+    files: &[Vec<u8>],
+    options: &Options<'_>,
+    scope: &Scope,
+    budget: &mut B,
+) -> Result<FoundRaces, Fault>
+    ensures searched { IfOk result (λ found.
+        IsSearched (file_bytes files.now) (request_of options.now) found.machine) }
+    ensures cause { IfOk result (λ found. EachGroup (HasItsCause found.machine) found.races.groups.items) }
+    ensures first { IfOk result (λ found.
+        EachGroup (HasFirstDifference found.machine options.now.limits) found.races.groups.items) }
+    ensures none { IfOk result (λ found.
+        TellsOfNone found.machine options.now.limits scope.now found.races) }
+    ensures exhausted { IfOk result (λ found.
+        TellsOfNoneThroughout found.machine options.now.limits scope.now found.races) }
+    ensures cuts { IfOk result (λ found. TellsOfCuts found.machine options.now.limits found.races) }
+    ensures cuts_exhausted { IfOk result (λ found.
+        TellsOfCutsThroughout found.machine options.now.limits found.races) }
+    ensures stopped { IfOk result (λ found. TellsOfStop (B.stopped budget.new) found.races.search) }
+    ensures reason { IfErr result (IsDesignFault (file_bytes files.now) (request_of options.now).top) }
+{
+    let placed = placed_design_of(alloc, files, options.top)?;
+    let machine = machine_in(
+        alloc,
+        placed.design,
+        options.until,
+        options.grain,
+        options.departures,
+        options.looked,
+    )?;
+    budget.reckon(entry_bytes(&machine));
+    let races = find_races(alloc, &machine, &options.limits, scope, budget)?;
+    Ok(FoundRaces {
+        machine,
+        origins: placed.origins,
+        races,
+    })
+}
