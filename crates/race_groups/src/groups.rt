@@ -61,7 +61,8 @@ fn put_side<R: SlotRace>(
     counted: bool,
 ) -> Result<(), NoMemory>
     ensures machine { causes.new.machine.now ≡ causes.old.machine.now }
-    ensures adds { Adds causes.old.machine.now (λ d. d ≡ R.difference race.now) (tolds_of groups.old.items) (tolds_of groups.new.items) }
+    ensures adds { Adds causes.old.machine.now (λ d. d ≡ R.difference race.now)
+        (tolds_of groups.old.items) (tolds_of groups.new.items) }
     ensures some { OnOk result (0 < length groups.new.items) }
 {
     match causes.place(groups, log)? {
@@ -87,7 +88,8 @@ fn put_departed<R: SlotRace>(
 ) -> Result<bool, NoMemory>
     requires { counted ≡ true → 0 < length groups.old.items }
     ensures machine { causes.new.machine.now ≡ causes.old.machine.now }
-    ensures adds { Adds causes.old.machine.now (λ d. d ≡ R.difference race.now) (tolds_of groups.old.items) (tolds_of groups.new.items) }
+    ensures adds { Adds causes.old.machine.now (λ d. d ≡ R.difference race.now)
+        (tolds_of groups.old.items) (tolds_of groups.new.items) }
     ensures some { IfOk result (λ is. is ≡ true → 0 < length groups.new.items) }
 {
     match race.departed(side) {
@@ -107,7 +109,8 @@ fn put<R: SlotRace>(
     race: &R,
 ) -> Result<(), NoMemory>
     ensures machine { causes.new.machine.now ≡ causes.old.machine.now }
-    ensures adds { Adds causes.old.machine.now (λ d. d ≡ R.difference race.now) (tolds_of groups.old.items) (tolds_of groups.new.items) }
+    ensures adds { Adds causes.old.machine.now (λ d. d ≡ R.difference race.now)
+        (tolds_of groups.old.items) (tolds_of groups.new.items) }
     ensures some { OnOk result (0 < length groups.new.items) }
 {
     let mut counted = false;
@@ -129,7 +132,8 @@ pub(crate) fn put_all<R: SlotRace>(
     races: &[R],
 ) -> Result<(), NoMemory>
     ensures machine { causes.new.machine.now ≡ causes.old.machine.now }
-    ensures adds { Adds causes.old.machine.now (Contains (map R.difference races.now)) (tolds_of groups.old.items) (tolds_of groups.new.items) }
+    ensures adds { Adds causes.old.machine.now (Contains (map R.difference races.now))
+        (tolds_of groups.old.items) (tolds_of groups.new.items) }
     ensures some { OnOk result (groups.new.items ≡ [] → races.now ≡ []) }
 {
     for race in races {
