@@ -6,6 +6,7 @@
 mod explanations;
 mod meter;
 mod races;
+mod refusals;
 mod words;
 
 use basis::NoMemory;
@@ -78,6 +79,8 @@ enum Stop {
     // Memory was refused before a call of the library.
     NoMemory,
     Refused(Fault),
+    // The same, with what is told of it in words.
+    Told(Fault, Vec<u8>),
 }
 
 impl From<Fault> for Stop {
@@ -458,6 +461,13 @@ fn main(rt: HostRuntime) -> ExitCode {
         }
         Err(Stop::Refused(fault)) => {
             let _ = eprintln!(rt; "vrace: {fault}");
+            refused_code(fault)
+        }
+        Err(Stop::Told(fault, words)) => {
+            let _ = eprintln!(rt; "vrace: {fault}");
+            if let Ok(words) = str::from_utf8(&words) {
+                let _ = eprint!(rt; "{words}");
+            }
             refused_code(fault)
         }
     }

@@ -1,6 +1,7 @@
 // The races of files, told to people.
 
 use crate::meter::{Allowance, Meter};
+use crate::refusals::with_words;
 use crate::words::{RaceWords, Request, Search};
 use crate::{Stop, finish, options_of, texts};
 use byte_sinks::Metered;
@@ -85,24 +86,17 @@ fn text_of<R: Clock + Eprint>(
     }
 }
 
-/// Tells the races of what is asked for on standard output.
-pub fn tell_races(
+// Tells the races of these files on standard output.
+fn tell(
     rt: &HostRuntime,
-    request: &Request<'_>,
+    names: &[&str],
+    texts: &[Vec<u8>],
+    options: &Options<'_>,
     search: &Search,
     words: RaceWords,
 ) -> Result<ExitCode, Stop> {
-    let options = options_of(request, search)?;
-    let texts = texts(rt, &request.files)?;
     let mut meter = Meter::new(rt, search.allowance.unwrap_or(NO_LIMIT));
-    let (text, code) = text_of(
-        rt.alloc(),
-        &request.files,
-        &texts,
-        &options,
-        words,
-        &mut meter,
-    )?;
+    let (text, code) = text_of(rt.alloc(), names, texts, options, words, &mut meter)?;
     let Ok(buffered) = BufWriter::new(rt.alloc(), io::writer(rt)) else {
         return Err(Stop::NoMemory);
     };
@@ -112,4 +106,17 @@ pub fn tell_races(
     }
     finish(&mut writer)?;
     Ok(code)
+}
+
+/// Tells the races of what is asked for on standard output.
+pub fn tell_races(
+    rt: &HostRuntime,
+    request: &Request<'_>,
+    search: &Search,
+    words: RaceWords,
+) -> Result<ExitCode, Stop> {
+    let options = options_of(request, search)?;
+    let texts = texts(rt, &request.files)?;
+    let done = tell(rt, &request.files, &texts, &options, search, words);
+    with_words(rt.alloc(), done, &request.files, &texts)
 }

@@ -1,0 +1,137 @@
+// What each number of a fault with a place says in words (docs/FAULTS.md).
+
+/// What is told of a fault of this number: where it names its word, that word stands before the rest.
+pub(crate) struct Rule {
+    number: u16,
+    pub(crate) names_word: bool,
+    pub(crate) what: &'static str,
+    pub(crate) instead: &'static str,
+}
+
+const RULES: [Rule; 20] = [
+    Rule {
+        number: 101,
+        names_word: false,
+        what: "a comment or a string that begins here isn't ended",
+        instead: "end it; a string ends on its line",
+    },
+    Rule {
+        number: 102,
+        names_word: false,
+        what: "a bad character, number or escape",
+        instead: "write digits of the base, and a blank before a letter; escaped names, blanks inside a number and octal escapes aren't in the profile",
+    },
+    Rule {
+        number: 110,
+        names_word: false,
+        what: "this directive is ill formed, isn't first on its line, or has no open conditional",
+        instead: "write it first on its line; a macro can't have arguments",
+    },
+    Rule {
+        number: 111,
+        names_word: true,
+        what: "isn't a macro",
+        instead: "define it before its use; in place of an include name the files, in their order",
+    },
+    Rule {
+        number: 112,
+        names_word: false,
+        what: "macros or conditionals nest too deep here, or the text grows too large",
+        instead: "take a macro out of its own text, make less text by macros, or write loops in place of many statements",
+    },
+    Rule {
+        number: 113,
+        names_word: false,
+        what: "a conditional that begins here is left open",
+        instead: "end it with `endif",
+    },
+    Rule {
+        number: 114,
+        names_word: false,
+        what: "a second timescale differs from the first",
+        instead: "write one timescale for the whole text",
+    },
+    Rule {
+        number: 201,
+        names_word: true,
+        what: "is unexpected here",
+        instead: "look at the words before it: a semicolon may be missing at the end of the line before; docs/LANGUAGE.md has the grammar",
+    },
+    Rule {
+        number: 202,
+        names_word: true,
+        what: "isn't in the profile",
+        instead: "write it with what docs/LANGUAGE.md lists",
+    },
+    Rule {
+        number: 203,
+        names_word: true,
+        what: "stands deeper than 64 statements and expressions",
+        instead: "take `begin` and `end` away where one statement stands between them, split the process, or group a long sum by parentheses",
+    },
+    Rule {
+        number: 301,
+        names_word: true,
+        what: "is no module of the text",
+        instead: "give the file with that module, too",
+    },
+    Rule {
+        number: 302,
+        names_word: true,
+        what: "is declared twice",
+        instead: "rename one",
+    },
+    Rule {
+        number: 303,
+        names_word: true,
+        what: "isn't declared here",
+        instead: "declare it in this module; what a constant uses has to stand before it",
+    },
+    Rule {
+        number: 304,
+        names_word: true,
+        what: "has a second driver",
+        instead: "put both into one `assign`, or write to two nets",
+    },
+    Rule {
+        number: 305,
+        names_word: true,
+        what: "doesn't fit what it is connected to",
+        instead: "connect each port at most once, and an output to a net of its own by its bare name",
+    },
+    Rule {
+        number: 306,
+        names_word: true,
+        what: "has more than 64 bits, or a bound or a count out of its limits",
+        instead: "split the vector, turn the part round, or write bounds from 0 to 65,535 and a count from 1 to 64",
+    },
+    Rule {
+        number: 307,
+        names_word: true,
+        what: "isn't a constant",
+        instead: "write it with numbers and parameters",
+    },
+    Rule {
+        number: 308,
+        names_word: true,
+        what: "makes instances more than 16 levels deep",
+        instead: "a module can't stand in itself; take levels out",
+    },
+    Rule {
+        number: 309,
+        names_word: true,
+        what: "is one process, variable or instance too many",
+        instead: "split the testbench, or put several `initial`s into one; docs/LANGUAGE.md, Limits, has what counts how much",
+    },
+    Rule {
+        number: 310,
+        names_word: true,
+        what: "is of another kind than its use asks for",
+        instead: "declare it as what it is used as: a `reg` where statements write it, a `wire` where an `assign` or an output drives it",
+    },
+];
+
+/// What is told of the number, if it has a place.
+pub(crate) fn rule_of(number: u16) -> Option<&'static Rule> {
+    RULES.iter().find(|rule| rule.number == number)
+}

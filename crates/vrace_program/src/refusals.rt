@@ -1,0 +1,28 @@
+// Refusals in words, behind their line.
+
+use crate::Stop;
+use refusal_text::{Files, refusal_text};
+use std::alloc::Global;
+use std::process::ExitCode;
+use vrace::Fault;
+
+// The refusal of these files, with what is told of it in words.
+fn told(alloc: Global, fault: Fault, names: &[&str], texts: &[Vec<u8>]) -> Stop {
+    match refusal_text(alloc, &fault, Files { names, texts }) {
+        Ok(words) => Stop::Told(fault, words),
+        Err(_) => Stop::Refused(fault),
+    }
+}
+
+/// What was done with these files; where they were refused, with what is told of it in words.
+pub fn with_words(
+    alloc: Global,
+    done: Result<ExitCode, Stop>,
+    names: &[&str],
+    texts: &[Vec<u8>],
+) -> Result<ExitCode, Stop> {
+    match done {
+        Err(Stop::Refused(fault)) => Err(told(alloc, fault, names, texts)),
+        _ => done,
+    }
+}
