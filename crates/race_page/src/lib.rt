@@ -16,4 +16,4 @@ mod walk;
 mod waves;
 
 pub use dump::races_dump;
-pub use page::races_page;
+pub use page::Page;

@@ -6,7 +6,7 @@ use crate::source::put_statement;
 use crate::style::{END, HEAD};
 use basis::NoMemory;
 use race_groups::{Difference, Group};
-use race_text::{Findings, group_text, summary_text};
+use race_text::{Findings, groups_texts, summary_text};
 use std::alloc::Global;
 
 // The time of the group's first difference; of ends, of the last of them.
@@ -28,18 +28,20 @@ fn first_line(text: &[u8]) -> (&[u8], &[u8]) {
     (text, &[])
 }
 
-// ` id="race-1"`, `#race-1`.
-fn put_anchor(page: &mut Vec<u8>, front: &str, place: usize) -> Result<(), NoMemory> {
-    put(page, front)?;
-    put_number(page, (place as u64).saturating_add(1))?;
-    put(page, "\">")
+/// A page on its way: what was told so far, and of how many races.
+#[derive(Drop)]
+pub struct Page {
+    alloc: Global,
+    text: Vec<u8>,
+    races: u64,
+    steps: u32,
 }
 
-// A line of the list of races: the first line of what is told of it, as a link.
-fn put_link(page: &mut Vec<u8>, text: &[u8], place: usize) -> Result<(), NoMemory> {
-    put_anchor(page, "<li><a href=\"#race-", place)?;
-    put_escaped(page, first_line(text).0)?;
-    put(page, "</a></li>\n")
+// The number of a race on the page, behind what leads to it.
+fn put_anchor(page: &mut Vec<u8>, front: &str, number: u64) -> Result<(), NoMemory> {
+    put(page, front)?;
+    put_number(page, number)?;
+    put(page, "\">")
 }
 
 // Both statements, where a cause is known.
@@ -55,52 +57,77 @@ fn put_statements(
     put_statement(page, findings.sources, cause.second.statement)
 }
 
-// A race: what is told of it in words, both statements, and the waveforms.
-fn put_race(
-    alloc: Global,
-    page: &mut Vec<u8>,
-    findings: &Findings<'_>,
-    group: &Group,
-    place: usize,
-    steps: u32,
-) -> Result<(), NoMemory> {
-    let text = group_text(alloc, findings, place)?;
-    let (head, rest) = first_line(&text);
-    put_anchor(page, "<section id=\"race-", place)?;
-    put(page, "\n<h2>")?;
-    put_escaped(page, head)?;
-    put(page, "</h2>\n<pre>")?;
-    put_escaped(page, rest)?;
-    put(page, "</pre>\n<figure>\n")?;
-    put_figure(alloc, page, findings.machine, group, time_of(group), steps)?;
-    put(page, "</figure>\n")?;
-    put_statements(page, findings, group)?;
-    put(page, "</section>\n")
-}
-
-// The list of all races, and what wasn't looked at.
-fn put_list(alloc: Global, page: &mut Vec<u8>, findings: &Findings<'_>) -> Result<(), NoMemory> {
-    put(page, "<h1>Races of ")?;
-    put_escaped(page, &findings.machine.design().top)?;
-    put(page, "</h1>\n<p>")?;
-    put_escaped(page, &summary_text(alloc, findings)?)?;
-    put(page, "</p>\n<ol>\n")?;
-    for place in 0..findings.races.groups.len() {
-        let text = group_text(alloc, findings, place)?;
-        put_link(page, &text, place)?;
+impl Page {
+    /// A page of which nothing was told yet. A run is followed for at most so many steps.
+    pub fn new(alloc: Global, steps: u32) -> Result<Page, NoMemory> {
+        let mut text = Vec::new(alloc);
+        put(&mut text, HEAD)?;
+        Ok(Page {
+            alloc,
+            text,
+            races: 0,
+            steps,
+        })
     }
-    put(page, "</ol>\n")
-}
 
-/// The page of what was found: a list of all races, and of each what is told of it in words, the waveforms of both runs round the slot in
-/// which they differ, and both statements in their files. A run is followed for at most so many steps. E901 is the only refusal.
-pub fn races_page(alloc: Global, findings: &Findings<'_>, steps: u32) -> Result<Vec<u8>, NoMemory> {
-    let mut page = Vec::new(alloc);
-    put(&mut page, HEAD)?;
-    put_list(alloc, &mut page, findings)?;
-    for (place, group) in findings.races.groups.iter().enumerate() {
-        put_race(alloc, &mut page, findings, group, place, steps)?;
+    // A race: what is told of it in words, the waveforms, and both statements.
+    fn put_race(
+        &mut self,
+        findings: &Findings<'_>,
+        group: &Group,
+        words: &[u8],
+    ) -> Result<(), NoMemory> {
+        let (head, rest) = first_line(words);
+        let (machine, time) = (findings.machine, time_of(group));
+        self.races = self.races.saturating_add(1);
+        put_anchor(&mut self.text, "<section id=\"race-", self.races)?;
+        put(&mut self.text, "\n<h2>")?;
+        put_escaped(&mut self.text, head)?;
+        put(&mut self.text, "</h2>\n<pre>")?;
+        put_escaped(&mut self.text, rest)?;
+        put(&mut self.text, "</pre>\n<figure>\n")?;
+        put_figure(self.alloc, &mut self.text, machine, group, time, self.steps)?;
+        put(&mut self.text, "</figure>\n")?;
+        put_statements(&mut self.text, findings, group)?;
+        put(&mut self.text, "</section>\n")
     }
-    put(&mut page, END)?;
-    Ok(page)
+
+    // A line of the list of races: the first line of what is told of it, as a link.
+    fn put_link(&mut self, words: &[u8], place: u64) -> Result<(), NoMemory> {
+        let number = self.races.saturating_add(place).saturating_add(1);
+        put_anchor(&mut self.text, "<li><a href=\"#race-", number)?;
+        put_escaped(&mut self.text, first_line(words).0)?;
+        put(&mut self.text, "</a></li>\n")
+    }
+
+    // The list of the races of a top module, and what wasn't looked at.
+    fn put_list(&mut self, findings: &Findings<'_>, words: &[Vec<u8>]) -> Result<(), NoMemory> {
+        put(&mut self.text, "<h1>Races of ")?;
+        put_escaped(&mut self.text, &findings.machine.design().top)?;
+        put(&mut self.text, "</h1>\n<p>")?;
+        put_escaped(&mut self.text, &summary_text(self.alloc, findings)?)?;
+        put(&mut self.text, "</p>\n<ol>\n")?;
+        for (place, words) in words.iter().enumerate() {
+            self.put_link(words, place as u64)?;
+        }
+        put(&mut self.text, "</ol>\n")
+    }
+
+    /// What was found of a top module: a list of all races, and of each what is told of it in words, the waveforms of both runs round
+    /// the slot in which they differ, and both statements in their files. E901 is the only refusal.
+    pub fn tell(&mut self, findings: &Findings<'_>) -> Result<(), NoMemory> {
+        let words = groups_texts(self.alloc, findings)?;
+        self.put_list(findings, &words)?;
+        for (group, words) in findings.races.groups.iter().zip(words.iter()) {
+            self.put_race(findings, group, words)?;
+        }
+        Ok(())
+    }
+
+    /// The document.
+    pub fn document(self) -> Result<Vec<u8>, NoMemory> {
+        let mut text = self.text;
+        put(&mut text, END)?;
+        Ok(text)
+    }
 }
