@@ -12,16 +12,20 @@ use vbits::Vec4;
 use vdesign::design::{Design, Kind, Variable};
 use vmachine::Machine;
 
+// More digits to the base of 94 than any number of variables has.
+const DIGITS: usize = 10;
+
 // The code of a variable: a number to the base of 94, the lowest digit first.
 fn put_code(dump: &mut Vec<u8>, number: usize) -> Result<(), NoMemory> {
     let mut rest = number;
-    loop {
+    for _ in 0..DIGITS {
         dump.push((rest % 94) as u8 + b'!')?;
         rest /= 94;
         if rest == 0 {
             return Ok(());
         }
     }
+    Ok(())
 }
 
 // The scopes of a name, and what stands behind the last point.
@@ -210,6 +214,13 @@ fn side_of<'a>(alloc: Global, mut walk: Walk<'a>, first: usize) -> Result<Side<'
     })
 }
 
+// `#5`
+fn put_time(dump: &mut Vec<u8>, time: u64) -> Result<(), NoMemory> {
+    put(dump, "#")?;
+    put_number(dump, time)?;
+    put(dump, "\n")
+}
+
 // The head: version, timescale, and the variables twice.
 fn put_head(dump: &mut Vec<u8>, design: &Design) -> Result<(), NoMemory> {
     put(dump, "$version vrace $end\n$timescale ")?;
@@ -235,10 +246,11 @@ pub fn races_dump(
     let mut usual = side_of(alloc, Walk::new(machine, parent_of(&group.log), steps)?, 0)?;
     let walk = Walk::new(machine, group.log.members(), steps)?;
     let mut departed = side_of(alloc, walk, count)?;
-    while let Some(time) = earlier(usual.next, departed.next) {
-        put(&mut dump, "#")?;
-        put_number(&mut dump, time)?;
-        put(&mut dump, "\n")?;
+    for _ in 0..=u64::from(steps).saturating_mul(2) {
+        let Some(time) = earlier(usual.next, departed.next) else {
+            return Ok(dump);
+        };
+        put_time(&mut dump, time)?;
         usual.put_slot(alloc, &mut dump, time)?;
         departed.put_slot(alloc, &mut dump, time)?;
     }

@@ -56,7 +56,10 @@ impl<'a> Walk<'a> {
 
     /// Goes on to the end of the next slot, and tells its time; none where the run ends before.
     pub(crate) fn next_slot(&mut self) -> Result<Option<u64>, NoMemory> {
-        while !self.begun || self.go_on()? {
+        for _ in 0..=self.steps {
+            if self.begun && !self.go_on()? {
+                return Ok(None);
+            }
             self.begun = true;
             if let Some(time) = self.machine.slot_of(&self.state) {
                 return Ok(Some(time));

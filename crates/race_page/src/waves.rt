@@ -71,10 +71,13 @@ pub(crate) fn waves_of(
         slots: Vec::new(alloc),
         after: 0,
     };
-    while let Some(time) = walk.next_slot()? {
+    for _ in 0..=steps {
+        let Some(time) = walk.next_slot()? else {
+            return Ok(waves);
+        };
         waves.see(alloc, &walk, time, around)?;
         if waves.after >= AFTER {
-            break;
+            return Ok(waves);
         }
     }
     Ok(waves)

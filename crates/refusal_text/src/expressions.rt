@@ -99,20 +99,25 @@ pub(crate) fn by_symbol(words: Words<'_>) -> Option<Construct> {
     }
 }
 
+// What stands behind the first letter, or behind the format that it begins; none where it begins one that there isn't.
+fn behind_front(rest: &[u8]) -> Option<&[u8]> {
+    let Some((letter, after)) = rest.split_first() else {
+        return Some(rest);
+    };
+    if *letter == b'%' {
+        after.get(format_len(after)?..)
+    } else {
+        Some(after)
+    }
+}
+
 // Whether a percent sign of the string has a width or a letter of no format behind it.
 fn has_bad_format(letters: &[u8]) -> bool {
     let mut rest = letters;
-    while let Some((letter, after)) = rest.split_first() {
-        rest = after;
-        if *letter != b'%' {
-            continue;
-        }
-        match format_len(after) {
+    for _ in 0..letters.len() {
+        match behind_front(rest) {
             None => return true,
-            Some(len) => match after.get(len..) {
-                None => return true,
-                Some(later) => rest = later,
-            },
+            Some(behind) => rest = behind,
         }
     }
     false

@@ -36,7 +36,7 @@ fn by_name(words: Words<'_>) -> Option<Construct> {
 }
 
 /// The construct that the word at this place tells, if it tells one.
-pub(crate) fn construct_at(tokens: &Tokens<'_>, at: usize) -> Option<Construct> {
+pub(crate) fn construct_at<'a>(tokens: &'a Tokens<'a>, at: usize) -> Option<Construct> {
     let words = Words::new(tokens, at);
     if let Some(construct) = keywords::by_keyword(words) {
         return Some(construct);
@@ -70,7 +70,10 @@ fn keep(all: &mut Vec<Found>, construct: Construct, place: Place) -> Result<(), 
 }
 
 /// Each construct that the words tell, in the order in which they come first.
-pub(crate) fn constructs(alloc: Global, tokens: &Tokens<'_>) -> Result<Vec<Found>, NoMemory> {
+pub(crate) fn constructs<'a>(
+    alloc: Global,
+    tokens: &'a Tokens<'a>,
+) -> Result<Vec<Found>, NoMemory> {
     let mut all = Vec::new(alloc);
     for at in 0..tokens.len() {
         if let Some(construct) = construct_at(tokens, at) {

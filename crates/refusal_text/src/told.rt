@@ -15,7 +15,7 @@ use vsrc::{Place, expand};
 const NEAR: usize = 3;
 
 // The word that begins at the place; the number of words where none does.
-fn word_at(tokens: &Tokens<'_>, place: Place) -> usize {
+fn word_at<'a>(tokens: &'a Tokens<'a>, place: Place) -> usize {
     for at in 0..tokens.len() {
         if tokens.place(at) == place {
             return at;
@@ -25,7 +25,7 @@ fn word_at(tokens: &Tokens<'_>, place: Place) -> usize {
 }
 
 // The construct that the word tells, or one of those just before it.
-fn construct_near(tokens: &Tokens<'_>, at: usize) -> Option<Found> {
+fn construct_near<'a>(tokens: &'a Tokens<'a>, at: usize) -> Option<Found> {
     for fewer in 0..NEAR {
         let near = at.saturating_sub(fewer);
         if let Some(construct) = construct_at(tokens, near) {
@@ -67,11 +67,11 @@ fn is_told(told: Option<Found>, found: Found) -> bool {
 }
 
 // The constructs of the text but for this one.
-fn put_others(
+fn put_others<'a>(
     alloc: Global,
     text: &mut Vec<u8>,
     files: Files<'_>,
-    tokens: &Tokens<'_>,
+    tokens: &'a Tokens<'a>,
     told: Option<Found>,
 ) -> Result<(), NoMemory> {
     for found in constructs(alloc, tokens)? {
@@ -83,13 +83,13 @@ fn put_others(
 }
 
 // The messages of a text with words.
-fn put_by_words(
+fn put_by_words<'a>(
     alloc: Global,
     text: &mut Vec<u8>,
     fault: &Fault,
     files: Files<'_>,
     place: Place,
-    tokens: &Tokens<'_>,
+    tokens: &'a Tokens<'a>,
 ) -> Result<(), NoMemory> {
     let at = word_at(tokens, place);
     if !is_of_profile(fault.number()) {
