@@ -1,16 +1,20 @@
-// What `vrace races` tells people (docs/RACES.md, "The races of a testbench"). In go the races that a search found, by their causes, and
-// the files that they are of; out comes the text.
+// What `vrace races` tells people (docs/RACES.md, "The races of a testbench") and programs (docs/FORMATS.md, "Races as JSON"). In go the
+// races that a search found, by their causes, and the files that they are of; out comes the text, or a document.
 // No law is claimed: how it is told the cases in tests/cases compare.
 #![tactic(auto)]
 
 mod cause;
 mod difference;
+mod json;
+mod json_side;
+mod members;
 mod pieces;
 mod place;
 mod summary;
 mod value;
 mod whole;
 
+pub use json::races_json;
 pub use place::Sources;
-pub use summary::Told;
+pub use summary::{Findings, NAMED, Told};
 pub use whole::races_text;

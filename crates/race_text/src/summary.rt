@@ -1,10 +1,14 @@
 // The last lines: how many races there are, and what wasn't looked at.
 
 use crate::pieces::{put_count, put_number};
+use crate::place::Sources;
 use basis::NoMemory;
 use explore::{RankedReason, RankedStatus};
 use race_groups::{Group, Races};
 use vmachine::Machine;
+
+/// How many of the differences that follow are named, unless all are.
+pub const NAMED: usize = 3;
 
 /// What is told beside the races: how many departures a run may have, the time before which differences are passed over, whether all
 /// that follow are named, how many states were visited, in how many milliseconds, and by which option the search was stopped, where its
@@ -17,6 +21,22 @@ pub struct Told {
     pub states: u64,
     pub milliseconds: u64,
     pub stopped_by: &'static [u8],
+}
+
+impl Told {
+    /// How many of these that follow are named.
+    pub fn named(&self) -> usize {
+        if self.all { usize::MAX } else { NAMED }
+    }
+}
+
+/// What a document is made of: the races of a machine, the files that they are of, and what is told beside them.
+#[derive(Clone, Copy)]
+pub struct Findings<'a> {
+    pub machine: &'a Machine,
+    pub sources: &'a Sources<'a>,
+    pub races: &'a Races,
+    pub told: &'a Told,
 }
 
 // How many differences there are in all.
@@ -42,14 +62,22 @@ fn put_counts(text: &mut Vec<u8>, groups: &[Group]) -> Result<(), NoMemory> {
 }
 
 // What cut the search.
-fn reason(status: RankedStatus, stopped_by: &'static [u8]) -> Option<&'static [u8]> {
-    match status {
-        RankedStatus::Exhausted => None,
-        RankedStatus::Cut(RankedReason::Memory(_)) => Some(b"for want of memory"),
-        RankedStatus::Cut(RankedReason::Entries) => Some(b"by the number of its states"),
-        RankedStatus::Cut(RankedReason::Steps) => Some(b"as a run takes more steps than --steps"),
-        RankedStatus::Cut(RankedReason::Stopped) => Some(stopped_by),
-    }
+fn put_reason(
+    text: &mut Vec<u8>,
+    reason: RankedReason,
+    stopped_by: &'static [u8],
+) -> Result<(), NoMemory> {
+    let words: &[u8] = match reason {
+        RankedReason::Memory(_) => b"for want of memory",
+        RankedReason::Entries => b"by the number of its states",
+        RankedReason::Steps => b"as a run takes more steps than --steps",
+        RankedReason::Stopped => {
+            text.extend_from_slice(b"by ")?;
+            stopped_by
+        }
+    };
+    text.extend_from_slice(words)?;
+    Ok(())
 }
 
 // How far the search came.
@@ -68,16 +96,17 @@ fn put_closed(text: &mut Vec<u8>, closed: Option<u64>) -> Result<(), NoMemory> {
     }
 }
 
-// What was looked at.
-fn put_seen(
-    text: &mut Vec<u8>,
-    machine: &Machine,
-    races: &Races,
-    told: &Told,
-) -> Result<(), NoMemory> {
-    if let Some(reason) = reason(races.search.status, told.stopped_by) {
+/// What was looked at.
+pub fn put_seen(text: &mut Vec<u8>, findings: &Findings<'_>) -> Result<(), NoMemory> {
+    let Findings {
+        machine,
+        races,
+        told,
+        ..
+    } = *findings;
+    if let RankedStatus::Cut(reason) = races.search.status {
         text.extend_from_slice(b" The search was cut ")?;
-        text.extend_from_slice(reason)?;
+        put_reason(text, reason, told.stopped_by)?;
         return put_closed(text, races.search.closed);
     }
     text.extend_from_slice(b" Nothing was missed within ")?;
@@ -109,14 +138,10 @@ fn put_cost(text: &mut Vec<u8>, told: &Told) -> Result<(), NoMemory> {
 }
 
 /// How many races there are, and what wasn't looked at.
-pub fn put_summary(
-    text: &mut Vec<u8>,
-    machine: &Machine,
-    races: &Races,
-    told: &Told,
-) -> Result<(), NoMemory> {
+pub fn put_summary(text: &mut Vec<u8>, findings: &Findings<'_>) -> Result<(), NoMemory> {
+    let Findings { races, told, .. } = *findings;
     put_counts(text, &races.groups)?;
-    put_seen(text, machine, races, told)?;
+    put_seen(text, findings)?;
     put_cost(text, told)?;
     if races.ignored > 0 {
         put_count(text, races.ignored, b"difference")?;

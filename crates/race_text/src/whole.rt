@@ -4,15 +4,12 @@ use crate::cause::put_statements;
 use crate::difference::{Subject, put_difference, put_name, put_sides, rows_of, time_of};
 use crate::pieces::{put_count, put_number};
 use crate::place::Sources;
-use crate::summary::{Told, put_summary};
+use crate::summary::{Findings, NAMED, put_summary};
 use basis::NoMemory;
-use race_groups::{Difference, Group, Name, Races};
+use race_groups::{Difference, Group, Name};
 use std::alloc::Global;
 use vdesign::design::Design;
 use vmachine::Machine;
-
-// How many of those that follow are named, unless all are.
-const NAMED: usize = 3;
 
 // The two statements, or that they weren't found.
 fn put_cause(
@@ -112,13 +109,13 @@ fn put_group(
 }
 
 /// The races, each by its cause, and what wasn't looked at.
-pub fn races_text(
-    alloc: Global,
-    machine: &Machine,
-    sources: &Sources<'_>,
-    races: &Races,
-    told: &Told,
-) -> Result<Vec<u8>, NoMemory> {
+pub fn races_text(alloc: Global, findings: &Findings<'_>) -> Result<Vec<u8>, NoMemory> {
+    let Findings {
+        machine,
+        sources,
+        races,
+        told,
+    } = *findings;
     let mut text = Vec::new(alloc);
     for (place, group) in races.groups.iter().enumerate() {
         let subject = Subject {
@@ -128,6 +125,6 @@ pub fn races_text(
         };
         put_group(alloc, &mut text, subject, place.saturating_add(1), told.all)?;
     }
-    put_summary(&mut text, machine, races, told)?;
+    put_summary(&mut text, findings)?;
     Ok(text)
 }

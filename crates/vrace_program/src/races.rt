@@ -1,20 +1,17 @@
 // The races of files, told to people.
 
 use crate::meter::{Allowance, Meter};
-use crate::words::{RaceWords, Request, Search};
+use crate::words::{Format, RaceWords, Request, Search};
 use crate::{Stop, finish, options_of, texts};
 use byte_sinks::Metered;
 use race_groups::{Races, Scope};
-use race_text::{Sources, Told, races_text};
+use race_text::{Findings, NAMED, Sources, Told, races_json, races_text};
 use std::alloc::Global;
 use std::io;
 use std::io::{BufWriter, Write};
 use std::process::ExitCode;
 use std::rt::Clock;
 use vrace::{Budget, Fault, Options, RankedStatus, Spent, find_races_in};
-
-// How many of the differences that follow are named, unless all are.
-const NAMED: usize = 3;
 
 // What a search may take of which nothing is said.
 const NO_LIMIT: Allowance = Allowance {
@@ -26,8 +23,8 @@ const NO_LIMIT: Allowance = Allowance {
 // By which option the search was stopped, where it was.
 fn stopped_by(spent: Spent) -> &'static [u8] {
     match spent {
-        Spent::Time => b"by --seconds",
-        Spent::Memory => b"by --memory",
+        Spent::Time => b"--seconds",
+        Spent::Memory => b"--memory",
     }
 }
 
@@ -59,6 +56,18 @@ fn told_of<R: Clock + Eprint>(
     }
 }
 
+// What was found, in this format.
+fn document(alloc: Global, findings: &Findings<'_>, format: Format) -> Result<Vec<u8>, Stop> {
+    let document = match format {
+        Format::Text => races_text(alloc, findings),
+        Format::Json => races_json(alloc, findings),
+    };
+    match document {
+        Ok(text) => Ok(text),
+        Err(_) => Err(Stop::NoMemory),
+    }
+}
+
 // The text of what was found in the files.
 fn text_of<R: Clock + Eprint>(
     alloc: Global,
@@ -79,10 +88,14 @@ fn text_of<R: Clock + Eprint>(
         origins: &found.origins,
     };
     let told = told_of(options, words, meter);
-    match races_text(alloc, &found.machine, &sources, &found.races, &told) {
-        Ok(text) => Ok((text, code_of(&found.races))),
-        Err(_) => Err(Stop::NoMemory),
-    }
+    let findings = Findings {
+        machine: &found.machine,
+        sources: &sources,
+        races: &found.races,
+        told: &told,
+    };
+    let text = document(alloc, &findings, words.format)?;
+    Ok((text, code_of(&found.races)))
 }
 
 /// Tells the races of what is asked for on standard output.

@@ -205,6 +205,9 @@ fn races_command<'a>(alloc: Global) -> Result<Command<'a>, NoMemory> {
         "Compares values alone, and not the lines that slots print",
     );
     let all = flag(alloc, "all", "Names all differences of each race");
+    let format = option(alloc, "format", "F", "How what was found is written")
+        .value_parser(["text", "json"].as_slice())
+        .default_value("text");
     let command = Command::new(alloc, "races")
         .about("Says which statements race, what differs then, and how to replay each order")
         .arg(top(alloc))?
@@ -216,6 +219,7 @@ fn races_command<'a>(alloc: Global) -> Result<Command<'a>, NoMemory> {
         .arg(values)?
         .arg(from)?
         .arg(all)?
+        .arg(format)?
         .arg(seconds(alloc))?
         .arg(number(alloc, "memory", MEMORY, "2000"))?
         .arg(progress(alloc))?
@@ -408,11 +412,28 @@ pub fn search_of(matches: &ArgMatches<'_>) -> Search {
     }
 }
 
-/// What a search for races asks for beside its machine: from which time on differences are told, and whether all are named.
+/// How races are written.
+#[derive(Clone, Copy, Debug, PartialEq, Eq)]
+pub enum Format {
+    Text,
+    Json,
+}
+
+/// What a search for races asks for beside its machine: from which time on differences are told, whether all are named, and how what was
+/// found is written.
 #[derive(Clone, Copy, Debug)]
 pub struct RaceWords {
     pub from: u64,
     pub all: bool,
+    pub format: Format,
+}
+
+// The value of `--format`.
+fn format_of(matches: &ArgMatches<'_>) -> Format {
+    match matches.get_str("format") {
+        Some("json") => Format::Json,
+        _ => Format::Text,
+    }
 }
 
 /// Which differences the words after `races` ask for.
@@ -420,6 +441,7 @@ pub fn race_words_of(matches: &ArgMatches<'_>) -> RaceWords {
     RaceWords {
         from: matches.get_one::<u64>("ignore-before").unwrap_or(0),
         all: matches.get_flag("all"),
+        format: format_of(matches),
     }
 }
 
