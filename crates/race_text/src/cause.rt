@@ -92,8 +92,8 @@ fn other_thing(things: &[Thing], first: Thing) -> Option<Thing> {
     None
 }
 
-// `writes tb.a`, of the first two things that both touch.
-fn put_verbs(
+/// `writes tb.a`, of the first two things that both touch.
+pub fn put_verbs(
     text: &mut Vec<u8>,
     design: &Design,
     blamed: &Blamed,

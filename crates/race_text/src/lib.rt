@@ -1,4 +1,4 @@
-// What `vrace races` tells people (docs/RACES.md, "The races of a testbench") and programs (docs/FORMATS.md, "Races as JSON"). In go the
+// What `vrace races` tells people (docs/RACES.md, "The races of a testbench") and programs (docs/FORMATS.md, "Races as JSON", "Races as SARIF"). In go the
 // races that a search found, by their causes, and the files that they are of; out comes the text, or a document.
 // No law is claimed: how it is told the cases in tests/cases compare.
 #![tactic(auto)]
@@ -10,11 +10,14 @@ mod json_side;
 mod members;
 mod pieces;
 mod place;
+mod sarif;
+mod sarif_place;
 mod summary;
 mod value;
 mod whole;
 
 pub use json::races_json;
 pub use place::Sources;
+pub use sarif::races_sarif;
 pub use summary::{Findings, NAMED, Told};
 pub use whole::races_text;

@@ -1,11 +1,11 @@
 // The races of files, told to people.
 
 use crate::meter::{Allowance, Meter};
-use crate::words::{Format, RaceWords, Request, Search};
+use crate::words::{Format, RaceWords, Request, Search, VERSION};
 use crate::{Stop, finish, options_of, texts};
 use byte_sinks::Metered;
 use race_groups::{Races, Scope};
-use race_text::{Findings, NAMED, Sources, Told, races_json, races_text};
+use race_text::{Findings, NAMED, Sources, Told, races_json, races_sarif, races_text};
 use std::alloc::Global;
 use std::io;
 use std::io::{BufWriter, Write};
@@ -61,6 +61,7 @@ fn document(alloc: Global, findings: &Findings<'_>, format: Format) -> Result<Ve
     let document = match format {
         Format::Text => races_text(alloc, findings),
         Format::Json => races_json(alloc, findings),
+        Format::Sarif => races_sarif(alloc, findings, VERSION),
     };
     match document {
         Ok(text) => Ok(text),

@@ -12,6 +12,9 @@ const PAGES: &str =
 
 Exit status: 0 where all was done, of explore where nothing was missed and no race was found; 1 where explore found a race, or something in a report isn't true; 2 where the call was refused, with one line on standard error (vrace explain NUMBER says what it means); 3 where explore was cut and found no race";
 
+/// The version of the program.
+pub const VERSION: &str = "0.1.0";
+
 // The latest time that there is.
 const LAST_TIME: u64 = 4_611_686_018_427_387_903;
 
@@ -206,7 +209,7 @@ fn races_command<'a>(alloc: Global) -> Result<Command<'a>, NoMemory> {
     );
     let all = flag(alloc, "all", "Names all differences of each race");
     let format = option(alloc, "format", "F", "How what was found is written")
-        .value_parser(["text", "json"].as_slice())
+        .value_parser(["text", "json", "sarif"].as_slice())
         .default_value("text");
     let command = Command::new(alloc, "races")
         .about("Says which statements race, what differs then, and how to replay each order")
@@ -265,7 +268,7 @@ pub fn commands<'a>(alloc: Global) -> Result<Command<'a>, NoMemory> {
         .about(
             "Runs Verilog in the orders that the standard leaves open, and finds races. Without words: replays standard input.",
         )
-        .version("0.1.0")
+        .version(VERSION)
         .after_help(PAGES)
         .subcommand_required(true)
         .subcommand(check_command(alloc)?)?
@@ -417,6 +420,7 @@ pub fn search_of(matches: &ArgMatches<'_>) -> Search {
 pub enum Format {
     Text,
     Json,
+    Sarif,
 }
 
 /// What a search for races asks for beside its machine: from which time on differences are told, whether all are named, and how what was
@@ -432,6 +436,7 @@ pub struct RaceWords {
 fn format_of(matches: &ArgMatches<'_>) -> Format {
     match matches.get_str("format") {
         Some("json") => Format::Json,
+        Some("sarif") => Format::Sarif,
         _ => Format::Text,
     }
 }
