@@ -7,6 +7,7 @@ use crate::members::Members;
 use crate::pieces::put_cut;
 use crate::place::Sources;
 use crate::summary::Findings;
+use crate::waivers::Waiver;
 use basis::NoMemory;
 use cause::{Blamed, Cause, Thing};
 use explore::{RankedReason, RankedStatus};
@@ -116,10 +117,25 @@ fn differences(
     Ok(list)
 }
 
+// Whether it is waived, and why.
+fn put_waiver(members: &mut Members, waiver: Option<&Waiver<'_>>) -> Result<(), NoMemory> {
+    members.flag("waived", waiver.is_some())?;
+    match waiver {
+        None => Ok(()),
+        Some(waiver) => members.text("reason", waiver.reason),
+    }
+}
+
 // One cause, with what it explains.
-fn group_of(alloc: Global, subject: Subject<'_>, named: usize) -> Result<Value, NoMemory> {
+fn group_of(
+    alloc: Global,
+    subject: Subject<'_>,
+    named: usize,
+    waiver: Option<&Waiver<'_>>,
+) -> Result<Value, NoMemory> {
     let (machine, group) = (subject.machine, subject.group);
     let mut members = Members::new(alloc);
+    put_waiver(&mut members, waiver)?;
     members.number("time", time_of(machine, &group.first))?;
     if let Some(cause) = &group.cause {
         put_cause(alloc, &mut members, machine.design(), subject.sources, cause)?;
@@ -133,13 +149,14 @@ fn group_of(alloc: Global, subject: Subject<'_>, named: usize) -> Result<Value, 
 // The causes.
 fn groups(alloc: Global, findings: &Findings<'_>) -> Result<Vec<Value>, NoMemory> {
     let mut list = Vec::new(alloc);
-    for group in &findings.races.groups {
+    for (place, group) in findings.races.groups.iter().enumerate() {
         let subject = Subject {
             machine: findings.machine,
             sources: findings.sources,
             group,
         };
-        list.push(group_of(alloc, subject, findings.told.named())?)?;
+        let waiver = findings.waiver(place);
+        list.push(group_of(alloc, subject, findings.told.named(), waiver)?)?;
     }
     Ok(list)
 }
@@ -184,6 +201,24 @@ fn top_of(alloc: Global, findings: &Findings<'_>) -> Result<Value, NoMemory> {
     Ok(members.whole())
 }
 
+// A waiver, with how many causes it matched.
+fn waiver_of(alloc: Global, waiver: &Waiver<'_>, matched: u64) -> Result<Value, NoMemory> {
+    let mut members = Members::new(alloc);
+    members.number("line", waiver.line)?;
+    members.text("reason", waiver.reason)?;
+    members.number("matched", matched)?;
+    Ok(members.whole())
+}
+
+// The waivers.
+fn waivers(alloc: Global, findings: &Findings<'_>) -> Result<Vec<Value>, NoMemory> {
+    let mut list = Vec::new(alloc);
+    for (place, waiver) in findings.waivers.iter().enumerate() {
+        list.push(waiver_of(alloc, waiver, findings.waived.count(place))?)?;
+    }
+    Ok(list)
+}
+
 /// The value as a text, its members a line each, with a line feed at its end.
 pub fn document(alloc: Global, value: &Value) -> Result<Vec<u8>, NoMemory> {
     let mut text = value.to_vec_pretty(alloc)?;
@@ -198,5 +233,6 @@ pub fn races_json(alloc: Global, findings: &Findings<'_>) -> Result<Vec<u8>, NoM
     let mut members = Members::new(alloc);
     members.number("version", 1)?;
     members.list("tops", tops)?;
+    members.list("waivers", waivers(alloc, findings)?)?;
     document(alloc, &members.whole())
 }

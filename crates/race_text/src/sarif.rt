@@ -5,7 +5,8 @@ use crate::json::document;
 use crate::members::Members;
 use crate::pieces::{put_count, put_number};
 use crate::sarif_place::{Locations, fingerprint, locations_of, put_deeds};
-use crate::summary::{Findings, put_seen};
+use crate::summary::{Findings, put_matched, put_seen};
+use crate::waivers::Waiver;
 use basis::NoMemory;
 use cause::Cause;
 use explore::RankedStatus;
@@ -103,8 +104,25 @@ fn put_places(
     members.value("partialFingerprints", prints.whole())
 }
 
+// That the result is waived, if it is. A list stands in each result, as SARIF asks where it stands in one (3.27.23).
+fn suppressions(alloc: Global, waiver: Option<&Waiver<'_>>) -> Result<Vec<Value>, NoMemory> {
+    let mut list = Vec::new(alloc);
+    if let Some(waiver) = waiver {
+        let mut members = Members::new(alloc);
+        members.text("kind", b"external")?;
+        members.text("status", b"accepted")?;
+        members.text("justification", waiver.reason)?;
+        list.push(members.whole())?;
+    }
+    Ok(list)
+}
+
 // One result.
-fn result_of(alloc: Global, subject: Subject<'_>) -> Result<Value, NoMemory> {
+fn result_of(
+    alloc: Global,
+    subject: Subject<'_>,
+    waiver: Option<&Waiver<'_>>,
+) -> Result<Value, NoMemory> {
     let mut members = Members::new(alloc);
     members.text("ruleId", RULE)?;
     members.number("ruleIndex", 0)?;
@@ -114,19 +132,20 @@ fn result_of(alloc: Global, subject: Subject<'_>) -> Result<Value, NoMemory> {
     if let Some(cause) = &subject.group.cause {
         put_places(alloc, &mut members, subject, cause)?;
     }
+    members.list("suppressions", suppressions(alloc, waiver)?)?;
     Ok(members.whole())
 }
 
 // The results.
 fn results(alloc: Global, findings: &Findings<'_>) -> Result<Vec<Value>, NoMemory> {
     let mut list = Vec::new(alloc);
-    for group in &findings.races.groups {
+    for (place, group) in findings.races.groups.iter().enumerate() {
         let subject = Subject {
             machine: findings.machine,
             sources: findings.sources,
             group,
         };
-        list.push(result_of(alloc, subject)?)?;
+        list.push(result_of(alloc, subject, findings.waiver(place))?)?;
     }
     Ok(list)
 }
@@ -139,7 +158,23 @@ fn notification(alloc: Global, level: &[u8], text: &[u8]) -> Result<Value, NoMem
     Ok(members.whole())
 }
 
-// That something was left unseen, where it was.
+// The waivers that matched nothing.
+fn push_unmatched(
+    alloc: Global,
+    list: &mut Vec<Value>,
+    findings: &Findings<'_>,
+) -> Result<(), NoMemory> {
+    for (place, waiver) in findings.waivers.iter().enumerate() {
+        if findings.waived.count(place) == 0 {
+            let mut text = Vec::new(alloc);
+            put_matched(&mut text, waiver, 0)?;
+            list.push(notification(alloc, b"note", &text)?)?;
+        }
+    }
+    Ok(())
+}
+
+// That something was left unseen, where it was, and which waivers matched nothing.
 fn notifications(alloc: Global, findings: &Findings<'_>) -> Result<Vec<Value>, NoMemory> {
     let mut list = Vec::new(alloc);
     let races = findings.races;
@@ -149,6 +184,7 @@ fn notifications(alloc: Global, findings: &Findings<'_>) -> Result<Vec<Value>, N
         text.push(b'.')?;
         list.push(notification(alloc, b"warning", text.trim_ascii_start())?)?;
     }
+    push_unmatched(alloc, &mut list, findings)?;
     Ok(list)
 }
 

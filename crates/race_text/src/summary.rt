@@ -2,6 +2,8 @@
 
 use crate::pieces::{put_count, put_number};
 use crate::place::Sources;
+use crate::waived::Waived;
+use crate::waivers::Waiver;
 use basis::NoMemory;
 use explore::{RankedReason, RankedStatus};
 use race_groups::{Group, Races};
@@ -30,13 +32,22 @@ impl Told {
     }
 }
 
-/// What a document is made of: the races of a machine, the files that they are of, and what is told beside them.
+/// What a document is made of: the races of a machine, the files that they are of, what is told beside them, and which of them are waived.
 #[derive(Clone, Copy)]
 pub struct Findings<'a> {
     pub machine: &'a Machine,
     pub sources: &'a Sources<'a>,
     pub races: &'a Races,
     pub told: &'a Told,
+    pub waivers: &'a [Waiver<'a>],
+    pub waived: &'a Waived,
+}
+
+impl<'a> Findings<'a> {
+    /// The waiver that the group of this place is waived by.
+    pub fn waiver(&self, group: usize) -> Option<&'a Waiver<'a>> {
+        self.waivers.get(self.waived.by(group)?)
+    }
 }
 
 // How many differences there are in all.
@@ -48,8 +59,8 @@ fn difference_count(groups: &[Group]) -> u64 {
     count
 }
 
-// `1 race, 1 cause.`
-fn put_counts(text: &mut Vec<u8>, groups: &[Group]) -> Result<(), NoMemory> {
+// `1 race, 1 cause.`; `3 races, 2 causes, 1 waived.`
+fn put_counts(text: &mut Vec<u8>, groups: &[Group], waived: u64) -> Result<(), NoMemory> {
     if groups.is_empty() {
         text.extend_from_slice(b"No race.")?;
         return Ok(());
@@ -57,6 +68,11 @@ fn put_counts(text: &mut Vec<u8>, groups: &[Group]) -> Result<(), NoMemory> {
     put_count(text, difference_count(groups), b"race")?;
     text.extend_from_slice(b", ")?;
     put_count(text, groups.len() as u64, b"cause")?;
+    if waived > 0 {
+        text.extend_from_slice(b", ")?;
+        put_number(text, waived)?;
+        text.extend_from_slice(b" waived")?;
+    }
     text.push(b'.')?;
     Ok(())
 }
@@ -137,10 +153,31 @@ fn put_cost(text: &mut Vec<u8>, told: &Told) -> Result<(), NoMemory> {
     Ok(())
 }
 
-/// How many races there are, and what wasn't looked at.
+/// What a waiver matched: `waiver at line 3 matched 1 cause`, or `nothing`.
+pub fn put_matched(text: &mut Vec<u8>, waiver: &Waiver<'_>, count: u64) -> Result<(), NoMemory> {
+    text.extend_from_slice(b"waiver at line ")?;
+    put_number(text, waiver.line)?;
+    text.extend_from_slice(b" matched ")?;
+    if count == 0 {
+        text.extend_from_slice(b"nothing")?;
+        return Ok(());
+    }
+    put_count(text, count, b"cause")
+}
+
+// What each waiver matched, a line each.
+fn put_waivers(text: &mut Vec<u8>, findings: &Findings<'_>) -> Result<(), NoMemory> {
+    for (place, waiver) in findings.waivers.iter().enumerate() {
+        put_matched(text, waiver, findings.waived.count(place))?;
+        text.push(b'\n')?;
+    }
+    Ok(())
+}
+
+/// How many races there are, what wasn't looked at, and what waivers matched.
 pub fn put_summary(text: &mut Vec<u8>, findings: &Findings<'_>) -> Result<(), NoMemory> {
     let Findings { races, told, .. } = *findings;
-    put_counts(text, &races.groups)?;
+    put_counts(text, &races.groups, findings.waived.waived())?;
     put_seen(text, findings)?;
     put_cost(text, told)?;
     if races.ignored > 0 {
@@ -149,5 +186,5 @@ pub fn put_summary(text: &mut Vec<u8>, findings: &Findings<'_>) -> Result<(), No
         put_number(text, told.from)?;
         text.extend_from_slice(b" passed over.\n")?;
     }
-    Ok(())
+    put_waivers(text, findings)
 }

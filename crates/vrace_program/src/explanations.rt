@@ -10,7 +10,7 @@ pub struct Explanation {
     advice: &'static str,
 }
 
-const EXPLANATIONS: [Explanation; 32] = [
+const EXPLANATIONS: [Explanation; 33] = [
     Explanation {
         number: 101,
         meaning: "a comment or a string that begins here isn't ended",
@@ -178,6 +178,12 @@ const EXPLANATIONS: [Explanation; 32] = [
         meaning: "the head of the report isn't of this text",
         example: "the report of another testbench: other variables",
         advice: "give the files that the report was made of, in their order",
+    },
+    Explanation {
+        number: 506,
+        meaning: "a line of the file of waivers is no waiver; at 3 is the number of that line, from 1",
+        example: "tb.v:10 tb.v:12 without a reason behind #",
+        advice: "write FILE:LINE FILE:LINE # reason or variable PATTERN # reason; docs/CI.md has the form under Waivers",
     },
     Explanation {
         number: 901,

@@ -2,16 +2,19 @@
 
 use crate::meter::{Allowance, Meter};
 use crate::words::{Format, RaceWords, Request, Search, VERSION};
-use crate::{Stop, finish, options_of, texts};
+use crate::{Stop, finish, options_of, read_file, texts};
 use byte_sinks::Metered;
 use race_groups::{Races, Scope};
-use race_text::{Findings, NAMED, Sources, Told, races_json, races_sarif, races_text};
+use race_text::{
+    Findings, NAMED, Sources, Told, Waived, Waiver, WaiverFault, WaiverScope, races_json,
+    races_sarif, races_text, read_waivers,
+};
 use std::alloc::Global;
 use std::io;
 use std::io::{BufWriter, Write};
 use std::process::ExitCode;
 use std::rt::Clock;
-use vrace::{Budget, Fault, Options, RankedStatus, Spent, find_races_in};
+use vrace::{Budget, Fault, FoundRaces, Options, RankedStatus, Spent, find_races_in};
 
 // What a search may take of which nothing is said.
 const NO_LIMIT: Allowance = Allowance {
@@ -28,9 +31,9 @@ fn stopped_by(spent: Spent) -> &'static [u8] {
     }
 }
 
-// The exit status: 1 where a race is told, 3 where none is and something wasn't seen.
-fn code_of(races: &Races) -> ExitCode {
-    if !races.groups.is_empty() {
+// The exit status: 1 where a race is told that isn't waived, 3 where none is and something wasn't seen.
+fn code_of(races: &Races, waived: &Waived) -> ExitCode {
+    if !waived.are_all() {
         return ExitCode::from(1);
     }
     if races.search.status == RankedStatus::Exhausted && !races.cut_runs {
@@ -43,7 +46,7 @@ fn code_of(races: &Races) -> ExitCode {
 // What is told beside the races.
 fn told_of<R: Clock + Eprint>(
     options: &Options<'_>,
-    words: RaceWords,
+    words: RaceWords<'_>,
     meter: &Meter<'_, R>,
 ) -> Told {
     Told {
@@ -69,34 +72,113 @@ fn document(alloc: Global, findings: &Findings<'_>, format: Format) -> Result<Ve
     }
 }
 
-// The text of what was found in the files.
-fn text_of<R: Clock + Eprint>(
+// The text of the file of waivers.
+fn waivers_of(rt: &HostRuntime, words: RaceWords<'_>) -> Result<Vec<u8>, Stop> {
+    match words.waive {
+        None => Ok(Vec::new(rt.alloc())),
+        Some(name) => Ok(read_file(rt, name)?),
+    }
+}
+
+// The waivers of the text.
+fn read(alloc: Global, text: &[u8]) -> Result<Vec<Waiver<'_>>, Stop> {
+    match read_waivers(alloc, text) {
+        Ok(waivers) => Ok(waivers),
+        Err(WaiverFault::Line(line)) => Err(Stop::BadWaiver(line)),
+        Err(WaiverFault::Memory(_)) => Err(Stop::NoMemory),
+    }
+}
+
+// Whether a waiver asks for the names of all differences.
+fn some_asks_for_names(waivers: &[Waiver<'_>]) -> bool {
+    for waiver in waivers {
+        if let WaiverScope::Variables(_) = waiver.scope {
+            return true;
+        }
+    }
+    false
+}
+
+// Which differences are told, and how many are kept by name.
+fn scope_of(words: RaceWords<'_>, waivers: &[Waiver<'_>]) -> Scope {
+    Scope {
+        from: words.from,
+        names: if words.all || some_asks_for_names(waivers) {
+            usize::MAX
+        } else {
+            NAMED
+        },
+    }
+}
+
+// Which of the races are waived.
+fn waived_of(
     alloc: Global,
-    names: &[&str],
-    texts: &[Vec<u8>],
-    options: &Options<'_>,
-    words: RaceWords,
+    found: &FoundRaces,
+    sources: &Sources<'_>,
+    waivers: &[Waiver<'_>],
+) -> Result<Waived, Stop> {
+    let design = found.machine.design();
+    match Waived::new(alloc, waivers, design, sources, &found.races.groups) {
+        Ok(waived) => Ok(waived),
+        Err(_) => Err(Stop::NoMemory),
+    }
+}
+
+// What is asked for: the files, by their names and texts, how they are searched, and the waivers.
+#[derive(Clone, Copy)]
+struct Asked<'a> {
+    names: &'a [&'a str],
+    texts: &'a [Vec<u8>],
+    options: &'a Options<'a>,
+    words: RaceWords<'a>,
+    waivers: &'a [Waiver<'a>],
+}
+
+// What was found in the files, as a document.
+fn told_in<R: Clock + Eprint>(
+    alloc: Global,
+    asked: &Asked<'_>,
     meter: &mut Meter<'_, R>,
 ) -> Result<(Vec<u8>, ExitCode), Stop> {
-    let scope = Scope {
-        from: words.from,
-        names: if words.all { usize::MAX } else { NAMED },
-    };
+    let Asked {
+        names,
+        texts,
+        options,
+        words,
+        waivers,
+    } = *asked;
+    let scope = scope_of(words, waivers);
     let found = find_races_in(alloc, texts, options, &scope, meter)?;
     let sources = Sources {
         names,
         texts,
         origins: &found.origins,
     };
+    let waived = waived_of(alloc, &found, &sources, waivers)?;
     let told = told_of(options, words, meter);
     let findings = Findings {
         machine: &found.machine,
         sources: &sources,
         races: &found.races,
         told: &told,
+        waivers,
+        waived: &waived,
     };
     let text = document(alloc, &findings, words.format)?;
-    Ok((text, code_of(&found.races)))
+    Ok((text, code_of(&found.races, &waived)))
+}
+
+// Writes the document to standard output.
+fn write_out(rt: &HostRuntime, text: &[u8]) -> Result<(), Stop> {
+    let Ok(buffered) = BufWriter::new(rt.alloc(), io::writer(rt)) else {
+        return Err(Stop::NoMemory);
+    };
+    let mut writer = Metered::new(buffered);
+    if writer.write_all(text).is_err() {
+        return Err(Stop::Refused(Fault::Write));
+    }
+    finish(&mut writer)
 }
 
 /// Tells the races of what is asked for on standard output.
@@ -104,26 +186,21 @@ pub fn tell_races(
     rt: &HostRuntime,
     request: &Request<'_>,
     search: &Search,
-    words: RaceWords,
+    words: RaceWords<'_>,
 ) -> Result<ExitCode, Stop> {
     let options = options_of(request, search)?;
+    let waivers = waivers_of(rt, words)?;
+    let waivers = read(rt.alloc(), &waivers)?;
     let texts = texts(rt, &request.files)?;
     let mut meter = Meter::new(rt, search.allowance.unwrap_or(NO_LIMIT));
-    let (text, code) = text_of(
-        rt.alloc(),
-        &request.files,
-        &texts,
-        &options,
+    let asked = Asked {
+        names: &request.files,
+        texts: &texts,
+        options: &options,
         words,
-        &mut meter,
-    )?;
-    let Ok(buffered) = BufWriter::new(rt.alloc(), io::writer(rt)) else {
-        return Err(Stop::NoMemory);
+        waivers: &waivers,
     };
-    let mut writer = Metered::new(buffered);
-    if writer.write_all(&text).is_err() {
-        return Err(Stop::Refused(Fault::Write));
-    }
-    finish(&mut writer)?;
+    let (text, code) = told_in(rt.alloc(), &asked, &mut meter)?;
+    write_out(rt, &text)?;
     Ok(code)
 }

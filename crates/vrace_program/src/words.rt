@@ -208,6 +208,12 @@ fn races_command<'a>(alloc: Global) -> Result<Command<'a>, NoMemory> {
         "Compares values alone, and not the lines that slots print",
     );
     let all = flag(alloc, "all", "Names all differences of each race");
+    let waive = option(
+        alloc,
+        "waive",
+        "FILE",
+        "A file of waivers: races that may stay, which don't count for the exit status",
+    );
     let format = option(alloc, "format", "F", "How what was found is written")
         .value_parser(["text", "json", "sarif"].as_slice())
         .default_value("text");
@@ -223,6 +229,7 @@ fn races_command<'a>(alloc: Global) -> Result<Command<'a>, NoMemory> {
         .arg(from)?
         .arg(all)?
         .arg(format)?
+        .arg(waive)?
         .arg(seconds(alloc))?
         .arg(number(alloc, "memory", MEMORY, "2000"))?
         .arg(progress(alloc))?
@@ -423,13 +430,19 @@ pub enum Format {
     Sarif,
 }
 
-/// What a search for races asks for beside its machine: from which time on differences are told, whether all are named, and how what was
-/// found is written.
+/// What a search for races asks for beside its machine: from which time on differences are told, whether all are named, how what was
+/// found is written, and the file of the waivers.
 #[derive(Clone, Copy, Debug)]
-pub struct RaceWords {
+pub struct RaceWords<'a> {
     pub from: u64,
     pub all: bool,
     pub format: Format,
+    pub waive: Option<&'a str>,
+}
+
+/// Whether the value of an option that names a file of waivers reads as an option.
+pub fn has_dashed_waivers(matches: &ArgMatches<'_>) -> bool {
+    is_dashed(matches, "waive")
 }
 
 // The value of `--format`.
@@ -442,11 +455,12 @@ fn format_of(matches: &ArgMatches<'_>) -> Format {
 }
 
 /// Which differences the words after `races` ask for.
-pub fn race_words_of(matches: &ArgMatches<'_>) -> RaceWords {
+pub fn race_words_of<'a>(matches: &ArgMatches<'a>) -> RaceWords<'a> {
     RaceWords {
         from: matches.get_one::<u64>("ignore-before").unwrap_or(0),
         all: matches.get_flag("all"),
         format: format_of(matches),
+        waive: matches.get_str("waive"),
     }
 }
 
