@@ -15,6 +15,7 @@ mod sarif_place;
 mod summary;
 mod value;
 mod waived;
+mod waiver_file;
 mod waivers;
 mod whole;
 
@@ -23,5 +24,6 @@ pub use place::Sources;
 pub use sarif::races_sarif;
 pub use summary::{Findings, NAMED, Told};
 pub use waived::Waived;
+pub use waiver_file::waivers_text;
 pub use waivers::{Spot, Waiver, WaiverFault, WaiverScope, read_waivers};
 pub use whole::races_text;

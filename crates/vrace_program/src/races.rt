@@ -3,13 +3,15 @@
 use crate::meter::{Allowance, Meter};
 use crate::words::{Format, RaceWords, Request, Search, VERSION};
 use crate::{Stop, finish, options_of, read_file, texts};
+use basis::NoMemory;
 use byte_sinks::Metered;
 use race_groups::{Races, Scope};
 use race_text::{
     Findings, NAMED, Sources, Told, Waived, Waiver, WaiverFault, WaiverScope, races_json,
-    races_sarif, races_text, read_waivers,
+    races_sarif, races_text, read_waivers, waivers_text,
 };
 use std::alloc::Global;
+use std::fs;
 use std::io;
 use std::io::{BufWriter, Write};
 use std::process::ExitCode;
@@ -135,12 +137,35 @@ struct Asked<'a> {
     waivers: &'a [Waiver<'a>],
 }
 
+// What is written: the document, the file of waivers where one is asked for, and the exit status.
+#[derive(Drop)]
+struct Answer {
+    document: Vec<u8>,
+    waivers: Vec<u8>,
+    code: ExitCode,
+}
+
+// The waivers of what was found, where they are asked for.
+fn written_waivers(
+    alloc: Global,
+    findings: &Findings<'_>,
+    words: RaceWords<'_>,
+) -> Result<Vec<u8>, Stop> {
+    if words.write_waivers.is_none() {
+        return Ok(Vec::new(alloc));
+    }
+    match waivers_text(alloc, findings) {
+        Ok(text) => Ok(text),
+        Err(_) => Err(Stop::NoMemory),
+    }
+}
+
 // What was found in the files, as a document.
 fn told_in<R: Clock + Eprint>(
     alloc: Global,
     asked: &Asked<'_>,
     meter: &mut Meter<'_, R>,
-) -> Result<(Vec<u8>, ExitCode), Stop> {
+) -> Result<Answer, Stop> {
     let Asked {
         names,
         texts,
@@ -165,8 +190,34 @@ fn told_in<R: Clock + Eprint>(
         waivers,
         waived: &waived,
     };
-    let text = document(alloc, &findings, words.format)?;
-    Ok((text, code_of(&found.races, &waived)))
+    Ok(Answer {
+        document: document(alloc, &findings, words.format)?,
+        waivers: written_waivers(alloc, &findings, words)?,
+        code: code_of(&found.races, &waived),
+    })
+}
+
+// The name of a file with `.new` behind it.
+fn new_name(alloc: Global, name: &str) -> Result<String, NoMemory> {
+    let mut new = String::from_str(alloc, name)?;
+    new.push_str(".new")?;
+    Ok(new)
+}
+
+// Writes the file beside, and then gives it its name, so that nothing half written stays.
+fn write_file(rt: &HostRuntime, name: &str, text: &[u8]) -> Result<(), Stop> {
+    let Ok(new) = new_name(rt.alloc(), name) else {
+        return Err(Stop::NoMemory);
+    };
+    if fs::write(rt, new.as_str(), text).is_err() {
+        let _ = fs::remove_file(rt, new.as_str());
+        return Err(Stop::Refused(Fault::Write));
+    }
+    if fs::rename(rt, new.as_str(), name).is_err() {
+        let _ = fs::remove_file(rt, new.as_str());
+        return Err(Stop::Refused(Fault::Write));
+    }
+    Ok(())
 }
 
 // Writes the document to standard output.
@@ -200,7 +251,10 @@ pub fn tell_races(
         words,
         waivers: &waivers,
     };
-    let (text, code) = told_in(rt.alloc(), &asked, &mut meter)?;
-    write_out(rt, &text)?;
-    Ok(code)
+    let answer = told_in(rt.alloc(), &asked, &mut meter)?;
+    if let Some(name) = words.write_waivers {
+        write_file(rt, name, &answer.waivers)?;
+    }
+    write_out(rt, &answer.document)?;
+    Ok(answer.code)
 }

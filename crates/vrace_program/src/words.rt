@@ -214,6 +214,12 @@ fn races_command<'a>(alloc: Global) -> Result<Command<'a>, NoMemory> {
         "FILE",
         "A file of waivers: races that may stay, which don't count for the exit status",
     );
+    let write_waivers = option(
+        alloc,
+        "write-waivers",
+        "FILE",
+        "Writes a file of waivers of the races that were found, for --waive",
+    );
     let format = option(alloc, "format", "F", "How what was found is written")
         .value_parser(["text", "json", "sarif"].as_slice())
         .default_value("text");
@@ -230,6 +236,7 @@ fn races_command<'a>(alloc: Global) -> Result<Command<'a>, NoMemory> {
         .arg(all)?
         .arg(format)?
         .arg(waive)?
+        .arg(write_waivers)?
         .arg(seconds(alloc))?
         .arg(number(alloc, "memory", MEMORY, "2000"))?
         .arg(progress(alloc))?
@@ -431,18 +438,27 @@ pub enum Format {
 }
 
 /// What a search for races asks for beside its machine: from which time on differences are told, whether all are named, how what was
-/// found is written, and the file of the waivers.
+/// found is written, the file of the waivers, and the file that waivers are written to.
 #[derive(Clone, Copy, Debug)]
 pub struct RaceWords<'a> {
     pub from: u64,
     pub all: bool,
     pub format: Format,
     pub waive: Option<&'a str>,
+    pub write_waivers: Option<&'a str>,
 }
 
 /// Whether the value of an option that names a file of waivers reads as an option.
 pub fn has_dashed_waivers(matches: &ArgMatches<'_>) -> bool {
-    is_dashed(matches, "waive")
+    is_dashed(matches, "waive") || is_dashed(matches, "write-waivers")
+}
+
+/// Whether waivers are to be written over a file of Verilog.
+pub fn has_waivers_over_file(matches: &ArgMatches<'_>) -> bool {
+    match (matches.get_str("write-waivers"), matches.get_strs("FILE")) {
+        (Some(name), Some(files)) => files.contains(&name),
+        _ => false,
+    }
 }
 
 // The value of `--format`.
@@ -461,6 +477,7 @@ pub fn race_words_of<'a>(matches: &ArgMatches<'a>) -> RaceWords<'a> {
         all: matches.get_flag("all"),
         format: format_of(matches),
         waive: matches.get_str("waive"),
+        write_waivers: matches.get_str("write-waivers"),
     }
 }
 
