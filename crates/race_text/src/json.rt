@@ -31,12 +31,7 @@ fn place_of(alloc: Global, sources: &Sources<'_>, action: usize) -> Result<Membe
 }
 
 // What the visit does to one thing. An event has no name.
-fn deed(
-    alloc: Global,
-    design: &Design,
-    blamed: &Blamed,
-    thing: Thing,
-) -> Result<Value, NoMemory> {
+fn deed(alloc: Global, design: &Design, blamed: &Blamed, thing: Thing) -> Result<Value, NoMemory> {
     let mut members = Members::new(alloc);
     members.text("verb", verb(design, blamed, thing))?;
     if let Thing::Variable(number) = thing {
@@ -104,11 +99,7 @@ fn put_cause(
 }
 
 // The group's differences that are told.
-fn differences(
-    alloc: Global,
-    subject: Subject<'_>,
-    named: usize,
-) -> Result<Vec<Value>, NoMemory> {
+fn differences(alloc: Global, subject: Subject<'_>, named: usize) -> Result<Vec<Value>, NoMemory> {
     let mut list = Vec::new(alloc);
     list.push(first_difference(alloc, subject)?)?;
     for name in subject.group.next.iter().take(named) {
@@ -138,7 +129,13 @@ fn group_of(
     put_waiver(&mut members, waiver)?;
     members.number("time", time_of(machine, &group.first))?;
     if let Some(cause) = &group.cause {
-        put_cause(alloc, &mut members, machine.design(), subject.sources, cause)?;
+        put_cause(
+            alloc,
+            &mut members,
+            machine.design(),
+            subject.sources,
+            cause,
+        )?;
     }
     members.list("differences", differences(alloc, subject, named)?)?;
     members.number("count", group.more.saturating_add(1))?;

@@ -1,5 +1,5 @@
-// What `vrace races` tells people (docs/RACES.md, "The races of a testbench") and programs (docs/FORMATS.md, "Races as JSON", "Races as SARIF"). In go the
-// races that a search found, by their causes, the files that they are of, and waivers; out comes the text, or a document.
+// What `vrace races` tells people (docs/RACES.md, "The races of a testbench") and programs (docs/FORMATS.md, "Races as JSON", "Races as
+// SARIF"). In go the races that a search found, by their causes, the files that they are of, and waivers; out comes the text, or a document.
 // No law is claimed: how it is told the cases in tests/cases compare.
 #![tactic(auto)]
 

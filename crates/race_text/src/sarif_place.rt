@@ -104,20 +104,27 @@ fn push_location(
 // Puts a statement into the first list and, where it drives a port connection or an `assign`, that one into the second.
 fn push_statement(
     alloc: Global,
-    told: (&mut Vec<Value>, &mut Vec<Value>),
+    statements: &mut Vec<Value>,
+    connections: &mut Vec<Value>,
     subject: Subject<'_>,
     cause: &Cause,
     blamed: &Blamed,
     number: u64,
 ) -> Result<(), NoMemory> {
-    let (statements, connections) = told;
     let mut verbs = Vec::new(alloc);
     let things = cause.things.as_slice();
     put_verbs(&mut verbs, subject.machine.design(), blamed, things)?;
     if blamed.statement == blamed.place {
         return push_location(alloc, statements, subject, blamed.statement, number, &verbs);
     }
-    push_location(alloc, statements, subject, blamed.statement, number, b"drives a connection")?;
+    push_location(
+        alloc,
+        statements,
+        subject,
+        blamed.statement,
+        number,
+        b"drives a connection",
+    )?;
     let next = number.saturating_add(1);
     push_location(alloc, connections, subject, blamed.place, next, &verbs)
 }
@@ -130,27 +137,53 @@ pub fn locations_of(
 ) -> Result<Locations, NoMemory> {
     let (mut first, mut others) = (Vec::new(alloc), Vec::new(alloc));
     let mut ways = Vec::new(alloc);
-    push_statement(alloc, (&mut first, &mut ways), subject, cause, &cause.second, 1)?;
-    push_statement(alloc, (&mut others, &mut ways), subject, cause, &cause.first, 3)?;
+    push_statement(
+        alloc,
+        &mut first,
+        &mut ways,
+        subject,
+        cause,
+        &cause.second,
+        1,
+    )?;
+    push_statement(
+        alloc,
+        &mut others,
+        &mut ways,
+        subject,
+        cause,
+        &cause.first,
+        3,
+    )?;
     for way in ways {
         others.push(way)?;
     }
     Ok(Locations { first, others })
 }
 
-/// What the statement does: `late.v:3 writes tb.a`.
+// `late.v:3`, if the place of the action is known.
+fn put_line(text: &mut Vec<u8>, subject: Subject<'_>, action: usize) -> Result<(), NoMemory> {
+    if let Some(place) = subject.sources.place(action) {
+        text.extend_from_slice(subject.sources.name(place.file).as_bytes())?;
+        text.push(b':')?;
+        put_number(text, place.line as u64)?;
+    }
+    Ok(())
+}
+
+/// What the statement does: `late.v:3 writes tb.a`; by a connection `late.v:3 through late.v:5 writes tb.u.a`.
 pub fn put_deeds(
     text: &mut Vec<u8>,
     subject: Subject<'_>,
     cause: &Cause,
     blamed: &Blamed,
 ) -> Result<(), NoMemory> {
-    if let Some(place) = subject.sources.place(blamed.statement) {
-        text.extend_from_slice(subject.sources.name(place.file).as_bytes())?;
-        text.push(b':')?;
-        put_number(text, place.line as u64)?;
-        text.push(b' ')?;
+    put_line(text, subject, blamed.statement)?;
+    if blamed.statement != blamed.place {
+        text.extend_from_slice(b" through ")?;
+        put_line(text, subject, blamed.place)?;
     }
+    text.push(b' ')?;
     let things = cause.things.as_slice();
     put_verbs(text, subject.machine.design(), blamed, things)
 }

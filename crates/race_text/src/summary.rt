@@ -26,7 +26,7 @@ pub struct Told {
 }
 
 impl Told {
-    /// How many of these that follow are named.
+    /// How many of the differences that follow are named.
     pub fn named(&self) -> usize {
         if self.all { usize::MAX } else { NAMED }
     }

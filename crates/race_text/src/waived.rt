@@ -1,7 +1,7 @@
 // Which causes are waived, and what each waiver matched.
 
 use crate::place::Sources;
-use crate::waivers::{WaiverScope, Spot, Waiver};
+use crate::waivers::{Spot, Waiver, WaiverScope};
 use basis::NoMemory;
 use cause::{Blamed, Cause};
 use race_groups::{Difference, Group};
@@ -110,7 +110,9 @@ fn groups_by(
     for group in groups {
         matched.push(match (&waiver.scope, &group.cause) {
             (WaiverScope::Variables(_), _) => is_of_variables(&variables, group),
-            (WaiverScope::Lines(one, other), Some(cause)) => is_of_lines(sources, cause, one, other),
+            (WaiverScope::Lines(one, other), Some(cause)) => is_of_lines(
+                sources, cause, one, other,
+            ),
             (WaiverScope::Lines(_, _), None) => false,
         })?;
     }

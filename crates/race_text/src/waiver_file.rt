@@ -19,11 +19,7 @@ fn is_word(name: &[u8]) -> bool {
 }
 
 // `FILE:LINE`; answers whether a waiver can name that.
-fn put_spot(
-    text: &mut Vec<u8>,
-    sources: &Sources<'_>,
-    blamed: &Blamed,
-) -> Result<bool, NoMemory> {
+fn put_spot(text: &mut Vec<u8>, sources: &Sources<'_>, blamed: &Blamed) -> Result<bool, NoMemory> {
     let Some(place) = sources.place(blamed.statement) else {
         return Ok(false);
     };

@@ -29,8 +29,8 @@ use vrace::{
 };
 use words::{
     Request, Search, Wanted, commands, files_of, has_dashed_log, has_dashed_report, has_dashed_top,
-    has_dashed_waivers, has_joined_letters, has_waivers_over_file, log_of, race_request_of, race_search_of, race_words_of, report_of,
-    request_of, search_of, steps_of, until_of, wanted_of,
+    has_dashed_waivers, has_joined_letters, has_waivers_over_file, log_of, race_request_of,
+    race_search_of, race_words_of, report_of, request_of, search_of, steps_of, until_of, wanted_of,
 };
 use workpool::OpenGate;
 

@@ -11,11 +11,10 @@ use race_text::{
     races_sarif, races_text, read_waivers, waivers_text,
 };
 use std::alloc::Global;
-use std::fs;
-use std::io;
 use std::io::{BufWriter, Write};
 use std::process::ExitCode;
 use std::rt::Clock;
+use std::{fs, io};
 use vrace::{Budget, Fault, FoundRaces, Options, RankedStatus, Spent, find_races_in};
 
 // What a search may take of which nothing is said.

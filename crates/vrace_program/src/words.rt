@@ -185,44 +185,62 @@ fn explore_command<'a>(alloc: Global) -> Result<Command<'a>, NoMemory> {
     Ok(command)
 }
 
+fn ignore_before<'a>(alloc: Global) -> Arg<'a> {
+    number(
+        alloc,
+        "ignore-before",
+        "The time, in units of the precision, before which differences are only counted",
+        "0",
+    )
+}
+
+fn taking<'a>(alloc: Global) -> Arg<'a> {
+    flag(
+        alloc,
+        "taking",
+        "Departures only take a process; none holds back those that stand before it",
+    )
+}
+
+fn values<'a>(alloc: Global) -> Arg<'a> {
+    flag(
+        alloc,
+        "values",
+        "Compares values alone, and not the lines that slots print",
+    )
+}
+
+fn format<'a>(alloc: Global) -> Arg<'a> {
+    option(alloc, "format", "F", "How what was found is written")
+        .value_parser(["text", "json", "sarif"].as_slice())
+        .default_value("text")
+}
+
+fn waive<'a>(alloc: Global) -> Arg<'a> {
+    option(
+        alloc,
+        "waive",
+        "FILE",
+        "A file of waivers: races that may stay, which don't count for the exit status",
+    )
+}
+
+fn write_waivers<'a>(alloc: Global) -> Arg<'a> {
+    option(
+        alloc,
+        "write-waivers",
+        "FILE",
+        "Writes a file of waivers of the races that were found, for --waive",
+    )
+}
+
 fn races_command<'a>(alloc: Global) -> Result<Command<'a>, NoMemory> {
     let until = limit(
         alloc,
         "until",
         "The latest time, in units of the precision; where nothing is said there is none",
     );
-    let from = number(
-        alloc,
-        "ignore-before",
-        "The time, in units of the precision, before which differences are only counted",
-        "0",
-    );
-    let taking = flag(
-        alloc,
-        "taking",
-        "Departures only take a process; none holds back those that stand before it",
-    );
-    let values = flag(
-        alloc,
-        "values",
-        "Compares values alone, and not the lines that slots print",
-    );
     let all = flag(alloc, "all", "Names all differences of each race");
-    let waive = option(
-        alloc,
-        "waive",
-        "FILE",
-        "A file of waivers: races that may stay, which don't count for the exit status",
-    );
-    let write_waivers = option(
-        alloc,
-        "write-waivers",
-        "FILE",
-        "Writes a file of waivers of the races that were found, for --waive",
-    );
-    let format = option(alloc, "format", "F", "How what was found is written")
-        .value_parser(["text", "json", "sarif"].as_slice())
-        .default_value("text");
     let command = Command::new(alloc, "races")
         .about("Says which statements race, what differs then, and how to replay each order")
         .arg(top(alloc))?
@@ -230,13 +248,13 @@ fn races_command<'a>(alloc: Global) -> Result<Command<'a>, NoMemory> {
         .arg(depart(alloc))?
         .arg(number(alloc, "steps", "The most steps of one run", "1000000"))?
         .arg(grain(alloc))?
-        .arg(taking)?
-        .arg(values)?
-        .arg(from)?
+        .arg(taking(alloc))?
+        .arg(values(alloc))?
+        .arg(ignore_before(alloc))?
         .arg(all)?
-        .arg(format)?
-        .arg(waive)?
-        .arg(write_waivers)?
+        .arg(format(alloc))?
+        .arg(waive(alloc))?
+        .arg(write_waivers(alloc))?
         .arg(seconds(alloc))?
         .arg(number(alloc, "memory", MEMORY, "2000"))?
         .arg(progress(alloc))?
