@@ -208,15 +208,11 @@ fn write_file(rt: &HostRuntime, name: &str, text: &[u8]) -> Result<(), Stop> {
     let Ok(new) = new_name(rt.alloc(), name) else {
         return Err(Stop::NoMemory);
     };
-    if fs::write(rt, new.as_str(), text).is_err() {
-        let _ = fs::remove_file(rt, new.as_str());
-        return Err(Stop::Refused(Fault::Write));
+    if fs::write(rt, new.as_str(), text).is_ok() && fs::rename(rt, new.as_str(), name).is_ok() {
+        return Ok(());
     }
-    if fs::rename(rt, new.as_str(), name).is_err() {
-        let _ = fs::remove_file(rt, new.as_str());
-        return Err(Stop::Refused(Fault::Write));
-    }
-    Ok(())
+    let _ = fs::remove_file(rt, new.as_str());
+    Err(Stop::Refused(Fault::Write))
 }
 
 // Writes the document to standard output.
