@@ -2,6 +2,7 @@
 
 use basis::NoMemory;
 use itoa::Buffer;
+use std::alloc::Global;
 
 /// The number in decimal.
 pub fn put_number(text: &mut Vec<u8>, n: u64) -> Result<(), NoMemory> {
@@ -73,4 +74,24 @@ pub fn put_cut(text: &mut Vec<u8>, bytes: &[u8], most: usize) -> Result<(), NoMe
         text.extend_from_slice(b"..")?;
     }
     Ok(())
+}
+
+// Puts `\xff` for each of these bytes.
+fn put_escaped(text: &mut String, bytes: &[u8]) -> Result<(), NoMemory> {
+    for byte in bytes {
+        text.push_str("\\x")?;
+        text.push(char::from(hexadecimal_digit(byte / 16)))?;
+        text.push(char::from(hexadecimal_digit(byte % 16)))?;
+    }
+    Ok(())
+}
+
+/// The bytes as a string: what is UTF-8 as it is, every other byte as `\xff`.
+pub fn string_of(alloc: Global, bytes: &[u8]) -> Result<String, NoMemory> {
+    let mut text = String::new(alloc);
+    for chunk in bytes.utf8_chunks() {
+        text.push_str(chunk.valid())?;
+        put_escaped(&mut text, chunk.invalid())?;
+    }
+    Ok(text)
 }

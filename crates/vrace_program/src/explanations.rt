@@ -10,7 +10,7 @@ pub struct Explanation {
     advice: &'static str,
 }
 
-const EXPLANATIONS: [Explanation; 32] = [
+const EXPLANATIONS: [Explanation; 33] = [
     Explanation {
         number: 101,
         meaning: "a comment or a string that begins here isn't ended",
@@ -180,6 +180,12 @@ const EXPLANATIONS: [Explanation; 32] = [
         advice: "give the files that the report was made of, in their order",
     },
     Explanation {
+        number: 506,
+        meaning: "a line of the file of waivers is no waiver; at 3 is the number of that line, from 1",
+        example: "tb.v:10 tb.v:12 without a reason behind #",
+        advice: "write FILE:LINE FILE:LINE # reason or variable PATTERN # reason; docs/CI.md has the form under Waivers",
+    },
+    Explanation {
         number: 901,
         meaning: "a growth of memory was refused",
         example: "a limit of ulimit -v that the text doesn't fit",
@@ -187,9 +193,9 @@ const EXPLANATIONS: [Explanation; 32] = [
     },
     Explanation {
         number: 902,
-        meaning: "standard output failed",
-        example: "a full disk, a closed pipe",
-        advice: "what stands written is a prefix of what was asked for: make room and call again",
+        meaning: "standard output failed, or a file of waivers can't be written",
+        example: "a full disk, a closed pipe; a folder that isn't there",
+        advice: "what stands on standard output is a prefix of what was asked for, and a file is as it was before: make room and call again",
     },
     Explanation {
         number: 903,

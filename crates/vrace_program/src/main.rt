@@ -29,8 +29,8 @@ use vrace::{
 };
 use words::{
     Request, Search, Wanted, commands, files_of, has_dashed_log, has_dashed_report, has_dashed_top,
-    has_joined_letters, log_of, race_request_of, race_search_of, race_words_of, report_of,
-    request_of, search_of, steps_of, until_of, wanted_of,
+    has_dashed_waivers, has_joined_letters, has_waivers_over_file, log_of, race_request_of,
+    race_search_of, race_words_of, report_of, request_of, search_of, steps_of, until_of, wanted_of,
 };
 use workpool::OpenGate;
 
@@ -77,6 +77,8 @@ enum Stop {
     Usage,
     // Memory was refused before a call of the library.
     NoMemory,
+    // The line of this number, from 1, is no waiver.
+    BadWaiver(u64),
     Refused(Fault),
 }
 
@@ -370,7 +372,7 @@ fn explore_by<'a, R: Threads + Wait + Sync>(
 
 // Tells the races that the words ask for.
 fn races_by<'a>(rt: &HostRuntime, matches: &ArgMatches<'a>) -> Result<ExitCode, Stop> {
-    if has_dashed_top(matches) {
+    if has_dashed_top(matches) || has_dashed_waivers(matches) || has_waivers_over_file(matches) {
         return Err(Stop::Usage);
     }
     let Ok(request) = race_request_of(rt.alloc(), matches) else {
@@ -454,6 +456,10 @@ fn main(rt: HostRuntime) -> ExitCode {
         }
         Err(Stop::NoMemory) => {
             let _ = eprintln!(rt; "vrace: E901");
+            ExitCode::from(2)
+        }
+        Err(Stop::BadWaiver(line)) => {
+            let _ = eprintln!(rt; "vrace: E506 at {line}");
             ExitCode::from(2)
         }
         Err(Stop::Refused(fault)) => {

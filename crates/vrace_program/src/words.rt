@@ -12,6 +12,9 @@ const PAGES: &str =
 
 Exit status: 0 where all was done, of explore where nothing was missed and no race was found; 1 where explore found a race, or something in a report isn't true; 2 where the call was refused, with one line on standard error (vrace explain NUMBER says what it means); 3 where explore was cut and found no race";
 
+/// The version of the program.
+pub const VERSION: &str = "0.1.0";
+
 // The latest time that there is.
 const LAST_TIME: u64 = 4_611_686_018_427_387_903;
 
@@ -182,27 +185,60 @@ fn explore_command<'a>(alloc: Global) -> Result<Command<'a>, NoMemory> {
     Ok(command)
 }
 
+fn ignore_before<'a>(alloc: Global) -> Arg<'a> {
+    number(
+        alloc,
+        "ignore-before",
+        "The time, in units of the precision, before which differences are only counted",
+        "0",
+    )
+}
+
+fn taking<'a>(alloc: Global) -> Arg<'a> {
+    flag(
+        alloc,
+        "taking",
+        "Departures only take a process; none holds back those that stand before it",
+    )
+}
+
+fn values<'a>(alloc: Global) -> Arg<'a> {
+    flag(
+        alloc,
+        "values",
+        "Compares values alone, and not the lines that slots print",
+    )
+}
+
+fn format<'a>(alloc: Global) -> Arg<'a> {
+    option(alloc, "format", "F", "How what was found is written")
+        .value_parser(["text", "json", "sarif"].as_slice())
+        .default_value("text")
+}
+
+fn waive<'a>(alloc: Global) -> Arg<'a> {
+    option(
+        alloc,
+        "waive",
+        "FILE",
+        "A file of waivers: races that may stay, which don't count for the exit status",
+    )
+}
+
+fn write_waivers<'a>(alloc: Global) -> Arg<'a> {
+    option(
+        alloc,
+        "write-waivers",
+        "FILE",
+        "Writes a file of waivers of the races that were found, for --waive",
+    )
+}
+
 fn races_command<'a>(alloc: Global) -> Result<Command<'a>, NoMemory> {
     let until = limit(
         alloc,
         "until",
         "The latest time, in units of the precision; where nothing is said there is none",
-    );
-    let from = number(
-        alloc,
-        "ignore-before",
-        "The time, in units of the precision, before which differences are only counted",
-        "0",
-    );
-    let taking = flag(
-        alloc,
-        "taking",
-        "Departures only take a process; none holds back those that stand before it",
-    );
-    let values = flag(
-        alloc,
-        "values",
-        "Compares values alone, and not the lines that slots print",
     );
     let all = flag(alloc, "all", "Names all differences of each race");
     let command = Command::new(alloc, "races")
@@ -212,10 +248,13 @@ fn races_command<'a>(alloc: Global) -> Result<Command<'a>, NoMemory> {
         .arg(depart(alloc))?
         .arg(number(alloc, "steps", "The most steps of one run", "1000000"))?
         .arg(grain(alloc))?
-        .arg(taking)?
-        .arg(values)?
-        .arg(from)?
+        .arg(taking(alloc))?
+        .arg(values(alloc))?
+        .arg(ignore_before(alloc))?
         .arg(all)?
+        .arg(format(alloc))?
+        .arg(waive(alloc))?
+        .arg(write_waivers(alloc))?
         .arg(seconds(alloc))?
         .arg(number(alloc, "memory", MEMORY, "2000"))?
         .arg(progress(alloc))?
@@ -261,7 +300,7 @@ pub fn commands<'a>(alloc: Global) -> Result<Command<'a>, NoMemory> {
         .about(
             "Runs Verilog in the orders that the standard leaves open, and finds races. Without words: replays standard input.",
         )
-        .version("0.1.0")
+        .version(VERSION)
         .after_help(PAGES)
         .subcommand_required(true)
         .subcommand(check_command(alloc)?)?
@@ -408,18 +447,55 @@ pub fn search_of(matches: &ArgMatches<'_>) -> Search {
     }
 }
 
-/// What a search for races asks for beside its machine: from which time on differences are told, and whether all are named.
+/// How races are written.
+#[derive(Clone, Copy, Debug, PartialEq, Eq)]
+pub enum Format {
+    Text,
+    Json,
+    Sarif,
+}
+
+/// What a search for races asks for beside its machine: from which time on differences are told, whether all are named, how what was
+/// found is written, the file of the waivers, and the file that waivers are written to.
 #[derive(Clone, Copy, Debug)]
-pub struct RaceWords {
+pub struct RaceWords<'a> {
     pub from: u64,
     pub all: bool,
+    pub format: Format,
+    pub waive: Option<&'a str>,
+    pub write_waivers: Option<&'a str>,
+}
+
+/// Whether the value of an option that names a file of waivers reads as an option.
+pub fn has_dashed_waivers(matches: &ArgMatches<'_>) -> bool {
+    is_dashed(matches, "waive") || is_dashed(matches, "write-waivers")
+}
+
+/// Whether waivers are to be written over a file of Verilog.
+pub fn has_waivers_over_file(matches: &ArgMatches<'_>) -> bool {
+    match (matches.get_str("write-waivers"), matches.get_strs("FILE")) {
+        (Some(name), Some(files)) => files.contains(&name),
+        _ => false,
+    }
+}
+
+// The value of `--format`.
+fn format_of(matches: &ArgMatches<'_>) -> Format {
+    match matches.get_str("format") {
+        Some("json") => Format::Json,
+        Some("sarif") => Format::Sarif,
+        _ => Format::Text,
+    }
 }
 
 /// Which differences the words after `races` ask for.
-pub fn race_words_of(matches: &ArgMatches<'_>) -> RaceWords {
+pub fn race_words_of<'a>(matches: &ArgMatches<'a>) -> RaceWords<'a> {
     RaceWords {
         from: matches.get_one::<u64>("ignore-before").unwrap_or(0),
         all: matches.get_flag("all"),
+        format: format_of(matches),
+        waive: matches.get_str("waive"),
+        write_waivers: matches.get_str("write-waivers"),
     }
 }
 
