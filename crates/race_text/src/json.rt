@@ -1,11 +1,11 @@
 // One JSON document for programs (docs/FORMATS.md, "Races as JSON").
 
-use crate::cause::{SOURCE, verb};
 use crate::difference::{Subject, time_of};
 use crate::json_side::{first_difference, next_difference};
 use crate::members::Members;
 use crate::pieces::put_cut;
 use crate::place::Sources;
+use crate::statements::{SOURCE, verb};
 use crate::summary::Findings;
 use crate::waivers::Waiver;
 use basis::NoMemory;

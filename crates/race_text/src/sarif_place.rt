@@ -1,10 +1,10 @@
 // Where statements stand, as SARIF has it: files by their URIs, columns by code points.
 
-use crate::cause::{SOURCE, put_verbs};
 use crate::difference::Subject;
 use crate::members::Members;
 use crate::pieces::{put_cut, put_number};
 use crate::sarif::message;
+use crate::statements::{SOURCE, put_verbs};
 use basis::NoMemory;
 use cause::{Blamed, Cause};
 use serde_json::Value;
