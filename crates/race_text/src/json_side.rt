@@ -146,12 +146,13 @@ fn named(
 ) -> Result<Members, NoMemory> {
     let mut difference = Members::new(alloc);
     difference.number("time", time)?;
-    match variable.and_then(|number| design.variables.get(number)) {
-        None => difference.text("kind", b"lines")?,
-        Some(variable) => {
-            difference.text("kind", b"variable")?;
-            difference.text("name", &variable.name)?;
-        }
+    let Some(number) = variable else {
+        difference.text("kind", b"lines")?;
+        return Ok(difference);
+    };
+    difference.text("kind", b"variable")?;
+    if let Some(variable) = design.variables.get(number) {
+        difference.text("name", &variable.name)?;
     }
     Ok(difference)
 }

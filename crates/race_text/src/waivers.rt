@@ -1,6 +1,7 @@
 // Waivers: which causes are known, and why they may stay (docs/CI.md, "Waivers").
 
 use basis::{NoMemory, number_in};
+use memchr::memchr_iter;
 use std::alloc::Global;
 
 /// A line of a file, as a waiver names it.
@@ -113,12 +114,23 @@ fn waiver_of(text: &[u8], line: u64) -> Option<Waiver<'_>> {
     })
 }
 
+// What stands between these places, without blanks at its ends.
+fn line_between(text: &[u8], begin: usize, end: usize) -> &[u8] {
+    match text.get(begin..end) {
+        None => &[],
+        Some(line) => line.trim_ascii(),
+    }
+}
+
 // The lines of the text.
 fn lines_of(alloc: Global, text: &[u8]) -> Result<Vec<&[u8]>, NoMemory> {
     let mut lines = Vec::new(alloc);
-    for line in text.split(|byte| *byte == b'\n') {
-        lines.push(line.trim_ascii())?;
+    let mut begin = 0;
+    for feed in memchr_iter(b'\n', text) {
+        lines.push(line_between(text, begin, feed))?;
+        begin = feed.saturating_add(1);
     }
+    lines.push(line_between(text, begin, text.len()))?;
     Ok(lines)
 }
 
