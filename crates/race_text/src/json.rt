@@ -6,7 +6,7 @@ use crate::members::Members;
 use crate::pieces::put_cut;
 use crate::place::Sources;
 use crate::statements::{SOURCE, verb};
-use crate::summary::Findings;
+use crate::summary::{Findings, matched_at};
 use crate::waivers::Waiver;
 use basis::NoMemory;
 use cause::{Blamed, Cause, Thing};
@@ -189,8 +189,8 @@ fn put_seen(members: &mut Members, findings: &Findings<'_>) -> Result<(), NoMemo
     members.number("ignored", races.ignored)
 }
 
-// What was found of the top module.
-fn top_of(alloc: Global, findings: &Findings<'_>) -> Result<Value, NoMemory> {
+/// What was found of a top module.
+pub fn top_of(alloc: Global, findings: &Findings<'_>) -> Result<Value, NoMemory> {
     let mut members = Members::new(alloc);
     members.text("top", &findings.machine.design().top)?;
     put_seen(&mut members, findings)?;
@@ -208,10 +208,14 @@ fn waiver_of(alloc: Global, waiver: &Waiver<'_>, matched: u64) -> Result<Value, 
 }
 
 // The waivers.
-fn waivers(alloc: Global, findings: &Findings<'_>) -> Result<Vec<Value>, NoMemory> {
+fn waivers_of(
+    alloc: Global,
+    waivers: &[Waiver<'_>],
+    matched: &[u64],
+) -> Result<Vec<Value>, NoMemory> {
     let mut list = Vec::new(alloc);
-    for (place, waiver) in findings.waivers.iter().enumerate() {
-        list.push(waiver_of(alloc, waiver, findings.waived.count(place))?)?;
+    for (place, waiver) in waivers.iter().enumerate() {
+        list.push(waiver_of(alloc, waiver, matched_at(matched, place))?)?;
     }
     Ok(list)
 }
@@ -223,13 +227,16 @@ pub fn document(alloc: Global, value: &Value) -> Result<Vec<u8>, NoMemory> {
     Ok(text)
 }
 
-/// The races, each by its cause, and what wasn't looked at, as one JSON document.
-pub fn races_json(alloc: Global, findings: &Findings<'_>) -> Result<Vec<u8>, NoMemory> {
-    let mut tops = Vec::new(alloc);
-    tops.push(top_of(alloc, findings)?)?;
+/// What was found of each top module, and what waivers matched in all of them, as one JSON document.
+pub fn json_of(
+    alloc: Global,
+    tops: Vec<Value>,
+    waivers: &[Waiver<'_>],
+    matched: &[u64],
+) -> Result<Vec<u8>, NoMemory> {
     let mut members = Members::new(alloc);
     members.number("version", 1)?;
     members.list("tops", tops)?;
-    members.list("waivers", waivers(alloc, findings)?)?;
+    members.list("waivers", waivers_of(alloc, waivers, matched)?)?;
     document(alloc, &members.whole())
 }

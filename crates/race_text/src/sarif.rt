@@ -5,7 +5,7 @@ use crate::json::document;
 use crate::members::Members;
 use crate::pieces::{put_count, put_number};
 use crate::sarif_place::{Locations, fingerprint, locations_of, put_deeds};
-use crate::summary::{Findings, put_matched, put_seen};
+use crate::summary::{Findings, matched_at, put_matched, put_seen, put_top};
 use crate::waivers::Waiver;
 use basis::NoMemory;
 use cause::Cause;
@@ -136,9 +136,12 @@ fn result_of(
     Ok(members.whole())
 }
 
-// The results.
-fn results(alloc: Global, findings: &Findings<'_>) -> Result<Vec<Value>, NoMemory> {
-    let mut list = Vec::new(alloc);
+/// Puts a result for each race of a top module.
+pub fn push_results(
+    alloc: Global,
+    list: &mut Vec<Value>,
+    findings: &Findings<'_>,
+) -> Result<(), NoMemory> {
     for (place, group) in findings.races.groups.iter().enumerate() {
         let subject = Subject {
             machine: findings.machine,
@@ -147,7 +150,7 @@ fn results(alloc: Global, findings: &Findings<'_>) -> Result<Vec<Value>, NoMemor
         };
         list.push(result_of(alloc, subject, findings.waiver(place))?)?;
     }
-    Ok(list)
+    Ok(())
 }
 
 // A notification of the tool.
@@ -158,14 +161,41 @@ fn notification(alloc: Global, level: &[u8], text: &[u8]) -> Result<Value, NoMem
     Ok(members.whole())
 }
 
-// The waivers that matched nothing.
-fn push_unmatched(
+// What was left unseen, behind the name of the top module where several are told.
+fn unseen(alloc: Global, findings: &Findings<'_>, is_headed: bool) -> Result<Vec<u8>, NoMemory> {
+    let mut text = Vec::new(alloc);
+    if is_headed {
+        put_top(&mut text, findings)?;
+    }
+    put_seen(&mut text, findings)?;
+    text.push(b'.')?;
+    Ok(text)
+}
+
+/// Puts a notification where something of a top module was left unseen.
+pub fn push_unseen(
     alloc: Global,
     list: &mut Vec<Value>,
     findings: &Findings<'_>,
+    is_headed: bool,
 ) -> Result<(), NoMemory> {
-    for (place, waiver) in findings.waivers.iter().enumerate() {
-        if findings.waived.count(place) == 0 {
+    let races = findings.races;
+    if races.cut_runs || races.search.status != RankedStatus::Exhausted {
+        let text = unseen(alloc, findings, is_headed)?;
+        list.push(notification(alloc, b"warning", text.trim_ascii_start())?)?;
+    }
+    Ok(())
+}
+
+/// Puts a notification for each waiver that matched nothing.
+pub fn push_unmatched(
+    alloc: Global,
+    list: &mut Vec<Value>,
+    waivers: &[Waiver<'_>],
+    matched: &[u64],
+) -> Result<(), NoMemory> {
+    for (place, waiver) in waivers.iter().enumerate() {
+        if matched_at(matched, place) == 0 {
             let mut text = Vec::new(alloc);
             put_matched(&mut text, waiver, 0)?;
             list.push(notification(alloc, b"note", &text)?)?;
@@ -174,49 +204,40 @@ fn push_unmatched(
     Ok(())
 }
 
-// That something was left unseen, where it was, and which waivers matched nothing.
-fn notifications(alloc: Global, findings: &Findings<'_>) -> Result<Vec<Value>, NoMemory> {
-    let mut list = Vec::new(alloc);
-    let races = findings.races;
-    if races.cut_runs || races.search.status != RankedStatus::Exhausted {
-        let mut text = Vec::new(alloc);
-        put_seen(&mut text, findings)?;
-        text.push(b'.')?;
-        list.push(notification(alloc, b"warning", text.trim_ascii_start())?)?;
-    }
-    push_unmatched(alloc, &mut list, findings)?;
-    Ok(list)
-}
-
 // The call of the tool.
-fn invocation(alloc: Global, findings: &Findings<'_>) -> Result<Value, NoMemory> {
+fn invocation(alloc: Global, notifications: Vec<Value>) -> Result<Value, NoMemory> {
     let mut members = Members::new(alloc);
     members.flag("executionSuccessful", true)?;
-    let list = notifications(alloc, findings)?;
-    members.list("toolExecutionNotifications", list)?;
+    members.list("toolExecutionNotifications", notifications)?;
     Ok(members.whole())
 }
 
 // The run of the tool.
-fn run(alloc: Global, findings: &Findings<'_>, version: &str) -> Result<Value, NoMemory> {
+fn run(
+    alloc: Global,
+    results: Vec<Value>,
+    notifications: Vec<Value>,
+    version: &str,
+) -> Result<Value, NoMemory> {
     let mut invocations = Vec::new(alloc);
-    invocations.push(invocation(alloc, findings)?)?;
+    invocations.push(invocation(alloc, notifications)?)?;
     let mut members = Members::new(alloc);
     members.value("tool", tool(alloc, version)?)?;
     members.text("columnKind", b"unicodeCodePoints")?;
     members.list("invocations", invocations)?;
-    members.list("results", results(alloc, findings)?)?;
+    members.list("results", results)?;
     Ok(members.whole())
 }
 
-/// The races, each by its cause, as a SARIF 2.1.0 log; the version is that of the program.
-pub fn races_sarif(
+/// The results and the notifications as a SARIF 2.1.0 log; the version is that of the program.
+pub fn sarif_of(
     alloc: Global,
-    findings: &Findings<'_>,
+    results: Vec<Value>,
+    notifications: Vec<Value>,
     version: &str,
 ) -> Result<Vec<u8>, NoMemory> {
     let mut runs = Vec::new(alloc);
-    runs.push(run(alloc, findings, version)?)?;
+    runs.push(run(alloc, results, notifications, version)?)?;
     let mut members = Members::new(alloc);
     members.text("$schema", SCHEMA)?;
     members.text("version", b"2.1.0")?;

@@ -1,4 +1,4 @@
-// The last lines: how many races there are, and what wasn't looked at.
+// The last lines: how many races there are, what wasn't looked at, and what waivers matched.
 
 use crate::pieces::{put_count, put_number};
 use crate::place::Sources;
@@ -32,7 +32,8 @@ impl Told {
     }
 }
 
-/// What a document is made of: the races of a machine, the files that they are of, what is told beside them, and which of them are waived.
+/// What is told of a top module: the races of its machine, the files that they are of, what is told beside them, and which of them are
+/// waived.
 #[derive(Clone, Copy)]
 pub struct Findings<'a> {
     pub machine: &'a Machine,
@@ -48,6 +49,14 @@ impl<'a> Findings<'a> {
     pub fn waiver(&self, group: usize) -> Option<&'a Waiver<'a>> {
         self.waivers.get(self.waived.by(group)?)
     }
+}
+
+/// `top tb:`
+pub fn put_top(text: &mut Vec<u8>, findings: &Findings<'_>) -> Result<(), NoMemory> {
+    text.extend_from_slice(b"top ")?;
+    text.extend_from_slice(&findings.machine.design().top)?;
+    text.push(b':')?;
+    Ok(())
 }
 
 // How many differences there are in all.
@@ -165,16 +174,25 @@ pub fn put_matched(text: &mut Vec<u8>, waiver: &Waiver<'_>, count: u64) -> Resul
     put_count(text, count, b"cause")
 }
 
-// What each waiver matched, a line each.
-fn put_waivers(text: &mut Vec<u8>, findings: &Findings<'_>) -> Result<(), NoMemory> {
-    for (place, waiver) in findings.waivers.iter().enumerate() {
-        put_matched(text, waiver, findings.waived.count(place))?;
+/// The number at this place of what waivers matched.
+pub fn matched_at(matched: &[u64], place: usize) -> u64 {
+    matched.get(place).copied().unwrap_or(0)
+}
+
+/// What each waiver matched, a line each.
+pub fn put_waivers(
+    text: &mut Vec<u8>,
+    waivers: &[Waiver<'_>],
+    matched: &[u64],
+) -> Result<(), NoMemory> {
+    for (place, waiver) in waivers.iter().enumerate() {
+        put_matched(text, waiver, matched_at(matched, place))?;
         text.push(b'\n')?;
     }
     Ok(())
 }
 
-/// How many races there are, what wasn't looked at, and what waivers matched.
+/// How many races there are, and what wasn't looked at.
 pub fn put_summary(text: &mut Vec<u8>, findings: &Findings<'_>) -> Result<(), NoMemory> {
     let Findings { races, told, .. } = *findings;
     put_counts(text, &races.groups, findings.waived.waived())?;
@@ -186,5 +204,5 @@ pub fn put_summary(text: &mut Vec<u8>, findings: &Findings<'_>) -> Result<(), No
         put_number(text, told.from)?;
         text.extend_from_slice(b" passed over.\n")?;
     }
-    put_waivers(text, findings)
+    Ok(())
 }

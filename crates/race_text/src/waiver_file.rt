@@ -45,10 +45,12 @@ fn line_of_cause(
 }
 
 // The remark that stands for a waiver of the group, where none can be written.
-fn remark(alloc: Global, number: u64) -> Result<Vec<u8>, NoMemory> {
+fn remark(alloc: Global, findings: &Findings<'_>, number: u64) -> Result<Vec<u8>, NoMemory> {
     let mut line = Vec::new(alloc);
     line.extend_from_slice(b"# race ")?;
     put_number(&mut line, number)?;
+    line.extend_from_slice(b" of ")?;
+    line.extend_from_slice(&findings.machine.design().top)?;
     line.extend_from_slice(b" has no two lines that a waiver can name")?;
     Ok(line)
 }
@@ -68,7 +70,7 @@ fn line_of(
             return Ok(line);
         }
     }
-    remark(alloc, (place as u64).saturating_add(1))
+    remark(alloc, findings, (place as u64).saturating_add(1))
 }
 
 // Whether the line stands among these.
@@ -81,24 +83,42 @@ fn is_among(lines: &[Vec<u8>], line: &[u8]) -> bool {
     false
 }
 
-// The lines for all groups, each once.
-fn lines_of(alloc: Global, findings: &Findings<'_>) -> Result<Vec<Vec<u8>>, NoMemory> {
-    let mut lines = Vec::new(alloc);
-    for (place, group) in findings.races.groups.iter().enumerate() {
-        let line = line_of(alloc, findings, place, group)?;
-        if !is_among(&lines, &line) {
-            lines.push(line)?;
-        }
-    }
-    Ok(lines)
+/// The lines of a file of waivers, each once.
+#[derive(Drop)]
+pub struct WaiverLines {
+    alloc: Global,
+    lines: Vec<Vec<u8>>,
 }
 
-/// A waiver of each race, by the lines of its two statements, with `todo` as the reason; of one that is waived the line of its waiver.
-pub fn waivers_text(alloc: Global, findings: &Findings<'_>) -> Result<Vec<u8>, NoMemory> {
-    let mut text = Vec::new(alloc);
-    for line in lines_of(alloc, findings)? {
-        text.extend_from_slice(&line)?;
-        text.push(b'\n')?;
+impl WaiverLines {
+    /// None yet.
+    pub fn new(alloc: Global) -> WaiverLines {
+        WaiverLines {
+            alloc,
+            lines: Vec::new(alloc),
+        }
     }
-    Ok(text)
+
+    /// A waiver of each race of a top module, by the lines of its two statements, with `todo` as the reason; of one that is waived the
+    /// line of its waiver.
+    pub fn waive(&mut self, findings: &Findings<'_>) -> Result<(), NoMemory> {
+        for (place, group) in findings.races.groups.iter().enumerate() {
+            let line = line_of(self.alloc, findings, place, group)?;
+            if !is_among(&self.lines, &line) {
+                self.lines.push(line)?;
+            }
+        }
+        Ok(())
+    }
+
+    /// The lines as a text.
+    pub fn text(self) -> Result<Vec<u8>, NoMemory> {
+        let WaiverLines { alloc, lines } = self;
+        let mut text = Vec::new(alloc);
+        for line in lines {
+            text.extend_from_slice(&line)?;
+            text.push(b'\n')?;
+        }
+        Ok(text)
+    }
 }

@@ -1,4 +1,4 @@
-// The text of all races.
+// The text of the races of a top module.
 
 use crate::difference::{Row, Subject, put_difference, put_name, put_sides, rows_of, time_of};
 use crate::pieces::{put_count, put_cut, put_number};
@@ -129,17 +129,19 @@ fn put_group(
     put_more(text, machine.design(), group, findings.told.all)
 }
 
-/// The races, each by its cause, and what wasn't looked at.
-pub fn races_text(alloc: Global, findings: &Findings<'_>) -> Result<Vec<u8>, NoMemory> {
-    let mut text = Vec::new(alloc);
+/// The races of a top module, each by its cause, and what wasn't looked at.
+pub fn put_races(
+    alloc: Global,
+    text: &mut Vec<u8>,
+    findings: &Findings<'_>,
+) -> Result<(), NoMemory> {
     for (place, group) in findings.races.groups.iter().enumerate() {
         let subject = Subject {
             machine: findings.machine,
             sources: findings.sources,
             group,
         };
-        put_group(alloc, &mut text, findings, subject, place)?;
+        put_group(alloc, text, findings, subject, place)?;
     }
-    put_summary(&mut text, findings)?;
-    Ok(text)
+    put_summary(text, findings)
 }

@@ -1,11 +1,13 @@
-//! The program `vrace`. In go words and Verilog; out comes a report, a value change dump or printed lines on standard output, or one line
-//! with the number of a fault on standard error. What an exploration writes is the contract of `vrace::explore_text_alone`,
-//! with several workers of `vrace::explore_text`, and by time of `vrace::explore_text_in_time`; what `races` tells is found by `vrace::find_races_in`; what a replay writes that of `vrace::replay_text`.
+//! The program `vrace`. In go words and Verilog; out comes a report, the races of top modules, a value change dump or printed lines on
+//! standard output, or one line with the number of a fault on standard error. What an exploration writes is the contract of
+//! `vrace::explore_text_alone`, with several workers of `vrace::explore_text`, and by time of `vrace::explore_text_in_time`; what `races`
+//! tells is found by `vrace::find_races_in`; what a replay writes is the contract of `vrace::replay_text`.
 #![tactic(auto)]
 
 mod explanations;
 mod meter;
 mod races;
+mod times;
 mod words;
 
 use basis::NoMemory;
@@ -85,6 +87,12 @@ enum Stop {
 impl From<Fault> for Stop {
     fn from(fault: Fault) -> Stop {
         Stop::Refused(fault)
+    }
+}
+
+impl From<NoMemory> for Stop {
+    fn from(_: NoMemory) -> Stop {
+        Stop::NoMemory
     }
 }
 
@@ -221,11 +229,16 @@ fn explore_by_time<W: Write>(
     Ok(timed_code(&timed))
 }
 
-// The options that an exploration asks for, if each of its numbers is within its limit.
-fn options_of<'a>(request: &Request<'a>, search: &Search) -> Result<Options<'a>, Fault> {
+// The options of an exploration of this top module up to this time, if each number is within its limit.
+fn options_for<'a>(
+    request: &Request<'a>,
+    search: &Search,
+    top: Option<&'a str>,
+    until: u64,
+) -> Result<Options<'a>, Fault> {
     let mut options = Options::new(
-        request.top.map(|name| name.as_bytes()),
-        request.until,
+        top.map(|name| name.as_bytes()),
+        until,
         search.depart,
         request.steps,
         search.entries.unwrap_or(ENTRIES),
@@ -239,6 +252,11 @@ fn options_of<'a>(request: &Request<'a>, search: &Search) -> Result<Options<'a>,
         }
     }
     Ok(options)
+}
+
+// The options that an exploration asks for.
+fn options_of<'a>(request: &Request<'a>, search: &Search) -> Result<Options<'a>, Fault> {
+    options_for(request, search, request.top, request.until)
 }
 
 // Writes the report of what is asked for onto standard output.
@@ -375,15 +393,9 @@ fn races_by<'a>(rt: &HostRuntime, matches: &ArgMatches<'a>) -> Result<ExitCode, 
     if has_dashed_top(matches) || has_dashed_waivers(matches) || has_waivers_over_file(matches) {
         return Err(Stop::Usage);
     }
-    let Ok(request) = race_request_of(rt.alloc(), matches) else {
-        return Err(Stop::NoMemory);
-    };
-    tell_races(
-        rt,
-        &request,
-        &race_search_of(matches),
-        race_words_of(matches),
-    )
+    let request = race_request_of(rt.alloc(), matches)?;
+    let words = race_words_of(rt.alloc(), matches)?;
+    tell_races(rt, &request, &race_search_of(matches), &words)
 }
 
 // Checks what the words ask for.

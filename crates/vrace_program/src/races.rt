@@ -1,14 +1,15 @@
-// The races of files, told to people.
+// The races of files, told to people and to programs.
 
 use crate::meter::{Allowance, Meter};
-use crate::words::{Format, RaceWords, Request, Search, VERSION};
-use crate::{Stop, finish, options_of, read_file, texts};
+use crate::times::{Bounds, Times};
+use crate::words::{RaceWords, Request, Search, VERSION};
+use crate::{Stop, finish, options_for, read_file, texts};
 use basis::NoMemory;
 use byte_sinks::Metered;
 use race_groups::{Races, Scope};
 use race_text::{
-    Findings, NAMED, Sources, Told, Waived, Waiver, WaiverFault, WaiverScope, races_json,
-    races_sarif, races_text, read_waivers, waivers_text,
+    Findings, NAMED, Sources, Told, Tops, Waived, Waiver, WaiverFault, WaiverLines, WaiverScope,
+    read_waivers,
 };
 use std::alloc::Global;
 use std::io::{BufWriter, Write};
@@ -32,49 +33,68 @@ fn stopped_by(spent: Spent) -> &'static [u8] {
     }
 }
 
-// The exit status: 1 where a race is told that isn't waived, 3 where none is and something wasn't seen.
-fn code_of(races: &Races, waived: &Waived) -> ExitCode {
+// What searches say in one word, the worse later.
+#[derive(Clone, Copy, Debug, PartialEq, Eq)]
+enum Verdict {
+    // No race that isn't waived, and nothing was left unseen.
+    Clean,
+    // No such race, and something was left unseen.
+    Unseen,
+    // A race that isn't waived.
+    Raced,
+}
+
+// What a search says.
+fn verdict_of(races: &Races, waived: &Waived) -> Verdict {
     if !waived.are_all() {
-        return ExitCode::from(1);
-    }
-    if races.search.status == RankedStatus::Exhausted && !races.cut_runs {
-        ExitCode::SUCCESS
+        Verdict::Raced
+    } else if races.search.status == RankedStatus::Exhausted && !races.cut_runs {
+        Verdict::Clean
     } else {
-        ExitCode::from(3)
+        Verdict::Unseen
+    }
+}
+
+impl Verdict {
+    // The worse one of two.
+    fn worse(self, other: Verdict) -> Verdict {
+        match (self, other) {
+            (Verdict::Raced, _) => Verdict::Raced,
+            (Verdict::Unseen, Verdict::Clean) => Verdict::Unseen,
+            (Verdict::Unseen, _) => other,
+            (Verdict::Clean, _) => other,
+        }
+    }
+
+    // The exit status.
+    fn code(self) -> ExitCode {
+        match self {
+            Verdict::Clean => ExitCode::SUCCESS,
+            Verdict::Unseen => ExitCode::from(3),
+            Verdict::Raced => ExitCode::from(1),
+        }
     }
 }
 
 // What is told beside the races.
 fn told_of<R: Clock + Eprint>(
     options: &Options<'_>,
-    words: RaceWords<'_>,
+    scope: &Scope,
+    all: bool,
     meter: &Meter<'_, R>,
 ) -> Told {
     Told {
         departures: options.limits.depart,
-        from: words.from,
-        all: words.all,
+        from: scope.from,
+        all,
         states: meter.states(),
         milliseconds: meter.passed(),
         stopped_by: stopped_by(meter.spent()),
     }
 }
 
-// What was found, in this format.
-fn document(alloc: Global, findings: &Findings<'_>, format: Format) -> Result<Vec<u8>, Stop> {
-    let document = match format {
-        Format::Text => races_text(alloc, findings),
-        Format::Json => races_json(alloc, findings),
-        Format::Sarif => races_sarif(alloc, findings, VERSION),
-    };
-    match document {
-        Ok(text) => Ok(text),
-        Err(_) => Err(Stop::NoMemory),
-    }
-}
-
 // The text of the file of waivers.
-fn waivers_of(rt: &HostRuntime, words: RaceWords<'_>) -> Result<Vec<u8>, Stop> {
+fn waivers_of(rt: &HostRuntime, words: &RaceWords<'_>) -> Result<Vec<u8>, Stop> {
     match words.waive {
         None => Ok(Vec::new(rt.alloc())),
         Some(name) => Ok(read_file(rt, name)?),
@@ -101,10 +121,10 @@ fn some_asks_for_names(waivers: &[Waiver<'_>]) -> bool {
 }
 
 // Which differences are told, and how many are kept by name.
-fn scope_of(words: RaceWords<'_>, waivers: &[Waiver<'_>]) -> Scope {
+fn scope_of(all: bool, waivers: &[Waiver<'_>], from: u64) -> Scope {
     Scope {
-        from: words.from,
-        names: if words.all || some_asks_for_names(waivers) {
+        from,
+        names: if all || some_asks_for_names(waivers) {
             usize::MAX
         } else {
             NAMED
@@ -118,82 +138,103 @@ fn waived_of(
     found: &FoundRaces,
     sources: &Sources<'_>,
     waivers: &[Waiver<'_>],
-) -> Result<Waived, Stop> {
+) -> Result<Waived, NoMemory> {
     let design = found.machine.design();
-    match Waived::new(alloc, waivers, design, sources, &found.races.groups) {
-        Ok(waived) => Ok(waived),
-        Err(_) => Err(Stop::NoMemory),
-    }
+    Waived::new(alloc, waivers, design, sources, &found.races.groups)
 }
 
-// What is asked for: the files, by their names and texts, how they are searched, and the waivers.
+// What is asked for: the files, by their names and texts, how they are searched, between which times, and the waivers.
 #[derive(Clone, Copy)]
 struct Asked<'a> {
     names: &'a [&'a str],
     texts: &'a [Vec<u8>],
-    options: &'a Options<'a>,
-    words: RaceWords<'a>,
+    request: &'a Request<'a>,
+    search: &'a Search,
+    words: &'a RaceWords<'a>,
     waivers: &'a [Waiver<'a>],
+    bounds: Bounds,
 }
 
-// What is written: the document, the file of waivers where one is asked for, and the exit status.
+// What was told so far: of each top module, the file of waivers, and the worst that was found.
 #[derive(Drop)]
-struct Answer {
-    document: Vec<u8>,
-    waivers: Vec<u8>,
-    code: ExitCode,
+struct Answer<'w> {
+    tops: Tops<'w>,
+    waivers: WaiverLines,
+    verdict: Verdict,
 }
 
-// The waivers of what was found, where they are asked for.
-fn written_waivers(
-    alloc: Global,
+// Nothing.
+fn no_answer<'w>(alloc: Global, words: &RaceWords<'_>, waivers: &'w [Waiver<'w>]) -> Answer<'w> {
+    Answer {
+        tops: Tops::new(alloc, words.format, words.tops.len() > 1, waivers),
+        waivers: WaiverLines::new(alloc),
+        verdict: Verdict::Clean,
+    }
+}
+
+// Puts what was found of a top module.
+fn put_findings(
+    answer: &mut Answer<'_>,
     findings: &Findings<'_>,
-    words: RaceWords<'_>,
-) -> Result<Vec<u8>, Stop> {
-    if words.write_waivers.is_none() {
-        return Ok(Vec::new(alloc));
+    is_written: bool,
+) -> Result<(), NoMemory> {
+    answer.tops.tell(findings)?;
+    if is_written {
+        answer.waivers.waive(findings)?;
     }
-    match waivers_text(alloc, findings) {
-        Ok(text) => Ok(text),
-        Err(_) => Err(Stop::NoMemory),
-    }
+    let verdict = verdict_of(findings.races, findings.waived);
+    answer.verdict = answer.verdict.worse(verdict);
+    Ok(())
 }
 
-// What was found in the files, as a document.
-fn told_in<R: Clock + Eprint>(
+// Searches the top module, or the only one, and puts what was found.
+fn tell_top<R: Clock + Eprint>(
     alloc: Global,
     asked: &Asked<'_>,
+    top: Option<&str>,
     meter: &mut Meter<'_, R>,
-) -> Result<Answer, Stop> {
-    let Asked {
-        names,
-        texts,
-        options,
-        words,
-        waivers,
-    } = *asked;
-    let scope = scope_of(words, waivers);
-    let found = find_races_in(alloc, texts, options, &scope, meter)?;
+    answer: &mut Answer<'_>,
+) -> Result<(), Stop> {
+    let words = asked.words;
+    let options = options_for(asked.request, asked.search, top, asked.bounds.until)?;
+    let scope = scope_of(words.all, asked.waivers, asked.bounds.from);
+    let found = find_races_in(alloc, asked.texts, &options, &scope, meter)?;
     let sources = Sources {
-        names,
-        texts,
+        names: asked.names,
+        texts: asked.texts,
         origins: &found.origins,
     };
-    let waived = waived_of(alloc, &found, &sources, waivers)?;
-    let told = told_of(options, words, meter);
+    let waived = waived_of(alloc, &found, &sources, asked.waivers)?;
+    let told = told_of(&options, &scope, words.all, meter);
     let findings = Findings {
         machine: &found.machine,
         sources: &sources,
         races: &found.races,
         told: &told,
-        waivers,
+        waivers: asked.waivers,
         waived: &waived,
     };
-    Ok(Answer {
-        document: document(alloc, &findings, words.format)?,
-        waivers: written_waivers(alloc, &findings, words)?,
-        code: code_of(&found.races, &waived),
-    })
+    put_findings(answer, &findings, words.write_waivers.is_some())?;
+    Ok(())
+}
+
+// Searches each top module on its own, each with all that a search may take.
+fn tell_tops<'w>(
+    rt: &HostRuntime,
+    asked: &Asked<'_>,
+    waivers: &'w [Waiver<'w>],
+) -> Result<Answer<'w>, Stop> {
+    let allowance = asked.search.allowance.unwrap_or(NO_LIMIT);
+    let mut answer = no_answer(rt.alloc(), asked.words, waivers);
+    if asked.words.tops.is_empty() {
+        let mut meter = Meter::new(rt, allowance);
+        tell_top(rt.alloc(), asked, None, &mut meter, &mut answer)?;
+    }
+    for top in &asked.words.tops {
+        let mut meter = Meter::new(rt, allowance);
+        tell_top(rt.alloc(), asked, Some(*top), &mut meter, &mut answer)?;
+    }
+    Ok(answer)
 }
 
 // The name of a file with `.new` behind it.
@@ -205,9 +246,7 @@ fn new_name(alloc: Global, name: &str) -> Result<String, NoMemory> {
 
 // Writes the file beside, and then gives it its name, so that nothing half written stays.
 fn write_file(rt: &HostRuntime, name: &str, text: &[u8]) -> Result<(), Stop> {
-    let Ok(new) = new_name(rt.alloc(), name) else {
-        return Err(Stop::NoMemory);
-    };
+    let new = new_name(rt.alloc(), name)?;
     if fs::write(rt, new.as_str(), text).is_ok() && fs::rename(rt, new.as_str(), name).is_ok() {
         return Ok(());
     }
@@ -227,29 +266,47 @@ fn write_out(rt: &HostRuntime, text: &[u8]) -> Result<(), Stop> {
     finish(&mut writer)
 }
 
+// Writes what was told, and the file of waivers where one is asked for.
+fn write_answer(
+    rt: &HostRuntime,
+    words: &RaceWords<'_>,
+    answer: Answer<'_>,
+) -> Result<ExitCode, Stop> {
+    let Answer {
+        tops,
+        waivers,
+        verdict,
+    } = answer;
+    let document = tops.document(VERSION)?;
+    let waivers = waivers.text()?;
+    if let Some(name) = words.write_waivers {
+        write_file(rt, name, &waivers)?;
+    }
+    write_out(rt, &document)?;
+    Ok(verdict.code())
+}
+
 /// Tells the races of what is asked for on standard output.
 pub fn tell_races(
     rt: &HostRuntime,
     request: &Request<'_>,
     search: &Search,
-    words: RaceWords<'_>,
+    words: &RaceWords<'_>,
 ) -> Result<ExitCode, Stop> {
-    let options = options_of(request, search)?;
+    options_for(request, search, None, 0)?;
+    let times = Times::new(words.until, words.from)?;
     let waivers = waivers_of(rt, words)?;
     let waivers = read(rt.alloc(), &waivers)?;
     let texts = texts(rt, &request.files)?;
-    let mut meter = Meter::new(rt, search.allowance.unwrap_or(NO_LIMIT));
     let asked = Asked {
         names: &request.files,
         texts: &texts,
-        options: &options,
+        request,
+        search,
         words,
         waivers: &waivers,
+        bounds: times.bounds(rt.alloc(), &texts)?,
     };
-    let answer = told_in(rt.alloc(), &asked, &mut meter)?;
-    if let Some(name) = words.write_waivers {
-        write_file(rt, name, &answer.waivers)?;
-    }
-    write_out(rt, &answer.document)?;
-    Ok(answer.code)
+    let answer = tell_tops(rt, &asked, &waivers)?;
+    write_answer(rt, words, answer)
 }
