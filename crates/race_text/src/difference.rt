@@ -75,8 +75,8 @@ fn put_variable(text: &mut Vec<u8>, design: &Design, number: usize) -> Result<()
     Ok(())
 }
 
-// Whether the second log is the first without its last member.
-fn is_parent(log: &Log, parent: &Log) -> bool {
+/// Whether the second log is the first without its last member.
+pub fn is_parent(log: &Log, parent: &Log) -> bool {
     match log.members().split_last() {
         None => false,
         Some((_, front)) => front == parent.members(),
@@ -105,8 +105,8 @@ fn put_order(text: &mut Vec<u8>, subject: Subject<'_>, log: &Log) -> Result<(), 
     Ok(())
 }
 
-// The text of the log, with the name of the setting where it has departures.
-fn log_text(alloc: Global, machine: &Machine, log: &Log) -> Result<Vec<u8>, NoMemory> {
+/// The text of the log, with the name of the setting where it has departures.
+pub fn log_text(alloc: Global, machine: &Machine, log: &Log) -> Result<Vec<u8>, NoMemory> {
     let head = if log.members().is_empty() {
         LogHead::Plain
     } else {

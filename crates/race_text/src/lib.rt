@@ -1,16 +1,28 @@
-// What `vrace races` tells people (docs/RACES.md, "The races of a testbench"). In go the races that a search found, by their causes, and
-// the files that they are of; out comes the text.
+// What `vrace races` tells people (docs/RACES.md, "The races of a testbench") and programs (docs/FORMATS.md, "Races as JSON", "Races as
+// SARIF"). In go the races that a search found, by their causes, the files that they are of, and waivers; out comes the text, or a document.
 // No law is claimed: how it is told the cases in tests/cases compare.
 #![tactic(auto)]
 
 mod difference;
+mod json;
+mod json_side;
+mod members;
 mod pieces;
 mod place;
+mod sarif;
+mod sarif_place;
 mod statements;
 mod summary;
+mod tops;
 mod value;
+mod waived;
+mod waiver_file;
+mod waivers;
 mod whole;
 
 pub use place::Sources;
-pub use summary::Told;
-pub use whole::races_text;
+pub use summary::{Findings, NAMED, Told};
+pub use tops::{Format, Tops};
+pub use waived::Waived;
+pub use waiver_file::WaiverLines;
+pub use waivers::{Spot, Waiver, WaiverFault, WaiverScope, read_waivers};

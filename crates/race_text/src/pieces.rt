@@ -1,13 +1,13 @@
 // Pieces of a text: numbers, blanks, and bytes that a terminal shows as they are.
 
 use basis::NoMemory;
-use itoa::Buffer;
+use std::alloc::Global;
+use value_text::{put_hexadecimal, put_short_decimal};
+use vbits::Vec4;
 
 /// The number in decimal.
 pub fn put_number(text: &mut Vec<u8>, n: u64) -> Result<(), NoMemory> {
-    let mut digits = Buffer::new();
-    text.extend_from_slice(digits.format(n).as_bytes())?;
-    Ok(())
+    put_short_decimal(text, Vec4::from_u64(64, n))
 }
 
 /// So many of something: `1 race`, `2 races`.
@@ -30,26 +30,10 @@ pub fn put_padded(text: &mut Vec<u8>, bytes: &[u8], width: usize) -> Result<(), 
     Ok(())
 }
 
-// A digit of a hexadecimal number.
-fn hexadecimal_digit(n: u8) -> u8 {
-    match n {
-        0 => b'0',
-        1 => b'1',
-        2 => b'2',
-        3 => b'3',
-        4 => b'4',
-        5 => b'5',
-        6 => b'6',
-        7 => b'7',
-        8 => b'8',
-        9 => b'9',
-        10 => b'a',
-        11 => b'b',
-        12 => b'c',
-        13 => b'd',
-        14 => b'e',
-        _ => b'f',
-    }
+// `\x1b`: the byte by its two hexadecimal digits.
+fn put_escape(text: &mut Vec<u8>, byte: u8) -> Result<(), NoMemory> {
+    text.extend_from_slice(b"\\x")?;
+    put_hexadecimal(text, Vec4::from_u64(8, u64::from(byte)))
 }
 
 // A byte, as `\x1b` where a terminal would take it for a command.
@@ -58,10 +42,7 @@ fn put_shown(text: &mut Vec<u8>, byte: u8) -> Result<(), NoMemory> {
         text.push(byte)?;
         return Ok(());
     }
-    text.extend_from_slice(b"\\x")?;
-    text.push(hexadecimal_digit(byte / 16))?;
-    text.push(hexadecimal_digit(byte % 16))?;
-    Ok(())
+    put_escape(text, byte)
 }
 
 /// The first so many bytes as a terminal may be shown them, and `..` where there are more.
@@ -73,4 +54,32 @@ pub fn put_cut(text: &mut Vec<u8>, bytes: &[u8], most: usize) -> Result<(), NoMe
         text.extend_from_slice(b"..")?;
     }
     Ok(())
+}
+
+// The letters of an escape, behind a string.
+fn put_letters(text: &mut String, letters: &[u8]) -> Result<(), NoMemory> {
+    for letter in letters {
+        text.push(char::from(*letter))?;
+    }
+    Ok(())
+}
+
+// Puts `\xff` for each of these bytes.
+fn put_escaped(alloc: Global, text: &mut String, bytes: &[u8]) -> Result<(), NoMemory> {
+    for byte in bytes {
+        let mut escape = Vec::new(alloc);
+        put_escape(&mut escape, *byte)?;
+        put_letters(text, &escape)?;
+    }
+    Ok(())
+}
+
+/// The bytes as a string: what is UTF-8 as it is, every other byte as `\xff`.
+pub fn string_of(alloc: Global, bytes: &[u8]) -> Result<String, NoMemory> {
+    let mut text = String::new(alloc);
+    for chunk in bytes.utf8_chunks() {
+        text.push_str(chunk.valid())?;
+        put_escaped(alloc, &mut text, chunk.invalid())?;
+    }
+    Ok(text)
 }

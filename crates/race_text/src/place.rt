@@ -49,14 +49,27 @@ impl<'a> Sources<'a> {
         }
     }
 
-    /// The source from the place to the end of its line.
-    pub fn source(&self, place: Place) -> &'a [u8] {
+    // The line of the place.
+    fn line(&self, place: Place) -> &'a [u8] {
         match self.texts.get(place.file.saturating_sub(1)) {
             None => &[],
-            Some(text) => match line_of(text, place.line).get(place.column..) {
-                None => &[],
-                Some(source) => source,
-            },
+            Some(text) => line_of(text, place.line),
+        }
+    }
+
+    /// The source from the place to the end of its line.
+    pub fn source(&self, place: Place) -> &'a [u8] {
+        match self.line(place).get(place.column..) {
+            None => &[],
+            Some(source) => source,
+        }
+    }
+
+    /// What stands before the place in its line.
+    pub fn before(&self, place: Place) -> &'a [u8] {
+        match self.line(place).get(..place.column) {
+            None => &[],
+            Some(source) => source,
         }
     }
 }

@@ -9,8 +9,8 @@ use vdesign::action::{Action, Target, Targets};
 use vdesign::design::Design;
 use vsrc::Place;
 
-// How many bytes of a statement are shown.
-const SOURCE: usize = 40;
+/// How many bytes of a statement are shown.
+pub const SOURCE: usize = 40;
 
 // The variable that the target is of.
 fn variable_of(target: &Target) -> u32 {
@@ -61,8 +61,8 @@ fn verb_of(action: &Action, thing: Thing) -> &'static [u8] {
     }
 }
 
-// What the visit does to it. An update writes.
-fn verb(design: &Design, blamed: &Blamed, thing: Thing) -> &'static [u8] {
+/// What the visit does to it. An update writes.
+pub fn verb(design: &Design, blamed: &Blamed, thing: Thing) -> &'static [u8] {
     match (blamed.actor, design.actions.get(blamed.place)) {
         (Actor::Process(_), Some(action)) => verb_of(action, thing),
         _ => b"writes",
@@ -92,8 +92,8 @@ fn other_thing(things: &[Thing], first: Thing) -> Option<Thing> {
     None
 }
 
-// `writes tb.a`, of the first two things that both touch.
-fn put_verbs(
+/// `writes tb.a`, of the first two things that both touch.
+pub fn put_verbs(
     text: &mut Vec<u8>,
     design: &Design,
     blamed: &Blamed,

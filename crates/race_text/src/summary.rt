@@ -1,10 +1,16 @@
-// The last lines: how many races there are, and what wasn't looked at.
+// The last lines: how many races there are, what wasn't looked at, and what waivers matched.
 
 use crate::pieces::{put_count, put_number};
+use crate::place::Sources;
+use crate::waived::Waived;
+use crate::waivers::Waiver;
 use basis::NoMemory;
 use explore::{RankedReason, RankedStatus};
 use race_groups::{Group, Races};
 use vmachine::Machine;
+
+/// How many of the differences that follow are named, unless all are.
+pub const NAMED: usize = 3;
 
 /// What is told beside the races: how many departures a run may have, the time before which differences are passed over, whether all
 /// that follow are named, how many states were visited, in how many milliseconds, and by which option the search was stopped, where its
@@ -19,6 +25,40 @@ pub struct Told {
     pub stopped_by: &'static [u8],
 }
 
+impl Told {
+    /// How many of the differences that follow are named.
+    pub fn named(&self) -> usize {
+        if self.all { usize::MAX } else { NAMED }
+    }
+}
+
+/// What is told of a top module: the races of its machine, the files that they are of, what is told beside them, and which of them are
+/// waived.
+#[derive(Clone, Copy)]
+pub struct Findings<'a> {
+    pub machine: &'a Machine,
+    pub sources: &'a Sources<'a>,
+    pub races: &'a Races,
+    pub told: &'a Told,
+    pub waivers: &'a [Waiver<'a>],
+    pub waived: &'a Waived,
+}
+
+impl<'a> Findings<'a> {
+    /// The waiver that the group of this place is waived by.
+    pub fn waiver(&self, group: usize) -> Option<&'a Waiver<'a>> {
+        self.waivers.get(self.waived.by(group)?)
+    }
+}
+
+/// `top tb:`
+pub fn put_top(text: &mut Vec<u8>, findings: &Findings<'_>) -> Result<(), NoMemory> {
+    text.extend_from_slice(b"top ")?;
+    text.extend_from_slice(&findings.machine.design().top)?;
+    text.push(b':')?;
+    Ok(())
+}
+
 // How many differences there are in all.
 fn difference_count(groups: &[Group]) -> u64 {
     let mut count = 0u64;
@@ -28,8 +68,8 @@ fn difference_count(groups: &[Group]) -> u64 {
     count
 }
 
-// `1 race, 1 cause.`
-fn put_counts(text: &mut Vec<u8>, groups: &[Group]) -> Result<(), NoMemory> {
+// `1 race, 1 cause.`; `3 races, 2 causes, 1 waived.`
+fn put_counts(text: &mut Vec<u8>, groups: &[Group], waived: u64) -> Result<(), NoMemory> {
     if groups.is_empty() {
         text.extend_from_slice(b"No race.")?;
         return Ok(());
@@ -37,19 +77,32 @@ fn put_counts(text: &mut Vec<u8>, groups: &[Group]) -> Result<(), NoMemory> {
     put_count(text, difference_count(groups), b"race")?;
     text.extend_from_slice(b", ")?;
     put_count(text, groups.len() as u64, b"cause")?;
+    if waived > 0 {
+        text.extend_from_slice(b", ")?;
+        put_number(text, waived)?;
+        text.extend_from_slice(b" waived")?;
+    }
     text.push(b'.')?;
     Ok(())
 }
 
 // What cut the search.
-fn reason(status: RankedStatus, stopped_by: &'static [u8]) -> Option<&'static [u8]> {
-    match status {
-        RankedStatus::Exhausted => None,
-        RankedStatus::Cut(RankedReason::Memory(_)) => Some(b"for want of memory"),
-        RankedStatus::Cut(RankedReason::Entries) => Some(b"by the number of its states"),
-        RankedStatus::Cut(RankedReason::Steps) => Some(b"as a run takes more steps than --steps"),
-        RankedStatus::Cut(RankedReason::Stopped) => Some(stopped_by),
-    }
+fn put_reason(
+    text: &mut Vec<u8>,
+    reason: RankedReason,
+    stopped_by: &'static [u8],
+) -> Result<(), NoMemory> {
+    let words: &[u8] = match reason {
+        RankedReason::Memory(_) => b"for want of memory",
+        RankedReason::Entries => b"by the number of its states",
+        RankedReason::Steps => b"as a run takes more steps than --steps",
+        RankedReason::Stopped => {
+            text.extend_from_slice(b"by ")?;
+            stopped_by
+        }
+    };
+    text.extend_from_slice(words)?;
+    Ok(())
 }
 
 // How far the search came.
@@ -68,16 +121,17 @@ fn put_closed(text: &mut Vec<u8>, closed: Option<u64>) -> Result<(), NoMemory> {
     }
 }
 
-// What was looked at.
-fn put_seen(
-    text: &mut Vec<u8>,
-    machine: &Machine,
-    races: &Races,
-    told: &Told,
-) -> Result<(), NoMemory> {
-    if let Some(reason) = reason(races.search.status, told.stopped_by) {
+/// What was looked at.
+pub fn put_seen(text: &mut Vec<u8>, findings: &Findings<'_>) -> Result<(), NoMemory> {
+    let Findings {
+        machine,
+        races,
+        told,
+        ..
+    } = *findings;
+    if let RankedStatus::Cut(reason) = races.search.status {
         text.extend_from_slice(b" The search was cut ")?;
-        text.extend_from_slice(reason)?;
+        put_reason(text, reason, told.stopped_by)?;
         return put_closed(text, races.search.closed);
     }
     text.extend_from_slice(b" Nothing was missed within ")?;
@@ -108,15 +162,41 @@ fn put_cost(text: &mut Vec<u8>, told: &Told) -> Result<(), NoMemory> {
     Ok(())
 }
 
-/// How many races there are, and what wasn't looked at.
-pub fn put_summary(
+/// What a waiver matched: `waiver at line 3 matched 1 cause`, or `nothing`.
+pub fn put_matched(text: &mut Vec<u8>, waiver: &Waiver<'_>, count: u64) -> Result<(), NoMemory> {
+    text.extend_from_slice(b"waiver at line ")?;
+    put_number(text, waiver.line)?;
+    text.extend_from_slice(b" matched ")?;
+    if count == 0 {
+        text.extend_from_slice(b"nothing")?;
+        return Ok(());
+    }
+    put_count(text, count, b"cause")
+}
+
+/// The number at this place of what waivers matched.
+pub fn matched_at(matched: &[u64], place: usize) -> u64 {
+    matched.get(place).copied().unwrap_or(0)
+}
+
+/// What each waiver matched, a line each.
+pub fn put_waivers(
     text: &mut Vec<u8>,
-    machine: &Machine,
-    races: &Races,
-    told: &Told,
+    waivers: &[Waiver<'_>],
+    matched: &[u64],
 ) -> Result<(), NoMemory> {
-    put_counts(text, &races.groups)?;
-    put_seen(text, machine, races, told)?;
+    for (place, waiver) in waivers.iter().enumerate() {
+        put_matched(text, waiver, matched_at(matched, place))?;
+        text.push(b'\n')?;
+    }
+    Ok(())
+}
+
+/// How many races there are, and what wasn't looked at.
+pub fn put_summary(text: &mut Vec<u8>, findings: &Findings<'_>) -> Result<(), NoMemory> {
+    let Findings { races, told, .. } = *findings;
+    put_counts(text, &races.groups, findings.waived.waived())?;
+    put_seen(text, findings)?;
     put_cost(text, told)?;
     if races.ignored > 0 {
         put_count(text, races.ignored, b"difference")?;

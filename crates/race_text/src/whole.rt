@@ -1,18 +1,16 @@
-// The text of all races.
+// The text of the races of a top module.
 
-use crate::difference::{Subject, put_difference, put_name, put_sides, rows_of, time_of};
-use crate::pieces::{put_count, put_number};
+use crate::difference::{Row, Subject, put_difference, put_name, put_sides, rows_of, time_of};
+use crate::pieces::{put_count, put_cut, put_number};
 use crate::place::Sources;
 use crate::statements::put_statements;
-use crate::summary::{Told, put_summary};
+use crate::summary::{Findings, NAMED, put_summary};
+use crate::waivers::Waiver;
 use basis::NoMemory;
-use race_groups::{Difference, Group, Name, Races};
+use race_groups::{Difference, Group, Name};
 use std::alloc::Global;
 use vdesign::design::Design;
 use vmachine::Machine;
-
-// How many of those that follow are named, unless all are.
-const NAMED: usize = 3;
 
 // The two statements, or that they weren't found.
 fn put_cause(
@@ -86,48 +84,64 @@ fn put_cure(
     Ok(())
 }
 
-// One race: what differs, which two statements race, in which order each side comes about, and what follows.
+// The reason of the waiver, if there is one.
+fn put_waiver(text: &mut Vec<u8>, waiver: Option<&Waiver<'_>>) -> Result<(), NoMemory> {
+    let Some(waiver) = waiver else {
+        return Ok(());
+    };
+    text.extend_from_slice(b"    waived: ")?;
+    put_cut(text, waiver.reason, usize::MAX)?;
+    text.push(b'\n')?;
+    Ok(())
+}
+
+// What differs in the race of this place, whether it is waived, and which two statements race.
+fn put_head(
+    alloc: Global,
+    text: &mut Vec<u8>,
+    findings: &Findings<'_>,
+    subject: Subject<'_>,
+    place: usize,
+    rows: &[Row],
+) -> Result<(), NoMemory> {
+    text.extend_from_slice(b"race ")?;
+    put_number(text, (place as u64).saturating_add(1))?;
+    text.extend_from_slice(b": ")?;
+    put_difference(text, subject, rows)?;
+    text.push(b'\n')?;
+    put_waiver(text, findings.waiver(place))?;
+    put_cause(alloc, text, subject.machine, subject.sources, subject.group)
+}
+
+// The race of this place: its head, in which order each side comes about, and what follows.
 fn put_group(
     alloc: Global,
     text: &mut Vec<u8>,
+    findings: &Findings<'_>,
     subject: Subject<'_>,
-    number: usize,
-    all: bool,
+    place: usize,
 ) -> Result<(), NoMemory> {
-    let Subject {
-        machine,
-        sources,
-        group,
-    } = subject;
+    let (machine, group) = (subject.machine, subject.group);
     let rows = rows_of(alloc, subject)?;
-    text.extend_from_slice(b"race ")?;
-    put_number(text, number as u64)?;
-    text.extend_from_slice(b": ")?;
-    put_difference(text, subject, &rows)?;
-    text.push(b'\n')?;
-    put_cause(alloc, text, machine, sources, group)?;
+    put_head(alloc, text, findings, subject, place, &rows)?;
     put_sides(text, subject, &rows)?;
     put_cure(text, machine, &group.first)?;
-    put_more(text, machine.design(), group, all)
+    put_more(text, machine.design(), group, findings.told.all)
 }
 
-/// The races, each by its cause, and what wasn't looked at.
-pub fn races_text<'a>(
+/// The races of a top module, each by its cause, and what wasn't looked at.
+pub fn put_races(
     alloc: Global,
-    machine: &'a Machine,
-    sources: &'a Sources<'a>,
-    races: &'a Races,
-    told: &Told,
-) -> Result<Vec<u8>, NoMemory> {
-    let mut text = Vec::new(alloc);
-    for (place, group) in races.groups.iter().enumerate() {
+    text: &mut Vec<u8>,
+    findings: &Findings<'_>,
+) -> Result<(), NoMemory> {
+    for (place, group) in findings.races.groups.iter().enumerate() {
         let subject = Subject {
-            machine,
-            sources,
+            machine: findings.machine,
+            sources: findings.sources,
             group,
         };
-        put_group(alloc, &mut text, subject, place.saturating_add(1), told.all)?;
+        put_group(alloc, text, findings, subject, place)?;
     }
-    put_summary(&mut text, machine, races, told)?;
-    Ok(text)
+    put_summary(text, findings)
 }

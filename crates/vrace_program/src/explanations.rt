@@ -10,7 +10,7 @@ pub struct Explanation {
     advice: &'static str,
 }
 
-const EXPLANATIONS: [Explanation; 32] = [
+const EXPLANATIONS: [Explanation; 33] = [
     Explanation {
         number: 101,
         meaning: "a comment or a string that begins here isn't ended",
@@ -151,9 +151,9 @@ const EXPLANATIONS: [Explanation; 32] = [
     },
     Explanation {
         number: 404,
-        meaning: "a number out of its limit; of check, in the head of a report: a greater until or more steps than --until and --steps allow",
-        example: "--steps 0, --depart 5, --workers 65, --seconds 0",
-        advice: "look at docs/LANGUAGE.md, Limits; a report that asks for more takes longer to check: allow as much, or explore anew with less",
+        meaning: "a number out of its limit; of races, a time that isn't digits and a unit; of check, in the head of a report: a greater until or more steps than --until and --steps allow",
+        example: "--steps 0, --depart 5, --workers 65, --seconds 0; of races --until 10",
+        advice: "look at docs/LANGUAGE.md, Limits; write a time as 10us; a report that asks for more takes longer to check: allow as much, or explore anew with less",
     },
     Explanation {
         number: 501,
@@ -180,6 +180,12 @@ const EXPLANATIONS: [Explanation; 32] = [
         advice: "give the files that the report was made of, in their order",
     },
     Explanation {
+        number: 506,
+        meaning: "a line of the file of waivers is no waiver; at 3 is the number of that line, from 1",
+        example: "tb.v:10 tb.v:12 without a reason behind #",
+        advice: "write FILE:LINE FILE:LINE # reason or variable PATTERN # reason; docs/CI.md has the form under Waivers",
+    },
+    Explanation {
         number: 901,
         meaning: "a growth of memory was refused",
         example: "a limit of ulimit -v that the text doesn't fit",
@@ -187,9 +193,9 @@ const EXPLANATIONS: [Explanation; 32] = [
     },
     Explanation {
         number: 902,
-        meaning: "standard output failed",
-        example: "a full disk, a closed pipe",
-        advice: "what stands written is a prefix of what was asked for: make room and call again",
+        meaning: "standard output failed, or a file of waivers can't be written",
+        example: "a full disk, a closed pipe; a folder that isn't there",
+        advice: "what stands on standard output is a prefix of what was asked for, and a file is as it was before: make room and call again",
     },
     Explanation {
         number: 903,

@@ -1,12 +1,14 @@
-//! The program `vrace`. In go words and Verilog; out comes a report, a value change dump or printed lines on standard output, or one line
-//! with the number of a fault on standard error. What an exploration writes is the contract of `vrace::explore_text_alone`,
-//! with several workers of `vrace::explore_text`, and by time of `vrace::explore_text_in_time`; what `races` tells is found by `vrace::find_races_in`; what a replay writes that of `vrace::replay_text`.
+//! The program `vrace`. In go words and Verilog; out comes a report, the races of top modules, a value change dump or printed lines on
+//! standard output, or one line with the number of a fault on standard error. What an exploration writes is the contract of
+//! `vrace::explore_text_alone`, with several workers of `vrace::explore_text`, and by time of `vrace::explore_text_in_time`; what `races`
+//! tells is found by `vrace::find_races_in`; what a replay writes is the contract of `vrace::replay_text`.
 #![tactic(auto)]
 
 mod explanations;
 mod meter;
 mod races;
 mod refusals;
+mod times;
 mod words;
 
 use basis::NoMemory;
@@ -16,6 +18,7 @@ use clap::{ArgMatches, Error};
 use explanations::{explanation_of, show, show_all};
 use meter::{Allowance, Meter};
 use races::tell_races;
+use refusals::with_words;
 use sched_core::setting::Looked;
 use std::alloc::Global;
 use std::fs::File;
@@ -30,8 +33,9 @@ use vrace::{
 };
 use words::{
     Request, Search, Wanted, commands, files_of, has_dashed_log, has_dashed_report, has_dashed_top,
-    has_joined_letters, log_of, race_request_of, race_search_of, race_words_of, report_of,
-    request_of, search_of, steps_of, until_of, wanted_of,
+    has_dashed_waivers, has_joined_letters, has_waivers_over_file, is_in_words, log_of,
+    race_request_of, race_search_of, race_words_of, report_of, request_of, search_of, steps_of,
+    until_of, wanted_of,
 };
 use workpool::OpenGate;
 
@@ -78,6 +82,8 @@ enum Stop {
     Usage,
     // Memory was refused before a call of the library.
     NoMemory,
+    // The line of this number, from 1, is no waiver.
+    BadWaiver(u64),
     Refused(Fault),
     // The same, with what is told of it in words.
     Told(Fault, Vec<u8>),
@@ -86,6 +92,12 @@ enum Stop {
 impl From<Fault> for Stop {
     fn from(fault: Fault) -> Stop {
         Stop::Refused(fault)
+    }
+}
+
+impl From<NoMemory> for Stop {
+    fn from(_: NoMemory) -> Stop {
+        Stop::NoMemory
     }
 }
 
@@ -112,6 +124,30 @@ fn write_run<W: Write>(
     }
 }
 
+// Replays the texts onto standard output.
+fn replay_texts(
+    rt: &HostRuntime,
+    texts: &[Vec<u8>],
+    options: &Options<'_>,
+    log: &str,
+    wanted: Wanted,
+) -> Result<ExitCode, Stop> {
+    let Ok(buffered) = BufWriter::new(rt.alloc(), io::writer(rt)) else {
+        return Err(Stop::NoMemory);
+    };
+    let mut writer = Metered::new(buffered);
+    write_run(
+        rt.alloc(),
+        texts,
+        options,
+        log.as_bytes(),
+        wanted,
+        &mut writer,
+    )?;
+    finish(&mut writer)?;
+    Ok(ExitCode::SUCCESS)
+}
+
 // Replays what is asked for onto standard output.
 fn replay(
     rt: &HostRuntime,
@@ -129,20 +165,8 @@ fn replay(
     )?;
     options.look(request.departures, Looked::Values);
     let texts = texts(rt, &request.files)?;
-    let Ok(buffered) = BufWriter::new(rt.alloc(), io::writer(rt)) else {
-        return Err(Stop::NoMemory);
-    };
-    let mut writer = Metered::new(buffered);
-    write_run(
-        rt.alloc(),
-        &texts,
-        &options,
-        log.as_bytes(),
-        wanted,
-        &mut writer,
-    )?;
-    finish(&mut writer)?;
-    Ok(ExitCode::SUCCESS)
+    let done = replay_texts(rt, &texts, &options, log, wanted);
+    with_words(rt.alloc(), done, request.in_words, &request.files, &texts)
 }
 
 // The exit status that says what a report says.
@@ -222,11 +246,16 @@ fn explore_by_time<W: Write>(
     Ok(timed_code(&timed))
 }
 
-// The options that an exploration asks for, if each of its numbers is within its limit.
-fn options_of<'a>(request: &Request<'a>, search: &Search) -> Result<Options<'a>, Fault> {
+// The options of an exploration of this top module up to this time, if each number is within its limit.
+fn options_for<'a>(
+    request: &Request<'a>,
+    search: &Search,
+    top: Option<&'a str>,
+    until: u64,
+) -> Result<Options<'a>, Fault> {
     let mut options = Options::new(
-        request.top.map(|name| name.as_bytes()),
-        request.until,
+        top.map(|name| name.as_bytes()),
+        until,
         search.depart,
         request.steps,
         search.entries.unwrap_or(ENTRIES),
@@ -242,6 +271,36 @@ fn options_of<'a>(request: &Request<'a>, search: &Search) -> Result<Options<'a>,
     Ok(options)
 }
 
+// The options that an exploration asks for.
+fn options_of<'a>(request: &Request<'a>, search: &Search) -> Result<Options<'a>, Fault> {
+    options_for(request, search, request.top, request.until)
+}
+
+// Explores the texts, and writes the report onto standard output.
+fn explore_texts<R: Threads + Wait + Sync>(
+    rt: &HostRuntime,
+    threads: &R,
+    texts: &[Vec<u8>],
+    options: &Options<'_>,
+    search: &Search,
+) -> Result<ExitCode, Stop> {
+    let Ok(buffered) = BufWriter::new(rt.alloc(), io::writer(rt)) else {
+        return Err(Stop::NoMemory);
+    };
+    let mut writer = Metered::new(buffered);
+    match (search.allowance, search.workers) {
+        (Some(allowance), 1) => explore_by_time(rt, texts, options, allowance, &mut writer),
+        _ => explore_by_workers(
+            threads,
+            rt.alloc(),
+            texts,
+            options,
+            search.workers,
+            &mut writer,
+        ),
+    }
+}
+
 // Writes the report of what is asked for onto standard output.
 fn explore<R: Threads + Wait + Sync>(
     rt: &HostRuntime,
@@ -251,37 +310,37 @@ fn explore<R: Threads + Wait + Sync>(
 ) -> Result<ExitCode, Stop> {
     let options = options_of(request, search)?;
     let texts = texts(rt, &request.files)?;
-    let Ok(buffered) = BufWriter::new(rt.alloc(), io::writer(rt)) else {
-        return Err(Stop::NoMemory);
-    };
-    let mut writer = Metered::new(buffered);
-    match (search.allowance, search.workers) {
-        (Some(allowance), 1) => explore_by_time(rt, &texts, &options, allowance, &mut writer),
-        _ => explore_by_workers(
-            threads,
-            rt.alloc(),
-            &texts,
-            &options,
-            search.workers,
-            &mut writer,
-        ),
+    let done = explore_texts(rt, threads, &texts, &options, search);
+    with_words(rt.alloc(), done, request.in_words, &request.files, &texts)
+}
+
+// Checks the report against the texts, and says ok where all of it is true.
+fn check_texts(
+    rt: &HostRuntime,
+    texts: &[Vec<u8>],
+    report: &[u8],
+    allowed: Allowed,
+) -> Result<ExitCode, Stop> {
+    check_text(rt.alloc(), texts, report, allowed)?;
+    match println!(rt; "ok") {
+        Ok(()) => Ok(ExitCode::SUCCESS),
+        Err(_) => Err(Stop::Refused(Fault::Write)),
     }
 }
 
-// Checks the report, if it asks for no more than is allowed, against the files, and says ok where all of it is true.
+// Checks the report, if it asks for no more than is allowed, against the files; where these are refused, in words where that is asked
+// for.
 fn check(
     rt: &HostRuntime,
     report: &str,
     files: &[&str],
     allowed: Allowed,
+    in_words: bool,
 ) -> Result<ExitCode, Stop> {
     let report = read_file(rt, report)?;
     let texts = texts(rt, files)?;
-    check_text(rt.alloc(), &texts, &report, allowed)?;
-    match println!(rt; "ok") {
-        Ok(()) => Ok(ExitCode::SUCCESS),
-        Err(_) => Err(Stop::Refused(Fault::Write)),
-    }
+    let done = check_texts(rt, &texts, &report, allowed);
+    with_words(rt.alloc(), done, in_words, files, &texts)
 }
 
 // What clap says of words that it doesn't take: help on standard output, or a refusal.
@@ -373,18 +432,12 @@ fn explore_by<'a, R: Threads + Wait + Sync>(
 
 // Tells the races that the words ask for.
 fn races_by<'a>(rt: &HostRuntime, matches: &ArgMatches<'a>) -> Result<ExitCode, Stop> {
-    if has_dashed_top(matches) {
+    if has_dashed_top(matches) || has_dashed_waivers(matches) || has_waivers_over_file(matches) {
         return Err(Stop::Usage);
     }
-    let Ok(request) = race_request_of(rt.alloc(), matches) else {
-        return Err(Stop::NoMemory);
-    };
-    tell_races(
-        rt,
-        &request,
-        &race_search_of(matches),
-        race_words_of(matches),
-    )
+    let request = race_request_of(rt.alloc(), matches)?;
+    let words = race_words_of(rt.alloc(), matches)?;
+    tell_races(rt, &request, &race_search_of(matches), &words)
 }
 
 // Checks what the words ask for.
@@ -396,7 +449,13 @@ fn check_by<'a>(rt: &HostRuntime, matches: &ArgMatches<'a>) -> Result<ExitCode, 
     let Ok(files) = files_of(rt.alloc(), matches) else {
         return Err(Stop::NoMemory);
     };
-    check(rt, report_of(matches), &files, allowed)
+    check(
+        rt,
+        report_of(matches),
+        &files,
+        allowed,
+        is_in_words(matches),
+    )
 }
 
 // The exit status of a refusal: 1 where an item of a report isn't true.
@@ -457,6 +516,10 @@ fn main(rt: HostRuntime) -> ExitCode {
         }
         Err(Stop::NoMemory) => {
             let _ = eprintln!(rt; "vrace: E901");
+            ExitCode::from(2)
+        }
+        Err(Stop::BadWaiver(line)) => {
+            let _ = eprintln!(rt; "vrace: E506 at {line}");
             ExitCode::from(2)
         }
         Err(Stop::Refused(fault)) => {

@@ -1,21 +1,23 @@
-// The races of files, told to people.
+// The races of files, told to people and to programs.
 
 use crate::meter::{Allowance, Meter};
 use crate::refusals::with_words;
-use crate::words::{RaceWords, Request, Search};
-use crate::{Stop, finish, options_of, texts};
+use crate::times::{Bounds, Times};
+use crate::words::{RaceWords, Request, Search, VERSION};
+use crate::{Stop, finish, options_for, read_file, texts};
+use basis::NoMemory;
 use byte_sinks::Metered;
 use race_groups::{Races, Scope};
-use race_text::{Sources, Told, races_text};
+use race_text::{
+    Findings, NAMED, Sources, Told, Tops, Waived, Waiver, WaiverFault, WaiverLines, WaiverScope,
+    read_waivers,
+};
 use std::alloc::Global;
-use std::io;
 use std::io::{BufWriter, Write};
 use std::process::ExitCode;
 use std::rt::Clock;
-use vrace::{Budget, Fault, Options, RankedStatus, Spent, find_races_in};
-
-// How many of the differences that follow are named, unless all are.
-const NAMED: usize = 3;
+use std::{fs, io};
+use vrace::{Budget, Fault, FoundRaces, Options, RankedStatus, Spent, find_races_in};
 
 // What a search may take of which nothing is said.
 const NO_LIMIT: Allowance = Allowance {
@@ -27,96 +29,299 @@ const NO_LIMIT: Allowance = Allowance {
 // By which option the search was stopped, where it was.
 fn stopped_by(spent: Spent) -> &'static [u8] {
     match spent {
-        Spent::Time => b"by --seconds",
-        Spent::Memory => b"by --memory",
+        Spent::Time => b"--seconds",
+        Spent::Memory => b"--memory",
     }
 }
 
-// The exit status: 1 where a race is told, 3 where none is and something wasn't seen.
-fn code_of(races: &Races) -> ExitCode {
-    if !races.groups.is_empty() {
-        return ExitCode::from(1);
-    }
-    if races.search.status == RankedStatus::Exhausted && !races.cut_runs {
-        ExitCode::SUCCESS
+// What searches say in one word, the worse later.
+#[derive(Clone, Copy, Debug, PartialEq, Eq)]
+enum Verdict {
+    // No race that isn't waived, and nothing was left unseen.
+    Clean,
+    // No such race, and something was left unseen.
+    Unseen,
+    // A race that isn't waived.
+    Raced,
+}
+
+// What a search says.
+fn verdict_of(races: &Races, waived: &Waived) -> Verdict {
+    if !waived.are_all() {
+        Verdict::Raced
+    } else if races.search.status == RankedStatus::Exhausted && !races.cut_runs {
+        Verdict::Clean
     } else {
-        ExitCode::from(3)
+        Verdict::Unseen
+    }
+}
+
+impl Verdict {
+    // The worse one of two.
+    fn worse(self, other: Verdict) -> Verdict {
+        match (self, other) {
+            (Verdict::Raced, _) => Verdict::Raced,
+            (Verdict::Unseen, Verdict::Clean) => Verdict::Unseen,
+            (Verdict::Unseen, _) => other,
+            (Verdict::Clean, _) => other,
+        }
+    }
+
+    // The exit status.
+    fn code(self) -> ExitCode {
+        match self {
+            Verdict::Clean => ExitCode::SUCCESS,
+            Verdict::Unseen => ExitCode::from(3),
+            Verdict::Raced => ExitCode::from(1),
+        }
     }
 }
 
 // What is told beside the races.
 fn told_of<R: Clock + Eprint>(
     options: &Options<'_>,
-    words: RaceWords,
+    scope: &Scope,
+    all: bool,
     meter: &Meter<'_, R>,
 ) -> Told {
     Told {
         departures: options.limits.depart,
-        from: words.from,
-        all: words.all,
+        from: scope.from,
+        all,
         states: meter.states(),
         milliseconds: meter.passed(),
         stopped_by: stopped_by(meter.spent()),
     }
 }
 
-// The text of what was found in the files.
-fn text_of<R: Clock + Eprint>(
-    alloc: Global,
-    names: &[&str],
-    texts: &[Vec<u8>],
-    options: &Options<'_>,
-    words: RaceWords,
-    meter: &mut Meter<'_, R>,
-) -> Result<(Vec<u8>, ExitCode), Stop> {
-    let scope = Scope {
-        from: words.from,
-        names: if words.all { usize::MAX } else { NAMED },
-    };
-    let found = find_races_in(alloc, texts, options, &scope, meter)?;
-    let sources = Sources {
-        names,
-        texts,
-        origins: &found.origins,
-    };
-    let told = told_of(options, words, meter);
-    match races_text(alloc, &found.machine, &sources, &found.races, &told) {
-        Ok(text) => Ok((text, code_of(&found.races))),
-        Err(_) => Err(Stop::NoMemory),
+// The text of the file of waivers.
+fn waivers_of(rt: &HostRuntime, words: &RaceWords<'_>) -> Result<Vec<u8>, Stop> {
+    match words.waive {
+        None => Ok(Vec::new(rt.alloc())),
+        Some(name) => Ok(read_file(rt, name)?),
     }
 }
 
-// Tells the races of these files on standard output.
-fn tell(
+// The waivers of the text.
+fn read(alloc: Global, text: &[u8]) -> Result<Vec<Waiver<'_>>, Stop> {
+    match read_waivers(alloc, text) {
+        Ok(waivers) => Ok(waivers),
+        Err(WaiverFault::Line(line)) => Err(Stop::BadWaiver(line)),
+        Err(WaiverFault::Memory(_)) => Err(Stop::NoMemory),
+    }
+}
+
+// Whether a waiver asks for the names of all differences.
+fn some_asks_for_names(waivers: &[Waiver<'_>]) -> bool {
+    for waiver in waivers {
+        if let WaiverScope::Variables(_) = waiver.scope {
+            return true;
+        }
+    }
+    false
+}
+
+// Which differences are told, and how many are kept by name.
+fn scope_of(all: bool, waivers: &[Waiver<'_>], from: u64) -> Scope {
+    Scope {
+        from,
+        names: if all || some_asks_for_names(waivers) {
+            usize::MAX
+        } else {
+            NAMED
+        },
+    }
+}
+
+// Which of the races are waived.
+fn waived_of(
+    alloc: Global,
+    found: &FoundRaces,
+    sources: &Sources<'_>,
+    waivers: &[Waiver<'_>],
+) -> Result<Waived, NoMemory> {
+    let design = found.machine.design();
+    Waived::new(alloc, waivers, design, sources, &found.races.groups)
+}
+
+// What is asked for: the files, by their names and texts, how they are searched, between which times, and the waivers.
+#[derive(Clone, Copy)]
+struct Asked<'a> {
+    names: &'a [&'a str],
+    texts: &'a [Vec<u8>],
+    request: &'a Request<'a>,
+    search: &'a Search,
+    words: &'a RaceWords<'a>,
+    waivers: &'a [Waiver<'a>],
+    bounds: Bounds,
+}
+
+// What was told so far: of each top module, the file of waivers, and the worst that was found.
+#[derive(Drop)]
+struct Answer<'w> {
+    tops: Tops<'w>,
+    waivers: WaiverLines,
+    verdict: Verdict,
+}
+
+// Nothing.
+fn no_answer<'w>(alloc: Global, words: &RaceWords<'_>, waivers: &'w [Waiver<'w>]) -> Answer<'w> {
+    Answer {
+        tops: Tops::new(alloc, words.format, words.tops.len() > 1, waivers),
+        waivers: WaiverLines::new(alloc),
+        verdict: Verdict::Clean,
+    }
+}
+
+// Puts what was found of a top module.
+fn put_findings(
+    answer: &mut Answer<'_>,
+    findings: &Findings<'_>,
+    is_written: bool,
+) -> Result<(), NoMemory> {
+    answer.tops.tell(findings)?;
+    if is_written {
+        answer.waivers.waive(findings)?;
+    }
+    let verdict = verdict_of(findings.races, findings.waived);
+    answer.verdict = answer.verdict.worse(verdict);
+    Ok(())
+}
+
+// Searches the top module, or the only one, and puts what was found.
+fn tell_top<R: Clock + Eprint>(
+    alloc: Global,
+    asked: &Asked<'_>,
+    top: Option<&str>,
+    meter: &mut Meter<'_, R>,
+    answer: &mut Answer<'_>,
+) -> Result<(), Stop> {
+    let words = asked.words;
+    let options = options_for(asked.request, asked.search, top, asked.bounds.until)?;
+    let scope = scope_of(words.all, asked.waivers, asked.bounds.from);
+    let found = find_races_in(alloc, asked.texts, &options, &scope, meter)?;
+    let sources = Sources {
+        names: asked.names,
+        texts: asked.texts,
+        origins: &found.origins,
+    };
+    let waived = waived_of(alloc, &found, &sources, asked.waivers)?;
+    let told = told_of(&options, &scope, words.all, meter);
+    let findings = Findings {
+        machine: &found.machine,
+        sources: &sources,
+        races: &found.races,
+        told: &told,
+        waivers: asked.waivers,
+        waived: &waived,
+    };
+    put_findings(answer, &findings, words.write_waivers.is_some())?;
+    Ok(())
+}
+
+// Searches each top module on its own, each with all that a search may take.
+fn tell_tops<'w>(
     rt: &HostRuntime,
-    names: &[&str],
-    texts: &[Vec<u8>],
-    options: &Options<'_>,
-    search: &Search,
-    words: RaceWords,
-) -> Result<ExitCode, Stop> {
-    let mut meter = Meter::new(rt, search.allowance.unwrap_or(NO_LIMIT));
-    let (text, code) = text_of(rt.alloc(), names, texts, options, words, &mut meter)?;
+    asked: &Asked<'_>,
+    waivers: &'w [Waiver<'w>],
+) -> Result<Answer<'w>, Stop> {
+    let allowance = asked.search.allowance.unwrap_or(NO_LIMIT);
+    let mut answer = no_answer(rt.alloc(), asked.words, waivers);
+    if asked.words.tops.is_empty() {
+        let mut meter = Meter::new(rt, allowance);
+        tell_top(rt.alloc(), asked, None, &mut meter, &mut answer)?;
+    }
+    for top in &asked.words.tops {
+        let mut meter = Meter::new(rt, allowance);
+        tell_top(rt.alloc(), asked, Some(*top), &mut meter, &mut answer)?;
+    }
+    Ok(answer)
+}
+
+// The name of a file with `.new` behind it.
+fn new_name(alloc: Global, name: &str) -> Result<String, NoMemory> {
+    let mut new = String::from_str(alloc, name)?;
+    new.push_str(".new")?;
+    Ok(new)
+}
+
+// Writes the file beside, and then gives it its name, so that nothing half written stays.
+fn write_file(rt: &HostRuntime, name: &str, text: &[u8]) -> Result<(), Stop> {
+    let new = new_name(rt.alloc(), name)?;
+    if fs::write(rt, new.as_str(), text).is_ok() && fs::rename(rt, new.as_str(), name).is_ok() {
+        return Ok(());
+    }
+    let _ = fs::remove_file(rt, new.as_str());
+    Err(Stop::Refused(Fault::Write))
+}
+
+// Writes the document to standard output.
+fn write_out(rt: &HostRuntime, text: &[u8]) -> Result<(), Stop> {
     let Ok(buffered) = BufWriter::new(rt.alloc(), io::writer(rt)) else {
         return Err(Stop::NoMemory);
     };
     let mut writer = Metered::new(buffered);
-    if writer.write_all(&text).is_err() {
+    if writer.write_all(text).is_err() {
         return Err(Stop::Refused(Fault::Write));
     }
-    finish(&mut writer)?;
-    Ok(code)
+    finish(&mut writer)
 }
 
-/// Tells the races of what is asked for on standard output.
+// Writes what was told, and the file of waivers where one is asked for.
+fn write_answer(
+    rt: &HostRuntime,
+    words: &RaceWords<'_>,
+    answer: Answer<'_>,
+) -> Result<ExitCode, Stop> {
+    let Answer {
+        tops,
+        waivers,
+        verdict,
+    } = answer;
+    let document = tops.document(VERSION)?;
+    let waivers = waivers.text()?;
+    if let Some(name) = words.write_waivers {
+        write_file(rt, name, &waivers)?;
+    }
+    write_out(rt, &document)?;
+    Ok(verdict.code())
+}
+
+// Tells the races of the texts on standard output.
+fn tell(
+    rt: &HostRuntime,
+    request: &Request<'_>,
+    search: &Search,
+    words: &RaceWords<'_>,
+    times: Times,
+    waivers: &[Waiver<'_>],
+    texts: &[Vec<u8>],
+) -> Result<ExitCode, Stop> {
+    let asked = Asked {
+        names: &request.files,
+        texts,
+        request,
+        search,
+        words,
+        waivers,
+        bounds: times.bounds(rt.alloc(), texts)?,
+    };
+    let answer = tell_tops(rt, &asked, waivers)?;
+    write_answer(rt, words, answer)
+}
+
+/// Tells the races of what is asked for on standard output; a refusal of the files is told in words.
 pub fn tell_races(
     rt: &HostRuntime,
     request: &Request<'_>,
     search: &Search,
-    words: RaceWords,
+    words: &RaceWords<'_>,
 ) -> Result<ExitCode, Stop> {
-    let options = options_of(request, search)?;
+    options_for(request, search, None, 0)?;
+    let times = Times::new(words.until, words.from)?;
+    let waivers = waivers_of(rt, words)?;
+    let waivers = read(rt.alloc(), &waivers)?;
     let texts = texts(rt, &request.files)?;
-    let done = tell(rt, &request.files, &texts, &options, search, words);
-    with_words(rt.alloc(), done, &request.files, &texts)
+    let done = tell(rt, request, search, words, times, &waivers, &texts);
+    with_words(rt.alloc(), done, request.in_words, &request.files, &texts)
 }

@@ -14,15 +14,20 @@ fn told(alloc: Global, fault: Fault, names: &[&str], texts: &[Vec<u8>]) -> Stop 
     }
 }
 
-/// What was done with these files; where they were refused, with what is told of it in words.
+/// What was done with these files; where they were refused, and words are asked for, with what is told of it.
 pub fn with_words(
     alloc: Global,
     done: Result<ExitCode, Stop>,
+    in_words: bool,
     names: &[&str],
     texts: &[Vec<u8>],
 ) -> Result<ExitCode, Stop> {
     match done {
-        Err(Stop::Refused(fault)) => Err(told(alloc, fault, names, texts)),
+        Err(Stop::Refused(fault)) => Err(if in_words {
+            told(alloc, fault, names, texts)
+        } else {
+            Stop::Refused(fault)
+        }),
         _ => done,
     }
 }

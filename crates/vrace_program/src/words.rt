@@ -3,17 +3,18 @@
 use crate::meter::Allowance;
 use basis::NoMemory;
 use clap::{Arg, ArgAction, ArgMatches, Command, value_parser};
+use race_text::Format;
 use sched_core::setting::{Departures, Grain, Looked};
 use std::alloc::Global;
 use vrace::Show;
 
 const PAGES: &str =
-    "Pages, in the folder docs: LANGUAGE.md (what is read, commands, limits), SCHEDULING.md (steps, choices, logs), RACES.md (reports), FORMATS.md (dumps, lines, logs, reports), FAULTS.md (numbers)
+    "Pages, in the folder docs: LANGUAGE.md (what is read, commands, limits), SCHEDULING.md (steps, choices, logs), RACES.md (races, reports), CI.md (statuses, waivers), FORMATS.md (dumps, lines, logs, reports, JSON, SARIF), FAULTS.md (numbers)
 
-Exit status: 0 where all was done, of explore where nothing was missed and no race was found; 1 where explore found a race, or something in a report isn't true; 2 where the call was refused, with one line on standard error (vrace explain NUMBER says what it means); 3 where explore was cut and found no race";
+Exit status: 0 where all was done, of races and explore where nothing was missed and no race was found; 1 where races or explore found a race (of races one that isn't waived), or something in a report isn't true; 2 where the call was refused, with one line on standard error (vrace explain NUMBER says what it means); 3 where races or explore found none and something was left unseen. Of several top modules races tells the worst: 2, then 1, then 3, then 0";
 
-// The latest time that there is.
-const LAST_TIME: u64 = 4_611_686_018_427_387_903;
+/// The version of the program.
+pub const VERSION: &str = "0.1.0";
 
 /// What is to be run, and how.
 #[derive(Drop)]
@@ -23,6 +24,8 @@ pub struct Request<'a> {
     pub steps: u64,
     pub grain: Grain,
     pub departures: Departures,
+    /// Whether a refusal of the files is told in words.
+    pub in_words: bool,
     /// None: standard input.
     pub files: Vec<&'a str>,
 }
@@ -54,6 +57,14 @@ fn hold<'a>(alloc: Global) -> Arg<'a> {
         alloc,
         "hold",
         "Departures may also hold back the processes that stand before the one that is taken",
+    )
+}
+
+fn in_words<'a>(alloc: Global) -> Arg<'a> {
+    flag(
+        alloc,
+        "words",
+        "Says in words what is refused, where, and what to write in its place",
     )
 }
 
@@ -119,6 +130,7 @@ fn replay_command<'a>(alloc: Global) -> Result<Command<'a>, NoMemory> {
         .arg(log)?
         .arg(lines)?
         .arg(trace)?
+        .arg(in_words(alloc))?
         .arg(files(alloc))?;
     Ok(command)
 }
@@ -178,44 +190,92 @@ fn explore_command<'a>(alloc: Global) -> Result<Command<'a>, NoMemory> {
         .arg(seconds(alloc))?
         .arg(limit(alloc, "memory", MEMORY))?
         .arg(progress(alloc))?
+        .arg(in_words(alloc))?
         .arg(files(alloc))?;
     Ok(command)
 }
 
-fn races_command<'a>(alloc: Global) -> Result<Command<'a>, NoMemory> {
-    let until = limit(
+fn tops<'a>(alloc: Global) -> Arg<'a> {
+    option(
         alloc,
-        "until",
-        "The latest time, in units of the precision; where nothing is said there is none",
-    );
-    let from = number(
+        "top",
+        "N",
+        "The top module; where it is given more than once, each is searched on its own",
+    )
+    .action(ArgAction::Append)
+}
+
+fn ignore_before<'a>(alloc: Global) -> Arg<'a> {
+    option(
         alloc,
         "ignore-before",
-        "The time, in units of the precision, before which differences are only counted",
-        "0",
-    );
-    let taking = flag(
+        "TIME",
+        "The time with its unit, as 10us, before which differences are only counted",
+    )
+}
+
+fn taking<'a>(alloc: Global) -> Arg<'a> {
+    flag(
         alloc,
         "taking",
         "Departures only take a process; none holds back those that stand before it",
-    );
-    let values = flag(
+    )
+}
+
+fn values<'a>(alloc: Global) -> Arg<'a> {
+    flag(
         alloc,
         "values",
         "Compares values alone, and not the lines that slots print",
+    )
+}
+
+fn format<'a>(alloc: Global) -> Arg<'a> {
+    option(alloc, "format", "F", "How what was found is written")
+        .value_parser(["text", "json", "sarif"].as_slice())
+        .default_value("text")
+}
+
+fn waive<'a>(alloc: Global) -> Arg<'a> {
+    option(
+        alloc,
+        "waive",
+        "FILE",
+        "A file of waivers: races that may stay, which don't count for the exit status",
+    )
+}
+
+fn write_waivers<'a>(alloc: Global) -> Arg<'a> {
+    option(
+        alloc,
+        "write-waivers",
+        "FILE",
+        "Writes a file of waivers of the races that were found, for --waive",
+    )
+}
+
+fn races_command<'a>(alloc: Global) -> Result<Command<'a>, NoMemory> {
+    let until = option(
+        alloc,
+        "until",
+        "TIME",
+        "The latest time with its unit, one of s, ms, us, ns, ps and fs, as 10us; where nothing is said there is none",
     );
     let all = flag(alloc, "all", "Names all differences of each race");
     let command = Command::new(alloc, "races")
         .about("Says which statements race, what differs then, and how to replay each order")
-        .arg(top(alloc))?
+        .arg(tops(alloc))?
         .arg(until)?
         .arg(depart(alloc))?
         .arg(number(alloc, "steps", "The most steps of one run", "1000000"))?
         .arg(grain(alloc))?
-        .arg(taking)?
-        .arg(values)?
-        .arg(from)?
+        .arg(taking(alloc))?
+        .arg(values(alloc))?
+        .arg(ignore_before(alloc))?
         .arg(all)?
+        .arg(format(alloc))?
+        .arg(waive(alloc))?
+        .arg(write_waivers(alloc))?
         .arg(seconds(alloc))?
         .arg(number(alloc, "memory", MEMORY, "2000"))?
         .arg(progress(alloc))?
@@ -242,6 +302,7 @@ fn check_command<'a>(alloc: Global) -> Result<Command<'a>, NoMemory> {
         .arg(report)?
         .arg(until)?
         .arg(steps)?
+        .arg(in_words(alloc))?
         .arg(files(alloc))?;
     Ok(command)
 }
@@ -261,7 +322,7 @@ pub fn commands<'a>(alloc: Global) -> Result<Command<'a>, NoMemory> {
         .about(
             "Runs Verilog in the orders that the standard leaves open, and finds races. Without words: replays standard input.",
         )
-        .version("0.1.0")
+        .version(VERSION)
         .after_help(PAGES)
         .subcommand_required(true)
         .subcommand(check_command(alloc)?)?
@@ -285,6 +346,16 @@ fn is_dashed(matches: &ArgMatches<'_>, name: &str) -> bool {
     }
 }
 
+// Whether one of the words reads as an option.
+fn has_option(words: &[&str]) -> bool {
+    for word in words {
+        if is_option(word) {
+            return true;
+        }
+    }
+    false
+}
+
 /// Whether a word before `--` is one dash with several letters, as `-hold` is. No option is written so; `-h` at its front would print help.
 pub fn has_joined_letters(words: &[String]) -> bool {
     for word in words {
@@ -299,9 +370,12 @@ pub fn has_joined_letters(words: &[String]) -> bool {
     false
 }
 
-/// Whether the value of `--top` reads as an option.
+/// Whether a value of `--top` reads as an option.
 pub fn has_dashed_top(matches: &ArgMatches<'_>) -> bool {
-    is_dashed(matches, "top")
+    match matches.get_strs("top") {
+        None => false,
+        Some(names) => has_option(names),
+    }
 }
 
 /// Whether the value of `--log` reads as an option.
@@ -348,17 +422,31 @@ pub fn until_of(matches: &ArgMatches<'_>) -> u64 {
     matches.get_one::<u64>("until").unwrap_or(0)
 }
 
+/// Whether a refusal is told in words.
+pub fn is_in_words(matches: &ArgMatches<'_>) -> bool {
+    matches.get_flag("words")
+}
+
 /// The value of `--steps`.
 pub fn steps_of(matches: &ArgMatches<'_>) -> u64 {
     matches.get_one::<u64>("steps").unwrap_or(0)
 }
 
+// All values of an argument.
+fn values_of<'a>(
+    alloc: Global,
+    matches: &ArgMatches<'a>,
+    name: &str,
+) -> Result<Vec<&'a str>, NoMemory> {
+    match matches.get_strs(name) {
+        None => Ok(Vec::new(alloc)),
+        Some(values) => Ok(Vec::from_slice(alloc, values)?),
+    }
+}
+
 /// The files of Verilog.
 pub fn files_of<'a>(alloc: Global, matches: &ArgMatches<'a>) -> Result<Vec<&'a str>, NoMemory> {
-    match matches.get_strs("FILE") {
-        None => Ok(Vec::new(alloc)),
-        Some(names) => Ok(Vec::from_slice(alloc, names)?),
-    }
+    values_of(alloc, matches, "FILE")
 }
 
 /// How far an exploration goes: departures, entries that cut it, how many workers there are, what is looked at, and what it may
@@ -408,19 +496,66 @@ pub fn search_of(matches: &ArgMatches<'_>) -> Search {
     }
 }
 
-/// What a search for races asks for beside its machine: from which time on differences are told, and whether all are named.
-#[derive(Clone, Copy, Debug)]
-pub struct RaceWords {
-    pub from: u64,
+/// What a search for races asks for beside its machine: the top modules, none where none is named; the last time to which runs go, and the
+/// first of which differences are told; whether all are named, how what was found is written, the file of the waivers, and the file that
+/// waivers are written to.
+#[derive(Drop)]
+pub struct RaceWords<'a> {
+    pub tops: Vec<&'a str>,
+    pub until: Option<&'a str>,
+    pub from: Option<&'a str>,
     pub all: bool,
+    pub format: Format,
+    pub waive: Option<&'a str>,
+    pub write_waivers: Option<&'a str>,
 }
 
-/// Which differences the words after `races` ask for.
-pub fn race_words_of(matches: &ArgMatches<'_>) -> RaceWords {
-    RaceWords {
-        from: matches.get_one::<u64>("ignore-before").unwrap_or(0),
-        all: matches.get_flag("all"),
+/// Whether the value of an option that names a file of waivers reads as an option.
+pub fn has_dashed_waivers(matches: &ArgMatches<'_>) -> bool {
+    is_dashed(matches, "waive") || is_dashed(matches, "write-waivers")
+}
+
+// Whether the word stands among these.
+fn is_among(words: &[&str], word: &str) -> bool {
+    for other in words {
+        if *other == word {
+            return true;
+        }
     }
+    false
+}
+
+/// Whether waivers are to be written over a file of Verilog.
+pub fn has_waivers_over_file(matches: &ArgMatches<'_>) -> bool {
+    match (matches.get_str("write-waivers"), matches.get_strs("FILE")) {
+        (Some(name), Some(files)) => is_among(files, name),
+        _ => false,
+    }
+}
+
+// The value of `--format`.
+fn format_of(matches: &ArgMatches<'_>) -> Format {
+    match matches.get_str("format") {
+        Some("json") => Format::Json,
+        Some("sarif") => Format::Sarif,
+        _ => Format::Text,
+    }
+}
+
+/// What the words after `races` ask for alone.
+pub fn race_words_of<'a>(
+    alloc: Global,
+    matches: &ArgMatches<'a>,
+) -> Result<RaceWords<'a>, NoMemory> {
+    Ok(RaceWords {
+        tops: values_of(alloc, matches, "top")?,
+        until: matches.get_str("until"),
+        from: matches.get_str("ignore-before"),
+        all: matches.get_flag("all"),
+        format: format_of(matches),
+        waive: matches.get_str("waive"),
+        write_waivers: matches.get_str("write-waivers"),
+    })
 }
 
 /// How far the words after `races` ask to go: by time, so by one worker.
@@ -438,18 +573,21 @@ pub fn race_search_of(matches: &ArgMatches<'_>) -> Search {
     }
 }
 
-/// What the words after `races` ask for: where no time is said, up to the latest that there is.
+// What the words after `races` say of departures.
+fn race_departures_of(matches: &ArgMatches<'_>) -> Departures {
+    if matches.get_flag("taking") {
+        Departures::Taking
+    } else {
+        Departures::Holding
+    }
+}
+
+/// What the words after `races` ask for, but for the time and the top modules.
 pub fn race_request_of<'a>(
     alloc: Global,
     matches: &ArgMatches<'a>,
 ) -> Result<Request<'a>, NoMemory> {
-    let departures = if matches.get_flag("taking") {
-        Departures::Taking
-    } else {
-        Departures::Holding
-    };
-    let until = matches.get_one::<u64>("until").unwrap_or(LAST_TIME);
-    request_in(alloc, matches, until, departures)
+    request_in(alloc, matches, 0, race_departures_of(matches), true)
 }
 
 // Which departures there are.
@@ -463,15 +601,23 @@ fn departures_of(matches: &ArgMatches<'_>) -> Departures {
 
 /// What the words after `replay` and `explore` ask for alike.
 pub fn request_of<'a>(alloc: Global, matches: &ArgMatches<'a>) -> Result<Request<'a>, NoMemory> {
-    request_in(alloc, matches, until_of(matches), departures_of(matches))
+    let in_words = is_in_words(matches);
+    request_in(
+        alloc,
+        matches,
+        until_of(matches),
+        departures_of(matches),
+        in_words,
+    )
 }
 
-// What is to be run, up to this time, with these departures.
+// What is to be run, up to this time, with these departures, and whether a refusal is told in words.
 fn request_in<'a>(
     alloc: Global,
     matches: &ArgMatches<'a>,
     until: u64,
     departures: Departures,
+    in_words: bool,
 ) -> Result<Request<'a>, NoMemory> {
     let files = files_of(alloc, matches)?;
     let grain = match matches.get_str("grain") {
@@ -484,6 +630,7 @@ fn request_in<'a>(
         steps: steps_of(matches),
         grain,
         departures,
+        in_words,
         files,
     })
 }

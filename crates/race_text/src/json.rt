@@ -1,0 +1,242 @@
+// One JSON document for programs (docs/FORMATS.md, "Races as JSON").
+
+use crate::difference::{Subject, time_of};
+use crate::json_side::{first_difference, next_difference};
+use crate::members::Members;
+use crate::pieces::put_cut;
+use crate::place::Sources;
+use crate::statements::{SOURCE, verb};
+use crate::summary::{Findings, matched_at};
+use crate::waivers::Waiver;
+use basis::NoMemory;
+use cause::{Blamed, Cause, Thing};
+use explore::{RankedReason, RankedStatus};
+use serde_json::Value;
+use std::alloc::Global;
+use vdesign::design::Design;
+
+// Where the statement of an action stands, and what it says, if that is known.
+fn place_of(alloc: Global, sources: &Sources<'_>, action: usize) -> Result<Members, NoMemory> {
+    let mut members = Members::new(alloc);
+    let Some(place) = sources.place(action) else {
+        return Ok(members);
+    };
+    let mut source = Vec::new(alloc);
+    put_cut(&mut source, sources.source(place).trim_ascii_end(), SOURCE)?;
+    members.text("file", sources.name(place.file).as_bytes())?;
+    members.number("line", place.line as u64)?;
+    members.number("column", (place.column as u64).saturating_add(1))?;
+    members.text("source", &source)?;
+    Ok(members)
+}
+
+// What the visit does to one thing. An event has no name.
+fn deed(alloc: Global, design: &Design, blamed: &Blamed, thing: Thing) -> Result<Value, NoMemory> {
+    let mut members = Members::new(alloc);
+    members.text("verb", verb(design, blamed, thing))?;
+    if let Thing::Variable(number) = thing {
+        if let Some(variable) = design.variables.get(number as usize) {
+            members.text("name", &variable.name)?;
+        }
+    }
+    Ok(members.whole())
+}
+
+// Whether the thing stands among the first so many.
+fn is_among_first(things: &[Thing], count: usize, thing: &Thing) -> bool {
+    match things.get(..count) {
+        None => false,
+        Some(front) => front.contains(thing),
+    }
+}
+
+// What the visit does to each thing that both touch.
+fn deeds(
+    alloc: Global,
+    design: &Design,
+    blamed: &Blamed,
+    things: &[Thing],
+) -> Result<Vec<Value>, NoMemory> {
+    let mut list = Vec::new(alloc);
+    for (place, thing) in things.iter().enumerate() {
+        if !is_among_first(things, place, thing) {
+            list.push(deed(alloc, design, blamed, *thing)?)?;
+        }
+    }
+    Ok(list)
+}
+
+// One of the two statements.
+fn statement_of(
+    alloc: Global,
+    design: &Design,
+    sources: &Sources<'_>,
+    blamed: &Blamed,
+    things: &[Thing],
+) -> Result<Value, NoMemory> {
+    let mut statement = place_of(alloc, sources, blamed.statement)?;
+    if blamed.statement != blamed.place {
+        let connection = place_of(alloc, sources, blamed.place)?;
+        statement.value("connection", connection.whole())?;
+    }
+    statement.list("does", deeds(alloc, design, blamed, things)?)?;
+    Ok(statement.whole())
+}
+
+// The two statements, in the order of the parent's run.
+fn put_cause(
+    alloc: Global,
+    members: &mut Members,
+    design: &Design,
+    sources: &Sources<'_>,
+    cause: &Cause,
+) -> Result<(), NoMemory> {
+    let things = cause.things.as_slice();
+    let first = statement_of(alloc, design, sources, &cause.second, things)?;
+    members.value("first", first)?;
+    let second = statement_of(alloc, design, sources, &cause.first, things)?;
+    members.value("second", second)
+}
+
+// The group's differences that are told.
+fn differences(alloc: Global, subject: Subject<'_>, named: usize) -> Result<Vec<Value>, NoMemory> {
+    let mut list = Vec::new(alloc);
+    list.push(first_difference(alloc, subject)?)?;
+    for name in subject.group.next.iter().take(named) {
+        list.push(next_difference(alloc, subject.machine.design(), name)?)?;
+    }
+    Ok(list)
+}
+
+// Whether it is waived, and why.
+fn put_waiver(members: &mut Members, waiver: Option<&Waiver<'_>>) -> Result<(), NoMemory> {
+    members.flag("waived", waiver.is_some())?;
+    match waiver {
+        None => Ok(()),
+        Some(waiver) => members.text("reason", waiver.reason),
+    }
+}
+
+// One cause, with what it explains.
+fn group_of(
+    alloc: Global,
+    subject: Subject<'_>,
+    named: usize,
+    waiver: Option<&Waiver<'_>>,
+) -> Result<Value, NoMemory> {
+    let (machine, group) = (subject.machine, subject.group);
+    let mut members = Members::new(alloc);
+    put_waiver(&mut members, waiver)?;
+    members.number("time", time_of(machine, &group.first))?;
+    if let Some(cause) = &group.cause {
+        put_cause(
+            alloc,
+            &mut members,
+            machine.design(),
+            subject.sources,
+            cause,
+        )?;
+    }
+    members.list("differences", differences(alloc, subject, named)?)?;
+    members.number("count", group.more.saturating_add(1))?;
+    members.number("last", group.last)?;
+    Ok(members.whole())
+}
+
+// The causes.
+fn groups(alloc: Global, findings: &Findings<'_>) -> Result<Vec<Value>, NoMemory> {
+    let mut list = Vec::new(alloc);
+    for (place, group) in findings.races.groups.iter().enumerate() {
+        let subject = Subject {
+            machine: findings.machine,
+            sources: findings.sources,
+            group,
+        };
+        let waiver = findings.waiver(place);
+        list.push(group_of(alloc, subject, findings.told.named(), waiver)?)?;
+    }
+    Ok(list)
+}
+
+// By what the search was cut.
+fn cut_by(reason: RankedReason, stopped_by: &'static [u8]) -> &'static [u8] {
+    match reason {
+        RankedReason::Memory(_) => b"memory",
+        RankedReason::Entries => b"entries",
+        RankedReason::Steps => b"--steps",
+        RankedReason::Stopped => stopped_by,
+    }
+}
+
+// What was looked at.
+fn put_seen(members: &mut Members, findings: &Findings<'_>) -> Result<(), NoMemory> {
+    let (races, told) = (findings.races, findings.told);
+    match races.search.status {
+        RankedStatus::Exhausted => members.text("status", b"exhausted")?,
+        RankedStatus::Cut(reason) => {
+            members.text("status", b"cut")?;
+            members.text("cut_by", cut_by(reason, told.stopped_by))?;
+        }
+    }
+    members.value("closed", Value::from(races.search.closed))?;
+    members.number("departures", u64::from(told.departures))?;
+    members.number("states", told.states)?;
+    members.flag("cut_runs", races.cut_runs)?;
+    if races.cut_runs {
+        members.number("until", findings.machine.until())?;
+    }
+    members.number("from", told.from)?;
+    members.number("ignored", races.ignored)
+}
+
+/// What was found of a top module.
+pub fn top_of(alloc: Global, findings: &Findings<'_>) -> Result<Value, NoMemory> {
+    let mut members = Members::new(alloc);
+    members.text("top", &findings.machine.design().top)?;
+    put_seen(&mut members, findings)?;
+    members.list("causes", groups(alloc, findings)?)?;
+    Ok(members.whole())
+}
+
+// A waiver, with how many causes it matched.
+fn waiver_of(alloc: Global, waiver: &Waiver<'_>, matched: u64) -> Result<Value, NoMemory> {
+    let mut members = Members::new(alloc);
+    members.number("line", waiver.line)?;
+    members.text("reason", waiver.reason)?;
+    members.number("matched", matched)?;
+    Ok(members.whole())
+}
+
+// The waivers.
+fn waivers_of(
+    alloc: Global,
+    waivers: &[Waiver<'_>],
+    matched: &[u64],
+) -> Result<Vec<Value>, NoMemory> {
+    let mut list = Vec::new(alloc);
+    for (place, waiver) in waivers.iter().enumerate() {
+        list.push(waiver_of(alloc, waiver, matched_at(matched, place))?)?;
+    }
+    Ok(list)
+}
+
+/// The value as a text, its members a line each, with a line feed at its end.
+pub fn document(alloc: Global, value: &Value) -> Result<Vec<u8>, NoMemory> {
+    let mut text = value.to_vec_pretty(alloc)?;
+    text.push(b'\n')?;
+    Ok(text)
+}
+
+/// What was found of each top module, and what waivers matched in all of them, as one JSON document.
+pub fn json_of(
+    alloc: Global,
+    tops: Vec<Value>,
+    waivers: &[Waiver<'_>],
+    matched: &[u64],
+) -> Result<Vec<u8>, NoMemory> {
+    let mut members = Members::new(alloc);
+    members.number("version", 1)?;
+    members.list("tops", tops)?;
+    members.list("waivers", waivers_of(alloc, waivers, matched)?)?;
+    document(alloc, &members.whole())
+}

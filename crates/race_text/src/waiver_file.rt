@@ -1,0 +1,124 @@
+// Waivers of what was found, as a file that `--waive` reads.
+
+use crate::pieces::put_number;
+use crate::place::Sources;
+use crate::summary::Findings;
+use basis::NoMemory;
+use cause::{Blamed, Cause};
+use race_groups::Group;
+use std::alloc::Global;
+
+// Whether a waiver can name the file: a word that doesn't begin with `#`.
+fn is_word(name: &[u8]) -> bool {
+    for byte in name {
+        if byte.is_ascii_whitespace() {
+            return false;
+        }
+    }
+    !name.is_empty() && !name.starts_with(b"#")
+}
+
+// `FILE:LINE`; answers whether a waiver can name that.
+fn put_spot(text: &mut Vec<u8>, sources: &Sources<'_>, blamed: &Blamed) -> Result<bool, NoMemory> {
+    let Some(place) = sources.place(blamed.statement) else {
+        return Ok(false);
+    };
+    let name = sources.name(place.file).as_bytes();
+    text.extend_from_slice(name)?;
+    text.push(b':')?;
+    put_number(text, place.line as u64)?;
+    Ok(is_word(name))
+}
+
+// `FILE:LINE FILE:LINE # todo`, if a waiver can name both.
+fn line_of_cause(
+    alloc: Global,
+    sources: &Sources<'_>,
+    cause: &Cause,
+) -> Result<Option<Vec<u8>>, NoMemory> {
+    let mut line = Vec::new(alloc);
+    let one = put_spot(&mut line, sources, &cause.second)?;
+    line.push(b' ')?;
+    let other = put_spot(&mut line, sources, &cause.first)?;
+    line.extend_from_slice(b" # todo")?;
+    Ok(if one && other { Some(line) } else { None })
+}
+
+// The remark that stands for a waiver of the group, where none can be written.
+fn remark(alloc: Global, findings: &Findings<'_>, number: u64) -> Result<Vec<u8>, NoMemory> {
+    let mut line = Vec::new(alloc);
+    line.extend_from_slice(b"# race ")?;
+    put_number(&mut line, number)?;
+    line.extend_from_slice(b" of ")?;
+    line.extend_from_slice(&findings.machine.design().top)?;
+    line.extend_from_slice(b" has no two lines that a waiver can name")?;
+    Ok(line)
+}
+
+// The line for the group of this place: the text of its waiver, if it is waived.
+fn line_of(
+    alloc: Global,
+    findings: &Findings<'_>,
+    place: usize,
+    group: &Group,
+) -> Result<Vec<u8>, NoMemory> {
+    if let Some(waiver) = findings.waiver(place) {
+        return Ok(Vec::from_slice(alloc, waiver.text)?);
+    }
+    if let Some(cause) = &group.cause {
+        if let Some(line) = line_of_cause(alloc, findings.sources, cause)? {
+            return Ok(line);
+        }
+    }
+    remark(alloc, findings, (place as u64).saturating_add(1))
+}
+
+// Whether the line stands among these.
+fn is_among(lines: &[Vec<u8>], line: &[u8]) -> bool {
+    for other in lines {
+        if other.as_slice() == line {
+            return true;
+        }
+    }
+    false
+}
+
+/// The lines of a file of waivers, each once.
+#[derive(Drop)]
+pub struct WaiverLines {
+    alloc: Global,
+    lines: Vec<Vec<u8>>,
+}
+
+impl WaiverLines {
+    /// None yet.
+    pub fn new(alloc: Global) -> WaiverLines {
+        WaiverLines {
+            alloc,
+            lines: Vec::new(alloc),
+        }
+    }
+
+    /// A waiver of each race of a top module, by the lines of its two statements, with `todo` as the reason; of one that is waived the
+    /// line of its waiver.
+    pub fn waive(&mut self, findings: &Findings<'_>) -> Result<(), NoMemory> {
+        for (place, group) in findings.races.groups.iter().enumerate() {
+            let line = line_of(self.alloc, findings, place, group)?;
+            if !is_among(&self.lines, &line) {
+                self.lines.push(line)?;
+            }
+        }
+        Ok(())
+    }
+
+    /// The lines as a text.
+    pub fn text(self) -> Result<Vec<u8>, NoMemory> {
+        let WaiverLines { alloc, lines } = self;
+        let mut text = Vec::new(alloc);
+        for line in lines {
+            text.extend_from_slice(&line)?;
+            text.push(b'\n')?;
+        }
+        Ok(text)
+    }
+}
