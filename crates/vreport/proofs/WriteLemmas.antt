@@ -16,8 +16,10 @@ use Rattle.vreport.specs.Dumps.{IsRunDump, StopsDump, TakesDump}
 use Rattle.vreport.specs.Ends.{HasBytes}
 use Rattle.vreport.specs.RunLaws.{same_end}
 use Rattle.report_text.specs.Report.{Report}
-use Rattle.report_text.specs.ReportText.{head_text, line_races_line, line_races_part, line_races_text, number_line}
-use Rattle.vreport.specs.Written.{AreDumps, IsDumpOf, StopsEnd, StopsEnds, StopsReport, TakesEnd, TakesEnds, TakesReport}
+use Rattle.report_text.specs.ReportText.{head_text, line_races_line, line_races_part, line_races_text, number_line, report_text}
+use Rattle.report_text.specs.WellFormed.{IsReportText}
+use Rattle.vreport.specs.Formed.{IsFormed}
+use Rattle.vreport.specs.Written.{AreDumps, IsDumpOf, StopsEnd, StopsEnds, StopsReport, TakesEnd, TakesEnds, TakesReadable, TakesReport, TakesWhatWasRead}
 use Rattle.vreport.proofs.LeadLemmas.{Leads, leads_first, leads_on, leads_stop, leads_end}
 
 -- a run has one dump
@@ -25,6 +27,37 @@ pub same_dump : (setting : Setting) (log : List (ℕ × ℕ)) (limit : ℕ) (d e
 same_dump setting log limit d e p q =
     let steps = same_end (rules_of setting) log p.steps q.steps p.finishes.ends.run p.finishes.ends.end q.finishes.ends in
     p.is_text ∙ ap (λ n. vcd setting.design (history_after setting log n)) steps ∙ sym q.is_text
+
+-- so ends have one list of dumps
+pub same_dumps : (setting : Setting) (steps : ℕ) (ends : List End) (ds es : List (List ℕ)) →
+    AreDumps setting steps ends ds → AreDumps setting steps ends es → ds ≡ es
+same_dumps setting steps [] [] [] p q = refl
+same_dumps setting steps [] [] (e ∷ es) p q = absurd q
+same_dumps setting steps [] (d ∷ ds) es p q = absurd p
+same_dumps setting steps (end ∷ ends) [] es p q = absurd p
+same_dumps setting steps (end ∷ ends) (d ∷ ds) [] p q = absurd q
+same_dumps setting steps (end ∷ ends) (d ∷ ds) (e ∷ es) p q =
+    ap (λ (x : List ℕ). x ∷ ds) (same_dump setting end.log steps d e p.0.is_dump q.0.is_dump)
+    ∙ ap (λ (xs : List (List ℕ)). e ∷ xs) (same_dumps setting steps ends ds es p.1 q.1)
+
+-- what was taken of a well-formed report can be read
+pub as_readable : {O : Type 0} (takes : O → List ℕ → O → Type 0) (setting : Setting) (report : Report) (old new : O) → IsFormed setting report →
+    TakesReport takes setting report old new → TakesReadable takes setting report old new
+as_readable takes setting report old new formed t = record {
+  text = report_text report t.dumps;
+  dumps = t.dumps;
+  are_dumps = t.are_dumps;
+  is_read = (formed t.dumps t.are_dumps, refl);
+  taken = t.taken;
+}
+
+-- what was taken of a report that was read is the text that was read
+pub as_was_read : {O : Type 0} (takes : O → List ℕ → O → Type 0) (setting : Setting) (report : Report) (old new : O) →
+    TakesReport takes setting report old new → TakesWhatWasRead takes setting report old new
+as_was_read takes setting report old new t = λ text dumps is_read are.
+    let same : report_text report t.dumps ≡ text =
+    ap (report_text report) (same_dumps setting report.steps report.ends t.dumps dumps t.are_dumps are) ∙ sym is_read.1 in
+    subst (λ (x : List ℕ). takes old x new) same t.taken
 
 pub dump_of_bytes : (setting : Setting) (steps : ℕ) (end : End) (h : HasBytes setting steps end) → IsDumpOf setting steps end h.dump
 dump_of_bytes setting steps end h = record { is_dump = h.is_dump; bytes_are = h.bytes_are }

@@ -5,6 +5,7 @@ use Rattle.vmodel.specs.Run.{Setting}
 use Rattle.byte_sinks.specs.ByteSinks.{Stopped}
 use Rattle.report_text.specs.Report.{End, Report}
 use Rattle.report_text.specs.ReportText.{end_text, ends_text, report_text}
+use Rattle.report_text.specs.WellFormed.{IsReportText}
 use Rattle.vreport.specs.Dumps.{IsRunDump}
 
 -- the dump of the end's run; it has as many bytes as the end tells
@@ -56,3 +57,18 @@ pub record StopsReport {O F : Type 0} (takes : O → List ℕ → O → Type 0) 
   pub dumps : List (List ℕ)
   pub are_dumps : AreDumps setting report.steps report.ends dumps
   pub stopped : Stopped takes fails old (report_text report dumps) fault new
+
+-- ---- written and read
+
+-- what was taken is the text of this report with the dumps of its runs, and such a text is read as these (`read_report`, [accepts])
+pub record TakesReadable {O : Type 0} (takes : O → List ℕ → O → Type 0) (setting : Setting) (report : Report) (old new : O) : Type 0 where
+  pub text : List ℕ
+  pub dumps : List (List ℕ)
+  pub are_dumps : AreDumps setting report.steps report.ends dumps
+  pub is_read : IsReportText text (report, dumps)
+  pub taken : takes old text new
+
+-- each text that is read as this report with the dumps of its runs was taken, byte for byte
+abbrev pub TakesWhatWasRead : {O : Type 0} → (O → List ℕ → O → Type 0) → Setting → Report → O → O → Type 0
+TakesWhatWasRead takes setting report old new =
+    (text : List ℕ) (dumps : List (List ℕ)) → IsReportText text (report, dumps) → AreDumps setting report.steps report.ends dumps → takes old text new

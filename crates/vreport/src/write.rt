@@ -6,7 +6,8 @@ ghost use Rattle.report_text.specs.WellFormed.{Each};
 ghost use Rattle.report_text.specs.ReportText.{line_races_part, line_races_text, races_text};
 ghost use Rattle.vreport.specs.Ends.{HasBytes};
 ghost use Rattle.vreport.specs.Dumps.{StopsDump, TakesDump};
-ghost use Rattle.vreport.specs.Written.{AreHeld, IsHeld, StopsEnd, StopsEnds, StopsReport, TakesEnd, TakesEnds, TakesReport};
+ghost use Rattle.vreport.specs.Formed.{IsFormed};
+ghost use Rattle.vreport.specs.Written.{AreHeld, IsHeld, StopsEnd, StopsEnds, StopsReport, TakesEnd, TakesEnds, TakesReadable, TakesReport, TakesWhatWasRead};
 
 use crate::dump::write_dump;
 use basis::{NoMemory, OrMemory};
@@ -151,6 +152,9 @@ fn put_lines_part<O: ByteSink>(
 /// Writes the text of a report to the byte sink, and after each end its dump: the one that is held, else that of the run under
 /// its log, which is run again and written slot by slot. E901 where memory was refused; else a fault is the byte sink's. Then a
 /// front of the text stands written.
+///
+/// The text of a well-formed report can be read again, as that report. A report that was read, with dumps that are those of its
+/// runs, is written as it was read, byte for byte.
 pub fn write_report<O: ByteSink>(
     alloc: Global,
     machine: &Machine,
@@ -163,6 +167,10 @@ pub fn write_report<O: ByteSink>(
     ensures ok { OnOk result (TakesReport O.takes machine.now report.now byte_sink.old byte_sink.new) }
     ensures err { IfErr result (λ fault.
         StopsReport O.takes O.fails machine.now report.now byte_sink.old fault byte_sink.new) }
+    ensures readable { IsFormed machine.now report.now →
+        OnOk result (TakesReadable O.takes machine.now report.now byte_sink.old byte_sink.new) }
+    ensures as_read { OnOk result
+        (TakesWhatWasRead O.takes machine.now report.now byte_sink.old byte_sink.new) }
 {
     put_made(byte_sink, head_lines(alloc, report))?;
     put_ends(alloc, machine, report.steps, &report.ends, held, byte_sink)?;

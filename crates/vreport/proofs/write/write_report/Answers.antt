@@ -1,10 +1,11 @@
-use Rattle.std.proofs.Common.{List, ◌++◌, codes, length, subst}
+use Rattle.std.proofs.Common.{List, ◌++◌, codes, length, OnOk, subst}
 use Rattle.std.proofs.lemmas.Result.{err_from_is_err_and, IfErr-weaker, on_ok_weaker}
 use Rattle.byte_sinks.specs.ByteSinks.{Stopped}
 use Rattle.report_text.specs.Report.{Column, End, Race, Report}
 use Rattle.report_text.specs.ReportText.{head_text, line_races_part, number_line, races_text}
-use Rattle.vreport.specs.Written.{StopsEnds, StopsReport, TakesEnds}
-use Rattle.vreport.proofs.WriteLemmas.{report_stops_first, report_stops_fourth, report_stops_last, report_stops_second, report_stops_third, report_taken}
+use Rattle.vreport.specs.Written.{StopsEnds, StopsReport, TakesEnds, TakesReport}
+use Rattle.vreport.proofs.WriteLemmas.{as_readable, as_was_read, report_stops_first, report_stops_fourth, report_stops_last, report_stops_second, report_stops_third, report_taken}
+use Rattle.vreport.proofs.write.write_report.Given.{Over}
 use Rattle.vreport.proofs.write.write_report.Goals as goal
 
 pub returns-in_err-put_made-clause-err : goal.returns-in_err-put_made-clause-err
@@ -41,8 +42,9 @@ returns-in_err-put_races-clause-err g c =
     (subst (λ (vs : List Column). Stopped g.O.ByteSink.takes g.O.ByteSink.fails c.put_made-2.new.byte_sink (races_text vs c.report.inside.races.items) c.in_err-put_races.field-0.0 c.put_races.new.byte_sink) c.deref-2.ensures.value
     (subst (λ (rs : List Race). Stopped g.O.ByteSink.takes g.O.ByteSink.fails c.put_made-2.new.byte_sink (races_text c.deref-2.result.now rs) c.in_err-put_races.field-0.0 c.put_races.new.byte_sink) c.deref-3.ensures.value c.in_err-put_races.ensures.err))))
 
-pub returns-clause-ok : goal.returns-clause-ok
-returns-clause-ok g c =
+-- the text was taken
+it_takes : (g : Over) (c : goal.After-put_lines_part g) → OnOk c.put_lines_part.result (TakesReport g.O.ByteSink.takes c.args.machine.now c.args.report.now c.args.byte_sink.now c.put_lines_part.new.byte_sink)
+it_takes g c =
     on_ok_weaker c.put_lines_part.result (λ taken.
     report_taken g.O.ByteSink.takes g.O.ByteSink.fails g.met.O.ByteSink.lawful c.args.machine.now c.args.report.now c.requires.bytes c.args.byte_sink.now c.put_made.new.byte_sink c.put_ends.new.byte_sink c.put_made-2.new.byte_sink c.put_races.new.byte_sink c.put_lines_part.new.byte_sink
     (c.in_ok-put_made.ensures.ok (head_text c.args.report.now ++ number_line (codes "ends") (length c.args.report.now.ends)) c.head_lines.ensures)
@@ -53,6 +55,17 @@ returns-clause-ok g c =
     (subst (λ (vs : List Column). g.O.ByteSink.takes c.put_made-2.new.byte_sink (races_text vs c.report.inside.races.items) c.put_races.new.byte_sink) c.deref-2.ensures.value
     (subst (λ (rs : List Race). g.O.ByteSink.takes c.put_made-2.new.byte_sink (races_text c.deref-2.result.now rs) c.put_races.new.byte_sink) c.deref-3.ensures.value c.in_ok-put_races.ensures.ok)))
     taken) c.put_lines_part.ensures.ok
+
+pub returns-clause-ok : goal.returns-clause-ok
+returns-clause-ok g c = it_takes g c
+
+pub returns-clause-readable : goal.returns-clause-readable
+returns-clause-readable g c formed =
+    on_ok_weaker c.put_lines_part.result (as_readable g.O.ByteSink.takes c.args.machine.now c.args.report.now c.args.byte_sink.now c.put_lines_part.new.byte_sink formed) (it_takes g c)
+
+pub returns-clause-as_read : goal.returns-clause-as_read
+returns-clause-as_read g c =
+    on_ok_weaker c.put_lines_part.result (as_was_read g.O.ByteSink.takes c.args.machine.now c.args.report.now c.args.byte_sink.now c.put_lines_part.new.byte_sink) (it_takes g c)
 
 pub returns-clause-err : goal.returns-clause-err
 returns-clause-err g c =
