@@ -1,5 +1,5 @@
 """A second reading of crates/cause/README.md: the visits of a slot in the run under a log and in the run under the same log without its last
-member, and the first two that touch and stand in another order.
+member, and the first two that touch and stand in another order. And of crates/race_groups/README.md: which differences one cause explains.
 """
 from dataclasses import dataclass
 
@@ -151,3 +151,39 @@ def cause(made, grain, log, until, holding):
         if before:
             return start, name, max(before, key=lambda found: found[0])[1], run, parent
     return None
+
+
+# ---- differences by their causes
+
+@dataclass
+class Group:
+    """Differences that one cause explains: the actions behind its two visits, or none where there is no cause; the first of them, and those
+    that follow it."""
+    actions: tuple
+    first: object
+    more: list
+
+
+def blamed(made, grain, log, until, holding):
+    """The actions behind the two visits, the one that comes first in the parent first; none where there is no cause."""
+    found = log and cause(made, grain, log, until, holding)
+    if not found:
+        return ()
+    _, first, second, run, parent = found
+    return behind(parent[second], parent).action, behind(run[first], run).action
+
+
+def grouped(differences, blamed_by):
+    """The groups of these differences, each with the logs of its sides, in the order in which they are found."""
+    groups = []
+    for name, logs in differences:
+        counted = False
+        for log in [log for log in logs if log] or [()]:
+            actions = blamed_by(log)
+            known = next((group for group in groups if set(group.actions) == set(actions)), None)
+            if not known:
+                groups.append(Group(actions, name, []))
+            elif not counted:
+                known.more.append(name)
+            counted = True
+    return groups

@@ -1,0 +1,35 @@
+"""The text of `vrace races` (docs/RACES.md, "The races of a testbench"), as far as it tells the groups of differences."""
+import re
+from dataclasses import dataclass
+
+NAME = r"(\S+) is .* at (\d+)|what is printed at (\d+) is .*"
+
+
+@dataclass
+class Told:
+    """A race: its first difference, as it is named where it follows; the places of the two statements; and what else is named."""
+    first: str
+    statements: list
+    more: list
+
+
+def name_of(head):
+    """The name of a difference of a variable or of lines; none of ends."""
+    found = re.fullmatch(NAME, head)
+    if not found:
+        return None
+    variable, time, line_time = found.groups()
+    return f"lines at {line_time}" if line_time else f"{variable} at {time}"
+
+
+def statements_in(lines):
+    """The places of the two statements, without that of a connection or an `assign` which one of them drives."""
+    rows = [line for line in lines if re.match(r"    (\S+:\d+:\d+|-) ", line)]
+    return [row.split()[0] for before, row in zip(["", *rows], rows) if not before.endswith("drives:")]
+
+
+def races_told(text):
+    """The races of the text."""
+    for part in re.split(r"^race \d+: ", text, flags=re.M)[1:]:
+        head, *lines = part.splitlines()
+        yield Told(name_of(head), statements_in(lines), [line.strip() for line in lines if line.startswith(" " * 8)])
