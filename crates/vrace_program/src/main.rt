@@ -248,7 +248,7 @@ fn explore_by_time<W: Write>(
 
 // The options of an exploration of this top module up to this time, if each number is within its limit.
 fn options_for<'a>(
-    request: &Request<'a>,
+    request: &Request<'_>,
     search: &Search,
     top: Option<&'a str>,
     until: u64,
