@@ -40,11 +40,11 @@ fn time_of(machine: &Machine, ends: &[FoundMark<MachineState>]) -> u64 {
 
 // The group of ends that differ.
 fn group_of_ends(causes: &mut Causes, ends: Vec<FoundMark<MachineState>>) -> Result<Group, NoMemory>
-    ensures { IfOk result (IsGroupOfEnds causes.old.machine.now ends.items) }
+    ensures { IfOk result (IsGroupOfEnds causes.old.checkpoints ends.items) }
 {
     let alloc = causes.alloc;
     let log = departed_log(alloc, &ends)?;
-    let last = time_of(causes.machine, &ends);
+    let last = time_of(causes.machine(), &ends);
     let cause = match causes.place(&[], &log)? {
         Placed::With(_) => None,
         Placed::Apart(cause) => cause,
