@@ -1,4 +1,5 @@
 pub mod BehindLemmas
+pub mod CheckpointLemmas
 pub mod FootprintLemmas
 pub mod NumberLemmas
 pub mod ParentLemmas

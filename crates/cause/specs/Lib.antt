@@ -5,4 +5,5 @@ pub mod Swaps
 pub mod Behind
 pub mod Causes
 pub mod Numbered
+pub mod Checkpoints
 pub mod Inner

@@ -1,11 +1,13 @@
 // The cause of what a run has and its parent hasn't.
 
 ghost use Rattle.std.specs.Prelude.{◌≡◌, IfOk, IfSome, IfNone, slice_get, Some};
+ghost use Rattle.sched_core.specs.Logs.{IsLogFrom};
 ghost use Rattle.cause.specs.Causes as spec;
 ghost use Rattle.cause.specs.Swaps.{HasNoSwap};
 
 use crate::behind::statement_behind;
-use crate::slot::visits_of_slot;
+use crate::checkpoints::Checkpoints;
+use crate::slot::{first_step, visits_of_slot};
 use crate::swap::first_swap;
 use crate::thing::{Things, shared};
 use crate::visit::{Actor, Visit, is_same_visit};
@@ -13,7 +15,6 @@ use basis::NoMemory;
 use sched_core::{Log, Member};
 use std::alloc::Global;
 use vdesign::action::Action;
-use vmachine::Machine;
 
 /// One of the two visits: who makes it, the place of its action in the design's table, that of the statement behind it where its action is a
 /// port connection or an `assign`, else the same place, and which step it is in both runs, none where it doesn't come.
@@ -113,28 +114,47 @@ fn cause_in(
     }
 }
 
-/// The cause of what the run under the log has, and the run under the log without its last member hasn't. None where no member is named,
-/// where a slot of both runs doesn't end before `steps` steps, and where no two visits that touch stand in another order. E901 is the only
-/// refusal.
+// The cause, where the last member names this step.
 #[tactic(auto, using(crate::proofs::ParentLemmas::same_before))]
+fn cause_at(
+    alloc: Global,
+    checkpoints: &Checkpoints<'_>,
+    members: &[Member],
+    step: u32,
+    steps: u32,
+) -> Result<Option<Cause>, NoMemory>
+    requires lawful { IsLogFrom 0 members.now }
+    requires named { spec.last_step members.now ≡ Some step }
+    ensures cause { IfOk result (λ told. IfSome told (spec.IsCause checkpoints.now members.now)) }
+    ensures none { IfOk result (λ told. IfNone told (spec.HasNoCause checkpoints.now members.now steps)) }
+{
+    let Some(run) = visits_of_slot(alloc, checkpoints, members, step, steps)? else {
+        return Ok(None);
+    };
+    let Some(parent) = visits_of_slot(alloc, checkpoints, parent_of(members), step, steps)? else {
+        return Ok(None);
+    };
+    let actions = &checkpoints.machine().design().actions;
+    cause_in(alloc, actions, step, &run, &parent)
+}
+
+/// The cause of what the run under the log has, and the run under the log without its last member hasn't. None where no member is named,
+/// where a slot of both runs doesn't end before `steps` steps, and where no two visits that touch stand in another order. The checkpoints
+/// are extended up to the first member. E901 is the only refusal.
 pub fn cause_of(
     alloc: Global,
-    machine: &Machine,
+    checkpoints: &mut Checkpoints<'_>,
     log: &Log,
     steps: u32,
 ) -> Result<Option<Cause>, NoMemory>
-    ensures cause { IfOk result (λ told. IfSome told (spec.IsCause machine.now log.now)) }
-    ensures none { IfOk result (λ told. IfNone told (spec.HasNoCause machine.now log.now steps)) }
+    ensures cause { IfOk result (λ told. IfSome told (spec.IsCause checkpoints.old log.now)) }
+    ensures none { IfOk result (λ told. IfNone told (spec.HasNoCause checkpoints.old log.now steps)) }
+    ensures same { checkpoints.new ≡ checkpoints.old }
 {
     let members = log.members();
     let Some(step) = last_step(members) else {
         return Ok(None);
     };
-    let Some(run) = visits_of_slot(alloc, machine, members, step, steps)? else {
-        return Ok(None);
-    };
-    let Some(parent) = visits_of_slot(alloc, machine, parent_of(members), step, steps)? else {
-        return Ok(None);
-    };
-    cause_in(alloc, &machine.design().actions, step, &run, &parent)
+    checkpoints.extend(alloc, first_step(members, step).min(steps))?;
+    cause_at(alloc, checkpoints, members, step, steps)
 }

@@ -5,12 +5,16 @@
 
 mod behind;
 mod cause;
+mod checkpoint;
+mod checkpoints;
 mod footprint;
 mod slot;
+mod step;
 mod swap;
 mod thing;
 mod visit;
 
 pub use cause::{Blamed, Cause, cause_of};
+pub use checkpoints::Checkpoints;
 pub use thing::{Thing, Things};
 pub use visit::Actor;

@@ -1,20 +1,18 @@
 // The visits of the slot of a step, as a run under a log makes them.
 
-ghost use Rattle.std.specs.Prelude.{◌≡◌, ◌+◌, ◌≤◌, slice_get, Some, OnOk, IfOk, IfSome, IfNone};
+ghost use Rattle.std.specs.Prelude.{◌≡◌, ◌≤◌, IfOk, IfSome, IfNone};
 ghost use Rattle.sched_core.specs.Logs.{IsLogFrom};
-ghost use Rattle.vmodel.specs.Choices.{choices as choices_of};
-ghost use Rattle.vmodel.specs.Step.{next};
 ghost use Rattle.cause.specs.Causes.{AreVisits, HasNoSlot};
 ghost use Rattle.cause.specs.Inner.{ends_there};
 ghost use Rattle.cause.specs.Visits as spec;
 
-use crate::visit::{Seen, Visit, acting_place};
+use crate::checkpoint::Checkpoint;
+use crate::checkpoints::Checkpoints;
+use crate::step::take;
+use crate::visit::Visit;
 use basis::NoMemory;
 use sched_core::{Member, next_choice};
 use std::alloc::Global;
-use vdesign::design::Design;
-use vmachine::Machine;
-use vmodel::State;
 use vmodel::choice::Choice;
 
 // Whether a step goes on with the slot.
@@ -39,51 +37,42 @@ fn ends_before(from: u32, step: u32, choice: Option<Choice>) -> bool
     !is_in_slot(choice)
 }
 
-// Takes a step of a choice, and sees it.
-fn take(
-    alloc: Global,
-    design: &Design,
-    state: &mut State,
-    seen: &mut Seen,
-    from: u32,
-    step: u32,
-    index: u32,
-    choice: Choice,
-) -> Result<(), NoMemory>
-    requires few { seen.old.updates ≤ step }
-    ensures state { OnOk result (state.new ≡ (next design.now state.old index).state) }
-    ensures seen { OnOk result (seen.new ≡ spec.seen_by design.now from step state.old choice
-        (next design.now state.old index).effect seen.old) }
-    ensures few { OnOk result (seen.new.updates ≤ step + 1) }
+/// The step of the first member, if it comes before this one.
+#[tactic(auto, using(crate::proofs::CheckpointLemmas::log_from, crate::proofs::CheckpointLemmas::empty_from))]
+pub(crate) fn first_step(members: &[Member], step: u32) -> u32
+    ensures before { result ≤ step }
+    ensures left { IsLogFrom 0 members.now → IsLogFrom result members.now }
 {
-    let acting = acting_place(state, choice);
-    let place = seen.place_from(state, choice, from, step);
-    let time = state.time();
-    let mut monitors = Vec::new(alloc);
-    let effect = state.step(design, index, &mut monitors)?;
-    seen.put(
-        alloc, design, from, step, time, choice, acting, place, &effect,
-    )
+    match members.first() {
+        None => step,
+        Some(member) => { if member.0 < step { member.0 } else { step } }
+    }
 }
 
 /// The visits of the slot of step `from` in the run under the log of these members; none where the slot doesn't end before `steps` steps,
 /// or where there is no such run.
 pub(crate) fn visits_of_slot(
     alloc: Global,
-    machine: &Machine,
+    checkpoints: &Checkpoints<'_>,
     members: &[Member],
     from: u32,
     steps: u32,
 ) -> Result<Option<Vec<Visit>>, NoMemory>
     requires { IsLogFrom 0 members.now }
-    ensures some { IfOk result (λ told. IfSome told (λ visits. AreVisits machine.now members.now from visits.items)) }
-    ensures none { IfOk result (λ told. IfNone told (HasNoSlot machine.now members.now from steps)) }
+    ensures some { IfOk result (λ told. IfSome told (λ visits. AreVisits checkpoints.now members.now from visits.items)) }
+    ensures none { IfOk result (λ told. IfNone told (HasNoSlot checkpoints.now members.now from steps)) }
 {
-    let design = machine.design();
-    let mut state = machine.opened()?;
-    let mut seen = Seen::nothing(alloc);
+    if from >= steps {
+        return Ok(None);
+    }
+    let design = checkpoints.machine().design();
+    let Checkpoint {
+        step: first,
+        mut state,
+        mut seen,
+    } = checkpoints.last_before(alloc, first_step(members, from))?;
     let mut rest = members;
-    for step in 0..steps {
+    for step in first..steps {
         let (index, later) = next_choice(rest, step);
         let choice = state.choice(index);
         if ends_before(from, step, choice) {

@@ -4,6 +4,7 @@ ghost use Rattle.std.specs.Prelude.{◌≡◌, ◌∷◌, ◌++◌, ◌+◌, ◌
 ghost use Rattle.vmodel.specs.declared.effect.Effect.{Effect};
 ghost use Rattle.vmodel.specs.State.{State};
 ghost use Rattle.cause.specs.Numbered.{AreNumbered};
+ghost use Rattle.cause.specs.Checkpoints as checkpoints;
 ghost use Rattle.cause.specs.Visits as spec;
 
 use crate::footprint::{Footprint, footprint_at};
@@ -140,6 +141,49 @@ fn due_at(posted: &[Posted], time: u64, others: usize) -> Option<usize>
         }
     }
     None
+}
+
+// Whether an update is due before a time.
+fn is_past(posted: &Posted, time: u64) -> bool
+    ensures { result ≡ nat_lt (posted.now.at + posted.now.after) time }
+{
+    time > posted.at && (time - posted.at) as u128 > posted.after
+}
+
+impl Posted {
+    // The same.
+    fn copy(&self) -> Posted
+        ensures { result ≡ self.now }
+    {
+        Posted {
+            at: self.at,
+            after: self.after,
+            place: self.place,
+        }
+    }
+}
+
+// Those that are due at a time or later.
+fn due_from(alloc: Global, posted: &[Posted], time: u64) -> Result<Vec<Posted>, NoMemory>
+    ensures { IfOk result (λ kept. kept.items ≡ checkpoints.due_from time posted.now) }
+{
+    let mut kept = Vec::new(alloc);
+    for post in posted {
+        if !is_past(post, time) {
+            kept.push(post.copy())?;
+        }
+    }
+    Ok(kept)
+}
+
+fn copy_posted(alloc: Global, posted: &[Posted]) -> Result<Vec<Posted>, NoMemory>
+    ensures { IfOk result (λ copied. copied.items ≡ posted.now) }
+{
+    let mut copied = Vec::new(alloc);
+    for post in posted {
+        copied.push(post.copy())?;
+    }
+    Ok(copied)
 }
 
 // Who makes a step of a choice.
@@ -285,6 +329,25 @@ impl Seen {
             updates: 0,
             visits: Vec::new(alloc),
         }
+    }
+
+    /// The same, but for the visits, of which it has none.
+    pub(crate) fn copy(&self, alloc: Global) -> Result<Seen, NoMemory>
+        ensures { IfOk result (λ seen. seen ≡ record self.now { visits = [] }) }
+    {
+        Ok(Seen {
+            posted: copy_posted(alloc, &self.posted)?,
+            updates: self.updates,
+            visits: Vec::new(alloc),
+        })
+    }
+
+    /// Of the updates that were posted those stay that are due at a time or later.
+    pub(crate) fn forget_before(&mut self, alloc: Global, time: u64) -> Result<(), NoMemory>
+        ensures { OnOk result (self.new ≡ record self.old { posted = checkpoints.due_from time self.old.posted }) }
+    {
+        self.posted = due_from(alloc, &self.posted, time)?;
+        Ok(())
     }
 
     /// The visits.

@@ -4,7 +4,7 @@
 #![tactic(auto)]
 
 use basis::NoMemory;
-use cause::{Actor, Blamed, Cause, Thing, cause_of};
+use cause::{Actor, Blamed, Cause, Checkpoints, Thing, cause_of};
 use sched_core::setting::{Departures, Grain, Looked};
 use sched_core::{Log, read_log};
 use std::alloc::Global;
@@ -65,7 +65,8 @@ fn found_of(
     let until = word_at(words, 3).parse::<u64>().unwrap_or(100);
     let mut machine = Machine::new(alloc, design, until, grain_of(word_at(words, 1)))?;
     machine.look(departures_of(word_at(words, 2)), Looked::Values);
-    cause_of(alloc, &machine, log, STEPS)
+    let mut checkpoints = Checkpoints::new(alloc, &machine);
+    cause_of(alloc, &mut checkpoints, log, STEPS)
 }
 
 // A step, or `-` where there is none.

@@ -56,7 +56,7 @@ pub record Adds (setting : Setting) (P : Difference → Type 0) (old new : List 
   pub firsts : (t : Told) → Contains more t → P t.first
 
 abbrev pub setting_of : RaceGroups → Setting
-setting_of kept = kept.causes.machine.now
+setting_of kept = kept.causes.checkpoints
 
 -- ---- ends
 

@@ -5,7 +5,7 @@ ghost use Rattle.race_groups.specs.Inner.{IsPlaced};
 
 use crate::group::Group;
 use basis::NoMemory;
-use cause::{Cause, cause_of};
+use cause::{Cause, Checkpoints, cause_of};
 use sched_core::{Log, Member};
 use std::alloc::Global;
 use std::collections::BTreeMap;
@@ -15,7 +15,7 @@ use vmachine::Machine;
 #[derive(Drop)]
 pub(crate) struct Causes<'m> {
     pub(crate) alloc: Global,
-    pub(crate) machine: &'m Machine,
+    pub(crate) checkpoints: Checkpoints<'m>,
     steps: u32,
     known: BTreeMap<Vec<Member>, usize>,
 }
@@ -52,20 +52,27 @@ fn group_with(groups: &[Group], cause: &Option<Cause>) -> Option<usize>
 impl<'m> Causes<'m> {
     /// None yet. A slot that doesn't end before so many steps has none.
     pub(crate) fn new(alloc: Global, machine: &'m Machine, steps: u32) -> Causes<'m>
-        ensures { result.machine.now ≡ machine.now }
+        ensures { result.checkpoints ≡ machine.now }
     {
         Causes {
             alloc,
-            machine,
+            checkpoints: Checkpoints::new(alloc, machine),
             steps,
             known: BTreeMap::new(alloc),
         }
     }
 
+    /// The machine whose runs they are of.
+    pub(crate) fn machine(&self) -> &'m Machine
+        ensures { result.now ≡ self.now.checkpoints }
+    {
+        self.checkpoints.machine()
+    }
+
     /// Where the log belongs among these groups.
     pub(crate) fn place(&mut self, groups: &[Group], log: &Log) -> Result<Placed, NoMemory>
-        ensures machine { self.new.machine.now ≡ self.old.machine.now }
-        ensures placed { IfOk result (IsPlaced self.old.machine.now (length groups.now) log.now) }
+        ensures machine { self.new.checkpoints ≡ self.old.checkpoints }
+        ensures placed { IfOk result (IsPlaced self.old.checkpoints (length groups.now) log.now) }
     {
         let key = Vec::from_slice(self.alloc, log.members())?;
         if let Some(place) = self.known.get(&key).copied() {
@@ -73,7 +80,7 @@ impl<'m> Causes<'m> {
                 return Ok(Placed::With(place));
             }
         }
-        let cause = cause_of(self.alloc, self.machine, log, self.steps)?;
+        let cause = cause_of(self.alloc, &mut self.checkpoints, log, self.steps)?;
         match group_with(groups, &cause) {
             Some(place) => {
                 self.known.insert(key, place)?;

@@ -77,7 +77,7 @@ impl<'m> RaceGroups<'m> {
             self.scope.names,
             &line_races,
         )?;
-        put_ends(self.causes.machine, &mut self.ends, ends)
+        put_ends(self.causes.machine(), &mut self.ends, ends)
     }
 
     // What the slot of this time gave.
@@ -85,7 +85,7 @@ impl<'m> RaceGroups<'m> {
         ensures ok { OnOk result (TakesSlot time found self.old self.new) }
         ensures grows { GrowsBehind self.old self.new }
     {
-        let is_cut = some_is_cut(self.causes.machine, &found.ends);
+        let is_cut = some_is_cut(self.causes.machine(), &found.ends);
         self.cut_runs = either(self.cut_runs, is_cut);
         if time < self.scope.from {
             self.ignored = self.ignored.saturating_add(count_of(&found));
@@ -118,7 +118,7 @@ impl<'m> Collector<MachineState> for RaceGroups<'m> {
         ensures ok { OnOk result (CollectsMore CollectsGroups self.old (closing_of closed) self.new) }
         ensures err { OnErr result (StaysAs CollectsGroups self.old self.new) }
     {
-        let found = found_in(self.causes.alloc, self.causes.machine, closed.marks)?;
+        let found = found_in(self.causes.alloc, self.causes.machine(), closed.marks)?;
         let groups = self.groups.len();
         let ends = self.ends.len();
         match self.put_slot(closed.rank, found) {

@@ -27,24 +27,14 @@ fn departed_log(alloc: Global, ends: &[FoundMark<MachineState>]) -> Result<Log, 
     Ok(Log::new(alloc))
 }
 
-// The time of the first of these ends.
-fn time_of(machine: &Machine, ends: &[FoundMark<MachineState>]) -> u64 {
-    match ends.first() {
-        None => 0,
-        Some(found) => match machine.end_of(&found.state) {
-            None => 0,
-            Some(end) => end.time,
-        },
-    }
-}
-
 // The group of ends that differ.
 fn group_of_ends(causes: &mut Causes, ends: Vec<FoundMark<MachineState>>) -> Result<Group, NoMemory>
-    ensures { IfOk result (IsGroupOfEnds causes.old.machine.now ends.items) }
+    ensures { IfOk result (IsGroupOfEnds causes.old.checkpoints ends.items) }
 {
     let alloc = causes.alloc;
     let log = departed_log(alloc, &ends)?;
-    let last = time_of(causes.machine, &ends);
+    let first = Difference::Ends(ends);
+    let last = first.time(causes.machine());
     let cause = match causes.place(&[], &log)? {
         Placed::With(_) => None,
         Placed::Apart(cause) => cause,
@@ -52,7 +42,7 @@ fn group_of_ends(causes: &mut Causes, ends: Vec<FoundMark<MachineState>>) -> Res
     Ok(Group {
         cause,
         log,
-        first: Difference::Ends(ends),
+        first,
         next: Vec::new(alloc),
         more: 0,
         last,

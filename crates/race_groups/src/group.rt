@@ -2,13 +2,14 @@
 
 ghost use Rattle.std.specs.Prelude.{◌≡◌};
 ghost use Rattle.race_groups.specs.Inner.{told};
+ghost use Rattle.race_groups.specs.Times.{IsTimeOf, IsTimeOfEnds};
 
 use basis::NoMemory;
 use cause::Cause;
 use explore::{FoundMark, RankedFindings};
 use racebook::{LineRace, Race};
 use sched_core::Log;
-use vmachine::MachineState;
+use vmachine::{Machine, MachineState};
 
 /// Which differences are told.
 #[derive(Clone, Copy, Debug)]
@@ -65,6 +66,32 @@ pub struct Races {
     /// Whether a run ended by the time limit.
     pub cut_runs: bool,
     pub search: RankedFindings,
+}
+
+// The time at which a run ends that ends in the first of these states.
+fn time_of_ends(machine: &Machine, ends: &[FoundMark<MachineState>]) -> u64
+    ensures { IsTimeOfEnds machine.now ends.now result }
+{
+    match ends.first() {
+        None => 0,
+        Some(found) => match machine.end_of(&found.state) {
+            None => 0,
+            Some(end) => end.time,
+        },
+    }
+}
+
+impl Difference {
+    /// Its time: that of its slot; of ends that of the first, in the machine whose runs they are of.
+    pub fn time(&self, machine: &Machine) -> u64
+        ensures { IsTimeOf machine.now self.now result }
+    {
+        match self {
+            Difference::Values(race) => race.time,
+            Difference::Lines(race) => race.time,
+            Difference::Ends(ends) => time_of_ends(machine, ends),
+        }
+    }
 }
 
 impl Group {

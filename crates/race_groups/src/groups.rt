@@ -60,8 +60,8 @@ fn put_side<R: SlotRace>(
     log: &Log,
     counted: bool,
 ) -> Result<(), NoMemory>
-    ensures machine { causes.new.machine.now ≡ causes.old.machine.now }
-    ensures adds { Adds causes.old.machine.now (λ d. d ≡ R.difference race.now)
+    ensures machine { causes.new.checkpoints ≡ causes.old.checkpoints }
+    ensures adds { Adds causes.old.checkpoints (λ d. d ≡ R.difference race.now)
         (tolds_of groups.old.items) (tolds_of groups.new.items) }
     ensures some { OnOk result (0 < length groups.new.items) }
 {
@@ -87,8 +87,8 @@ fn put_departed<R: SlotRace>(
     counted: bool,
 ) -> Result<bool, NoMemory>
     requires { counted ≡ true → 0 < length groups.old.items }
-    ensures machine { causes.new.machine.now ≡ causes.old.machine.now }
-    ensures adds { Adds causes.old.machine.now (λ d. d ≡ R.difference race.now)
+    ensures machine { causes.new.checkpoints ≡ causes.old.checkpoints }
+    ensures adds { Adds causes.old.checkpoints (λ d. d ≡ R.difference race.now)
         (tolds_of groups.old.items) (tolds_of groups.new.items) }
     ensures some { IfOk result (λ is. is ≡ true → 0 < length groups.new.items) }
 {
@@ -108,8 +108,8 @@ fn put<R: SlotRace>(
     names: usize,
     race: &R,
 ) -> Result<(), NoMemory>
-    ensures machine { causes.new.machine.now ≡ causes.old.machine.now }
-    ensures adds { Adds causes.old.machine.now (λ d. d ≡ R.difference race.now)
+    ensures machine { causes.new.checkpoints ≡ causes.old.checkpoints }
+    ensures adds { Adds causes.old.checkpoints (λ d. d ≡ R.difference race.now)
         (tolds_of groups.old.items) (tolds_of groups.new.items) }
     ensures some { OnOk result (0 < length groups.new.items) }
 {
@@ -131,8 +131,8 @@ pub(crate) fn put_all<R: SlotRace>(
     names: usize,
     races: &[R],
 ) -> Result<(), NoMemory>
-    ensures machine { causes.new.machine.now ≡ causes.old.machine.now }
-    ensures adds { Adds causes.old.machine.now (Contains (map R.difference races.now))
+    ensures machine { causes.new.checkpoints ≡ causes.old.checkpoints }
+    ensures adds { Adds causes.old.checkpoints (Contains (map R.difference races.now))
         (tolds_of groups.old.items) (tolds_of groups.new.items) }
     ensures some { OnOk result (groups.new.items ≡ [] → races.now ≡ []) }
 {

@@ -1,6 +1,11 @@
-use Rattle.cause.proofs.SlotLemmas.{parent_is_log}
+use Rattle.std.proofs.Common.{ℕ, List, Option, subst, IfOk, IfNone}
+use Rattle.vmodel.specs.Run.{Setting}
+use Rattle.cause.specs.Causes.{HasNoCause}
+use Rattle.cause.specs.declared.cause.Cause.{Cause}
 use Rattle.cause.proofs.cause.cause_of.Goals as goal
 
-pub visits_of_slot-requires-2 : goal.visits_of_slot-requires-2
-visits_of_slot-requires-2 c =
-    parent_is_log c.args.log.now c.members-members.result.now c.parent_of.result.now c.members-members.ensures.list c.parent_of.ensures c.members-members.ensures.lawful
+pub returns-clause-none : goal.returns-clause-none
+returns-clause-none c =
+    subst (λ (s : Setting). IfOk c.cause_at.result (λ (told : Option Cause). IfNone told (HasNoCause s c.args.log.now c.args.steps))) c.extend.ensures
+    (subst (λ (l : List (ℕ × ℕ)). IfOk c.cause_at.result (λ (told : Option Cause). IfNone told (HasNoCause c.extend.new.self l c.args.steps))) c.members-members.ensures.list
+    c.cause_at.ensures.none)

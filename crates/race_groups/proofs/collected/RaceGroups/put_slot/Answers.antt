@@ -3,6 +3,7 @@ use Rattle.std.proofs.lemmas.Result.{on_ok_weaker}
 use Rattle.explore.specs.Ranked.{pairs_of}
 use Rattle.explore.specs.declared.rank_marks.FoundMark.{FoundMark}
 use Rattle.vmachine.specs.declared.machine_state.MachineState.{MachineState}
+use Rattle.vmodel.specs.Run.{Setting}
 use Rattle.race_groups.specs.Inner.{AreUncut}
 use Rattle.race_groups.proofs.KeptLemmas.{takes_late}
 use Rattle.race_groups.proofs.collected.RaceGroups.put_slot.Goals as goal
@@ -14,6 +15,7 @@ returns-clause-ok c =
     (λ all. takes_late c.args.time c.args.found old (record old { cut_runs = c.either-self.result }) c.put_found.new.self c.if-time-self.false refl refl refl refl
     (λ none. (let e = c.either-self.ensures none in (
       e.0,
-      subst (λ (l : List (FoundMark MachineState)). AreUncut old.causes.machine.now (pairs_of l)) c.deref.ensures.value (c.some_is_cut-is_cut.ensures e.1),
+      subst (λ (l : List (FoundMark MachineState)). AreUncut old.causes.checkpoints (pairs_of l)) c.deref.ensures.value
+          (subst (λ (s : Setting). AreUncut s (pairs_of c.deref.result.now)) c.machine.ensures (c.some_is_cut-is_cut.ensures e.1)),
     )))
     all) c.put_found.ensures.ok

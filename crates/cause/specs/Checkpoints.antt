@@ -1,0 +1,30 @@
+-- *internal*: States of the default run, from which runs under logs are gone through.
+use Rattle.std.specs.Prelude.{◌≡◌, ℕ, ◌+◌, ◌≤◌, nat_lt, if◌then◌else◌, List, [], ◌∷◌}
+use Rattle.sched_core.specs.Rules.{IsRun}
+use Rattle.vmodel.specs.Run.{Setting, rules_of, state_after}
+use Rattle.cause.specs.Visits.{Seen, due_at, seen_after}
+use Rattle.cause.specs.declared.checkpoint.Checkpoint.{Checkpoint}
+use Rattle.cause.specs.declared.visit.Posted.{Posted}
+
+-- of these updates those that are due at a time or later
+abbrev pub due_from : ℕ → List Posted → List Posted
+due_from time [] = []
+due_from time (p ∷ posted) = if nat_lt (p.at + p.after) time then due_from time posted else p ∷ due_from time posted
+
+-- what is kept of what was seen: nothing is missed from this time on
+pub record Keeps (time : ℕ) (kept seen : Seen) : Type 0 where
+  pub due : (t : ℕ) → time ≤ t → due_at t kept.posted ≡ due_at t seen.posted
+  pub updates : kept.updates ≡ seen.updates
+  pub visits : kept.visits ≡ seen.visits
+
+-- a checkpoint: the state in which the default run, which is the run under the empty log, stands before a step, and what is kept of what
+-- was seen of it up to there
+pub record IsCheckpoint (setting : Setting) (checkpoint : Checkpoint) : Type 0 where
+  pub run : IsRun (rules_of setting) [] checkpoint.step
+  pub state : checkpoint.state ≡ state_after setting [] checkpoint.step
+  pub seen : Keeps checkpoint.state.queue.time checkpoint.seen (seen_after setting [] checkpoint.step checkpoint.step)
+  pub few : checkpoint.seen.updates ≤ checkpoint.step
+
+abbrev pub AreCheckpoints : Setting → List Checkpoint → Type 0
+AreCheckpoints setting [] = Unit {0}
+AreCheckpoints setting (checkpoint ∷ list) = IsCheckpoint setting checkpoint × AreCheckpoints setting list

@@ -1,0 +1,48 @@
+// A checkpoint of the default run.
+
+ghost use Rattle.std.specs.Prelude.{◌≡◌, IfOk};
+ghost use Rattle.vmodel.specs.Run.{Setting};
+ghost use Rattle.cause.specs.Checkpoints.{IsCheckpoint};
+
+use crate::visit::Seen;
+use basis::NoMemory;
+use std::alloc::Global;
+use vmachine::Machine;
+use vmodel::State;
+
+/// The state in which the default run, the run under the empty log, stands before a step, and what is kept of what was seen of it up to
+/// there.
+#[derive(Drop)]
+pub(crate) struct Checkpoint {
+    pub(crate) step: u32,
+    pub(crate) state: State,
+    pub(crate) seen: Seen,
+}
+
+impl Checkpoint {
+    /// The beginning of the run.
+    #[tactic(auto, using(crate::proofs::CheckpointLemmas::opened_is))]
+    pub(crate) fn opened(alloc: Global, machine: &Machine) -> Result<Checkpoint, NoMemory>
+        ensures is { IfOk result (IsCheckpoint machine.now) }
+        ensures first { IfOk result (λ checkpoint. checkpoint.step ≡ 0) }
+    {
+        Ok(Checkpoint {
+            step: 0,
+            state: machine.opened()?,
+            seen: Seen::nothing(alloc),
+        })
+    }
+
+    /// The same.
+    #[tactic(auto, using(crate::proofs::CheckpointLemmas::copied_is))]
+    pub(crate) fn copy(&self, alloc: Global) -> Result<Checkpoint, NoMemory>
+        ensures is { IfOk result (λ copied. (setting : Setting) → IsCheckpoint setting self.now → IsCheckpoint setting copied) }
+        ensures step { IfOk result (λ copied. copied.step ≡ self.now.step) }
+    {
+        Ok(Checkpoint {
+            step: self.step,
+            state: self.state.copy(alloc)?,
+            seen: self.seen.copy(alloc)?,
+        })
+    }
+}
