@@ -64,6 +64,7 @@ pub fn open_search<P: Space>(
     Ok(Search {
         book: open_book(alloc, space, limits)?,
         ways: IndexMap::new(alloc),
+        list: IndexMap::with_capacity(alloc, 1)?,
     })
 }
 
@@ -109,7 +110,7 @@ fn status_of<S: Eq + Hash + Drop>(
 /// Beside the entries it keeps states on forced ways, one in `SPACING` steps and at most `ROOM` more
 /// than there are entries. A way that comes to one of them at such a count of steps isn't walked on.
 ///
-/// The error is want of memory for the root or for the list, E901.
+/// The error is want of memory for the root, E901; for the list room is held as the book grows.
 pub fn explore_alone<P: Space>(
     alloc: Global,
     space: &P,
@@ -125,9 +126,9 @@ pub fn explore_alone<P: Space>(
 {
     let mut search = open_search(alloc, space, limits)?;
     let visited = visit_all(alloc, space, limits, &mut search);
-    let Search { book, ways } = search;
+    let Search { book, ways, list } = search;
     drop(ways);
     let status = status_of(alloc, &book, visited);
-    let marks = into_marks(alloc, space, limits, book)?;
+    let marks = into_marks(space, limits, book, list)?;
     Ok(Findings { marks, status })
 }

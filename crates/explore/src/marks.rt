@@ -27,13 +27,13 @@ pub fn note<S: Eq + Hash + Drop>(
     Ok(())
 }
 
-/// The marks that the book's entries stand at, as `list_marks` lists them. The entries are let go one by one, so that there is
-/// room for the marks where the book has taken all that there was.
+/// The marks that the book's entries stand at, as `list_marks` lists them. They come into the list that is given, whose own are let
+/// go; the entries are let go one by one. So where the list has room for as many as there are entries, no memory is taken.
 pub fn into_marks<P: Space>(
-    alloc: Global,
     space: &P,
     limits: &Limits,
     book: PlainBook<P::State>,
+    list: IndexMap<P::State, Log>,
 ) -> Result<IndexMap<P::State, Log>, NoMemory>
     requires { AreEntries (P.rules space.now) limits.now book }
     ensures found { IfOk result (λ marks. AreFound (P.rules space.now) limits.now marks.entries) }
@@ -42,7 +42,8 @@ pub fn into_marks<P: Space>(
     ensures paired { length book.finished ≡ length book.entries }
     ensures apart { IsUndominated P.State.eq book.entries }
 {
-    let mut marks = IndexMap::new(alloc);
+    let mut marks = list;
+    marks.clear();
     for entry in book.into_entries() {
         let Entry { state, log, .. } = entry;
         if space.is_mark(&state) {

@@ -1,6 +1,7 @@
 // What an explorer keeps as it goes on.
 
 use indexmap::IndexMap;
+use sched_core::Log;
 use statebook::PlainBook;
 use std::hash::Hash;
 
@@ -19,9 +20,12 @@ pub struct Checkpoint<S> {
     pub taken: u32,
 }
 
-/// What an explorer keeps: its book, and what it knows of states on forced ways.
+/// What an explorer keeps: its book, and what it knows of states on forced ways. Beside them stands the list of marks, which is
+/// empty until the search has ended, but has room for as many as there are entries. So a search that memory is refused to has
+/// the memory in which to list what it found.
 #[derive(Drop)]
 pub struct Search<S: Eq + Hash> {
     pub book: PlainBook<S>,
     pub ways: IndexMap<S, Onward>,
+    pub list: IndexMap<S, Log>,
 }

@@ -11,7 +11,8 @@ use crate::next::next_entry;
 use crate::search::{Checkpoint, Search};
 use crate::ways::remember;
 use basis::NoMemory;
-use sched_core::Space;
+use indexmap::IndexMap;
+use sched_core::{Log, Space};
 use statebook::{Done, Entry, Limits, Met, PlainBook};
 use std::alloc::Global;
 use std::hash::Hash;
@@ -28,15 +29,17 @@ pub fn choice_count<P: Space>(space: &P, entry: &Entry<P::State>) -> u32
     }
 }
 
-// The place of an entry that dominates this one, itself where none did.
+// The place of an entry that dominates this one, itself where none did. The list gets room for it first.
 fn place_of_insert<S: Eq + Hash + Drop>(
     book: &mut PlainBook<S>,
+    list: &mut IndexMap<S, Log>,
     entry: Entry<S>,
 ) -> Result<usize, NoMemory>
     ensures found { IfOk result (IsFoundAt S.eq book.new.entries entry) }
     ensures ok { OnOk result (IsSameOrAdded book.old entry book.new) }
     ensures err { OnErr result (book.new ≡ book.old) }
 {
+    list.reserve(book.len().saturating_add(1))?;
     match book.meet(entry) {
         Ok(Met::New(place)) => Ok(place),
         Ok(Met::Known(place)) => Ok(place),
@@ -61,7 +64,7 @@ pub fn insert_reached<P: Space>(
     ensures book { IsSameOrAdded search.old.book entry search.new.book }
 {
     let end = entry.steps;
-    let place = place_of_insert(&mut search.book, entry)?;
+    let place = place_of_insert(&mut search.book, &mut search.list, entry)?;
     remember(search, checkpoints, end, Some(place))?;
     Ok(place)
 }

@@ -4,9 +4,9 @@ use Rattle.explore.proofs.marks.into_marks.Goals as goal
 
 pub loop-entry-init : goal.loop-entry-init
 loop-entry-init g c = record {
-  read = none_taken (g.P.Space.rules c.args.space.now) c.args.limits.now c.args.book.entries c.into_iter-entry-iterator.result c.new-marks.result.entries
-      (c.into_iter-entry-iterator.ensures.into_iter_gives.0 ∙ c.into_entries-entry-items.ensures.entries) c.new-marks.ensures.empty;
-  distinct = c.new-marks.ensures.unique;
+  read = none_taken (g.P.Space.rules c.args.space.now) c.args.limits.now c.args.book.entries c.into_iter-entry-iterator.result c.clear.new.self.entries
+      (c.into_iter-entry-iterator.ensures.into_iter_gives.0 ∙ c.into_entries-entry-items.ensures.entries) c.clear.ensures.empty;
+  distinct = c.clear.ensures.unique;
 }
 
 pub loop-entry-preserved-in-Continue-1 : goal.loop-entry-preserved-in-Continue-1
