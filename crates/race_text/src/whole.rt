@@ -78,7 +78,7 @@ fn put_cure(
 ) -> Result<(), NoMemory> {
     if time_of(machine, difference) == 0 {
         text.extend_from_slice(
-            b"    at time 0: give the value in the declaration, as in `reg a = 0;`, or read it after a delay, as in `#1`\n",
+            b"    at time 0: read it after a delay, as in `#1`, or at an edge that comes later; a value in a declaration is an `initial`, too\n",
         )?;
     }
     Ok(())
