@@ -1,5 +1,6 @@
 pub mod ListLemmas
 pub mod AddsLemmas
+pub mod CountLemmas
 pub mod SumLemmas
 pub mod KeptLemmas
 pub mod FoundLemmas

@@ -1,7 +1,7 @@
 // What is told of races: differences, by their causes.
 
-ghost use Rattle.std.specs.Prelude.{◌≡◌};
-ghost use Rattle.race_groups.specs.Inner.{told};
+ghost use Rattle.std.specs.Prelude.{OnErr, OnOk};
+ghost use Rattle.race_groups.specs.Inner.{Follows, IsUntouched};
 ghost use Rattle.race_groups.specs.Times.{IsTimeOf, IsTimeOfEnds};
 
 use basis::NoMemory;

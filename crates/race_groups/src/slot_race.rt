@@ -1,6 +1,7 @@
 // Races of values and of lines alike.
 
-ghost use Rattle.std.specs.Prelude.{◌≡◌, IfOk};
+ghost use Rattle.std.specs.Prelude.{◌≡◌, IfOk, Some};
+ghost use Rattle.race_groups.specs.Found.{name_of};
 ghost use Rattle.race_groups.specs.declared.group.Difference.TheVariants.{Lines, Values};
 
 use crate::group::{Difference, Name};
@@ -11,12 +12,14 @@ use std::alloc::Global;
 
 /// What runs differ in at the end of a slot.
 pub(crate) trait SlotRace {
+    ghost use Rattle.race_groups.specs.Found.{name_of};
     ghost use Rattle.race_groups.specs.declared.group.Difference.{Difference};
 
     ghost difference: { Self → Difference };
 
     /// Its name.
-    fn name(&self) -> Name;
+    fn name(&self) -> Name
+        ensures { name_of (difference self.now) ≡ Some result };
 
     /// How many sides it has.
     fn sides(&self) -> usize;
@@ -60,7 +63,9 @@ fn copy_witnesses(alloc: Global, values: &[Witness]) -> Result<Vec<Witness>, NoM
 impl SlotRace for Race {
     ghost difference = { Values };
 
-    fn name(&self) -> Name {
+    fn name(&self) -> Name
+        ensures { name_of (Values self.now) ≡ Some result }
+    {
         Name {
             time: self.time,
             variable: Some(self.variable),
@@ -111,7 +116,9 @@ fn copy_sides(alloc: Global, sides: &[Side]) -> Result<Vec<Side>, NoMemory>
 impl SlotRace for LineRace {
     ghost difference = { Lines };
 
-    fn name(&self) -> Name {
+    fn name(&self) -> Name
+        ensures { name_of (Lines self.now) ≡ Some result }
+    {
         Name {
             time: self.time,
             variable: None,

@@ -152,7 +152,7 @@ const EXPLANATIONS: [Explanation; 33] = [
     Explanation {
         number: 404,
         meaning: "a number out of its limit; of races, a time that isn't digits and a unit; of check, in the head of a report: a greater until or more steps than --until and --steps allow",
-        example: "--steps 0, --depart 5, --workers 65, --seconds 0; of races --until 10",
+        example: "--steps 0, --depart 5, --workers 65, --seconds 1000001; of races --until 10",
         advice: "look at docs/LANGUAGE.md, Limits; write a time as 10us; a report that asks for more takes longer to check: allow as much, or explore anew with less",
     },
     Explanation {

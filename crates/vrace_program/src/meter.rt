@@ -19,11 +19,11 @@ pub struct Allowance {
     pub progress: bool,
 }
 
-// Whether the number, if there is one, is 1 to 1,000,000.
+// Whether the number, if there is one, is at most 1,000,000. With none at all the search is cut at its first state.
 fn is_within(number: Option<u64>) -> bool {
     match number {
         None => true,
-        Some(number) => 1 <= number && number <= 1_000_000,
+        Some(number) => number <= 1_000_000,
     }
 }
 

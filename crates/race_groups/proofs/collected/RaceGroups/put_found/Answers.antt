@@ -10,4 +10,4 @@ returns-clause-ok c =
     on_ok_weaker c.put_ends.result
     (λ sums. takes_all c.args.found c.deref.result.now c.deref-2.result.now c.args.self.now _ c.put_all.new.groups.items setting c.put_all.new.causes.checkpoints c.machine.result.now
     c.deref.ensures.value c.deref-2.ensures.value refl c.put_all.ensures.machine (c.machine.ensures ∙ still) still refl refl
-    c.put_all.ensures.adds c.in_ok-put_all.ensures.some c.put_all-2.ensures.adds c.in_ok-put_all-2.ensures.some sums) c.put_ends.ensures.sums
+    c.put_all.ensures.adds c.in_ok-put_all.ensures.counts c.put_all-2.ensures.adds c.in_ok-put_all-2.ensures.counts sums) c.put_ends.ensures.sums
