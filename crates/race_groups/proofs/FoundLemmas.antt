@@ -40,7 +40,7 @@ use Rattle.race_groups.specs.declared.group.Difference.TheVariants.{Values, Line
 use Rattle.race_groups.specs.declared.group.Group.{Group}
 use Rattle.race_groups.specs.declared.group.Name.{Name}
 use Rattle.race_groups.specs.declared.group.Scope.{Scope}
-use Rattle.race_groups.specs.Found.{AllAreCounted, AllStandFor, EachGroup, EndsAlike, HasFirstDifference, HasItsCause, IsDifference, IsNameInOne, IsOfClosed, NoneDiffer, NoneIsCut, TwoEndsDiffer}
+use Rattle.race_groups.specs.Found.{AllAreCounted, AllStandFor, EachGroup, EndsAlike, HasFirstDifference, HasItsCause, HasLogOfFirst, IsDifference, IsNameInOne, IsOfClosed, NoneDiffer, NoneIsCut, TwoEndsDiffer}
 use Rattle.race_groups.specs.Inner.{AreGroupsOf, AreTold, AreUncut, CollectsGroups, IsCaused, IsShownBy, KeepsGroups, OfEnds, Shape, TellsEnds, Told, setting_of, shape_of, told, tolds_of}
 use Rattle.race_groups.proofs.ListLemmas.{at_most_one, nothing_in, to_map}
 
@@ -382,6 +382,7 @@ handed_so setting limits scope first now findings is same none hands =
 pub record IsTold (setting : Setting) (limits : Limits) (scope : Scope) (groups : List Group) (cut : Bool) (findings : RankedFindings) : Type 0 where
   pub cause : EachGroup (HasItsCause setting) groups
   pub first : EachGroup (HasFirstDifference setting limits) groups
+  pub log : EachGroup HasLogOfFirst groups
   pub all : IfSome findings.closed (λ top. AllAreCounted setting limits.depart scope.names groups (λ time. (scope.from ≤ time) × (time ≤ top)))
   pub all_exhausted : findings.status ≡ Exhausted → AllAreCounted setting limits.depart scope.names groups (λ time. scope.from ≤ time)
   pub none : groups ≡ [] → IfSome findings.closed (λ top. NoneDiffer setting limits.depart (λ time. (scope.from ≤ time) × (time ≤ top)))
@@ -422,8 +423,14 @@ module _ (setting : Setting) (alike : Alike setting) (all : AllStand setting) (t
 
   its_cause : EachGroup (HasItsCause setting) groups
   its_cause i group at = elim (tells.each group (contains_at groups i group at)) [
-    | inl old ↦ hands.collected.causes (told group) (to_map told kept.groups.items group old)
-    | inr new ↦ new.1.caused
+    | inl old ↦ (hands.collected.causes (told group) (to_map told kept.groups.items group old)).0
+    | inr new ↦ new.1.caused.0
+  ]
+
+  its_log : EachGroup HasLogOfFirst groups
+  its_log i group at = elim (tells.each group (contains_at groups i group at)) [
+    | inl old ↦ (hands.collected.causes (told group) (to_map told kept.groups.items group old)).1
+    | inr new ↦ new.1.caused.1
   ]
 
   its_first : EachGroup (HasFirstDifference setting limits) groups
@@ -445,6 +452,7 @@ module _ (setting : Setting) (alike : Alike setting) (all : AllStand setting) (t
   is_told = record {
     cause = its_cause;
     first = its_first;
+    log = its_log;
     all = IfSome_then findings.closed (all_to setting alike all there here mark_alike wide ranked limits scope kept.groups.items tolds ends kept.cut_runs findings hands)
         (λ top. told_counted (λ time. (scope.from ≤ time) × (time ≤ top)));
     all_exhausted = λ e. told_counted (λ time. scope.from ≤ time) (all_throughout setting alike all there here mark_alike wide ranked limits scope kept.groups.items tolds ends kept.cut_runs findings hands e);

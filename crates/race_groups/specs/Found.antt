@@ -1,6 +1,6 @@
 -- *product rule*: What a search for races tells, by causes (IEEE 1364-2005, 11.3, 11.4; crates/race_groups/README.md): differences that are
 -- some, causes that are theirs, and where nothing is told, that there is nothing from one time on, up to another or for good.
-use Rattle.std.specs.Prelude.{◌≡◌, ◌≢◌, ⊤, Bool, false, ℕ, ◌≤◌, ◌⊎◌, List, [], ◌∷◌, ◌++◌, length, take, slice_get, min, Option, Some, None, IfSome}
+use Rattle.std.specs.Prelude.{◌≡◌, ◌≢◌, ⊤, Bool, false, ℕ, ◌≤◌, ◌⊎◌, List, [], ◌∷◌, ◌++◌, length, map, take, slice_get, min, Option, Some, None, IfSome}
 use Rattle.std.specs.List.{Contains}
 use Rattle.sched_core.specs.declared.end.Cause.TheVariants.{Limit}
 use Rattle.sched_core.specs.Replay.{EndsAfter}
@@ -59,6 +59,20 @@ HasItsCause setting group = IfSome group.cause (IsCause setting group.log)
 
 abbrev pub HasFirstDifference : Setting → Limits → Group → Type 0
 HasFirstDifference setting limits group = IsDifference setting limits group.first
+
+-- the logs under which it is seen, one for each side
+abbrev pub logs_of : Difference → List (List (ℕ × ℕ))
+logs_of (Values race) = map (λ side. side.1) race.values
+logs_of (Lines race) = map (λ side. side.1) race.sides
+logs_of (Ends ends) = map (λ end. end.1) (pairs_of ends.items)
+
+-- one of these, which names a departure; or none that does, as none of these does
+abbrev pub IsLogOf : Difference → List (ℕ × ℕ) → Type 0
+IsLogOf difference log = (Contains (logs_of difference) log × (log ≢ []))
+    ⊎ ((log ≡ []) × ((other : List (ℕ × ℕ)) → Contains (logs_of difference) other → other ≡ []))
+
+abbrev pub HasLogOfFirst : Group → Type 0
+HasLogOfFirst group = IsLogOf group.first group.log
 
 -- a difference in a slot is of a time that was closed
 abbrev pub IsOfClosed : Option ℕ → Difference → Type 0

@@ -26,7 +26,7 @@ use Rattle.race_groups.specs.declared.group.Difference.TheVariants.{Values, Line
 use Rattle.race_groups.specs.declared.group.Group.{Group}
 use Rattle.race_groups.specs.declared.group.Name.{Name}
 use Rattle.race_groups.specs.declared.group.Scope.{Scope}
-use Rattle.race_groups.specs.Found.{AllStandFor, IsNameIn, IsNameInOne, name_of}
+use Rattle.race_groups.specs.Found.{AllStandFor, IsLogOf, IsNameIn, IsNameInOne, name_of}
 
 -- ---- groups
 
@@ -42,9 +42,9 @@ told group = record { cause = group.cause; log = group.log; first = group.first 
 abbrev pub tolds_of : List Group → List Told
 tolds_of groups = map told groups
 
--- its cause, where it has one, is that of its log
+-- its cause, where it has one, is that of its log, and this is one of its first difference
 abbrev pub IsCaused : Setting → Told → Type 0
-IsCaused setting t = IfSome t.cause (IsCause setting t.log)
+IsCaused setting t = IfSome t.cause (IsCause setting t.log) × IsLogOf t.first t.log
 
 -- a log belongs to the group at a place, or to none, with its cause
 abbrev pub IsPlaced : Setting → ℕ → List (ℕ × ℕ) → Placed → Type 0
@@ -57,6 +57,20 @@ pub record Adds (setting : Setting) (P : Difference → Type 0) (old new : List 
   pub is : new ≡ old ++ more
   pub causes : (t : Told) → Contains more t → IsCaused setting t
   pub firsts : (t : Told) → Contains more t → P t.first
+
+-- ---- logs
+
+-- the side's log names a departure
+abbrev pub IsDeparted : List (List (ℕ × ℕ)) → ℕ → List (ℕ × ℕ) → Type 0
+IsDeparted logs side log = (slice_get logs side ≡ Some log) × (log ≢ [])
+
+-- the log of the side, if there is one, names none
+abbrev pub IsDefault : List (List (ℕ × ℕ)) → ℕ → Type 0
+IsDefault logs side = (log : List (ℕ × ℕ)) → slice_get logs side ≡ Some log → log ≡ []
+
+-- so it is of the first so many
+abbrev pub AreDefault : List (List (ℕ × ℕ)) → ℕ → Type 0
+AreDefault logs count = (side : ℕ) → side < count → IsDefault logs side
 
 -- ---- what groups count
 
@@ -268,6 +282,11 @@ collects_nothing kept = record {
 }
 
 -- ---- what is told
+
+-- the log of one of these that names a departure; or none that does, as none of these does
+abbrev pub IsLogOfEnds : List (MachineState × List (ℕ × ℕ)) → List (ℕ × ℕ) → Type 0
+IsLogOfEnds ends log = (Contains (map (λ end. end.1) ends) log × (log ≢ []))
+    ⊎ ((log ≡ []) × ((other : List (ℕ × ℕ)) → Contains (map (λ end. end.1) ends) other → other ≡ []))
 
 -- these ends are the difference
 abbrev pub TellsEnds : List (FoundMark MachineState) → Difference → Type 0

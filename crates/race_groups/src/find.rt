@@ -1,10 +1,10 @@
 // A search for races, by time.
 
 ghost use Rattle.std.specs.Prelude.{IfOk};
-ghost use Rattle.explore.specs.Ranked.{TellsOfEntries, TellsOfSteps, TellsOfStop};
+ghost use Rattle.explore.specs.Ranked.{pairs_of, TellsOfEntries, TellsOfSteps, TellsOfStop};
 ghost use Rattle.vmachine.specs.Machines.{machine_rules};
-ghost use Rattle.race_groups.specs.Found.{ClosesAllEnds, EachGroup, HasFirstDifference, HasItsCause, TellsOfAll, TellsOfAllThroughout, TellsOfClosed, TellsOfCuts, TellsOfCutsThroughout, TellsOfNone, TellsOfNoneThroughout};
-ghost use Rattle.race_groups.specs.Inner.{AreTold, IsGroupOfEnds, setting_of};
+ghost use Rattle.race_groups.specs.Found.{ClosesAllEnds, EachGroup, HasFirstDifference, HasItsCause, HasLogOfFirst, TellsOfAll, TellsOfAllThroughout, TellsOfClosed, TellsOfCuts, TellsOfCutsThroughout, TellsOfNone, TellsOfNoneThroughout};
+ghost use Rattle.race_groups.specs.Inner.{AreTold, IsGroupOfEnds, IsLogOfEnds, setting_of};
 
 use crate::causes::{Causes, Placed};
 use crate::collected::RaceGroups;
@@ -18,7 +18,9 @@ use vmachine::{Machine, MachineState, machine_law};
 use vmodel::run_law;
 
 // The log of the first that has departures.
-fn departed_log(alloc: Global, ends: &[FoundMark<MachineState>]) -> Result<Log, NoMemory> {
+fn departed_log(alloc: Global, ends: &[FoundMark<MachineState>]) -> Result<Log, NoMemory>
+    ensures { IfOk result (λ log. IsLogOfEnds (pairs_of ends.now) log) }
+{
     for found in ends {
         if !found.log.members().is_empty() {
             return found.log.copy();
@@ -87,6 +89,7 @@ pub fn find_races<W: Watcher>(
 ) -> Result<Races, NoMemory>
     ensures cause { IfOk result (λ races. EachGroup (HasItsCause machine.now) races.groups.items) }
     ensures first { IfOk result (λ races. EachGroup (HasFirstDifference machine.now limits.now) races.groups.items) }
+    ensures log { IfOk result (λ races. EachGroup HasLogOfFirst races.groups.items) }
     ensures all { IfOk result (TellsOfAll machine.now limits.now scope.now) }
     ensures all_exhausted { IfOk result (TellsOfAllThroughout machine.now limits.now scope.now) }
     ensures none { IfOk result (TellsOfNone machine.now limits.now scope.now) }

@@ -4,8 +4,8 @@ ghost use Rattle.std.specs.Prelude.{◌≡◌, ◌<◌, ℕ, IfOk, IfSome, OnOk,
 ghost use Rattle.std.specs.List.{Contains};
 ghost use Rattle.vmodel.specs.Run.{Setting};
 ghost use Rattle.cause.specs.Causes.{IsCause};
-ghost use Rattle.race_groups.specs.Found.{name_of};
-ghost use Rattle.race_groups.specs.Inner.{Adds, Counts, IsNamedIn, NoName, tolds_of};
+ghost use Rattle.race_groups.specs.Found.{IsLogOf, logs_of, name_of};
+ghost use Rattle.race_groups.specs.Inner.{Adds, Counts, IsDefault, IsNamedIn, NoName, tolds_of};
 
 use crate::causes::{Causes, Placed};
 use crate::group::{Group, Name};
@@ -37,7 +37,7 @@ fn open<R: SlotRace>(
     race: &R,
 ) -> Result<(), NoMemory>
     ensures adds { (setting : Setting) → IfSome cause (IsCause setting log.now) →
-        Adds setting (λ d. d ≡ R.difference race.now) (tolds_of groups.old.items) (tolds_of groups.new.items) }
+        IsLogOf (R.difference race.now) log.now → Adds setting (λ d. d ≡ R.difference race.now) (tolds_of groups.old.items) (tolds_of groups.new.items) }
     ensures still { (names : ℕ) → Counts names NoName groups.old.items groups.new.items }
     ensures counts { OnOk result ((names : ℕ) → Counts names (λ n. name_of (R.difference race.now) ≡ Some n)
         groups.old.items groups.new.items) }
@@ -64,6 +64,7 @@ fn put_side<R: SlotRace>(
     log: &Log,
     counted: bool,
 ) -> Result<(), NoMemory>
+    requires log { IsLogOf (R.difference race.now) log.now }
     ensures machine { causes.new.checkpoints ≡ causes.old.checkpoints }
     ensures adds { Adds causes.old.checkpoints (λ d. d ≡ R.difference race.now)
         (tolds_of groups.old.items) (tolds_of groups.new.items) }
@@ -98,6 +99,8 @@ fn put_departed<R: SlotRace>(
     ensures still { Counts names NoName groups.old.items groups.new.items }
     ensures counts { IfOk result (λ is. is ≡ true → counted ≡ false → Counts names (λ n. name_of (R.difference race.now) ≡ Some n)
         groups.old.items groups.new.items) }
+    ensures default { IfOk result (λ is. is ≡ false →
+        (counted ≡ false) × IsDefault (logs_of (R.difference race.now)) side) }
 {
     match race.departed(side) {
         None => Ok(counted),

@@ -1,7 +1,8 @@
 // Races of values and of lines alike.
 
-ghost use Rattle.std.specs.Prelude.{◌≡◌, IfOk, Some};
-ghost use Rattle.race_groups.specs.Found.{name_of};
+ghost use Rattle.std.specs.Prelude.{◌≡◌, ◌≢◌, [], IfNone, IfOk, IfSome, Some, length};
+ghost use Rattle.race_groups.specs.Found.{logs_of, name_of};
+ghost use Rattle.race_groups.specs.Inner.{IsDefault, IsDeparted};
 ghost use Rattle.race_groups.specs.declared.group.Difference.TheVariants.{Lines, Values};
 
 use crate::group::{Difference, Name};
@@ -12,7 +13,8 @@ use std::alloc::Global;
 
 /// What runs differ in at the end of a slot.
 pub(crate) trait SlotRace {
-    ghost use Rattle.race_groups.specs.Found.{name_of};
+    ghost use Rattle.race_groups.specs.Found.{logs_of, name_of};
+    ghost use Rattle.race_groups.specs.Inner.{IsDefault, IsDeparted};
     ghost use Rattle.race_groups.specs.declared.group.Difference.{Difference};
 
     ghost difference: { Self → Difference };
@@ -22,10 +24,13 @@ pub(crate) trait SlotRace {
         ensures { name_of (difference self.now) ≡ Some result };
 
     /// How many sides it has.
-    fn sides(&self) -> usize;
+    fn sides(&self) -> usize
+        ensures { result ≡ length (logs_of (difference self.now)) };
 
     /// The log of a side, where it has departures.
-    fn departed(&self, side: usize) -> Option<&Log>;
+    fn departed(&self, side: usize) -> Option<&Log>
+        ensures some { IfSome result (λ log. IsDeparted (logs_of (difference self.now)) side log.now) }
+        ensures none { IfNone result (IsDefault (logs_of (difference self.now)) side) };
 
     /// The same, whole.
     fn whole(&self, alloc: Global) -> Result<Difference, NoMemory>
@@ -33,7 +38,10 @@ pub(crate) trait SlotRace {
 }
 
 // The log, where it has departures.
-fn if_departed(log: &Log) -> Option<&Log> {
+fn if_departed(log: &Log) -> Option<&Log>
+    ensures some { IfSome result (λ departed. (departed.now ≡ log.now) × (log.now ≢ [])) }
+    ensures none { IfNone result (log.now ≡ []) }
+{
     if log.members().is_empty() {
         None
     } else {
@@ -72,11 +80,16 @@ impl SlotRace for Race {
         }
     }
 
-    fn sides(&self) -> usize {
+    fn sides(&self) -> usize
+        ensures { result ≡ length (logs_of (Values self.now)) }
+    {
         self.values.len()
     }
 
-    fn departed(&self, side: usize) -> Option<&Log> {
+    fn departed(&self, side: usize) -> Option<&Log>
+        ensures some { IfSome result (λ log. IsDeparted (logs_of (Values self.now)) side log.now) }
+        ensures none { IfNone result (IsDefault (logs_of (Values self.now)) side) }
+    {
         match self.values.get(side) {
             None => None,
             Some(witness) => if_departed(&witness.log),
@@ -125,11 +138,16 @@ impl SlotRace for LineRace {
         }
     }
 
-    fn sides(&self) -> usize {
+    fn sides(&self) -> usize
+        ensures { result ≡ length (logs_of (Lines self.now)) }
+    {
         self.sides.len()
     }
 
-    fn departed(&self, side: usize) -> Option<&Log> {
+    fn departed(&self, side: usize) -> Option<&Log>
+        ensures some { IfSome result (λ log. IsDeparted (logs_of (Lines self.now)) side log.now) }
+        ensures none { IfNone result (IsDefault (logs_of (Lines self.now)) side) }
+    {
         match self.sides.get(side) {
             None => None,
             Some(side) => if_departed(&side.log),

@@ -4,7 +4,7 @@ ghost use Rattle.std.specs.Prelude.{◌≡◌, IfOk, IfErr};
 ghost use Rattle.explore.specs.Ranked.{TellsOfEntries, TellsOfSteps, TellsOfStop};
 ghost use Rattle.vmachine.specs.Machines.{machine_rules};
 ghost use Rattle.vsrc.specs.Source.{file_bytes};
-ghost use Rattle.race_groups.specs.Found.{ClosesAllEnds, EachGroup, HasFirstDifference, HasItsCause, TellsOfAll, TellsOfAllThroughout, TellsOfClosed, TellsOfCuts, TellsOfCutsThroughout, TellsOfNone, TellsOfNoneThroughout};
+ghost use Rattle.race_groups.specs.Found.{ClosesAllEnds, EachGroup, HasFirstDifference, HasItsCause, HasLogOfFirst, TellsOfAll, TellsOfAllThroughout, TellsOfClosed, TellsOfCuts, TellsOfCutsThroughout, TellsOfNone, TellsOfNoneThroughout};
 ghost use Rattle.vrace.specs.Request.{request_of};
 ghost use Rattle.vrace.specs.Explores.{IsSearched};
 ghost use Rattle.vrace.specs.Refusals.{IsDesignFault};
@@ -49,6 +49,7 @@ pub fn find_races_in<B: Budget>(
     ensures cause { IfOk result (λ found. EachGroup (HasItsCause found.machine) found.races.groups.items) }
     ensures first { IfOk result (λ found.
         EachGroup (HasFirstDifference found.machine options.now.limits) found.races.groups.items) }
+    ensures log { IfOk result (λ found. EachGroup HasLogOfFirst found.races.groups.items) }
     ensures all { IfOk result (λ found. TellsOfAll found.machine options.now.limits scope.now found.races) }
     ensures all_exhausted { IfOk result (λ found.
         TellsOfAllThroughout found.machine options.now.limits scope.now found.races) }

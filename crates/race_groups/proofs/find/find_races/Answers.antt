@@ -22,6 +22,7 @@ returns g c =
     record {
       cause = t.cause;
       first = t.first;
+      log = t.log;
       all = t.all;
       all_exhausted = t.all_exhausted;
       none = t.none;

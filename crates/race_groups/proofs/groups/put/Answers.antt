@@ -1,10 +1,15 @@
-use Rattle.std.proofs.Common.{◌≡◌, Some, refl, ◌∙◌}
+use Rattle.std.proofs.Common.{◌≡◌, Some, refl, ◌∙◌, arith}
 use Rattle.std.proofs.lemmas.Result.{on_ok_weaker}
-use Rattle.race_groups.specs.Found.{name_of}
+use Rattle.race_groups.specs.Found.{logs_of, name_of}
 use Rattle.race_groups.specs.Inner.{tolds_of}
 use Rattle.race_groups.proofs.AddsLemmas.{adds_none, adds_then}
 use Rattle.race_groups.proofs.CountLemmas.{counts_behind, counts_none, counts_still, side_more}
+use Rattle.race_groups.proofs.SideLemmas.{no_departed_log, none_looked_at, one_more}
 use Rattle.race_groups.proofs.groups.put.Goals as goal
+
+pub put_side-requires : goal.put_side-requires
+put_side-requires g c =
+    no_departed_log (g.R.SlotRace.difference c.args.race.now) c.loop-side.side c.new-none.result (omega (arith, c.loop-side-test.false, c.sides.ensures)) (c.loop-side.invariant.4 c.if-counted.false) c.new-none.ensures
 
 pub loop-side-init : goal.loop-side-init
 loop-side-init g c =
@@ -13,6 +18,7 @@ loop-side-init g c =
       adds_none c.args.causes.now.checkpoints (λ d. d ≡ g.R.SlotRace.difference c.args.race.now) (tolds_of groups) (tolds_of groups) refl,
       counts_none c.args.names groups groups refl,
       λ e. absurd (cc),
+      λ e. none_looked_at (logs_of (g.R.SlotRace.difference c.args.race.now)) 0 refl,
     )
 
 pub returns-in_err-counted-clause-adds : goal.returns-in_err-counted-clause-adds
@@ -35,6 +41,7 @@ loop-side-preserved g c =
       counts_still c.args.names groups mid new c.loop-side.invariant.2 c.put_departed.ensures.still,
       side_more c.args.names (λ n. name_of (g.R.SlotRace.difference c.args.race.now) ≡ Some n) groups mid new c.loop-side.counted c.in_ok-counted.counted
           c.loop-side.invariant.3 c.loop-side.invariant.2 c.put_departed.ensures.still c.in_ok-counted.ensures.counts,
+      λ e. (let was = c.in_ok-counted.ensures.default e in one_more (logs_of (g.R.SlotRace.difference c.args.race.now)) c.loop-side.side (c.loop-side.invariant.4 was.0) was.1),
     )
 
 pub returns-then-counted-clause-counts : goal.returns-then-counted-clause-counts

@@ -1,0 +1,42 @@
+-- The logs of the sides of a difference.
+use Rattle.std.specs.Prelude.{⊤}
+use Rattle.std.proofs.Common.{◌≡◌, ◌≢◌, ℕ, suc, ◌+◌, ◌<◌, ◌≤◌, ◌⊎◌, Bool, true, false, List, [], length, map, slice_get, Option, None, Some, IfSome, refl, sym, ap, ◌∙◌, subst, inl, inr, arith}
+use Rattle.std.specs.Prelude.{IfNone, option_map}
+use Rattle.std.specs.List.{Contains}
+use Rattle.std.proofs.lemmas.Bool.{cases_lt}
+use Rattle.std.proofs.lemmas.Option.{same_Some, slice_get-map}
+use Rattle.basis.proofs.Lists.{at_contains, place_within}
+use Rattle.racebook.proofs.ListLemmas.{contains_at}
+use Rattle.race_groups.specs.declared.group.Difference.{Difference}
+use Rattle.race_groups.specs.Found.{IsLogOf, logs_of}
+use Rattle.race_groups.specs.Inner.{AreDefault, IsDefault, IsDeparted}
+
+-- the log of a side that is there
+pub side_at : {A : Type 0} (f : A → List (ℕ × ℕ)) (sides : List A) (i : ℕ) (side : A) → slice_get sides i ≡ Some side → slice_get (map f sides) i ≡ Some (f side)
+side_at f sides i side at = slice_get-map f sides i ∙ ap (option_map f) at
+
+pub no_side : {A : Type 0} (f : A → List (ℕ × ℕ)) (sides : List A) (i : ℕ) → slice_get sides i ≡ None → IsDefault (map f sides) i
+no_side f sides i none log at = absurd (let e = sym at ∙ slice_get-map f sides i ∙ ap (option_map f) none in cc)
+
+pub default_side : {A : Type 0} (f : A → List (ℕ × ℕ)) (sides : List A) (i : ℕ) (side : A) → slice_get sides i ≡ Some side → f side ≡ [] → IsDefault (map f sides) i
+default_side f sides i side at none log is = same_Some log (f side) (sym is ∙ side_at f sides i side at) ∙ none
+
+-- a side's log that names a departure is one of the difference
+pub departed_log : (d : Difference) (i : ℕ) (log : List (ℕ × ℕ)) → IsDeparted (logs_of d) i log → IsLogOf d log
+departed_log d i log is = inl (contains_at (logs_of d) i log is.0, is.1)
+
+-- where no side's does, none is
+pub no_departed_log : (d : Difference) (count : ℕ) (log : List (ℕ × ℕ)) → length (logs_of d) ≤ count → AreDefault (logs_of d) count → log ≡ [] → IsLogOf d log
+no_departed_log d count log whole none is = inr (is, λ other has.
+    (let p = at_contains (logs_of d) other has in
+    let lt = place_within (logs_of d) p.0 other p.1 in
+    none p.0 (omega (arith, whole, lt)) other p.1))
+
+pub none_looked_at : (logs : List (List (ℕ × ℕ))) (count : ℕ) → count ≡ 0 → AreDefault logs count
+none_looked_at logs count none side lt = absurd (omega (arith, none, lt))
+
+pub one_more : (logs : List (List (ℕ × ℕ))) (count : ℕ) → AreDefault logs count → IsDefault logs count → AreDefault logs (count + 1)
+one_more logs count before here side lt = elim (cases_lt side count) [
+  | inl there ↦ before side there
+  | inr last ↦ subst (IsDefault logs) (let e : count ≡ side = omega (arith, lt, last) in e) here
+]
