@@ -47,6 +47,7 @@ pub struct Meter<'r, R> {
     entry_bytes: u64,
     asked: u64,
     shown: u64,
+    found: usize,
     spent: Spent,
     is_over: bool,
     opened: u64,
@@ -62,6 +63,7 @@ impl<'r, R: Clock + Eprint> Meter<'r, R> {
             entry_bytes: 0,
             asked: 0,
             shown: 0,
+            found: 0,
             spent: Spent::Time,
             is_over: false,
             opened: 0,
@@ -121,9 +123,21 @@ impl<'r, R: Clock + Eprint> Meter<'r, R> {
 
     // Shows how far the exploration has come, unless it did so just before.
     fn show(&mut self, passed: u64, progress: &Progress) {
-        if !self.allowance.progress || passed < self.shown.saturating_add(SHOWN_APART) {
-            return;
+        if self.allowance.progress && passed >= self.shown.saturating_add(SHOWN_APART) {
+            self.show_now(passed, progress);
         }
+    }
+
+    // Shows so at once where races were found since it last looked.
+    fn show_found(&mut self, progress: &Progress) {
+        if self.allowance.progress && progress.found > self.found {
+            self.found = progress.found;
+            self.show_now(self.passed(), progress);
+        }
+    }
+
+    // A line on standard error.
+    fn show_now(&mut self, passed: u64, progress: &Progress) {
         self.shown = passed;
         let entries = progress.entries_opened as u64;
         let pace = entries
@@ -144,6 +158,7 @@ impl<'r, R: Clock + Eprint> Watcher for Meter<'r, R> {
 
     fn go_on(&mut self, progress: &Progress) -> bool {
         self.opened = progress.entries_opened as u64;
+        self.show_found(progress);
         self.is_over = self.has_spent(progress);
         !self.is_over
     }
