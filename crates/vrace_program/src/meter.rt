@@ -132,7 +132,8 @@ impl<'r, R: Clock + Eprint> Meter<'r, R> {
     fn show_found(&mut self, progress: &Progress) {
         if self.allowance.progress && progress.found > self.found {
             self.found = progress.found;
-            self.show_now(self.passed(), progress);
+            let passed = self.passed();
+            self.show_now(passed, progress);
         }
     }
 
