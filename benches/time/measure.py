@@ -1,7 +1,8 @@
 #!/usr/bin/env python3
-"""Measures searches that go by time (`explore --memory`): how long they take, and how much memory, as runs get longer.
+"""Measures searches that go by time (`explore --memory`, and `races`): how long they take, and how much memory, as runs get longer.
 
-- pipeline: the clocked pipeline of 14 stages of benches/races, 17 processes and 65 variables, over 100, 300 and 1,000 cycles, K = 1;
+- pipeline: the clocked pipeline of 14 stages of benches/races, 17 processes and 65 variables, over 100, 1,000 and 10,000 cycles, K = 1;
+- races: the same by `races`, which holds back and looks at lines, over 100 and 1,000 cycles;
 - queue: the queue of examples/fifo-two-clocks, into which words are pushed one after another, over 100, 1,000 and 10,000 words, K = 1,
   by departures that take and by ones that hold back;
 - choices: instructions of a choice met, against those of the search by departures alone, on the texts of benches/races, by callgrind.
@@ -52,11 +53,11 @@ endmodule
 """).encode()
 
 
-def words(more=()):
-    return ["explore", "--memory", MEMORY, "--steps", MOST, *more]
+def words(command="explore", more=()):
+    return [command, "--memory", MEMORY, "--steps", MOST, *more]
 
 
-def measured(program, name, text, more=()):
+def measured(program, name, text, command="explore", more=()):
     """Processor seconds and megabytes at the peak of one search, and whether it was exhausted."""
     read, write = os.pipe()
     begun = time.monotonic()
@@ -69,28 +70,35 @@ def measured(program, name, text, more=()):
         os.lseek(run, 0, os.SEEK_SET)
         os.dup2(run, 0)
         os.closerange(3, 64)
-        os.execv(program, [program, *words(more)])
+        os.execv(program, [program, *words(command, more)])
     os.close(write)
     with os.fdopen(read, "rb") as told:
         report = told.read()
     _, _, used = os.wait4(child, 0)
-    state = next((line for line in report.decode(errors="replace").splitlines() if line.startswith("state ")), "no report")
+    lines = report.decode(errors="replace").splitlines()
+    state = next((line for line in lines if line.startswith(("state ", "No race"))), "no report")
     seconds, megabytes = used.ru_utime + used.ru_stime, used.ru_maxrss / 1024
     print("%s: %s, %.1f s of a processor, %.1f s in all, %.1f MB" % (name, state, seconds, time.monotonic() - begun, megabytes), flush=True)
-    return seconds, megabytes, state == "state exhausted"
+    return seconds, megabytes, state == "state exhausted" or "Nothing was missed" in state
 
 
 def measured_pipeline(program):
     text = races().pipeline
-    rows = [measured(program, "a pipeline of 14 stages, %d cycles" % cycles, text(14, cycles)) for cycles in (100, 300, 1_000)]
-    seconds, megabytes, whole = rows[-1]
-    return whole and seconds <= 60 and megabytes <= 100 and megabytes <= 1.2 * rows[0][1]
+    rows = [measured(program, "a pipeline of 14 stages, %d cycles" % cycles, text(14, cycles)) for cycles in (100, 1_000, 10_000)]
+    seconds, megabytes, whole = rows[1]
+    return whole and seconds <= 60 and megabytes <= 100 and all(row[2] and row[1] <= 1.2 * rows[0][1] for row in rows)
+
+
+def measured_races(program):
+    text = races().pipeline
+    rows = [measured(program, "races of a pipeline of 14 stages, %d cycles" % cycles, text(14, cycles), "races") for cycles in (100, 1_000)]
+    return all(row[2] and row[1] <= 1.2 * rows[0][1] for row in rows)
 
 
 def measured_queue(program):
     kept = True
     for more in [], ["--hold"]:
-        rows = [measured(program, " ".join(["a queue, %d words" % count, *more]), queue(count), more) for count in (100, 1_000, 10_000)]
+        rows = [measured(program, " ".join(["a queue, %d words" % count, *more]), queue(count), more=more) for count in (100, 1_000, 10_000)]
         kept = kept and rows[-1][1] <= 1.2 * rows[0][1]
     return kept
 
@@ -106,7 +114,7 @@ def measured_choices(program):
     return kept
 
 
-PARTS = {"pipeline": measured_pipeline, "queue": measured_queue, "choices": measured_choices}
+PARTS = {"pipeline": measured_pipeline, "races": measured_races, "queue": measured_queue, "choices": measured_choices}
 
 
 if __name__ == "__main__":

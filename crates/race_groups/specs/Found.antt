@@ -117,7 +117,8 @@ pub record AllAreCounted (setting : Setting) (depart names : ℕ) (groups : List
   pub stand : AllStandFor names groups rests
   pub values : (time variable : ℕ) → Within time → TwoRunsDiffer setting depart time variable →
       IsNameInOne groups rests (record { time = time; variable = Some variable })
-  pub lines : (time : ℕ) → Within time → TwoRunsPrint setting depart time → IsNameInOne groups rests (record { time = time; variable = None })
+  pub lines : (time : ℕ) → Within time → TwoRunsPrint setting depart time →
+      IsNameInOne groups rests (record { time = time; variable = None })
 
 -- ---- where nothing is told
 

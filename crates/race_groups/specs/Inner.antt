@@ -252,7 +252,8 @@ pub record HaveAllOf (setting : Setting) (scope : Scope) (groups : List Group) (
   pub shown : OfEachFrom scope.from closings (ShowsNamed setting (IsNameInOne groups rests))
 
 -- what is kept of closings
-pub record AreGroupsOf (setting : Setting) (scope : Scope) (groups : List Group) (tolds : List Told) (kept : List (MachineState × List (ℕ × ℕ))) (cut : Bool) (closings : List (Closing MachineState)) : Type 0 where
+pub record AreGroupsOf (setting : Setting) (scope : Scope) (groups : List Group) (tolds : List Told)
+    (kept : List (MachineState × List (ℕ × ℕ))) (cut : Bool) (closings : List (Closing MachineState)) : Type 0 where
   pub causes : (t : Told) → Contains tolds t → IsCaused setting t
   pub firsts : (t : Told) → Contains tolds t → IsOfSome setting closings t.first
   pub all : HaveAllOf setting scope groups closings
