@@ -1,15 +1,17 @@
 -- The logs of the sides of a difference.
-use Rattle.std.specs.Prelude.{⊤}
 use Rattle.std.proofs.Common.{◌≡◌, ◌≢◌, ℕ, suc, ◌+◌, ◌<◌, ◌≤◌, ◌⊎◌, Bool, true, false, List, [], length, map, slice_get, Option, None, Some, IfSome, refl, sym, ap, ◌∙◌, subst, inl, inr, arith}
-use Rattle.std.specs.Prelude.{IfNone, option_map}
+use Rattle.std.specs.Prelude.{option_map}
 use Rattle.std.specs.List.{Contains}
 use Rattle.std.proofs.lemmas.Bool.{cases_lt}
 use Rattle.std.proofs.lemmas.Option.{same_Some, slice_get-map}
-use Rattle.basis.proofs.Lists.{at_contains, place_within}
+use Rattle.basis.proofs.Lists.{at_contains, of_mapped, place_within}
+use Rattle.explore.specs.Ranked.{pairs_of}
+use Rattle.explore.specs.declared.rank_marks.FoundMark.{FoundMark}
+use Rattle.vmachine.specs.declared.machine_state.MachineState.{MachineState}
 use Rattle.racebook.proofs.ListLemmas.{contains_at}
 use Rattle.race_groups.specs.declared.group.Difference.{Difference}
 use Rattle.race_groups.specs.Found.{IsLogOf, logs_of}
-use Rattle.race_groups.specs.Inner.{AreDefault, IsDefault, IsDeparted}
+use Rattle.race_groups.specs.Inner.{AreDefault, IsDefault, IsDeparted, IsLogOfEnds}
 
 -- the log of a side that is there
 pub side_at : {A : Type 0} (f : A → List (ℕ × ℕ)) (sides : List A) (i : ℕ) (side : A) → slice_get sides i ≡ Some side → slice_get (map f sides) i ≡ Some (f side)
@@ -40,3 +42,22 @@ one_more logs count before here side lt = elim (cases_lt side count) [
   | inl there ↦ before side there
   | inr last ↦ subst (IsDefault logs) (let e : count ≡ side = omega (arith, lt, last) in e) here
 ]
+
+-- ---- ends
+
+pub ends_log : (ends : List (FoundMark MachineState)) (i : ℕ) (found : FoundMark MachineState) (log : List (ℕ × ℕ)) → slice_get ends i ≡ Some found → found.log ≢ [] → log ≡ found.log → IsLogOfEnds (pairs_of ends) log
+ends_log ends i found log at some is =
+    let pair : MachineState × List (ℕ × ℕ) = (found.state, found.log) in
+    let there : slice_get (pairs_of ends) i ≡ Some pair = slice_get-map (λ (f : FoundMark MachineState). (f.state, f.log)) ends i ∙ ap (option_map (λ (f : FoundMark MachineState). (f.state, f.log))) at in
+    let logs = map (λ (e : MachineState × List (ℕ × ℕ)). e.1) (pairs_of ends) in
+    subst (IsLogOfEnds (pairs_of ends)) (sym is) (inl (contains_at logs i found.log (side_at (λ (e : MachineState × List (ℕ × ℕ)). e.1) (pairs_of ends) i pair there), some))
+
+pub no_ends_log : (ends : List (FoundMark MachineState)) (n : ℕ) (log : List (ℕ × ℕ)) → length ends ≤ n → ((k : ℕ) (found : FoundMark MachineState) → k < n → slice_get ends k ≡ Some found → found.log ≡ []) → log ≡ [] → IsLogOfEnds (pairs_of ends) log
+no_ends_log ends n log whole none is =
+    let logs = map (λ (e : MachineState × List (ℕ × ℕ)). e.1) (pairs_of ends) in
+    inr (is, λ other has.
+        (let p = at_contains logs other has in
+        let m = of_mapped (λ (e : MachineState × List (ℕ × ℕ)). e.1) (pairs_of ends) p.0 other p.1 in
+        let f = of_mapped (λ (g : FoundMark MachineState). (g.state, g.log)) ends p.0 m.0 m.1 in
+        let lt = place_within ends p.0 f.0 f.1 in
+        sym m.2 ∙ ap (λ (e : MachineState × List (ℕ × ℕ)). e.1) (sym f.2) ∙ none p.0 f.0 (omega (arith, whole, lt)) f.1))
