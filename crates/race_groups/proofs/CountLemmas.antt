@@ -1,17 +1,17 @@
 -- What groups stand for as they grow.
 use Rattle.std.specs.Prelude.{⊤}
-use Rattle.std.proofs.Common.{◌≡◌, ◌≢◌, ℕ, zero, suc, ◌+◌, ◌<◌, ◌≤◌, ◌==◌, ◌⊎◌, Bool, true, false, if◌then◌else◌, List, [], ◌∷◌, ◌++◌, length, map, take, get_or, slice_get, slice_set, min, Option, None, Some, Result, Ok, Err, OnOk, OnErr, refl, sym, ap, ◌∙◌, subst, inl, inr, append-nil, arith}
+use Rattle.std.proofs.Common.{◌≡◌, ◌≢◌, ℕ, zero, suc, ◌+◌, ◌<◌, ◌≤◌, ◌⊎◌, Bool, true, false, List, [], ◌∷◌, ◌++◌, length, take, slice_get, slice_set, Some, Result, Ok, Err, OnOk, OnErr, refl, sym, ap, ◌∙◌, subst, inl, inr, append-nil, arith}
 use Rattle.std.specs.List.{Contains}
 use Rattle.std.proofs.lemmas.Bool.{cases_lt}
-use Rattle.std.proofs.lemmas.Option.{same_Some, slice_get_within}
+use Rattle.std.proofs.lemmas.Option.{same_Some}
 use Rattle.std.proofs.lemmas.List.{length-take-le, length_push, same_from_push, take-append-le, take_all}
 use Rattle.std.proofs.lemmas.List.Elements.{Contains-push, Contains-append_left, Contains-append_right}
 use Rattle.basis.proofs.Lists.{last_or_before, place_within, stands_in_front, stands_last, taken_at}
 use Rattle.race_groups.specs.declared.group.Difference.{Difference}
 use Rattle.race_groups.specs.declared.group.Group.{Group}
 use Rattle.race_groups.specs.declared.group.Name.{Name}
-use Rattle.race_groups.specs.Found.{AllStandFor, IsNameIn, IsNameInOne, StandsFor, name_of}
-use Rattle.race_groups.specs.Inner.{Counts, Follows, IsNamedIn, IsUntouched, NoName, StandsForMore, Told, told}
+use Rattle.race_groups.specs.Found.{AllStandFor, IsNameIn, StandsFor, name_of}
+use Rattle.race_groups.specs.Inner.{Counts, Follows, IsNamedIn, IsUntouched, NoName, Told, told}
 
 -- ---- one after another
 
@@ -139,7 +139,7 @@ module _ (names : ℕ) (groups : List Group) (place : ℕ) (old new : Group) (at
     | inl (other, there) ↦ subst (StandsFor names group) (sym (put_elsewhere before place (before place ++ more) i other)) (stand i group there)
     | inr (here, new_is, z, there) ↦
         subst (λ (g : Group). StandsFor names g (after before i)) new_is
-            (subst (λ (k : ℕ). StandsFor names new (after before k)) (sym here) (subst (StandsFor names new) (sym (put_there before place (before place ++ more))) (stands (before place) (stand place old at))))
+        (subst (λ (k : ℕ). StandsFor names new (after before k)) (sym here) (subst (StandsFor names new) (sym (put_there before place (before place ++ more))) (stands (before place) (stand place old at))))
   ]
 
   -- what the group had it has still
@@ -155,11 +155,11 @@ module _ (names : ℕ) (groups : List Group) (place : ℕ) (old new : Group) (at
     | inl (other, there) ↦
         record { group = is.group; at = there; has = subst (λ (l : List Name). (name_of is.group.first ≡ Some name) ⊎ Contains l name) (sym (put_elsewhere before place (before place ++ more) i other)) is.has }
     | inr (here, there) ↦ record {
-        group = new;
-        at = there;
-        has = subst (λ (k : ℕ). (name_of new.first ≡ Some name) ⊎ Contains (after before k) name) (sym here)
-            (has_still before name is.group (ap (slice_get groups) (sym here) ∙ is.at) (subst (λ (k : ℕ). (name_of is.group.first ≡ Some name) ⊎ Contains (before k) name) here is.has));
-      }
+      group = new;
+      at = there;
+      has = subst (λ (k : ℕ). (name_of new.first ≡ Some name) ⊎ Contains (after before k) name) (sym here)
+          (has_still before name is.group (ap (slice_get groups) (sym here) ∙ is.at) (subst (λ (k : ℕ). (name_of is.group.first ≡ Some name) ⊎ Contains (before k) name) here is.has));
+    }
   ]
 
   pub set_counts : Counts names (λ name. Contains more name) groups now
@@ -167,11 +167,14 @@ module _ (names : ℕ) (groups : List Group) (place : ℕ) (old new : Group) (at
     after = after before;
     stand = set_stands before stand;
     still = set_still before;
-    named = λ name has. (place, record {
-      group = new;
-      at = get_set groups place new old at;
-      has = inr (subst (λ (l : List Name). Contains l name) (sym (put_there before place (before place ++ more))) (Contains-append_right (before place) more name has));
-    });
+    named = λ name has. (
+      place,
+      record {
+        group = new;
+        at = get_set groups place new old at;
+        has = inr (subst (λ (l : List Name). Contains l name) (sym (put_there before place (before place ++ more))) (Contains-append_right (before place) more name has));
+      },
+    );
   }
 
 -- what of a group is told stays, whether or not it was followed
@@ -217,11 +220,14 @@ open_counts names old new group name is first next more last before stand =
         at = ap (λ (l : List Group). slice_get l i) is ∙ stands_in_front old (group ∷ []) i has.group has.at;
         has = subst (λ (l : List Name). (name_of has.group.first ≡ Some n) ⊎ Contains l n) (sym (apart i has.group has.at)) has.has;
       };
-      named = λ n same. (length old, record {
-        group = group;
-        at = ap (λ (l : List Group). slice_get l (length old)) is ∙ stands_last old group;
-        has = inl (first ∙ ap Some same);
-      });
+      named = λ n same. (
+        length old,
+        record {
+          group = group;
+          at = ap (λ (l : List Group). slice_get l (length old)) is ∙ stands_last old group;
+          has = inl (first ∙ ap Some same);
+        },
+      );
     }
 
 -- by the difference that it begins with
@@ -254,10 +260,10 @@ counts_behind names P old mid new one other = counts_as names (λ n. NoName n �
 counts_before : (names : ℕ) (P : Name → Type 0) (old mid new : List Group) → Counts names P old mid → Counts names NoName mid new → Counts names P old new
 counts_before names P old mid new one other = counts_as names (λ n. P n ⊎ NoName n) P old new (λ n p. inl p) (counts_on names P NoName old mid new one other)
 
-pub side_more : (names : ℕ) (P : Name → Type 0) (old mid new : List Group) (counted now : Bool) → (counted ≡ true → Counts names P old mid) → Counts names NoName old mid → Counts names NoName mid new →
-    (now ≡ true → counted ≡ false → Counts names P mid new) → now ≡ true → Counts names P old new
-side_more names P old mid new true now so_far before still more is = counts_before names P old mid new (so_far refl) still
-side_more names P old mid new false now so_far before still more is = counts_behind names P old mid new before (more is refl)
+pub side_more : (names : ℕ) (P : Name → Type 0) (old mid new : List Group) (counted is : Bool) → (counted ≡ true → Counts names P old mid) → Counts names NoName old mid → Counts names NoName mid new →
+    (is ≡ true → counted ≡ false → Counts names P mid new) → is ≡ true → Counts names P old new
+side_more names P old mid new true told so_far before still more so = counts_before names P old mid new (so_far refl) still
+side_more names P old mid new false told so_far before still more so = counts_behind names P old mid new before (more so refl)
 
 pub race_more : {R : Type 0} (names : ℕ) (f : R → Difference) (races : List R) (i : ℕ) (race : R) (old mid new : List Group) → slice_get races i ≡ Some race → Counts names (IsNamedIn f races i) old mid →
     Counts names (λ n. name_of (f race) ≡ Some n) mid new → Counts names (IsNamedIn f races (i + 1)) old new

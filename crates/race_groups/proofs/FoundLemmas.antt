@@ -1,6 +1,6 @@
 -- What a search for races tells, by what it was handed on.
 use Rattle.std.specs.Prelude.{⊤}
-use Rattle.std.proofs.Common.{◌≡◌, ◌≢◌, ℕ, ◌<◌, ◌≤◌, ◌⊎◌, Bool, true, false, List, [], ◌∷◌, ◌++◌, length, map, slice_get, Option, None, Some, IfSome, refl, sym, ap, ◌∙◌, subst, inl, inr, arith}
+use Rattle.std.proofs.Common.{◌≡◌, ℕ, ◌<◌, ◌≤◌, Bool, true, false, List, [], ◌∷◌, length, slice_get, None, Some, IfSome, refl, sym, ap, ◌∙◌, subst, inl, inr, arith}
 use Rattle.std.specs.List.{Contains}
 use Rattle.std.proofs.lemmas.Bool.{cases_lt}
 use Rattle.std.proofs.lemmas.List.{length-map}
@@ -8,11 +8,9 @@ use Rattle.std.proofs.lemmas.Option.{IfSome_then, same_Some}
 use Rattle.basis.proofs.Lists.{at_contains, listed_place}
 use Rattle.sched_core.specs.Replay.{EndsAfter}
 use Rattle.sched_core.specs.Rules.{IsRun, stands}
-use Rattle.sched_core.specs.declared.end.End.{End}
-use Rattle.sched_core.specs.declared.end.Cause.TheVariants.{Limit}
 use Rattle.statebook.specs.declared.limits.Limits.{Limits}
 use Rattle.explore.specs.Found.{AreFound, IsListedMark}
-use Rattle.explore.specs.Ranked.{Closing, HandsOn, HandsOnAllTo, OfEach, WasHandedOn, pairs_of}
+use Rattle.explore.specs.Ranked.{Closing, HandsOn, HandsOnAllTo, WasHandedOn, pairs_of}
 use Rattle.explore.specs.declared.rank_marks.FoundMark.{FoundMark}
 use Rattle.explore.specs.declared.ranked_findings.RankedFindings.{RankedFindings}
 use Rattle.explore.specs.declared.ranked_findings.RankedStatus.TheVariants.{Exhausted}
@@ -21,14 +19,13 @@ use Rattle.vmodel.specs.Choices.{choices}
 use Rattle.vmodel.specs.Run.{Setting, rules_of, state_after, end_of}
 use Rattle.vmodel.specs.RulesLaws.{lawful}
 use Rattle.vmodel.specs.RunProgress.{width_is}
-use Rattle.vbits.specs.Vectors.{Vector}
 use Rattle.vmachine.specs.declared.machine_state.MachineState.{MachineState}
 use Rattle.vmachine.specs.Machines.{Stands, machine_rules, rank_of}
 use Rattle.vmachine.specs.Reads.{end_in}
-use Rattle.racebook.specs.Races.{IsRace, TwoRunsDiffer}
-use Rattle.racebook.specs.LineRaces.{IsLineRace, TwoRunsPrint}
+use Rattle.racebook.specs.Races.{TwoRunsDiffer}
+use Rattle.racebook.specs.LineRaces.{TwoRunsPrint}
 use Rattle.racebook.specs.InTime.{EachEnd, IsClosed, IsEndOfRun}
-use Rattle.racebook.specs.Inner.{AreEndsOf, AreSlotStates, GoesOn}
+use Rattle.racebook.specs.Inner.{AreEndsOf, AreSlotStates}
 use Rattle.racebook.specs.declared.slot_state.SlotState.{SlotState}
 use Rattle.racebook.proofs.ClosedLemmas.{slot_time}
 use Rattle.racebook.proofs.FoundLemmas.{Alike, AllStand, AreEndsListed, HasVariables, MarkAlike, RunHere, RunThere, end_marked, lines_at, lines_found, races_at, races_found}
@@ -41,7 +38,7 @@ use Rattle.race_groups.specs.declared.group.Group.{Group}
 use Rattle.race_groups.specs.declared.group.Name.{Name}
 use Rattle.race_groups.specs.declared.group.Scope.{Scope}
 use Rattle.race_groups.specs.Found.{AllAreCounted, AllStandFor, EachGroup, EndsAlike, HasFirstDifference, HasItsCause, HasLogOfFirst, IsDifference, IsNameInOne, IsOfClosed, NoneDiffer, NoneIsCut, TwoEndsDiffer}
-use Rattle.race_groups.specs.Inner.{AreGroupsOf, AreTold, AreUncut, CollectsGroups, IsCaused, IsShownBy, KeepsGroups, OfEnds, Shape, TellsEnds, Told, setting_of, shape_of, told, tolds_of}
+use Rattle.race_groups.specs.Inner.{AreGroupsOf, AreTold, CollectsGroups, IsShownBy, KeepsGroups, Shape, TellsEnds, Told, setting_of, shape_of, told, tolds_of}
 use Rattle.race_groups.proofs.ListLemmas.{at_most_one, nothing_in, to_map}
 
 abbrev Pair : Type 0
@@ -344,7 +341,8 @@ module _ (setting : Setting) (alike : Alike setting) (all : AllStand setting) (t
       (top : ℕ) × (findings.closed ≡ Some top) × ((state_after setting log steps).queue.time ≤ top)
   ends_closed e log steps short after =
       let Any : ℕ → Type 0 = λ time. ⊤ in
-      let given = λ (l : List (ℕ × ℕ)) (n : ℕ) less run mark (within : ⊤). hands.exhausted e l n less (here l n run) mark in
+      let given : (l : List (ℕ × ℕ)) (n : ℕ) → length l ≤ limits.depart → IsRun (rules_of setting) l n → (machine_rules setting).mark (stands (machine_rules setting) l n) ≡ true →
+      Any (state_after setting l n).queue.time → WasHandedOn (machine_rules setting) hands.closings (stands (machine_rules setting) l n) (length l) = λ l n less run mark within. hands.exhausted e l n less (here l n run) mark in
       let h = end_in_one Any given log steps short after tt in
       let last = hands.last h.place h.closing h.at in
       let rank_is = h.rank_is in
@@ -411,11 +409,11 @@ module _ (setting : Setting) (alike : Alike setting) (all : AllStand setting) (t
   told_counted Within all_in = elim tells.whole [
     | inl same ↦ subst (λ (l : List Group). AllAreCounted setting limits.depart scope.names l Within) (sym same) all_in
     | inr (none, alone) ↦ record {
-        rests = λ place. [];
-        stand = subst (λ (n : ℕ). AllStandFor n groups (λ place. [])) names_are alone;
-        values = λ time variable within differ. absurd (let is = all_in.values time variable within differ in let at = ap (λ (l : List Group). slice_get l is.0) (sym none) ∙ is.1.at in cc);
-        lines = λ time within differ. absurd (let is = all_in.lines time within differ in let at = ap (λ (l : List Group). slice_get l is.0) (sym none) ∙ is.1.at in cc);
-      }
+      rests = λ place. [];
+      stand = subst (λ (n : ℕ). AllStandFor n groups (λ place. [])) names_are alone;
+      values = λ time variable within differ. absurd (let is = all_in.values time variable within differ in let at = ap (λ (l : List Group). slice_get l is.0) (sym none) ∙ is.1.at in cc);
+      lines = λ time within differ. absurd (let is = all_in.lines time within differ in let at = ap (λ (l : List Group). slice_get l is.0) (sym none) ∙ is.1.at in cc);
+    }
   ]
 
   few : groups ≡ [] → length (pairs_of ends) ≤ 1

@@ -1,5 +1,5 @@
 -- What is kept of closed slots, once one more was closed.
-use Rattle.std.proofs.Common.{◌≡◌, ℕ, zero, suc, ◌<◌, ◌≤◌, ◌⊎◌, Bool, false, List, [], ◌∷◌, ◌++◌, length, map, slice_get, take, None, Some, Result, Ok, Err, OnErr, refl, sym, ap, ◌∙◌, subst, inl, inr, append-nil, append_assoc, arith}
+use Rattle.std.proofs.Common.{◌≡◌, ℕ, zero, suc, ◌<◌, ◌≤◌, Bool, false, List, [], ◌∷◌, ◌++◌, length, map, slice_get, take, None, Some, Result, Ok, Err, OnErr, refl, sym, ap, ◌∙◌, subst, inl, inr, append-nil, append_assoc, arith}
 use Rattle.std.specs.List.{Contains}
 use Rattle.std.proofs.lemmas.Bool.{cases_lt}
 use Rattle.std.proofs.lemmas.List.Elements.{Contains-append_cases, Contains-append_left, Contains-append_right, Contains-push_cases}
@@ -13,7 +13,7 @@ use Rattle.vmodel.specs.Run.{Setting}
 use Rattle.vmachine.specs.declared.machine_state.MachineState.{MachineState}
 use Rattle.racebook.specs.Races.{Race}
 use Rattle.racebook.specs.LineRaces.{LineRace}
-use Rattle.racebook.specs.Inner.{AreEndsOf, AreLineRacesOf, AreRacesOf, IsFoundIn}
+use Rattle.racebook.specs.Inner.{AreEndsOf, IsFoundIn}
 use Rattle.racebook.specs.declared.slots.FoundInSlot.{FoundInSlot}
 use Rattle.race_groups.specs.declared.collected.RaceGroups.{RaceGroups}
 use Rattle.race_groups.specs.declared.group.Difference.{Difference}
@@ -21,12 +21,12 @@ use Rattle.race_groups.specs.declared.group.Difference.TheVariants.{Values, Line
 use Rattle.race_groups.specs.declared.group.Group.{Group}
 use Rattle.race_groups.specs.declared.group.Name.{Name}
 use Rattle.race_groups.specs.declared.group.Scope.{Scope}
-use Rattle.race_groups.specs.Found.{AllStandFor, IsNameInOne, StandsFor, name_of}
+use Rattle.race_groups.specs.Found.{IsNameInOne, StandsFor, name_of}
 use Rattle.race_groups.specs.Inner.{Adds, AllAlike, AreGroupsOf, AreTold, AreUncut, CollectsGroups, Counts, FirstTwoUnlike, GrowsBehind, GrowsTo, HaveAllOf, IsCaused, IsEndOfSome, IsGroupOfEnds, IsNamedIn, IsNamedInSlot, IsOfSome, IsShownBy, KeepsGroups, NoName, OfEachFrom, OfEnds, ShowsNamed, StandsForMore, StaysSo, SumsUp, TakesAll, TakesSlot, TellsEnds, Told, differences_in, setting_of, told, tolds_of}
 use Rattle.race_groups.proofs.AddsLemmas.{adds_none, adds_on, adds_weaker}
 use Rattle.race_groups.proofs.CountLemmas.{counts_less, counts_none, counts_on, counts_still, take_counts}
 use Rattle.race_groups.proofs.SumLemmas.{grows_on}
-use Rattle.race_groups.proofs.ListLemmas.{from_map, front_of_one, no_image, none_behind, none_in_front, nothing_in}
+use Rattle.race_groups.proofs.ListLemmas.{from_map, front_of_one, none_in_front, nothing_in}
 
 abbrev Pair : Type 0
 Pair = MachineState × List (ℕ × ℕ)
@@ -275,8 +275,11 @@ told_of_ends setting kept groups group two none is of =
     let here : groups ≡ group ∷ [] = is ∙ ap (λ l. l ++ group ∷ []) none in
     record {
       none = λ e. absurd (let f = sym here ∙ e in cc);
-      whole = inr (none, λ i g at. (let same = at_first group g i (ap (λ (l : List Group). slice_get l i) (sym here) ∙ at) in
-          subst (λ (h : Group). StandsFor kept.scope.names h []) same (of_ends_stands setting kept.ends.items kept.scope.names group of)));
+      whole = inr (
+        none,
+        λ i g at. (let same = at_first group g i (ap (λ (l : List Group). slice_get l i) (sym here) ∙ at) in
+            subst (λ (h : Group). StandsFor kept.scope.names h []) same (of_ends_stands setting kept.ends.items kept.scope.names group of)),
+      );
       each = λ g has. elim (Contains-push_cases [] group g (subst (λ (l : List Group). Contains l g) here has)) [
         | inl nowhere ↦ nothing_in g nowhere
         | inr same ↦ inr (two, subst (IsGroupOfEnds setting kept.ends.items) same of)
@@ -332,17 +335,17 @@ takes_late time found old mid new late machine scope same ends cut all =
     let counts = subst (λ (s : Scope). Counts s.names (IsNamedInSlot found) old.groups.items new.groups.items) scope
     (subst (λ (l : List Group). Counts mid.scope.names (IsNamedInSlot found) l new.groups.items) same all.counts) in
     record {
-  machine = all.machine ∙ machine;
-  scope = all.scope ∙ scope;
-  adds = subst (λ (s : Setting). Adds s (Contains (differences_in found)) (tolds_of old.groups.items) (tolds_of new.groups.items)) machine
-      (subst (λ (l : List Group). Adds (setting_of mid) (Contains (differences_in found)) (tolds_of l) (tolds_of new.groups.items)) same all.adds);
-  still = counts_less old.scope.names (IsNamedInSlot found) old.groups.items new.groups.items counts;
-  counts = λ le. counts;
-  before = λ lt. absurd (omega (arith, lt, late));
-  ends = λ le. subst (λ (s : Setting). SumsUp s (pairs_of found.ends.items) (pairs_of old.ends.items) (pairs_of new.ends.items)) machine
-      (subst (λ (l : List (FoundMark MachineState)). SumsUp (setting_of mid) (pairs_of found.ends.items) (pairs_of l) (pairs_of new.ends.items)) ends all.ends);
-  cut = λ e. cut (sym all.cut ∙ e);
-}
+      machine = all.machine ∙ machine;
+      scope = all.scope ∙ scope;
+      adds = subst (λ (s : Setting). Adds s (Contains (differences_in found)) (tolds_of old.groups.items) (tolds_of new.groups.items)) machine
+          (subst (λ (l : List Group). Adds (setting_of mid) (Contains (differences_in found)) (tolds_of l) (tolds_of new.groups.items)) same all.adds);
+      still = counts_less old.scope.names (IsNamedInSlot found) old.groups.items new.groups.items counts;
+      counts = λ le. counts;
+      before = λ lt. absurd (omega (arith, lt, late));
+      ends = λ le. subst (λ (s : Setting). SumsUp s (pairs_of found.ends.items) (pairs_of old.ends.items) (pairs_of new.ends.items)) machine
+          (subst (λ (l : List (FoundMark MachineState)). SumsUp (setting_of mid) (pairs_of found.ends.items) (pairs_of l) (pairs_of new.ends.items)) ends all.ends);
+      cut = λ e. cut (sym all.cut ∙ e);
+    }
 
 -- ---- it grows
 

@@ -1,7 +1,6 @@
 -- The logs of the sides of a difference.
-use Rattle.std.proofs.Common.{◌≡◌, ◌≢◌, ℕ, suc, ◌+◌, ◌<◌, ◌≤◌, ◌⊎◌, Bool, true, false, List, [], length, map, slice_get, Option, None, Some, IfSome, refl, sym, ap, ◌∙◌, subst, inl, inr, arith}
+use Rattle.std.proofs.Common.{◌≡◌, ◌≢◌, ℕ, ◌+◌, ◌<◌, ◌≤◌, List, [], length, map, slice_get, None, Some, sym, ap, ◌∙◌, subst, inl, inr, arith}
 use Rattle.std.specs.Prelude.{option_map}
-use Rattle.std.specs.List.{Contains}
 use Rattle.std.proofs.lemmas.Bool.{cases_lt}
 use Rattle.std.proofs.lemmas.Option.{same_Some, slice_get-map}
 use Rattle.basis.proofs.Lists.{at_contains, of_mapped, place_within}
@@ -29,10 +28,13 @@ departed_log d i log is = inl (contains_at (logs_of d) i log is.0, is.1)
 
 -- where no side's does, none is
 pub no_departed_log : (d : Difference) (count : ℕ) (log : List (ℕ × ℕ)) → length (logs_of d) ≤ count → AreDefault (logs_of d) count → log ≡ [] → IsLogOf d log
-no_departed_log d count log whole none is = inr (is, λ other has.
-    (let p = at_contains (logs_of d) other has in
-    let lt = place_within (logs_of d) p.0 other p.1 in
-    none p.0 (omega (arith, whole, lt)) other p.1))
+no_departed_log d count log whole none is = inr (
+  is,
+  λ other has.
+      (let p = at_contains (logs_of d) other has in
+      let lt = place_within (logs_of d) p.0 other p.1 in
+      none p.0 (omega (arith, whole, lt)) other p.1),
+)
 
 pub none_looked_at : (logs : List (List (ℕ × ℕ))) (count : ℕ) → count ≡ 0 → AreDefault logs count
 none_looked_at logs count none side lt = absurd (omega (arith, none, lt))
@@ -55,9 +57,21 @@ ends_log ends i found log at some is =
 pub no_ends_log : (ends : List (FoundMark MachineState)) (n : ℕ) (log : List (ℕ × ℕ)) → length ends ≤ n → ((k : ℕ) (found : FoundMark MachineState) → k < n → slice_get ends k ≡ Some found → found.log ≡ []) → log ≡ [] → IsLogOfEnds (pairs_of ends) log
 no_ends_log ends n log whole none is =
     let logs = map (λ (e : MachineState × List (ℕ × ℕ)). e.1) (pairs_of ends) in
-    inr (is, λ other has.
-        (let p = at_contains logs other has in
-        let m = of_mapped (λ (e : MachineState × List (ℕ × ℕ)). e.1) (pairs_of ends) p.0 other p.1 in
-        let f = of_mapped (λ (g : FoundMark MachineState). (g.state, g.log)) ends p.0 m.0 m.1 in
-        let lt = place_within ends p.0 f.0 f.1 in
-        sym m.2 ∙ ap (λ (e : MachineState × List (ℕ × ℕ)). e.1) (sym f.2) ∙ none p.0 f.0 (omega (arith, whole, lt)) f.1))
+    inr (
+      is,
+      λ other has.
+          (let p = at_contains logs other has in
+          let m = of_mapped (λ (e : MachineState × List (ℕ × ℕ)). e.1) (pairs_of ends) p.0 other p.1 in
+          let f = of_mapped (λ (g : FoundMark MachineState). (g.state, g.log)) ends p.0 m.0 m.1 in
+          let lt = place_within ends p.0 f.0 f.1 in
+          sym m.2 ∙ ap (λ (e : MachineState × List (ℕ × ℕ)). e.1) (sym f.2) ∙ none p.0 f.0 (omega (arith, whole, lt)) f.1),
+    )
+
+pub one_more_end : (ends : List (FoundMark MachineState)) (i : ℕ) (item : FoundMark MachineState) → slice_get ends i ≡ Some item → ((k : ℕ) (found : FoundMark MachineState) → k < i → slice_get ends k ≡ Some found → found.log ≡ []) → item.log ≡ [] →
+    (k : ℕ) (found : FoundMark MachineState) → k < i + 1 → slice_get ends k ≡ Some found → found.log ≡ []
+one_more_end ends i item at before none k found lt at' = elim (cases_lt k i) [
+  | inl there ↦ before k found there at'
+  | inr last ↦
+      let here : k ≡ i = omega (arith, lt, last) in
+      ap (λ (f : FoundMark MachineState). f.log) (same_Some found item (sym at' ∙ ap (slice_get ends) here ∙ at)) ∙ none
+]

@@ -1,6 +1,6 @@
 -- *product rule*: What a search for races tells, by causes (IEEE 1364-2005, 11.3, 11.4; crates/race_groups/README.md): differences that are
 -- some, causes that are theirs, and where nothing is told, that there is nothing from one time on, up to another or for good.
-use Rattle.std.specs.Prelude.{◌≡◌, ◌≢◌, ⊤, Bool, false, ℕ, ◌≤◌, ◌⊎◌, List, [], ◌∷◌, ◌++◌, length, map, take, slice_get, min, Option, Some, None, IfSome}
+use Rattle.std.specs.Prelude.{◌≡◌, ◌≢◌, ⊤, false, ℕ, ◌≤◌, ◌⊎◌, List, [], ◌∷◌, ◌++◌, length, map, take, slice_get, min, Option, Some, None, IfSome}
 use Rattle.std.specs.List.{Contains}
 use Rattle.sched_core.specs.declared.end.Cause.TheVariants.{Limit}
 use Rattle.sched_core.specs.Replay.{EndsAfter}

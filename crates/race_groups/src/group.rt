@@ -97,7 +97,8 @@ impl Difference {
 impl Group {
     /// One difference more.
     pub(crate) fn follow(&mut self, name: Name, names: usize) -> Result<(), NoMemory>
-        ensures { told self.new ≡ told self.old }
+        ensures ok { OnOk result (Follows names name self.old self.new) }
+        ensures err { OnErr result (IsUntouched self.old self.new) }
     {
         if self.next.len() < names {
             self.next.push(name)?;

@@ -8,8 +8,9 @@ use Rattle.race_groups.proofs.SideLemmas.{no_departed_log, none_looked_at, one_m
 use Rattle.race_groups.proofs.groups.put.Goals as goal
 
 pub put_side-requires : goal.put_side-requires
-put_side-requires g c =
-    no_departed_log (g.R.SlotRace.difference c.args.race.now) c.loop-side.side c.new-none.result (omega (arith, c.loop-side-test.false, c.sides.ensures)) (c.loop-side.invariant.4 c.if-counted.false) c.new-none.ensures
+put_side-requires g c = record {
+  log = no_departed_log (g.R.SlotRace.difference c.args.race.now) c.loop-side.side c.new-none.result (omega (arith, c.loop-side-test.false, c.sides-side-end.ensures)) (c.loop-side.invariant.4 c.if-counted.false) c.new-none.ensures;
+}
 
 pub loop-side-init : goal.loop-side-init
 loop-side-init g c =

@@ -1,7 +1,6 @@
 use Rattle.std.proofs.Common.{◌≡◌, Some, sym, ◌∙◌}
 use Rattle.std.proofs.lemmas.Option.{same_Some}
 use Rattle.std.proofs.lemmas.Result.{on_ok_weaker}
-use Rattle.race_groups.specs.declared.group.Name.{Name}
 use Rattle.race_groups.specs.Found.{name_of}
 use Rattle.race_groups.proofs.CountLemmas.{counts_as}
 use Rattle.race_groups.proofs.groups.put_side.Goals as goal
