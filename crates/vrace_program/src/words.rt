@@ -153,7 +153,7 @@ fn seconds<'a>(alloc: Global) -> Arg<'a> {
 }
 
 const MEMORY: &str =
-    "The most megabytes that entries take, as the program counts them, before such a search is cut";
+    "The most megabytes that states take, as the program counts them, before such a search is cut";
 
 fn progress<'a>(alloc: Global) -> Arg<'a> {
     flag(
