@@ -35,7 +35,7 @@ fn put_connected(
 }
 
 // Where the statement of an action stands, and what it says, if that is known.
-pub fn place_of(
+fn place_of(
     alloc: Global,
     design: &Design,
     sources: &Sources<'_>,
