@@ -1,20 +1,9 @@
 // What runs show when they are run again.
 
 use basis::NoMemory;
-use sched_core::{Log, Member};
+use sched_core::Log;
+use trace_detail::{action_of, choice_at};
 use vmachine::Machine;
-use vmodel::State;
-use vmodel::choice::Choice;
-
-// The choice of a step under a log of these members.
-fn choice_at(members: &[Member], step: u32) -> u32 {
-    for member in members {
-        if member.0 == step {
-            return member.1;
-        }
-    }
-    0
-}
 
 /// The time at which the run under the log stands before a step.
 pub fn time_before(machine: &Machine, log: &Log, step: u32) -> Result<u64, NoMemory> {
@@ -23,15 +12,6 @@ pub fn time_before(machine: &Machine, log: &Log, step: u32) -> Result<u64, NoMem
         state.go(machine.design(), choice_at(log.members(), number))?;
     }
     Ok(state.time())
-}
-
-// The action that a choice takes, if it is one of a process.
-fn action_of(state: &State, choice: Choice) -> Option<usize> {
-    match choice {
-        Choice::Run(process) => state.place_of(process),
-        Choice::Update => None,
-        Choice::Advance => None,
-    }
 }
 
 /// The action that the last step of the run under the log takes, if it takes one; none where the run doesn't end.

@@ -3,6 +3,7 @@
 use crate::active::{ActiveRun, added};
 use crate::posts::Posts;
 use crate::reads::Reads;
+use crate::taken::{action_of, choice_at};
 use basis::NoMemory;
 use itoa::Buffer;
 use sched_core::Member;
@@ -70,25 +71,6 @@ fn put_woken(text: &mut Vec<u8>, woken: &[u32]) -> Result<(), NoMemory> {
         put_number(text, u64::from(*process))?;
     }
     Ok(())
-}
-
-// The choice of a step under a log of these members.
-fn choice_at(members: &[Member], step: u32) -> u32 {
-    for member in members {
-        if member.0 == step {
-            return member.1;
-        }
-    }
-    0
-}
-
-// The action that a process comes to, if the choice is one of a process.
-fn action_of(state: &State, choice: Choice) -> Option<usize> {
-    match choice {
-        Choice::Run(process) => state.place_of(process),
-        Choice::Update => None,
-        Choice::Advance => None,
-    }
 }
 
 /// A run on its way, of which each step is told.

@@ -7,6 +7,8 @@ mod active;
 mod detail;
 mod posts;
 mod reads;
+mod taken;
 mod write;
 
+pub use taken::{action_of, choice_at};
 pub use write::write_detailed_trace;
