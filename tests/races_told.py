@@ -2,7 +2,7 @@
 import re
 from dataclasses import dataclass
 
-NAME = r"(\S+) is .* at (\d+)|what is printed at (\d+) is .*"
+NAME = r"(\S+) is .* at (\w+)|what is printed at (\w+) is .*"
 
 
 @dataclass
@@ -16,15 +16,15 @@ class Told:
 def name_of(head):
     """The name of a difference of a variable or of lines; none of ends."""
     found = re.fullmatch(NAME, head)
-    if not found:
+    if not found or re.search(r" ends the run at \w+$", head):
         return None
     variable, time, line_time = found.groups()
     return f"lines at {line_time}" if line_time else f"{variable} at {time}"
 
 
 def statements_in(lines):
-    """The places of the two statements, without that of a connection or an `assign` which one of them drives."""
-    rows = [line for line in lines if re.match(r"    (\S+:\d+:\d+|-) ", line)]
+    """The places of the two statements, without that of a connection or an `assign` that one drives; none where one ends the run."""
+    rows = [line for line in lines if re.match(r"    (\S+:\d+:\d+|-) ", line) and not line.endswith("ends the run")]
     return [row.split()[0] for before, row in zip(["", *rows], rows) if not before.endswith("drives:")]
 
 

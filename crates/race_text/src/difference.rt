@@ -1,8 +1,10 @@
 // What runs differ in, and its sides: what is so in each of them, and the order in which it comes about.
 
-use crate::pieces::{put_cut, put_number, put_padded};
+use crate::facts::Facts;
+use crate::pieces::{put_cut, put_padded};
 use crate::place::Sources;
 use crate::statements::{put_other_order, put_usual_order};
+use crate::time::put_time;
 use crate::value::put_value;
 use basis::NoMemory;
 use explore::FoundMark;
@@ -18,7 +20,8 @@ use vmachine::{Machine, MachineState};
 // How many bytes of a printed line are shown.
 const LINE: usize = 60;
 
-/// A side of a difference: the order in which it comes about, what is so then, and the log of a run that shows it.
+/// A side of a difference: the order in which it comes about, what is so then, and the log of a run that shows it, with the name of its
+/// setting.
 #[derive(Drop)]
 pub struct Row {
     order: Vec<u8>,
@@ -26,12 +29,13 @@ pub struct Row {
     log: Vec<u8>,
 }
 
-/// What rows are made of.
+/// What is told of: a group of the machine's runs, and what is so of it.
 #[derive(Clone, Copy)]
 pub struct Subject<'a> {
     pub machine: &'a Machine,
     pub sources: &'a Sources<'a>,
     pub group: &'a Group,
+    pub facts: &'a Facts,
 }
 
 // The lines that a slot printed, each in quotes.
@@ -51,24 +55,33 @@ fn put_lines(text: &mut Vec<u8>, lines: &Bag) -> Result<(), NoMemory> {
     Ok(())
 }
 
-// `$finish at 10`
-fn put_end(text: &mut Vec<u8>, end: Option<End>) -> Result<(), NoMemory> {
-    let Some(end) = end else {
-        return Ok(());
-    };
-    let cause: &[u8] = match end.cause {
+/// Why a run ends, in words.
+pub fn cause_words(cause: Cause) -> &'static [u8] {
+    match cause {
         Cause::Finish => b"$finish",
         Cause::Stop => b"$stop",
         Cause::Quiet => b"its last event",
         Cause::Limit => b"the time limit",
-    };
-    text.extend_from_slice(cause)?;
-    text.extend_from_slice(b" at ")?;
-    put_number(text, end.time)
+    }
 }
 
-// The name of the variable of this number.
-fn put_variable(text: &mut Vec<u8>, design: &Design, number: usize) -> Result<(), NoMemory> {
+// ` at 5`
+fn put_at(text: &mut Vec<u8>, machine: &Machine, time: u64) -> Result<(), NoMemory> {
+    text.extend_from_slice(b" at ")?;
+    put_time(text, machine, time)
+}
+
+// `$finish at 10`
+fn put_end(text: &mut Vec<u8>, machine: &Machine, end: Option<End>) -> Result<(), NoMemory> {
+    let Some(end) = end else {
+        return Ok(());
+    };
+    text.extend_from_slice(cause_words(end.cause))?;
+    put_at(text, machine, end.time)
+}
+
+/// The name of the variable of this number.
+pub fn put_variable(text: &mut Vec<u8>, design: &Design, number: usize) -> Result<(), NoMemory> {
     if let Some(variable) = design.variables.get(number) {
         text.extend_from_slice(&variable.name)?;
     }
@@ -87,7 +100,13 @@ pub fn is_parent(log: &Log, parent: &Log) -> bool {
 fn put_order(text: &mut Vec<u8>, subject: Subject<'_>, log: &Log) -> Result<(), NoMemory> {
     let Subject { sources, group, .. } = subject;
     match &group.cause {
-        None => text.extend_from_slice(b"one order")?,
+        None => {
+            if log.members().is_empty() {
+                text.extend_from_slice(b"the default order:")?;
+                return Ok(());
+            }
+            text.extend_from_slice(b"another order")?;
+        }
         Some(cause) => {
             if log.members() == group.log.members() {
                 put_other_order(text, sources, cause)?;
@@ -105,13 +124,9 @@ fn put_order(text: &mut Vec<u8>, subject: Subject<'_>, log: &Log) -> Result<(), 
     Ok(())
 }
 
-/// The text of the log, with the name of the setting where it has departures.
-pub fn log_text(alloc: Global, machine: &Machine, log: &Log) -> Result<Vec<u8>, NoMemory> {
-    let head = if log.members().is_empty() {
-        LogHead::Plain
-    } else {
-        LogHead::Named(machine.grain(), machine.departures())
-    };
+// The text of the log with the name of the setting, so that steps of each run have as many choices.
+fn log_text(alloc: Global, machine: &Machine, log: &Log) -> Result<Vec<u8>, NoMemory> {
+    let head = LogHead::Named(machine.grain(), machine.departures());
     write_named_log(alloc, head, log)
 }
 
@@ -165,6 +180,49 @@ fn push_lines(
     Ok(())
 }
 
+/// The value of a variable in this state.
+pub fn put_value_in(
+    text: &mut Vec<u8>,
+    machine: &Machine,
+    state: &MachineState,
+    number: usize,
+) -> Result<(), NoMemory> {
+    let variable = machine.design().variables.get(number);
+    match (variable, machine.values(state).get(number)) {
+        (Some(variable), Some(value)) => put_value(text, variable, *value),
+        _ => Ok(()),
+    }
+}
+
+// The lines that were printed in the slot of this state.
+fn put_printed(
+    text: &mut Vec<u8>,
+    machine: &Machine,
+    state: &MachineState,
+) -> Result<(), NoMemory> {
+    match machine.printed(state) {
+        None => Ok(()),
+        Some(lines) => put_lines(text, lines),
+    }
+}
+
+// What is so where a run ends in this state: time and cause where they differ, else the value of the first variable of which values do,
+// else the lines.
+fn put_state(
+    text: &mut Vec<u8>,
+    subject: Subject<'_>,
+    state: &MachineState,
+) -> Result<(), NoMemory> {
+    let machine = subject.machine;
+    match &subject.facts.apart {
+        Some(apart) if !apart.in_end => match apart.variables.first() {
+            None => put_printed(text, machine, state),
+            Some(number) => put_value_in(text, machine, state, *number),
+        },
+        _ => put_end(text, machine, machine.end_of(state)),
+    }
+}
+
 // The same of ends.
 fn push_ends(
     alloc: Global,
@@ -176,7 +234,7 @@ fn push_ends(
     for found in ends {
         if found.log.members().is_empty() == default {
             let mut row = row_of(alloc, subject, &found.log)?;
-            put_end(&mut row.value, subject.machine.end_of(&found.state))?;
+            put_state(&mut row.value, subject, &found.state)?;
             rows.push(row)?;
         }
     }
@@ -197,7 +255,7 @@ fn push_rows(
     }
 }
 
-/// The sides of the group's first difference, that of the default run first.
+/// The sides of the group's first difference, that of the default run first, if one is its.
 pub fn rows_of(alloc: Global, subject: Subject<'_>) -> Result<Vec<Row>, NoMemory> {
     let mut rows = Vec::new(alloc);
     push_rows(alloc, &mut rows, subject, true)?;
@@ -221,70 +279,100 @@ fn put_joined(text: &mut Vec<u8>, rows: &[Row]) -> Result<(), NoMemory> {
     Ok(())
 }
 
-// ` at 5`
-fn put_at(text: &mut Vec<u8>, time: u64) -> Result<(), NoMemory> {
-    text.extend_from_slice(b" at ")?;
-    put_number(text, time)
+// ` where $finish ends the run at 50`
+fn put_where(
+    text: &mut Vec<u8>,
+    machine: &Machine,
+    ends: &[FoundMark<MachineState>],
+) -> Result<(), NoMemory> {
+    let Some(end) = end_in(machine, ends) else {
+        return Ok(());
+    };
+    text.extend_from_slice(b" where ")?;
+    text.extend_from_slice(cause_words(end.cause))?;
+    text.extend_from_slice(b" ends the run")?;
+    put_at(text, machine, end.time)
 }
 
-/// What differs, in one line: `tb.b is 1 or 0 at 5`, `at 5 is printed "PASS" or "FAIL"`, `the run ends by $finish at 10 or its last event
-/// at 7`.
+/// The first of these ends.
+pub fn end_in(machine: &Machine, ends: &[FoundMark<MachineState>]) -> Option<End> {
+    machine.end_of(&ends.first()?.state)
+}
+
+// What ends differ in.
+fn put_ends(
+    text: &mut Vec<u8>,
+    subject: Subject<'_>,
+    rows: &[Row],
+    ends: &[FoundMark<MachineState>],
+) -> Result<(), NoMemory> {
+    let machine = subject.machine;
+    let apart = match &subject.facts.apart {
+        Some(apart) if !apart.in_end => apart,
+        _ => {
+            text.extend_from_slice(b"the run ends by ")?;
+            return put_joined(text, rows);
+        }
+    };
+    match apart.variables.first() {
+        None => text.extend_from_slice(b"what is printed")?,
+        Some(number) => put_variable(text, machine.design(), *number)?,
+    }
+    text.extend_from_slice(b" is ")?;
+    put_joined(text, rows)?;
+    put_where(text, machine, ends)
+}
+
+/// What differs, in one line: `tb.b is 1 or 0 at 5`, `what is printed at 5 is "PASS" or "FAIL"`, `the run ends by $finish at 10 or its last
+/// event at 7`, `tb.clk is 0 or 1 where $finish ends the run at 50`.
 pub fn put_difference(
     text: &mut Vec<u8>,
     subject: Subject<'_>,
     rows: &[Row],
 ) -> Result<(), NoMemory> {
+    let machine = subject.machine;
     match &subject.group.first {
         Difference::Values(race) => {
-            put_variable(text, subject.machine.design(), race.variable)?;
+            put_variable(text, machine.design(), race.variable)?;
             text.extend_from_slice(b" is ")?;
             put_joined(text, rows)?;
-            put_at(text, race.time)
+            put_at(text, machine, race.time)
         }
         Difference::Lines(race) => {
             text.extend_from_slice(b"what is printed")?;
-            put_at(text, race.time)?;
+            put_at(text, machine, race.time)?;
             text.extend_from_slice(b" is ")?;
             put_joined(text, rows)
         }
-        Difference::Ends(_) => {
-            text.extend_from_slice(b"the run ends by ")?;
-            put_joined(text, rows)
-        }
-    }
-}
-
-/// The time of the slot; of ends that of the first.
-pub fn time_of(machine: &Machine, difference: &Difference) -> u64 {
-    match difference {
-        Difference::Values(race) => race.time,
-        Difference::Lines(race) => race.time,
-        Difference::Ends(ends) => match ends.first() {
-            None => 0,
-            Some(found) => machine.end_of(&found.state).map_or(0, |end| end.time),
-        },
+        Difference::Ends(ends) => put_ends(text, subject, rows, ends),
     }
 }
 
 /// A difference by its name: `tb.c at 6`, `lines at 6`.
-pub fn put_name(text: &mut Vec<u8>, design: &Design, name: &Name) -> Result<(), NoMemory> {
+pub fn put_name(text: &mut Vec<u8>, machine: &Machine, name: &Name) -> Result<(), NoMemory> {
     match name.variable {
         None => text.extend_from_slice(b"lines")?,
-        Some(number) => put_variable(text, design, number)?,
+        Some(number) => put_variable(text, machine.design(), number)?,
     }
-    put_at(text, name.time)
+    put_at(text, machine, name.time)
+}
+
+// The variable of which a side has a value.
+fn variable_of(subject: Subject<'_>) -> Option<usize> {
+    match (&subject.group.first, &subject.facts.apart) {
+        (Difference::Values(race), _) => Some(race.variable),
+        (Difference::Ends(_), Some(apart)) if !apart.in_end => apart.variables.first().copied(),
+        _ => None,
+    }
 }
 
 // What comes before the value of a side: `tb.b = `.
 fn put_left(text: &mut Vec<u8>, subject: Subject<'_>) -> Result<(), NoMemory> {
-    match &subject.group.first {
-        Difference::Values(race) => {
-            put_variable(text, subject.machine.design(), race.variable)?;
-            text.extend_from_slice(b" = ")?;
-        }
-        Difference::Lines(_) => {}
-        Difference::Ends(_) => {}
-    }
+    let Some(variable) = variable_of(subject) else {
+        return Ok(());
+    };
+    put_variable(text, subject.machine.design(), variable)?;
+    text.extend_from_slice(b" = ")?;
     Ok(())
 }
 
@@ -298,8 +386,13 @@ fn widths_of(rows: &[Row]) -> (usize, usize) {
     (order, value)
 }
 
-/// A line for each side: the order in which it comes about, what is so then, and how to replay it.
-pub fn put_sides(text: &mut Vec<u8>, subject: Subject<'_>, rows: &[Row]) -> Result<(), NoMemory> {
+/// A line for each side: the order in which it comes about, what is so then, and the command that replays it, which ends so.
+pub fn put_sides(
+    text: &mut Vec<u8>,
+    subject: Subject<'_>,
+    rows: &[Row],
+    behind: &[u8],
+) -> Result<(), NoMemory> {
     let (order, value) = widths_of(rows);
     for row in rows {
         text.extend_from_slice(b"    ")?;
@@ -309,6 +402,7 @@ pub fn put_sides(text: &mut Vec<u8>, subject: Subject<'_>, rows: &[Row]) -> Resu
         put_padded(text, &row.value, value)?;
         text.extend_from_slice(b"  vrace replay --log ")?;
         text.extend_from_slice(&row.log)?;
+        text.extend_from_slice(behind)?;
         text.push(b'\n')?;
     }
     Ok(())

@@ -1,12 +1,15 @@
 // One JSON document for programs (docs/FORMATS.md, "Races as JSON").
 
-use crate::difference::{Subject, time_of};
+use crate::connection::port_of;
+use crate::difference::Subject;
+use crate::facts::Facts;
 use crate::json_side::{first_difference, next_difference};
 use crate::members::Members;
 use crate::pieces::put_cut;
 use crate::place::Sources;
 use crate::statements::{SOURCE, verb};
 use crate::summary::{Findings, matched_at};
+use crate::time::put_precision;
 use crate::waivers::Waiver;
 use basis::NoMemory;
 use cause::{Blamed, Cause, Thing};
@@ -15,8 +18,29 @@ use serde_json::Value;
 use std::alloc::Global;
 use vdesign::design::Design;
 
+// Which port of which instance it connects, if it is a port connection.
+fn put_connected(
+    members: &mut Members,
+    design: &Design,
+    sources: &Sources<'_>,
+    action: usize,
+) -> Result<(), NoMemory> {
+    match port_of(design, sources, action) {
+        None => Ok(()),
+        Some(port) => {
+            members.text("instance", port.instance)?;
+            members.text("port", port.name)
+        }
+    }
+}
+
 // Where the statement of an action stands, and what it says, if that is known.
-fn place_of(alloc: Global, sources: &Sources<'_>, action: usize) -> Result<Members, NoMemory> {
+fn place_of(
+    alloc: Global,
+    design: &Design,
+    sources: &Sources<'_>,
+    action: usize,
+) -> Result<Members, NoMemory> {
     let mut members = Members::new(alloc);
     let Some(place) = sources.place(action) else {
         return Ok(members);
@@ -27,6 +51,7 @@ fn place_of(alloc: Global, sources: &Sources<'_>, action: usize) -> Result<Membe
     members.number("line", place.line as u64)?;
     members.number("column", (place.column as u64).saturating_add(1))?;
     members.text("source", &source)?;
+    put_connected(&mut members, design, sources, action)?;
     Ok(members)
 }
 
@@ -74,28 +99,51 @@ fn statement_of(
     blamed: &Blamed,
     things: &[Thing],
 ) -> Result<Value, NoMemory> {
-    let mut statement = place_of(alloc, sources, blamed.statement)?;
+    let mut statement = place_of(alloc, design, sources, blamed.statement)?;
     if blamed.statement != blamed.place {
-        let connection = place_of(alloc, sources, blamed.place)?;
+        let connection = place_of(alloc, design, sources, blamed.place)?;
         statement.value("connection", connection.whole())?;
     }
     statement.list("does", deeds(alloc, design, blamed, things)?)?;
     Ok(statement.whole())
 }
 
-// The two statements, in the order of the parent's run.
+// The two statements, in the order of the parent's run, and when they race; or the one that ends the run.
 fn put_cause(
     alloc: Global,
     members: &mut Members,
-    design: &Design,
-    sources: &Sources<'_>,
+    subject: Subject<'_>,
     cause: &Cause,
 ) -> Result<(), NoMemory> {
+    let (design, sources) = (subject.machine.design(), subject.sources);
     let things = cause.things.as_slice();
     let first = statement_of(alloc, design, sources, &cause.second, things)?;
     members.value("first", first)?;
     let second = statement_of(alloc, design, sources, &cause.first, things)?;
-    members.value("second", second)
+    members.value("second", second)?;
+    match subject.facts.slot {
+        None => Ok(()),
+        Some(slot) => members.number("slot", slot),
+    }
+}
+
+// The two statements; or the one that ends the run.
+fn put_statements(
+    alloc: Global,
+    members: &mut Members,
+    subject: Subject<'_>,
+) -> Result<(), NoMemory> {
+    if let Some(cause) = &subject.group.cause {
+        return put_cause(alloc, members, subject, cause);
+    }
+    match subject.facts.ending {
+        None => Ok(()),
+        Some(action) => {
+            let design = subject.machine.design();
+            let ending = place_of(alloc, design, subject.sources, action)?;
+            members.value("ending", ending.whole())
+        }
+    }
 }
 
 // The group's differences that are told.
@@ -127,16 +175,8 @@ fn group_of(
     let (machine, group) = (subject.machine, subject.group);
     let mut members = Members::new(alloc);
     put_waiver(&mut members, waiver)?;
-    members.number("time", time_of(machine, &group.first))?;
-    if let Some(cause) = &group.cause {
-        put_cause(
-            alloc,
-            &mut members,
-            machine.design(),
-            subject.sources,
-            cause,
-        )?;
-    }
+    members.number("time", group.first.time(machine))?;
+    put_statements(alloc, &mut members, subject)?;
     members.list("differences", differences(alloc, subject, named)?)?;
     members.number("count", group.more.saturating_add(1))?;
     members.number("last", group.last)?;
@@ -147,11 +187,8 @@ fn group_of(
 fn groups(alloc: Global, findings: &Findings<'_>) -> Result<Vec<Value>, NoMemory> {
     let mut list = Vec::new(alloc);
     for (place, group) in findings.races.groups.iter().enumerate() {
-        let subject = Subject {
-            machine: findings.machine,
-            sources: findings.sources,
-            group,
-        };
+        let facts = Facts::new(alloc, findings.machine, group)?;
+        let subject = findings.subject(group, &facts);
         let waiver = findings.waiver(place);
         list.push(group_of(alloc, subject, findings.told.named(), waiver)?)?;
     }
@@ -193,6 +230,9 @@ fn put_seen(members: &mut Members, findings: &Findings<'_>) -> Result<(), NoMemo
 pub fn top_of(alloc: Global, findings: &Findings<'_>) -> Result<Value, NoMemory> {
     let mut members = Members::new(alloc);
     members.text("top", &findings.machine.design().top)?;
+    let mut precision = Vec::new(alloc);
+    put_precision(&mut precision, findings.machine)?;
+    members.text("precision", &precision)?;
     put_seen(&mut members, findings)?;
     members.list("causes", groups(alloc, findings)?)?;
     Ok(members.whole())

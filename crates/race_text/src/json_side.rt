@@ -1,6 +1,7 @@
 // Differences as JSON: of a group's first one each side, of those that follow their names.
 
-use crate::difference::{Subject, is_parent, log_text, time_of};
+use crate::apart::Apart;
+use crate::difference::{Subject, is_parent, put_value_in, put_variable};
 use crate::members::Members;
 use crate::pieces::string_of;
 use crate::value::put_value;
@@ -8,13 +9,13 @@ use basis::NoMemory;
 use explore::FoundMark;
 use race_groups::{Difference, Name};
 use racebook::{LineRace, Race};
-use sched_core::Log;
 use sched_core::bag::Bag;
 use sched_core::end::Cause;
+use sched_core::{Log, LogHead, write_named_log};
 use serde_json::Value;
 use std::alloc::Global;
 use vdesign::design::Design;
-use vmachine::MachineState;
+use vmachine::{Machine, MachineState};
 
 // Which of the two statements comes earlier in the run under the log, where one of both orders is its.
 fn earlier(subject: Subject<'_>, log: &Log) -> Option<&'static [u8]> {
@@ -30,6 +31,16 @@ fn earlier(subject: Subject<'_>, log: &Log) -> Option<&'static [u8]> {
     } else {
         None
     }
+}
+
+// The text of the log, with the name of the setting where it has departures.
+fn log_text(alloc: Global, machine: &Machine, log: &Log) -> Result<Vec<u8>, NoMemory> {
+    let head = if log.members().is_empty() {
+        LogHead::Plain
+    } else {
+        LogHead::Named(machine.grain(), machine.departures())
+    };
+    write_named_log(alloc, head, log)
 }
 
 // The side under this log, of which it is still to be said what is so.
@@ -102,6 +113,71 @@ fn end_word(cause: Cause) -> &'static [u8] {
     }
 }
 
+// The values of these variables in a state.
+fn values_in(
+    alloc: Global,
+    machine: &Machine,
+    variables: &[usize],
+    state: &MachineState,
+) -> Result<Vec<Value>, NoMemory> {
+    let mut list = Vec::new(alloc);
+    for number in variables {
+        let mut value = Vec::new(alloc);
+        put_value_in(&mut value, machine, state, *number)?;
+        list.push(Value::String(string_of(alloc, &value)?))?;
+    }
+    Ok(list)
+}
+
+// The names of these variables.
+fn names_of(alloc: Global, design: &Design, variables: &[usize]) -> Result<Vec<Value>, NoMemory> {
+    let mut list = Vec::new(alloc);
+    for number in variables {
+        let mut name = Vec::new(alloc);
+        put_variable(&mut name, design, *number)?;
+        list.push(Value::String(string_of(alloc, &name)?))?;
+    }
+    Ok(list)
+}
+
+// What is so in the state of an end, of all that ends differ in.
+fn put_apart(
+    alloc: Global,
+    side: &mut Members,
+    machine: &Machine,
+    apart: &Apart,
+    state: &MachineState,
+) -> Result<(), NoMemory> {
+    if !apart.variables.is_empty() {
+        side.list(
+            "values",
+            values_in(alloc, machine, &apart.variables, state)?,
+        )?;
+    }
+    match machine.printed(state) {
+        Some(lines) if apart.in_lines => side.list("lines", lines_of(alloc, lines)?),
+        _ => Ok(()),
+    }
+}
+
+// A side of ends.
+fn end_side(
+    alloc: Global,
+    subject: Subject<'_>,
+    found: &FoundMark<MachineState>,
+) -> Result<Value, NoMemory> {
+    let machine = subject.machine;
+    let mut side = side_of(alloc, subject, &found.log)?;
+    if let Some(end) = machine.end_of(&found.state) {
+        side.text("end", end_word(end.cause))?;
+        side.number("time", end.time)?;
+    }
+    if let Some(apart) = &subject.facts.apart {
+        put_apart(alloc, &mut side, machine, apart, &found.state)?;
+    }
+    Ok(side.whole())
+}
+
 // The same of ends.
 fn push_ends(
     alloc: Global,
@@ -112,12 +188,7 @@ fn push_ends(
 ) -> Result<(), NoMemory> {
     for found in ends {
         if found.log.members().is_empty() == default {
-            let mut side = side_of(alloc, subject, &found.log)?;
-            if let Some(end) = subject.machine.end_of(&found.state) {
-                side.text("end", end_word(end.cause))?;
-                side.number("time", end.time)?;
-            }
-            sides.push(side.whole())?;
+            sides.push(end_side(alloc, subject, found)?)?;
         }
     }
     Ok(())
@@ -157,16 +228,32 @@ fn named(
     Ok(difference)
 }
 
-/// The group's first difference, with its sides, that of the default run first.
+// What ends differ in.
+fn put_ends_apart(
+    alloc: Global,
+    difference: &mut Members,
+    subject: Subject<'_>,
+) -> Result<(), NoMemory> {
+    difference.text("kind", b"ends")?;
+    match &subject.facts.apart {
+        Some(apart) if !apart.variables.is_empty() => {
+            let design = subject.machine.design();
+            difference.list("variables", names_of(alloc, design, &apart.variables)?)
+        }
+        _ => Ok(()),
+    }
+}
+
+/// The group's first difference, with its sides, that of the default run first, if one is its.
 pub fn first_difference(alloc: Global, subject: Subject<'_>) -> Result<Value, NoMemory> {
     let (machine, first) = (subject.machine, &subject.group.first);
     let variable = match first {
         Difference::Values(race) => Some(race.variable),
         _ => None,
     };
-    let mut difference = named(alloc, machine.design(), variable, time_of(machine, first))?;
+    let mut difference = named(alloc, machine.design(), variable, first.time(machine))?;
     if let Difference::Ends(_) = first {
-        difference.text("kind", b"ends")?;
+        put_ends_apart(alloc, &mut difference, subject)?;
     }
     let mut sides = Vec::new(alloc);
     push_sides(alloc, &mut sides, subject, true)?;

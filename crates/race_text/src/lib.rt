@@ -3,16 +3,22 @@
 // No law is claimed: how it is told the cases in tests/cases compare.
 #![tactic(auto)]
 
+mod apart;
+mod command;
+mod connection;
 mod difference;
+mod facts;
 mod json;
 mod json_side;
 mod members;
 mod pieces;
 mod place;
+mod replayed;
 mod sarif;
 mod sarif_place;
 mod statements;
 mod summary;
+mod time;
 mod tops;
 mod value;
 mod waived;

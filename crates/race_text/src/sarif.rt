@@ -1,11 +1,13 @@
 // A SARIF 2.1.0 log, for code hosts (docs/FORMATS.md, "Races as SARIF").
 
 use crate::difference::{Subject, put_difference, rows_of};
+use crate::facts::Facts;
 use crate::json::document;
 use crate::members::Members;
-use crate::pieces::{put_count, put_number};
-use crate::sarif_place::{Locations, fingerprint, locations_of, put_deeds};
+use crate::pieces::put_count;
+use crate::sarif_place::{Locations, fingerprint, location_of_end, locations_of, put_deeds};
 use crate::summary::{Findings, matched_at, put_matched, put_seen, put_top};
+use crate::time::put_time;
 use crate::waivers::Waiver;
 use basis::NoMemory;
 use cause::Cause;
@@ -63,12 +65,19 @@ fn tool(alloc: Global, version: &str) -> Result<Value, NoMemory> {
     Ok(members.whole())
 }
 
-// What the two statements do: `; late.v:3 writes tb.a, late.v:4 reads tb.a`.
+// What the two statements do: `; late.v:3 writes tb.a, late.v:4 reads tb.a`, and when, if it shows later: `, both at 0`.
 fn put_cause(text: &mut Vec<u8>, subject: Subject<'_>, cause: &Cause) -> Result<(), NoMemory> {
     text.extend_from_slice(b"; ")?;
     put_deeds(text, subject, cause, &cause.second)?;
     text.extend_from_slice(b", ")?;
-    put_deeds(text, subject, cause, &cause.first)
+    put_deeds(text, subject, cause, &cause.first)?;
+    match subject.facts.slot {
+        Some(slot) if slot != subject.group.first.time(subject.machine) => {
+            text.extend_from_slice(b", both at ")?;
+            put_time(text, subject.machine, slot)
+        }
+        _ => Ok(()),
+    }
 }
 
 // What is said of a group: what differs, what the two statements do, and what follows.
@@ -84,18 +93,17 @@ fn group_text(alloc: Global, subject: Subject<'_>) -> Result<Vec<u8>, NoMemory> 
         text.extend_from_slice(b"; ")?;
         put_count(&mut text, group.more, b"more difference")?;
         text.extend_from_slice(b", up to ")?;
-        put_number(&mut text, group.last)?;
+        put_time(&mut text, subject.machine, group.last)?;
     }
     Ok(text)
 }
 
-// The group's places, and what it is known by from one run to the next.
-fn put_places(
-    alloc: Global,
-    members: &mut Members,
-    subject: Subject<'_>,
-    cause: &Cause,
-) -> Result<(), NoMemory> {
+// The group's places, and what it is known by from one run to the next; where no two statements are known, the place of the one that ends
+// the run, or the beginning of the first file.
+fn put_places(alloc: Global, members: &mut Members, subject: Subject<'_>) -> Result<(), NoMemory> {
+    let Some(cause) = &subject.group.cause else {
+        return members.list("locations", location_of_end(alloc, subject)?);
+    };
     let Locations { first, others } = locations_of(alloc, subject, cause)?;
     members.list("locations", first)?;
     members.list("relatedLocations", others)?;
@@ -129,9 +137,7 @@ fn result_of(
     members.text("level", b"warning")?;
     let text = group_text(alloc, subject)?;
     members.value("message", message(alloc, &text)?)?;
-    if let Some(cause) = &subject.group.cause {
-        put_places(alloc, &mut members, subject, cause)?;
-    }
+    put_places(alloc, &mut members, subject)?;
     members.list("suppressions", suppressions(alloc, waiver)?)?;
     Ok(members.whole())
 }
@@ -143,11 +149,8 @@ pub fn push_results(
     findings: &Findings<'_>,
 ) -> Result<(), NoMemory> {
     for (place, group) in findings.races.groups.iter().enumerate() {
-        let subject = Subject {
-            machine: findings.machine,
-            sources: findings.sources,
-            group,
-        };
+        let facts = Facts::new(alloc, findings.machine, group)?;
+        let subject = findings.subject(group, &facts);
         list.push(result_of(alloc, subject, findings.waiver(place))?)?;
     }
     Ok(())

@@ -81,7 +81,22 @@ fn physical(alloc: Global, subject: Subject<'_>, place: Place) -> Result<Value, 
     Ok(members.whole())
 }
 
-// Puts the place of the action, if it is known, with what is said of it. Each has a number of its own.
+// A place, with what is said of it. Each has a number of its own.
+fn location(
+    alloc: Global,
+    subject: Subject<'_>,
+    place: Place,
+    number: u64,
+    text: &[u8],
+) -> Result<Value, NoMemory> {
+    let mut members = Members::new(alloc);
+    members.number("id", number)?;
+    members.value("physicalLocation", physical(alloc, subject, place)?)?;
+    members.value("message", message(alloc, text)?)?;
+    Ok(members.whole())
+}
+
+// Puts the place of the action, if it is known, with what is said of it.
 fn push_location(
     alloc: Global,
     list: &mut Vec<Value>,
@@ -90,15 +105,37 @@ fn push_location(
     number: u64,
     text: &[u8],
 ) -> Result<(), NoMemory> {
-    let Some(place) = subject.sources.place(action) else {
-        return Ok(());
-    };
-    let mut members = Members::new(alloc);
-    members.number("id", number)?;
-    members.value("physicalLocation", physical(alloc, subject, place)?)?;
-    members.value("message", message(alloc, text)?)?;
-    list.push(members.whole())?;
+    if let Some(place) = subject.sources.place(action) {
+        list.push(location(alloc, subject, place, number, text)?)?;
+    }
     Ok(())
+}
+
+// The place of an action, if it is known.
+fn place_of(subject: Subject<'_>, action: Option<usize>) -> Option<Place> {
+    subject.sources.place(action?)
+}
+
+/// Where no two statements are known: the place of the action that ends the run or, where that isn't known, the first line of the first
+/// file, as code hosts ask for a place.
+pub fn location_of_end(alloc: Global, subject: Subject<'_>) -> Result<Vec<Value>, NoMemory> {
+    let mut list = Vec::new(alloc);
+    let first = Place {
+        file: 1,
+        line: 1,
+        column: 0,
+    };
+    list.push(match place_of(subject, subject.facts.ending) {
+        None => location(
+            alloc,
+            subject,
+            first,
+            1,
+            b"which statements race was not found",
+        )?,
+        Some(place) => location(alloc, subject, place, 1, b"ends the run")?,
+    })?;
+    Ok(list)
 }
 
 // Puts a statement into the first list and, where it drives a port connection or an `assign`, that one into the second.

@@ -1,5 +1,6 @@
 // The two statements that race: where they stand, what they say, and what they do to what both touch.
 
+use crate::connection::{port_of, put_port};
 use crate::pieces::{put_cut, put_number, put_padded};
 use crate::place::Sources;
 use basis::NoMemory;
@@ -135,14 +136,33 @@ fn put_place(text: &mut Vec<u8>, sources: &Sources<'_>, action: usize) -> Result
     put_number(text, (place.column as u64).saturating_add(1))
 }
 
+// What stands at the place of an action: a port connection as `.d(q) of u1`, any other as its source.
+fn put_source(
+    text: &mut Vec<u8>,
+    design: &Design,
+    sources: &Sources<'_>,
+    action: usize,
+) -> Result<(), NoMemory> {
+    if let Some(port) = port_of(design, sources, action) {
+        return put_port(text, port);
+    }
+    match sources.place(action) {
+        None => Ok(()),
+        Some(place) => put_cut(text, sources.source(place).trim_ascii_end(), SOURCE),
+    }
+}
+
 // The row of the statement of an action.
-fn row_of(alloc: Global, sources: &Sources<'_>, action: usize) -> Result<Row, NoMemory> {
+fn row_of(
+    alloc: Global,
+    design: &Design,
+    sources: &Sources<'_>,
+    action: usize,
+) -> Result<Row, NoMemory> {
     let mut place = Vec::new(alloc);
     put_place(&mut place, sources, action)?;
     let mut source = Vec::new(alloc);
-    if let Some(found) = sources.place(action) {
-        put_cut(&mut source, sources.source(found).trim_ascii_end(), SOURCE)?;
-    }
+    put_source(&mut source, design, sources, action)?;
     Ok(Row {
         place,
         source,
@@ -159,11 +179,11 @@ fn push_rows(
     blamed: &Blamed,
     things: &[Thing],
 ) -> Result<(), NoMemory> {
-    let mut row = row_of(alloc, sources, blamed.statement)?;
+    let mut row = row_of(alloc, design, sources, blamed.statement)?;
     if blamed.statement != blamed.place {
         row.verbs.extend_from_slice(b"drives:")?;
         rows.push(row)?;
-        row = row_of(alloc, sources, blamed.place)?;
+        row = row_of(alloc, design, sources, blamed.place)?;
     }
     put_verbs(&mut row.verbs, design, blamed, things)?;
     rows.push(row)?;
@@ -180,6 +200,21 @@ fn widths_of(rows: &[Row]) -> (usize, usize) {
     (place, source)
 }
 
+// A line for each row.
+fn put_rows(text: &mut Vec<u8>, rows: &[Row]) -> Result<(), NoMemory> {
+    let (place, source) = widths_of(rows);
+    for row in rows {
+        text.extend_from_slice(b"    ")?;
+        put_padded(text, &row.place, place)?;
+        text.extend_from_slice(b"  ")?;
+        put_padded(text, &row.source, source)?;
+        text.extend_from_slice(b"  ")?;
+        text.extend_from_slice(&row.verbs)?;
+        text.push(b'\n')?;
+    }
+    Ok(())
+}
+
 /// A line for each of the two statements, in the order of the parent's run: place, source, and what it does to what both touch. After one
 /// that drives a port connection or an `assign`, a line for that.
 pub fn put_statements(
@@ -193,17 +228,22 @@ pub fn put_statements(
     let things = cause.things.as_slice();
     push_rows(alloc, &mut rows, design, sources, &cause.second, things)?;
     push_rows(alloc, &mut rows, design, sources, &cause.first, things)?;
-    let (place, source) = widths_of(&rows);
-    for row in &rows {
-        text.extend_from_slice(b"    ")?;
-        put_padded(text, &row.place, place)?;
-        text.extend_from_slice(b"  ")?;
-        put_padded(text, &row.source, source)?;
-        text.extend_from_slice(b"  ")?;
-        text.extend_from_slice(&row.verbs)?;
-        text.push(b'\n')?;
-    }
-    Ok(())
+    put_rows(text, &rows)
+}
+
+/// A line for the statement of an action that ends the run.
+pub fn put_ending(
+    alloc: Global,
+    text: &mut Vec<u8>,
+    design: &Design,
+    sources: &Sources<'_>,
+    action: usize,
+) -> Result<(), NoMemory> {
+    let mut row = row_of(alloc, design, sources, action)?;
+    row.verbs.extend_from_slice(b"ends the run")?;
+    let mut rows = Vec::new(alloc);
+    rows.push(row)?;
+    put_rows(text, &rows)
 }
 
 // Which of two places comes first.

@@ -1,7 +1,10 @@
 // The last lines: how many races there are, what wasn't looked at, and what waivers matched.
 
+use crate::difference::Subject;
+use crate::facts::Facts;
 use crate::pieces::{put_count, put_number};
 use crate::place::Sources;
+use crate::time::put_time;
 use crate::waived::Waived;
 use crate::waivers::Waiver;
 use basis::NoMemory;
@@ -12,12 +15,14 @@ use vmachine::Machine;
 /// How many of the differences that follow are named, unless all are.
 pub const NAMED: usize = 3;
 
-/// What is told beside the races: how many departures a run may have, the time before which differences are passed over, whether all
-/// that follow are named, how many states were visited, in how many milliseconds, and by which option the search was stopped, where its
-/// watcher stopped it.
+/// What is told beside the races: how many departures a run may have, and how many steps; whether the top module was named in the call; the
+/// time before which differences are passed over; whether all that follow are named; how many states were visited, in how many
+/// milliseconds; and by which option the search was stopped, where its watcher stopped it.
 #[derive(Clone, Copy, Debug)]
 pub struct Told {
     pub departures: u32,
+    pub steps: u32,
+    pub is_top_named: bool,
     pub from: u64,
     pub all: bool,
     pub states: u64,
@@ -49,6 +54,23 @@ impl<'a> Findings<'a> {
     pub fn waiver(&self, group: usize) -> Option<&'a Waiver<'a>> {
         self.waivers.get(self.waived.by(group)?)
     }
+
+    /// A group, of which this is so, as what is told of.
+    pub fn subject(&self, group: &'a Group, facts: &'a Facts) -> Subject<'a> {
+        Subject {
+            machine: self.machine,
+            sources: self.sources,
+            group,
+            facts,
+        }
+    }
+
+    // Whether something was left unseen, or passed over.
+    fn is_partial(&self) -> bool {
+        let races = self.races;
+        let is_cut = races.cut_runs || races.search.status != RankedStatus::Exhausted;
+        is_cut || races.ignored > 0
+    }
 }
 
 /// `top tb:`
@@ -68,21 +90,36 @@ fn difference_count(groups: &[Group]) -> u64 {
     count
 }
 
-// `1 race, 1 cause.`; `3 races, 2 causes, 1 waived.`
+// `1 race.`; `3 races (12 differences), 1 waived.`
 fn put_counts(text: &mut Vec<u8>, groups: &[Group], waived: u64) -> Result<(), NoMemory> {
-    if groups.is_empty() {
-        text.extend_from_slice(b"No race.")?;
-        return Ok(());
+    let (races, differences) = (groups.len() as u64, difference_count(groups));
+    put_count(text, races, b"race")?;
+    if differences > races {
+        text.extend_from_slice(b" (")?;
+        put_count(text, differences, b"difference")?;
+        text.push(b')')?;
     }
-    put_count(text, difference_count(groups), b"race")?;
-    text.extend_from_slice(b", ")?;
-    put_count(text, groups.len() as u64, b"cause")?;
     if waived > 0 {
         text.extend_from_slice(b", ")?;
         put_number(text, waived)?;
         text.extend_from_slice(b" waived")?;
     }
     text.push(b'.')?;
+    Ok(())
+}
+
+// How many races there are; where there is none, and something wasn't looked at, so much is said.
+fn put_found(text: &mut Vec<u8>, findings: &Findings<'_>) -> Result<(), NoMemory> {
+    let groups = &findings.races.groups;
+    if !groups.is_empty() {
+        return put_counts(text, groups, findings.waived.waived());
+    }
+    let words: &[u8] = if findings.is_partial() {
+        b"No race was found in what was looked at."
+    } else {
+        b"No race."
+    };
+    text.extend_from_slice(words)?;
     Ok(())
 }
 
@@ -106,7 +143,7 @@ fn put_reason(
 }
 
 // How far the search came.
-fn put_closed(text: &mut Vec<u8>, closed: Option<u64>) -> Result<(), NoMemory> {
+fn put_closed(text: &mut Vec<u8>, machine: &Machine, closed: Option<u64>) -> Result<(), NoMemory> {
     match closed {
         None => {
             text.extend_from_slice(b": nothing was looked at whole")?;
@@ -114,7 +151,7 @@ fn put_closed(text: &mut Vec<u8>, closed: Option<u64>) -> Result<(), NoMemory> {
         }
         Some(time) => {
             text.extend_from_slice(b": everything up to ")?;
-            put_number(text, time)?;
+            put_time(text, machine, time)?;
             text.extend_from_slice(b" was looked at")?;
             Ok(())
         }
@@ -132,13 +169,13 @@ pub fn put_seen(text: &mut Vec<u8>, findings: &Findings<'_>) -> Result<(), NoMem
     if let RankedStatus::Cut(reason) = races.search.status {
         text.extend_from_slice(b" The search was cut ")?;
         put_reason(text, reason, told.stopped_by)?;
-        return put_closed(text, races.search.closed);
+        return put_closed(text, machine, races.search.closed);
     }
     text.extend_from_slice(b" Nothing was missed within ")?;
     put_count(text, u64::from(told.departures), b"departure")?;
     if races.cut_runs {
         text.extend_from_slice(b" up to ")?;
-        put_number(text, machine.until())?;
+        put_time(text, machine, machine.until())?;
         text.extend_from_slice(b", where --until cut runs: what comes later was not seen")?;
     } else {
         text.extend_from_slice(b", up to the end of all runs")?;
@@ -162,7 +199,7 @@ fn put_cost(text: &mut Vec<u8>, told: &Told) -> Result<(), NoMemory> {
     Ok(())
 }
 
-/// What a waiver matched: `waiver at line 3 matched 1 cause`, or `nothing`.
+/// What a waiver matched: `waiver at line 3 matched 1 race`, or `nothing`.
 pub fn put_matched(text: &mut Vec<u8>, waiver: &Waiver<'_>, count: u64) -> Result<(), NoMemory> {
     text.extend_from_slice(b"waiver at line ")?;
     put_number(text, waiver.line)?;
@@ -171,7 +208,7 @@ pub fn put_matched(text: &mut Vec<u8>, waiver: &Waiver<'_>, count: u64) -> Resul
         text.extend_from_slice(b"nothing")?;
         return Ok(());
     }
-    put_count(text, count, b"cause")
+    put_count(text, count, b"race")
 }
 
 /// The number at this place of what waivers matched.
@@ -192,17 +229,23 @@ pub fn put_waivers(
     Ok(())
 }
 
-/// How many races there are, and what wasn't looked at.
-pub fn put_summary(text: &mut Vec<u8>, findings: &Findings<'_>) -> Result<(), NoMemory> {
-    let Findings { races, told, .. } = *findings;
-    put_counts(text, &races.groups, findings.waived.waived())?;
-    put_seen(text, findings)?;
-    put_cost(text, told)?;
-    if races.ignored > 0 {
-        put_count(text, races.ignored, b"difference")?;
-        text.extend_from_slice(b" before ")?;
-        put_number(text, told.from)?;
-        text.extend_from_slice(b" passed over.\n")?;
+// How many differences were passed over, if any were.
+fn put_ignored(text: &mut Vec<u8>, findings: &Findings<'_>) -> Result<(), NoMemory> {
+    let ignored = findings.races.ignored;
+    if ignored == 0 {
+        return Ok(());
     }
+    put_count(text, ignored, b"difference")?;
+    text.extend_from_slice(b" before ")?;
+    put_time(text, findings.machine, findings.told.from)?;
+    text.extend_from_slice(b" passed over.\n")?;
     Ok(())
+}
+
+/// What was passed over, how many races there are, and what wasn't looked at.
+pub fn put_summary(text: &mut Vec<u8>, findings: &Findings<'_>) -> Result<(), NoMemory> {
+    put_ignored(text, findings)?;
+    put_found(text, findings)?;
+    put_seen(text, findings)?;
+    put_cost(text, findings.told)
 }

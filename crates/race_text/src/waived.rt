@@ -1,12 +1,15 @@
 // Which causes are waived, and what each waiver matched.
 
+use crate::apart::apart_of;
 use crate::place::Sources;
 use crate::waivers::{Spot, Waiver, WaiverScope};
 use basis::NoMemory;
 use cause::{Blamed, Cause};
+use explore::FoundMark;
 use race_groups::{Difference, Group};
 use std::alloc::Global;
 use vdesign::design::Design;
+use vmachine::{Machine, MachineState};
 
 /// Of each group the place of the first waiver that it is waived by, if there is one; and of each waiver how many groups it matched.
 #[derive(Drop)]
@@ -60,21 +63,56 @@ fn variables_by(alloc: Global, pattern: &[u8], design: &Design) -> Result<Vec<bo
     Ok(matched)
 }
 
-// Whether all differences of the group are of matched variables. Those that aren't kept by name could be of others.
-fn is_of_variables(matched: &[bool], group: &Group) -> bool {
-    let Difference::Values(race) = &group.first else {
-        return false;
-    };
-    if !is_marked(matched, race.variable) || group.next.len() as u64 != group.more {
-        return false;
+// Whether each of these variables is matched, and there is one.
+fn are_marked(matched: &[bool], variables: &[usize]) -> bool {
+    for variable in variables {
+        if !is_marked(matched, *variable) {
+            return false;
+        }
     }
+    !variables.is_empty()
+}
+
+// Whether the ends differ in matched variables alone.
+fn are_ends_of(
+    alloc: Global,
+    matched: &[bool],
+    machine: &Machine,
+    ends: &[FoundMark<MachineState>],
+) -> Result<bool, NoMemory> {
+    match apart_of(alloc, machine, ends)? {
+        None => Ok(false),
+        Some(apart) => {
+            Ok(!apart.in_end && !apart.in_lines && are_marked(matched, &apart.variables))
+        }
+    }
+}
+
+// Whether the differences that follow are of matched variables. Those that aren't kept by name could be of others.
+fn are_next_of(matched: &[bool], group: &Group) -> bool {
     for name in &group.next {
         match name.variable {
             Some(variable) if is_marked(matched, variable) => {}
             _ => return false,
         }
     }
-    true
+    group.next.len() as u64 == group.more
+}
+
+// Whether all differences of the group are of matched variables.
+fn is_of_variables(
+    alloc: Global,
+    matched: &[bool],
+    machine: &Machine,
+    group: &Group,
+) -> Result<bool, NoMemory> {
+    match &group.first {
+        Difference::Values(race) => {
+            Ok(is_marked(matched, race.variable) && are_next_of(matched, group))
+        }
+        Difference::Lines(_) => Ok(false),
+        Difference::Ends(ends) => are_ends_of(alloc, matched, machine, ends),
+    }
 }
 
 // Whether the statement stands in that line.
@@ -98,18 +136,18 @@ fn is_of_lines(sources: &Sources<'_>, cause: &Cause, one: &Spot<'_>, other: &Spo
 fn groups_by(
     alloc: Global,
     waiver: &Waiver<'_>,
-    design: &Design,
+    machine: &Machine,
     sources: &Sources<'_>,
     groups: &[Group],
 ) -> Result<Vec<bool>, NoMemory> {
     let variables = match &waiver.scope {
         WaiverScope::Lines(_, _) => Vec::new(alloc),
-        WaiverScope::Variables(pattern) => variables_by(alloc, pattern, design)?,
+        WaiverScope::Variables(pattern) => variables_by(alloc, pattern, machine.design())?,
     };
     let mut matched = Vec::new(alloc);
     for group in groups {
         matched.push(match (&waiver.scope, &group.cause) {
-            (WaiverScope::Variables(_), _) => is_of_variables(&variables, group),
+            (WaiverScope::Variables(_), _) => is_of_variables(alloc, &variables, machine, group)?,
             (WaiverScope::Lines(one, other), Some(cause)) => is_of_lines(
                 sources, cause, one, other,
             ),
@@ -149,18 +187,18 @@ fn none_waived(alloc: Global, groups: &[Group]) -> Result<Vec<Option<usize>>, No
 }
 
 impl Waived {
-    /// What these waivers waive of the groups.
+    /// What these waivers waive of the groups of the machine's runs.
     pub fn new(
         alloc: Global,
         waivers: &[Waiver<'_>],
-        design: &Design,
+        machine: &Machine,
         sources: &Sources<'_>,
         groups: &[Group],
     ) -> Result<Waived, NoMemory> {
         let mut by = none_waived(alloc, groups)?;
         let mut counts = Vec::new(alloc);
         for (place, waiver) in waivers.iter().enumerate() {
-            let matched = groups_by(alloc, waiver, design, sources, groups)?;
+            let matched = groups_by(alloc, waiver, machine, sources, groups)?;
             let (next, count) = with_waiver(alloc, &by, &matched, place)?;
             by = next;
             counts.push(count)?;

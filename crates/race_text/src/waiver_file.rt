@@ -1,12 +1,16 @@
 // Waivers of what was found, as a file that `--waive` reads.
 
+use crate::apart::apart_of;
+use crate::difference::put_variable;
 use crate::pieces::put_number;
 use crate::place::Sources;
 use crate::summary::Findings;
 use basis::NoMemory;
 use cause::{Blamed, Cause};
-use race_groups::Group;
+use explore::FoundMark;
+use race_groups::{Difference, Group};
 use std::alloc::Global;
+use vmachine::{Machine, MachineState};
 
 // Whether a waiver can name the file: a word that doesn't begin with `#`.
 fn is_word(name: &[u8]) -> bool {
@@ -44,6 +48,43 @@ fn line_of_cause(
     Ok(if one && other { Some(line) } else { None })
 }
 
+// `variable NAME # todo`, if the ends differ in this variable alone, and a waiver can name it.
+fn line_of_ends(
+    alloc: Global,
+    machine: &Machine,
+    ends: &[FoundMark<MachineState>],
+) -> Result<Option<Vec<u8>>, NoMemory> {
+    let Some(apart) = apart_of(alloc, machine, ends)? else {
+        return Ok(None);
+    };
+    let Some((number, others)) = apart.variables.split_first() else {
+        return Ok(None);
+    };
+    let mut name = Vec::new(alloc);
+    put_variable(&mut name, machine.design(), *number)?;
+    if apart.in_end || apart.in_lines || !others.is_empty() || !is_word(&name) {
+        return Ok(None);
+    }
+    let mut line = Vec::new(alloc);
+    line.extend_from_slice(b"variable ")?;
+    line.extend_from_slice(&name)?;
+    line.extend_from_slice(b" # todo")?;
+    Ok(Some(line))
+}
+
+// The line of a waiver of the group, if one can be written.
+fn waiver_line(
+    alloc: Global,
+    findings: &Findings<'_>,
+    group: &Group,
+) -> Result<Option<Vec<u8>>, NoMemory> {
+    match (&group.cause, &group.first) {
+        (Some(cause), _) => line_of_cause(alloc, findings.sources, cause),
+        (None, Difference::Ends(ends)) => line_of_ends(alloc, findings.machine, ends),
+        (None, _) => Ok(None),
+    }
+}
+
 // The remark that stands for a waiver of the group, where none can be written.
 fn remark(alloc: Global, findings: &Findings<'_>, number: u64) -> Result<Vec<u8>, NoMemory> {
     let mut line = Vec::new(alloc);
@@ -65,10 +106,8 @@ fn line_of(
     if let Some(waiver) = findings.waiver(place) {
         return Ok(Vec::from_slice(alloc, waiver.text)?);
     }
-    if let Some(cause) = &group.cause {
-        if let Some(line) = line_of_cause(alloc, findings.sources, cause)? {
-            return Ok(line);
-        }
+    if let Some(line) = waiver_line(alloc, findings, group)? {
+        return Ok(line);
     }
     remark(alloc, findings, (place as u64).saturating_add(1))
 }

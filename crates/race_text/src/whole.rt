@@ -1,10 +1,14 @@
 // The text of the races of a top module.
 
-use crate::difference::{Row, Subject, put_difference, put_name, put_sides, rows_of, time_of};
+use crate::command::behind_log;
+use crate::difference::{
+    Row, Subject, cause_words, end_in, put_difference, put_name, put_sides, put_variable, rows_of,
+};
+use crate::facts::Facts;
 use crate::pieces::{put_count, put_cut, put_number};
-use crate::place::Sources;
-use crate::statements::put_statements;
+use crate::statements::{put_ending, put_statements};
 use crate::summary::{Findings, NAMED, put_summary};
+use crate::time::put_time;
 use crate::waivers::Waiver;
 use basis::NoMemory;
 use race_groups::{Difference, Group, Name};
@@ -12,76 +16,154 @@ use std::alloc::Global;
 use vdesign::design::Design;
 use vmachine::Machine;
 
-// The two statements, or that they weren't found.
-fn put_cause(
-    alloc: Global,
-    text: &mut Vec<u8>,
-    machine: &Machine,
-    sources: &Sources<'_>,
-    group: &Group,
-) -> Result<(), NoMemory> {
-    match &group.cause {
-        None => {
+// The two statements; or the one that ends the run; or that they weren't found.
+fn put_cause(alloc: Global, text: &mut Vec<u8>, subject: Subject<'_>) -> Result<(), NoMemory> {
+    let Subject {
+        machine,
+        sources,
+        group,
+        facts,
+    } = subject;
+    match (&group.cause, facts.ending) {
+        (Some(cause), _) => put_statements(alloc, text, machine.design(), sources, cause),
+        (None, Some(action)) => put_ending(alloc, text, machine.design(), sources, action),
+        (None, None) => {
             text.extend_from_slice(b"    which statements race was not found\n")?;
             Ok(())
         }
-        Some(cause) => put_statements(alloc, text, machine.design(), sources, cause),
     }
 }
 
-// The first names, in one line.
-fn put_names(text: &mut Vec<u8>, design: &Design, names: &[Name]) -> Result<(), NoMemory> {
-    for (place, name) in names.iter().take(NAMED).enumerate() {
-        if place == 0 {
-            text.extend_from_slice(b": ")?;
-        } else {
-            text.extend_from_slice(b", ")?;
-        }
-        put_name(text, design, name)?;
+// When the two statements race, if it shows later.
+fn put_slot(text: &mut Vec<u8>, subject: Subject<'_>) -> Result<(), NoMemory> {
+    let Some(slot) = subject.facts.slot else {
+        return Ok(());
+    };
+    if slot != subject.group.first.time(subject.machine) {
+        text.extend_from_slice(b"    both at ")?;
+        put_time(text, subject.machine, slot)?;
+        text.push(b'\n')?;
     }
     Ok(())
 }
 
+// The first names, in one line.
+fn put_names(text: &mut Vec<u8>, machine: &Machine, names: &[Name]) -> Result<(), NoMemory> {
+    for (place, name) in names.iter().take(NAMED).enumerate() {
+        text.extend_from_slice(joint(place))?;
+        put_name(text, machine, name)?;
+    }
+    Ok(())
+}
+
+// What comes before the name at this place of a list.
+fn joint(place: usize) -> &'static [u8] {
+    if place == 0 { b": " } else { b", " }
+}
+
 // All names, a line each.
-fn put_all_names(text: &mut Vec<u8>, design: &Design, names: &[Name]) -> Result<(), NoMemory> {
+fn put_all_names(text: &mut Vec<u8>, machine: &Machine, names: &[Name]) -> Result<(), NoMemory> {
     for name in names {
         text.extend_from_slice(b"        ")?;
-        put_name(text, design, name)?;
+        put_name(text, machine, name)?;
         text.push(b'\n')?;
     }
     Ok(())
 }
 
 // What follows from the same two statements.
-fn put_more(text: &mut Vec<u8>, design: &Design, group: &Group, all: bool) -> Result<(), NoMemory> {
+fn put_more(
+    text: &mut Vec<u8>,
+    machine: &Machine,
+    group: &Group,
+    all: bool,
+) -> Result<(), NoMemory> {
     if group.more == 0 {
         return Ok(());
     }
     text.extend_from_slice(b"    and ")?;
     put_count(text, group.more, b"more difference")?;
     text.extend_from_slice(b", up to ")?;
-    put_number(text, group.last)?;
+    put_time(text, machine, group.last)?;
     if all {
         text.push(b'\n')?;
-        return put_all_names(text, design, &group.next);
+        return put_all_names(text, machine, &group.next);
     }
-    put_names(text, design, &group.next)?;
+    put_names(text, machine, &group.next)?;
+    text.push(b'\n')?;
+    Ok(())
+}
+
+// The names of the first variables, in one line.
+fn put_variables(
+    text: &mut Vec<u8>,
+    design: &Design,
+    variables: &[usize],
+    most: usize,
+) -> Result<(), NoMemory> {
+    for (place, number) in variables.iter().take(most).enumerate() {
+        text.extend_from_slice(joint(place))?;
+        put_variable(text, design, *number)?;
+    }
+    Ok(())
+}
+
+// Which other variables differ where runs end.
+fn put_others(text: &mut Vec<u8>, subject: Subject<'_>, most: usize) -> Result<(), NoMemory> {
+    let Some(apart) = &subject.facts.apart else {
+        return Ok(());
+    };
+    let Some((_, others)) = apart.variables.split_first() else {
+        return Ok(());
+    };
+    if apart.in_end || others.is_empty() {
+        return Ok(());
+    }
+    text.extend_from_slice(b"    and ")?;
+    put_count(text, others.len() as u64, b"more variable")?;
+    put_variables(text, subject.machine.design(), others, most)?;
     text.push(b'\n')?;
     Ok(())
 }
 
 // How a race at time 0 is mostly cured.
-fn put_cure(
-    text: &mut Vec<u8>,
-    machine: &Machine,
-    difference: &Difference,
-) -> Result<(), NoMemory> {
-    if time_of(machine, difference) == 0 {
+fn put_start_cure(text: &mut Vec<u8>, subject: Subject<'_>) -> Result<(), NoMemory> {
+    if subject
+        .facts
+        .slot
+        .unwrap_or(subject.group.first.time(subject.machine))
+        == 0
+    {
         text.extend_from_slice(
             b"    at time 0: read it after a delay, as in `#1`, or at an edge that comes later; a value in a declaration is an `initial`, too\n",
         )?;
     }
     Ok(())
+}
+
+// How ends that differ in their slot alone are cured.
+fn put_end_cure(text: &mut Vec<u8>, word: &[u8]) -> Result<(), NoMemory> {
+    text.extend_from_slice(b"    ")?;
+    text.extend_from_slice(word)?;
+    text.extend_from_slice(
+        b" cuts its slot short: what else is to run then, has run or not; put it where nothing else happens, a unit of time later: `#1 ",
+    )?;
+    text.extend_from_slice(word)?;
+    text.extend_from_slice(b"`\n")?;
+    Ok(())
+}
+
+// How the race is mostly cured, if that can be said.
+fn put_cure(text: &mut Vec<u8>, subject: Subject<'_>) -> Result<(), NoMemory> {
+    match (&subject.group.first, &subject.facts.apart) {
+        (Difference::Ends(ends), Some(apart)) if !apart.in_end => {
+            match end_in(subject.machine, ends) {
+                Some(end) => put_end_cure(text, cause_words(end.cause)),
+                None => Ok(()),
+            }
+        }
+        _ => put_start_cure(text, subject),
+    }
 }
 
 // The reason of the waiver, if there is one.
@@ -99,7 +181,7 @@ fn put_waiver(text: &mut Vec<u8>, waiver: Option<&Waiver<'_>>) -> Result<(), NoM
 fn put_head(
     alloc: Global,
     text: &mut Vec<u8>,
-    findings: &Findings<'_>,
+    waiver: Option<&Waiver<'_>>,
     subject: Subject<'_>,
     place: usize,
     rows: &[Row],
@@ -109,24 +191,27 @@ fn put_head(
     text.extend_from_slice(b": ")?;
     put_difference(text, subject, rows)?;
     text.push(b'\n')?;
-    put_waiver(text, findings.waiver(place))?;
-    put_cause(alloc, text, subject.machine, subject.sources, subject.group)
+    put_waiver(text, waiver)?;
+    put_cause(alloc, text, subject)?;
+    put_slot(text, subject)
 }
 
-// The race of this place: its head, in which order each side comes about, and what follows.
+// The race of this place: its head, in which order each side comes about, and what follows. The commands that replay them end so.
 fn put_group(
     alloc: Global,
     text: &mut Vec<u8>,
     findings: &Findings<'_>,
     subject: Subject<'_>,
     place: usize,
+    behind: &[u8],
 ) -> Result<(), NoMemory> {
-    let (machine, group) = (subject.machine, subject.group);
     let rows = rows_of(alloc, subject)?;
-    put_head(alloc, text, findings, subject, place, &rows)?;
-    put_sides(text, subject, &rows)?;
-    put_cure(text, machine, &group.first)?;
-    put_more(text, machine.design(), group, findings.told.all)
+    let waiver = findings.waiver(place);
+    put_head(alloc, text, waiver, subject, place, &rows)?;
+    put_sides(text, subject, &rows, behind)?;
+    put_others(text, subject, findings.told.named())?;
+    put_cure(text, subject)?;
+    put_more(text, subject.machine, subject.group, findings.told.all)
 }
 
 /// The races of a top module, each by its cause, and what wasn't looked at.
@@ -135,13 +220,11 @@ pub fn put_races(
     text: &mut Vec<u8>,
     findings: &Findings<'_>,
 ) -> Result<(), NoMemory> {
+    let behind = behind_log(alloc, findings)?;
     for (place, group) in findings.races.groups.iter().enumerate() {
-        let subject = Subject {
-            machine: findings.machine,
-            sources: findings.sources,
-            group,
-        };
-        put_group(alloc, text, findings, subject, place)?;
+        let facts = Facts::new(alloc, findings.machine, group)?;
+        let subject = findings.subject(group, &facts);
+        put_group(alloc, text, findings, subject, place, &behind)?;
     }
     put_summary(text, findings)
 }

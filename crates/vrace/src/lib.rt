@@ -32,6 +32,6 @@ pub use races::{FoundRaces, find_races_in};
 pub use read::{LIMIT, read_text};
 pub use replay::{Show, replay_text};
 pub use report_text::Outcome;
-pub use trace::trace_text;
+pub use trace::{detailed_trace_text, trace_text};
 pub use velab_expr::Rule;
 pub use vreport::{Budget, Spent};

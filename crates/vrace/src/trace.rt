@@ -14,6 +14,7 @@ use crate::replay::{of_writing, replay_input_of, see_end};
 use byte_sinks::Metered;
 use std::alloc::Global;
 use std::io::Write;
+use trace_detail::write_detailed_trace;
 use trace_text::write_trace;
 
 /// Writes the trace of the run of the files under the log to the writer, step by step: a line for each step, each slot end
@@ -54,4 +55,29 @@ pub fn trace_text<W: Write>(
         Err(fault) => return Err(of_writing(fault)),
     }
     Ok(())
+}
+
+/// The same with what each step reads, whom it wakes, and where the `<=` of an update stands (docs/FORMATS.md, "Traces with details"). The
+/// whole trace is held before its first line goes out. What is written no clause says.
+pub fn detailed_trace_text<W: Write>(
+    alloc: Global,
+    files: &[Vec<u8>],
+    options: &Options<'_>,
+    log: &[u8],
+    writer: &mut Metered<W>,
+) -> Result<(), Fault> {
+    let input = replay_input_of(alloc, files, options, log)?;
+    let steps = options.limits.steps;
+    see_end(&input.machine, &input.members, steps)?;
+    match write_detailed_trace(
+        alloc,
+        &input.machine,
+        &input.origins,
+        &input.members,
+        steps,
+        writer,
+    ) {
+        Ok(()) => Ok(()),
+        Err(fault) => Err(of_writing(fault)),
+    }
 }

@@ -28,8 +28,8 @@ use std::sync::Wait;
 use std::thread::Threads;
 use std::{env, io};
 use vrace::{
-    Allowed, Fault, Options, Outcome, Status, Timed, check_text, explore_text, explore_text_alone,
-    explore_text_in_time, read_text, replay_text, trace_text,
+    Allowed, Fault, Options, Outcome, Status, Timed, check_text, detailed_trace_text, explore_text,
+    explore_text_alone, explore_text_in_time, read_text, replay_text, trace_text,
 };
 use words::{
     Request, Search, Wanted, commands, files_of, has_dashed_log, has_dashed_report, has_dashed_top,
@@ -121,6 +121,7 @@ fn write_run<W: Write>(
     match wanted {
         Wanted::Shown(show) => replay_text(alloc, texts, options, log, show, writer),
         Wanted::Steps => trace_text(alloc, texts, options, log, writer),
+        Wanted::Details => detailed_trace_text(alloc, texts, options, log, writer),
     }
 }
 

@@ -140,14 +140,14 @@ impl<'r, R: Clock + Eprint> Meter<'r, R> {
     // A line on standard error.
     fn show_now(&mut self, passed: u64, progress: &Progress) {
         self.shown = passed;
-        let entries = progress.entries_opened as u64;
-        let pace = entries
+        let states = progress.entries_opened as u64;
+        let pace = states
             .saturating_mul(1_000)
             .checked_div(passed)
             .unwrap_or(0);
         let _ = eprintln!(self.rt;
-            "at time {}: {} entries, {} a second, races so far: {}",
-            progress.rank, entries, pace, progress.found
+            "at time {}: {} states, {} a second, races so far: {}",
+            progress.rank, states, pace, progress.found
         );
     }
 }

@@ -82,10 +82,13 @@ fn told_of<R: Clock + Eprint>(
     options: &Options<'_>,
     scope: &Scope,
     all: bool,
+    is_top_named: bool,
     meter: &Meter<'_, R>,
 ) -> Told {
     Told {
         departures: options.limits.depart,
+        steps: options.limits.steps,
+        is_top_named,
         from: scope.from,
         all,
         states: meter.states(),
@@ -140,8 +143,7 @@ fn waived_of(
     sources: &Sources<'_>,
     waivers: &[Waiver<'_>],
 ) -> Result<Waived, NoMemory> {
-    let design = found.machine.design();
-    Waived::new(alloc, waivers, design, sources, &found.races.groups)
+    Waived::new(alloc, waivers, &found.machine, sources, &found.races.groups)
 }
 
 // What is asked for: the files, by their names and texts, how they are searched, between which times, and the waivers.
@@ -206,7 +208,7 @@ fn tell_top<R: Clock + Eprint>(
         origins: &found.origins,
     };
     let waived = waived_of(alloc, &found, &sources, asked.waivers)?;
-    let told = told_of(&options, &scope, words.all, meter);
+    let told = told_of(&options, &scope, words.all, top.is_some(), meter);
     let findings = Findings {
         machine: &found.machine,
         sources: &sources,

@@ -113,6 +113,11 @@ fn replay_command<'a>(alloc: Global) -> Result<Command<'a>, NoMemory> {
         "trace",
         "Prints the steps of the run, a line each, in place of the dump",
     );
+    let details = flag(
+        alloc,
+        "details",
+        "With --trace: what each step reads, whom it wakes, and where the <= of an update stands",
+    );
     let lines = flag(
         alloc,
         "lines",
@@ -130,6 +135,7 @@ fn replay_command<'a>(alloc: Global) -> Result<Command<'a>, NoMemory> {
         .arg(log)?
         .arg(lines)?
         .arg(trace)?
+        .arg(details)?
         .arg(in_words(alloc))?
         .arg(files(alloc))?;
     Ok(command)
@@ -153,7 +159,7 @@ fn seconds<'a>(alloc: Global) -> Arg<'a> {
 }
 
 const MEMORY: &str =
-    "The most megabytes that entries take, as the program counts them, before such a search is cut";
+    "The most megabytes that states take, as the program counts them, before such a search is cut";
 
 fn progress<'a>(alloc: Global) -> Arg<'a> {
     flag(
@@ -400,15 +406,19 @@ pub enum Wanted {
     Shown(Show),
     /// The steps.
     Steps,
+    /// The steps, each with what it reads and whom it wakes.
+    Details,
 }
 
-/// What of the run is asked for in place of the dump, if one thing is; none where two are.
+/// What of the run is asked for in place of the dump, if one thing is; none where two are, or details of no trace.
 pub fn wanted_of(matches: &ArgMatches<'_>) -> Option<Wanted> {
+    let details = matches.get_flag("details");
     match (matches.get_flag("lines"), matches.get_flag("trace")) {
-        (false, false) => Some(Wanted::Shown(Show::Dump)),
-        (true, false) => Some(Wanted::Shown(Show::Lines)),
+        (false, false) if !details => Some(Wanted::Shown(Show::Dump)),
+        (true, false) if !details => Some(Wanted::Shown(Show::Lines)),
+        (false, true) if details => Some(Wanted::Details),
         (false, true) => Some(Wanted::Steps),
-        (true, true) => None,
+        _ => None,
     }
 }
 

@@ -1,0 +1,126 @@
+// The command that replays a run, as a shell takes it.
+
+use crate::pieces::put_number;
+use crate::replayed::is_longer;
+use crate::summary::Findings;
+use basis::NoMemory;
+use explore::RankedStatus;
+use race_groups::Group;
+use std::alloc::Global;
+
+// How far `vrace replay` goes where nothing is said: in units of the precision, and in steps.
+const REPLAY_UNTIL: u64 = 1_000_000;
+
+const REPLAY_STEPS: u32 = 100_000;
+
+// How many steps the default run may take where nothing is said of steps, as others take more than it.
+const FEW_STEPS: u32 = 50_000;
+
+// Whether a shell takes the byte as it is.
+fn is_plain(byte: u8) -> bool {
+    byte.is_ascii_alphanumeric()
+        || matches!(
+            byte,
+            b'-' | b'.' | b'_' | b'/' | b':' | b',' | b'=' | b'+' | b'@' | b'%'
+        )
+}
+
+// Whether a shell takes the word as it is.
+fn is_plain_word(word: &[u8]) -> bool {
+    for byte in word {
+        if !is_plain(*byte) {
+            return false;
+        }
+    }
+    !word.is_empty()
+}
+
+// The word in quotes.
+fn put_quoted(text: &mut Vec<u8>, word: &[u8]) -> Result<(), NoMemory> {
+    text.push(b'\'')?;
+    for byte in word {
+        if *byte == b'\'' {
+            text.extend_from_slice(b"'\\''")?;
+        } else {
+            text.push(*byte)?;
+        }
+    }
+    text.push(b'\'')?;
+    Ok(())
+}
+
+// The word behind a blank, in quotes where a shell would take it for something else.
+fn put_word(text: &mut Vec<u8>, word: &[u8]) -> Result<(), NoMemory> {
+    text.push(b' ')?;
+    if is_plain_word(word) {
+        text.extend_from_slice(word)?;
+        return Ok(());
+    }
+    put_quoted(text, word)
+}
+
+// An option whose value is a number.
+fn put_option(text: &mut Vec<u8>, name: &[u8], n: u64) -> Result<(), NoMemory> {
+    text.extend_from_slice(name)?;
+    put_number(text, n)
+}
+
+// The latest time at which a difference is told.
+fn last_of(groups: &[Group]) -> u64 {
+    let mut last = 0;
+    for group in groups {
+        last = group.last.max(last);
+    }
+    last
+}
+
+// Up to which time a replay goes, if that is to be said: to where runs were cut, or as far as was looked at.
+fn until_of(findings: &Findings<'_>) -> Option<u64> {
+    let Findings { machine, races, .. } = *findings;
+    if races.cut_runs {
+        return Some(machine.until());
+    }
+    let last = last_of(&races.groups).max(races.search.closed.unwrap_or(0));
+    if races.search.status == RankedStatus::Exhausted && last <= REPLAY_UNTIL {
+        return None;
+    }
+    Some(last)
+}
+
+// Whether a run may take more steps than a replay of which nothing is said.
+fn takes_steps(findings: &Findings<'_>) -> Result<bool, NoMemory> {
+    if findings.told.steps <= REPLAY_STEPS || findings.races.groups.is_empty() {
+        return Ok(false);
+    }
+    is_longer(findings.machine, FEW_STEPS)
+}
+
+// The names of the files. One that would be taken for an option is told by its folder, too.
+fn put_files(text: &mut Vec<u8>, alloc: Global, names: &[&str]) -> Result<(), NoMemory> {
+    for name in names {
+        let mut word = Vec::new(alloc);
+        if name.as_bytes().starts_with(b"-") {
+            word.extend_from_slice(b"./")?;
+        }
+        word.extend_from_slice(name.as_bytes())?;
+        put_word(text, &word)?;
+    }
+    Ok(())
+}
+
+/// What stands behind the log in the command that replays a run of the top module: which top module, how far it goes, the files.
+pub fn behind_log(alloc: Global, findings: &Findings<'_>) -> Result<Vec<u8>, NoMemory> {
+    let mut text = Vec::new(alloc);
+    if findings.told.is_top_named {
+        text.extend_from_slice(b" --top")?;
+        put_word(&mut text, &findings.machine.design().top)?;
+    }
+    if let Some(until) = until_of(findings) {
+        put_option(&mut text, b" --until ", until)?;
+    }
+    if takes_steps(findings)? {
+        put_option(&mut text, b" --steps ", u64::from(findings.told.steps))?;
+    }
+    put_files(&mut text, alloc, findings.sources.names)?;
+    Ok(text)
+}

@@ -1,0 +1,141 @@
+// Port connections: which port of which instance one is of (IEEE 1364-2005, 12.3.9.2).
+
+use crate::place::Sources;
+use basis::{NoMemory, begins_name, is_in_name};
+use vdesign::action::Action;
+use vdesign::design::Design;
+use vdesign::expression::{Expression, Node};
+
+/// A port of an instance, and the variable that it is connected to, if it is one alone.
+#[derive(Clone, Copy, Debug)]
+pub struct Port<'a> {
+    pub instance: &'a [u8],
+    pub name: &'a [u8],
+    pub other: Option<&'a [u8]>,
+}
+
+// How many bytes of a name stand in front.
+fn name_len(text: &[u8]) -> usize {
+    for (place, byte) in text.iter().enumerate() {
+        let belongs = if place == 0 {
+            begins_name(*byte)
+        } else {
+            is_in_name(*byte)
+        };
+        if !belongs {
+            return place;
+        }
+    }
+    text.len()
+}
+
+// The name of the instance whose ports follow in the source.
+fn instance_in(source: &[u8]) -> Option<&[u8]> {
+    let (name, rest) = source.split_at_checked(name_len(source))?;
+    if name.is_empty() || rest.trim_ascii_start().first() != Some(&b'(') {
+        return None;
+    }
+    Some(name)
+}
+
+// Where the last dot stands.
+fn last_dot(name: &[u8]) -> Option<usize> {
+    let mut found = None;
+    for (place, byte) in name.iter().enumerate() {
+        if *byte == b'.' {
+            found = Some(place);
+        }
+    }
+    found
+}
+
+// What stands before the last dot, and behind it.
+fn parted(name: &[u8]) -> Option<(&[u8], &[u8])> {
+    let (path, rest) = name.split_at_checked(last_dot(name)?)?;
+    let (_, own) = rest.split_first()?;
+    Some((path, own))
+}
+
+// The name of the variable in its scope, where that is an instance of this name.
+fn name_in<'a>(name: &'a [u8], instance: &[u8]) -> Option<&'a [u8]> {
+    let (path, own) = parted(name)?;
+    let (_, scope) = parted(path)?;
+    if scope == instance { Some(own) } else { None }
+}
+
+// The name of a variable without its scopes.
+fn own_name(name: &[u8]) -> &[u8] {
+    match parted(name) {
+        None => name,
+        Some((_, own)) => own,
+    }
+}
+
+// How long the names of its scopes are.
+fn path_len(name: &[u8]) -> usize {
+    last_dot(name).unwrap_or(0)
+}
+
+// The name of the variable of this number.
+fn variable_name(design: &Design, number: u32) -> Option<&[u8]> {
+    Some(&design.variables.get(number as usize)?.name)
+}
+
+// The name of the variable that an expression is, alone.
+fn only_variable<'a>(design: &'a Design, value: &Expression) -> Option<&'a [u8]> {
+    let (first, rest) = value.nodes().split_first()?;
+    match first {
+        Node::Variable(number) if rest.is_empty() => variable_name(design, *number),
+        _ => None,
+    }
+}
+
+// The port of this instance that drives this net outside.
+fn output_by<'a>(instance: &'a [u8], net: &'a [u8], within: &'a [u8]) -> Option<Port<'a>> {
+    Some(Port {
+        instance,
+        name: name_in(within, instance)?,
+        other: Some(own_name(net)),
+    })
+}
+
+// The port of this instance that is this net within.
+fn input_by<'a>(instance: &'a [u8], net: &'a [u8], value: Option<&'a [u8]>) -> Option<Port<'a>> {
+    Some(Port {
+        instance,
+        name: name_in(net, instance)?,
+        other: match value {
+            None => None,
+            Some(outside) => Some(own_name(outside)),
+        },
+    })
+}
+
+// The port of this instance that is connected so.
+fn port_by<'a>(instance: &'a [u8], net: &'a [u8], value: Option<&'a [u8]>) -> Option<Port<'a>> {
+    match value {
+        Some(within) if path_len(within) > path_len(net) => output_by(instance, net, within),
+        _ => input_by(instance, net, value),
+    }
+}
+
+/// The port that the action connects, if it is a port connection.
+pub fn port_of<'a>(design: &'a Design, sources: &Sources<'a>, action: usize) -> Option<Port<'a>> {
+    let Action::ContinuousAssign { net, value, .. } = design.actions.get(action)? else {
+        return None;
+    };
+    let instance = instance_in(sources.source(sources.place(action)?))?;
+    let net = variable_name(design, *net)?;
+    port_by(instance, net, only_variable(design, value))
+}
+
+/// `.d(q) of u1`
+pub fn put_port(text: &mut Vec<u8>, port: Port<'_>) -> Result<(), NoMemory> {
+    text.push(b'.')?;
+    text.extend_from_slice(port.name)?;
+    text.push(b'(')?;
+    text.extend_from_slice(port.other.unwrap_or(b".."))?;
+    text.extend_from_slice(b") of ")?;
+    text.extend_from_slice(port.instance)?;
+    Ok(())
+}
