@@ -225,7 +225,7 @@ fn put_time(dump: &mut Vec<u8>, time: u64) -> Result<(), NoMemory> {
 fn put_head(dump: &mut Vec<u8>, design: &Design) -> Result<(), NoMemory> {
     put(dump, "$version vrace $end\n$timescale ")?;
     put_number(dump, u64::from(design.scale.precision.count.number()))?;
-    put(dump, design.scale.precision.unit.word())?;
+    put(dump, design.scale.precision.unit.name())?;
     put(dump, " $end\n")?;
     put_variables(dump, design, b"default", 0)?;
     put_variables(dump, design, b"departed", design.variables.len())?;
