@@ -8,6 +8,7 @@ use crate::{Stop, finish, options_for, read_file, texts};
 use basis::NoMemory;
 use byte_sinks::Metered;
 use race_groups::{Races, Scope};
+use race_page::{Page, races_dump};
 use race_text::{
     Findings, NAMED, Sources, Told, Tops, Waived, Waiver, WaiverFault, WaiverLines, WaiverScope,
     read_waivers,
@@ -144,6 +145,14 @@ fn waived_of(
     Waived::new(alloc, waivers, design, sources, &found.races.groups)
 }
 
+// How many steps a run may have, as far as a log counts them.
+fn steps_of(request: &Request<'_>) -> u32 {
+    match u32::try_from(request.steps) {
+        Ok(steps) => steps,
+        Err(_) => u32::MAX,
+    }
+}
+
 // What is asked for: the files, by their names and texts, how they are searched, between which times, and the waivers.
 #[derive(Clone, Copy)]
 struct Asked<'a> {
@@ -154,6 +163,7 @@ struct Asked<'a> {
     words: &'a RaceWords<'a>,
     waivers: &'a [Waiver<'a>],
     bounds: Bounds,
+    steps: u32,
 }
 
 // What was told so far: of each top module, the file of waivers, and the worst that was found.
@@ -161,28 +171,77 @@ struct Asked<'a> {
 struct Answer<'w> {
     tops: Tops<'w>,
     waivers: WaiverLines,
+    page: Option<Page>,
+    dump: Option<Vec<u8>>,
     verdict: Verdict,
 }
 
+// A page that nothing is told on yet, where one is asked for.
+fn no_page(alloc: Global, words: &RaceWords<'_>, steps: u32) -> Result<Option<Page>, NoMemory> {
+    match words.html {
+        None => Ok(None),
+        Some(_) => Ok(Some(Page::new(alloc, steps)?)),
+    }
+}
+
 // Nothing.
-fn no_answer<'w>(alloc: Global, words: &RaceWords<'_>, waivers: &'w [Waiver<'w>]) -> Answer<'w> {
-    Answer {
+fn no_answer<'w>(
+    alloc: Global,
+    words: &RaceWords<'_>,
+    waivers: &'w [Waiver<'w>],
+    steps: u32,
+) -> Result<Answer<'w>, NoMemory> {
+    Ok(Answer {
         tops: Tops::new(alloc, words.format, words.tops.len() > 1, waivers),
         waivers: WaiverLines::new(alloc),
+        page: no_page(alloc, words, steps)?,
+        dump: None,
         verdict: Verdict::Clean,
+    })
+}
+
+// The dump of both runs of the first race, if there is one.
+fn dump_of(
+    alloc: Global,
+    findings: &Findings<'_>,
+    steps: u32,
+) -> Result<Option<Vec<u8>>, NoMemory> {
+    match findings.races.groups.first() {
+        None => Ok(None),
+        Some(group) => Ok(Some(races_dump(alloc, findings.machine, group, steps)?)),
     }
+}
+
+// Puts what was found of a top module onto the page and into the dump, where they are asked for.
+fn put_pictures(
+    alloc: Global,
+    answer: &mut Answer<'_>,
+    findings: &Findings<'_>,
+    words: &RaceWords<'_>,
+    steps: u32,
+) -> Result<(), NoMemory> {
+    if let Some(page) = &mut answer.page {
+        page.tell(findings)?;
+    }
+    if words.vcd.is_some() && answer.dump.is_none() {
+        answer.dump = dump_of(alloc, findings, steps)?;
+    }
+    Ok(())
 }
 
 // Puts what was found of a top module.
 fn put_findings(
+    alloc: Global,
     answer: &mut Answer<'_>,
     findings: &Findings<'_>,
-    is_written: bool,
+    words: &RaceWords<'_>,
+    steps: u32,
 ) -> Result<(), NoMemory> {
     answer.tops.tell(findings)?;
-    if is_written {
+    if words.write_waivers.is_some() {
         answer.waivers.waive(findings)?;
     }
+    put_pictures(alloc, answer, findings, words, steps)?;
     let verdict = verdict_of(findings.races, findings.waived);
     answer.verdict = answer.verdict.worse(verdict);
     Ok(())
@@ -215,7 +274,7 @@ fn tell_top<R: Clock + Eprint>(
         waivers: asked.waivers,
         waived: &waived,
     };
-    put_findings(answer, &findings, words.write_waivers.is_some())?;
+    put_findings(alloc, answer, &findings, words, asked.steps)?;
     Ok(())
 }
 
@@ -226,7 +285,7 @@ fn tell_tops<'w>(
     waivers: &'w [Waiver<'w>],
 ) -> Result<Answer<'w>, Stop> {
     let allowance = asked.search.allowance.unwrap_or(NO_LIMIT);
-    let mut answer = no_answer(rt.alloc(), asked.words, waivers);
+    let mut answer = no_answer(rt.alloc(), asked.words, waivers, asked.steps)?;
     if asked.words.tops.is_empty() {
         let mut meter = Meter::new(rt, allowance);
         tell_top(rt.alloc(), asked, None, &mut meter, &mut answer)?;
@@ -267,6 +326,42 @@ fn write_out(rt: &HostRuntime, text: &[u8]) -> Result<(), Stop> {
     finish(&mut writer)
 }
 
+// Writes the page and the dump where they are asked for; where no race was found there is no dump.
+fn write_pictures(
+    rt: &HostRuntime,
+    words: &RaceWords<'_>,
+    page: Option<Page>,
+    dump: Option<Vec<u8>>,
+) -> Result<(), Stop> {
+    if let (Some(name), Some(page)) = (words.html, page) {
+        write_file(rt, name, &page.document()?)?;
+    }
+    if let (Some(name), Some(dump)) = (words.vcd, dump) {
+        write_file(rt, name, &dump)?;
+    }
+    Ok(())
+}
+
+// Whether the file can be written: it is tried beside.
+fn try_file(rt: &HostRuntime, name: Option<&str>) -> Result<(), Stop> {
+    let Some(name) = name else {
+        return Ok(());
+    };
+    let new = new_name(rt.alloc(), name)?;
+    if fs::write(rt, new.as_str(), b"").is_err() {
+        return Err(Stop::Refused(Fault::Write));
+    }
+    let _ = fs::remove_file(rt, new.as_str());
+    Ok(())
+}
+
+// Whether each file that is asked for can be written.
+fn try_files(rt: &HostRuntime, words: &RaceWords<'_>) -> Result<(), Stop> {
+    try_file(rt, words.write_waivers)?;
+    try_file(rt, words.html)?;
+    try_file(rt, words.vcd)
+}
+
 // Writes what was told, and the file of waivers where one is asked for.
 fn write_answer(
     rt: &HostRuntime,
@@ -276,6 +371,8 @@ fn write_answer(
     let Answer {
         tops,
         waivers,
+        page,
+        dump,
         verdict,
     } = answer;
     let document = tops.document(VERSION)?;
@@ -283,6 +380,7 @@ fn write_answer(
     if let Some(name) = words.write_waivers {
         write_file(rt, name, &waivers)?;
     }
+    write_pictures(rt, words, page, dump)?;
     write_out(rt, &document)?;
     Ok(verdict.code())
 }
@@ -305,6 +403,7 @@ fn tell(
         words,
         waivers,
         bounds: times.bounds(rt.alloc(), texts)?,
+        steps: steps_of(request),
     };
     let answer = tell_tops(rt, &asked, waivers)?;
     write_answer(rt, words, answer)
@@ -319,6 +418,7 @@ pub fn tell_races(
 ) -> Result<ExitCode, Stop> {
     options_for(request, search, None, 0)?;
     let times = Times::new(words.until, words.from)?;
+    try_files(rt, words)?;
     let waivers = waivers_of(rt, words)?;
     let waivers = read(rt.alloc(), &waivers)?;
     let texts = texts(rt, &request.files)?;
