@@ -1,53 +1,56 @@
 // The waveforms of both runs round a slot, as SVG.
 
-use crate::columns::columns_of;
-use crate::html::{put, put_attribute, put_number};
-use crate::lane::{HEIGHT, LEFT, WIDTH, column_at, put_lane, put_rectangle, put_text};
-use crate::signals::{Signals, differs, signals_of};
-use crate::waves::{Waves, parent_of, waves_of};
+use crate::html::{put, put_attribute, put_escaped, put_number};
+use crate::lane::{HEIGHT, WIDTH, column_at, put_lane};
+use crate::shape::{Spot, put_rectangle, put_text};
+use crate::signals::Signals;
 use basis::NoMemory;
 use itoa::Buffer;
-use race_groups::Group;
+use run_pair::{Runs, Waves};
 use std::alloc::Global;
 use vbits::Vec4;
 use vdesign::design::Variable;
-use vmachine::Machine;
 
 // Where the first signal begins.
 const TOP: u64 = 30;
 
 // How high a signal is: two lanes, and some room.
-const SIGNAL: u64 = 2 * HEIGHT + 8;
+const SIGNAL: u64 = 2 * HEIGHT + 10;
 
-// Both runs, the times of their slots, and the time in which they differ.
-#[derive(Drop)]
-struct Runs {
-    parent: Waves,
-    run: Waves,
-    columns: Vec<u64>,
-    time: u64,
-}
+// How wide the names of runs are, and names of variables at least and at most.
+const RUN: u64 = 72;
 
-// Both runs of the group round the time.
-fn runs_of(
+const NARROWEST: u64 = 60;
+
+const WIDEST: u64 = 320;
+
+// A figure: what it shows, and where its first column begins.
+#[derive(Clone, Copy)]
+struct Figure<'a> {
     alloc: Global,
-    machine: &Machine,
-    group: &Group,
-    time: u64,
-    steps: u32,
-) -> Result<Runs, NoMemory> {
-    let parent = waves_of(alloc, machine, parent_of(&group.log), time, steps)?;
-    let run = waves_of(alloc, machine, group.log.members(), time, steps)?;
-    let columns = columns_of(alloc, &parent, &run)?;
-    Ok(Runs {
-        parent,
-        run,
-        columns,
-        time,
-    })
+    runs: &'a Runs,
+    variables: &'a [Variable],
+    left: u64,
 }
 
-// What the variable is, column by column.
+// How wide the name of the variable is, with some room.
+fn width_of(variables: &[Variable], number: usize) -> u64 {
+    match variables.get(number) {
+        None => 0,
+        Some(variable) => (variable.name.len() as u64).saturating_mul(8).saturating_add(16),
+    }
+}
+
+// Where the first column begins, behind the widest name.
+fn left_of(variables: &[Variable], shown: &[usize]) -> u64 {
+    let mut widest = NARROWEST;
+    for number in shown {
+        widest = widest.max(width_of(variables, *number));
+    }
+    widest.min(WIDEST).saturating_add(RUN)
+}
+
+// What the variable is in a run, column by column.
 fn values_of(
     alloc: Global,
     waves: &Waves,
@@ -56,113 +59,176 @@ fn values_of(
 ) -> Result<Vec<Option<Vec4>>, NoMemory> {
     let mut values = Vec::new(alloc);
     for time in columns {
-        values.push(waves.values_at(*time).get(variable).copied())?;
+        values.push(waves.value_at(variable, *time))?;
     }
     Ok(values)
 }
 
-// The times over the columns, and the column of the slot that differs.
-fn put_times(page: &mut Vec<u8>, runs: &Runs, height: u64) -> Result<(), NoMemory> {
-    for (column, time) in runs.columns.iter().enumerate() {
-        let x = column_at(column);
-        if *time == runs.time {
-            put_rectangle(page, "slot", (x, 0), (WIDTH, height))?;
+impl<'a> Figure<'a> {
+    // The place of a column, at this height.
+    fn spot(&self, column: usize, y: u64) -> Spot {
+        Spot {
+            x: column_at(self.left, column),
+            y,
+            width: WIDTH,
+        }
+    }
+
+    // A time over its column; the column of the slot that differs first is marked.
+    fn put_time(
+        &self,
+        page: &mut Vec<u8>,
+        column: usize,
+        time: u64,
+        height: u64,
+    ) -> Result<(), NoMemory> {
+        let is_slot = time == self.runs.time;
+        if is_slot {
+            put_rectangle(page, "slot", self.spot(column, 0), height)?;
         }
         let mut digits = Buffer::new();
-        put_text(
-            page,
-            "time",
-            (x.saturating_add(4), 18),
-            digits.format(*time).as_bytes(),
-        )?;
+        let spot = Spot {
+            x: column_at(self.left, column).saturating_add(4),
+            y: 18,
+            width: WIDTH,
+        };
+        let class = if is_slot { "time now" } else { "time" };
+        put_text(page, class, spot, digits.format(time).as_bytes())
     }
-    Ok(())
-}
 
-// Marks the columns in which the variable differs.
-fn put_marks(page: &mut Vec<u8>, runs: &Runs, variable: usize, y: u64) -> Result<(), NoMemory> {
-    for (column, time) in runs.columns.iter().enumerate() {
-        if differs(&runs.parent, &runs.run, variable, *time) {
-            put_rectangle(page, "differs", (column_at(column), y), (WIDTH, 2 * HEIGHT))?;
+    // The times over the columns.
+    fn put_times(&self, page: &mut Vec<u8>, height: u64) -> Result<(), NoMemory> {
+        for (column, time) in self.runs.columns.iter().enumerate() {
+            self.put_time(page, column, *time, height)?;
         }
+        put(page, "\n")
     }
-    Ok(())
-}
 
-// A signal: its name, its lane in the parent, and its lane in the run.
-fn put_signal(
-    alloc: Global,
-    page: &mut Vec<u8>,
-    runs: &Runs,
-    number: usize,
-    variable: &Variable,
-    y: u64,
-) -> Result<(), NoMemory> {
-    put_marks(page, runs, number, y)?;
-    put_text(page, "name", (4, y.saturating_add(15)), &variable.name)?;
-    put_text(page, "run", (LEFT - 60, y.saturating_add(15)), b"usual")?;
-    put_text(
-        page,
-        "run",
-        (LEFT - 60, y.saturating_add(HEIGHT + 15)),
-        b"departed",
-    )?;
-    let usual = values_of(alloc, &runs.parent, number, &runs.columns)?;
-    put_lane(alloc, page, variable, &usual, y)?;
-    let departed = values_of(alloc, &runs.run, number, &runs.columns)?;
-    put_lane(alloc, page, variable, &departed, y.saturating_add(HEIGHT))
+    // Marks the columns in which the variable differs.
+    fn put_marks(&self, page: &mut Vec<u8>, variable: usize, y: u64) -> Result<(), NoMemory> {
+        for (column, time) in self.runs.columns.iter().enumerate() {
+            if self.runs.differs(variable, *time) {
+                put_rectangle(page, "differs", self.spot(column, y), 2 * HEIGHT)?;
+            }
+        }
+        Ok(())
+    }
+
+    // The name of a run before its lane.
+    fn put_run(&self, page: &mut Vec<u8>, name: &[u8], y: u64) -> Result<(), NoMemory> {
+        let spot = Spot {
+            x: self.left.saturating_sub(RUN),
+            y: y.saturating_add(15),
+            width: RUN,
+        };
+        put_text(page, "run", spot, name)
+    }
+
+    // The name of the variable, marked where the variable differs.
+    fn put_name(
+        &self,
+        page: &mut Vec<u8>,
+        number: usize,
+        name: &[u8],
+        y: u64,
+    ) -> Result<(), NoMemory> {
+        let spot = Spot {
+            x: 4,
+            y: y.saturating_add(15),
+            width: self.left.saturating_sub(RUN + 8),
+        };
+        let differs = self.runs.differs_somewhere(number);
+        put_text(page, if differs { "name odd" } else { "name" }, spot, name)
+    }
+
+    // A signal: its name, its lane in the parent, and its lane in the run that departs.
+    fn put_signal(
+        &self,
+        page: &mut Vec<u8>,
+        number: usize,
+        variable: &Variable,
+        y: u64,
+    ) -> Result<(), NoMemory> {
+        let Figure {
+            alloc, runs, left, ..
+        } = *self;
+        self.put_marks(page, number, y)?;
+        self.put_name(page, number, &variable.name, y)?;
+        self.put_run(page, b"default", y)?;
+        let values = values_of(alloc, &runs.parent.waves, number, &runs.columns)?;
+        put_lane(alloc, page, variable, &values, left, y)?;
+        let y = y.saturating_add(HEIGHT);
+        self.put_run(page, b"departed", y)?;
+        let values = values_of(alloc, &runs.departed.waves, number, &runs.columns)?;
+        put_lane(alloc, page, variable, &values, left, y)
+    }
+
+    // The signals of these numbers, one below the other.
+    fn put_signals(&self, page: &mut Vec<u8>, shown: &[usize]) -> Result<(), NoMemory> {
+        for (place, number) in shown.iter().enumerate() {
+            if let Some(variable) = self.variables.get(*number) {
+                let y = TOP.saturating_add(SIGNAL.saturating_mul(place as u64));
+                self.put_signal(page, *number, variable, y)?;
+            }
+        }
+        Ok(())
+    }
 }
 
 // The front of the picture, of this width and height.
 fn put_front(page: &mut Vec<u8>, width: u64, height: u64) -> Result<(), NoMemory> {
     put(
         page,
-        "<svg role=\"img\" aria-label=\"waveforms of both runs\"",
+        "<svg role=\"img\" aria-label=\"waveforms of both runs; the table below has the values of the marked slot\"",
     )?;
     put_attribute(page, "width", width)?;
     put_attribute(page, "height", height)?;
     put(page, ">\n")
 }
 
-// How many signals that differ aren't shown.
-fn put_left_out(page: &mut Vec<u8>, signals: &Signals) -> Result<(), NoMemory> {
-    if signals.left_out == 0 {
+// How many variables that differ aren't shown.
+fn put_left_out(page: &mut Vec<u8>, left_out: u64) -> Result<(), NoMemory> {
+    if left_out == 0 {
         return Ok(());
     }
     put(page, "<p>")?;
-    put_number(page, signals.left_out)?;
-    put(page, " more variables differ here.</p>\n")
+    put_number(page, left_out)?;
+    put(page, " more variables differ here and are left out.</p>\n")
 }
 
-/// The waveforms of both runs of the group round the time: what both statements touch, and what differs.
+/// The waveforms of both runs round the slot in which they differ first.
 pub(crate) fn put_figure(
     alloc: Global,
     page: &mut Vec<u8>,
-    machine: &Machine,
-    group: &Group,
-    time: u64,
-    steps: u32,
+    runs: &Runs,
+    variables: &[Variable],
+    signals: &Signals,
 ) -> Result<(), NoMemory> {
-    let runs = runs_of(alloc, machine, group, time, steps)?;
-    let variables = &machine.design().variables;
-    let signals = signals_of(
+    let left = left_of(variables, &signals.shown);
+    let figure = Figure {
         alloc,
-        &group.cause,
-        &runs.parent,
-        &runs.run,
-        &runs.columns,
-        variables.len(),
-    )?;
-    let height = TOP.saturating_add(SIGNAL.saturating_mul(signals.shown.len() as u64));
-    put_front(page, column_at(runs.columns.len()), height)?;
-    put_times(page, &runs, height)?;
-    for (place, number) in signals.shown.iter().enumerate() {
-        if let Some(variable) = variables.get(*number) {
-            let y = TOP.saturating_add(SIGNAL.saturating_mul(place as u64));
-            put_signal(alloc, page, &runs, *number, variable, y)?;
-            put(page, "\n")?;
-        }
+        runs,
+        variables,
+        left,
+    };
+    let rows = SIGNAL.saturating_mul(signals.shown.len() as u64);
+    let height = TOP.saturating_add(rows);
+    put(page, "<figure tabindex=\"0\">\n")?;
+    put_front(page, column_at(left, runs.columns.len()), height)?;
+    figure.put_times(page, height)?;
+    figure.put_signals(page, &signals.shown)?;
+    put(page, "</svg>\n</figure>\n")?;
+    put_left_out(page, signals.left_out)
+}
+
+/// The name of the variable of this number.
+pub(crate) fn put_variable(
+    page: &mut Vec<u8>,
+    variables: &[Variable],
+    number: usize,
+) -> Result<(), NoMemory> {
+    match variables.get(number) {
+        None => Ok(()),
+        Some(variable) => put_escaped(page, &variable.name),
     }
-    put(page, "</svg>\n")?;
-    put_left_out(page, &signals)
 }

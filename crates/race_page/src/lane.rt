@@ -1,143 +1,184 @@
 // One lane of a figure: what a variable is at each time, in one run.
 
-use crate::html::{put, put_attribute, put_escaped};
+use crate::html::put;
+use crate::shape::{Spot, put_rectangle, put_text};
 use basis::NoMemory;
 use race_text::put_value;
 use std::alloc::Global;
 use vbits::Vec4;
 use vdesign::design::Variable;
 
-/// Where the first column of a figure begins, how wide a column is, and how high a lane.
-pub(crate) const LEFT: u64 = 220;
-
+/// How wide a column of a figure is, and how high a lane.
 pub(crate) const WIDTH: u64 = 96;
 
 pub(crate) const HEIGHT: u64 = 22;
 
+// How a value is drawn.
+#[derive(Clone, Copy, Debug, PartialEq, Eq)]
+enum Look {
+    // One bit: a low or a high line.
+    Low,
+    High,
+    // A vector whose bits are known.
+    Number,
+    // What has bits that are x, or z.
+    Unknown,
+}
+
+/// A value that stays for some columns: the first of them, how many, and the value.
+#[derive(Clone, Copy)]
+struct Span {
+    from: usize,
+    count: usize,
+    value: Vec4,
+}
+
+// How the value is drawn.
+fn look_of(value: Vec4) -> Look {
+    let (ones, unknown) = value.planes();
+    if unknown != 0 {
+        Look::Unknown
+    } else if value.len() > 1 {
+        Look::Number
+    } else if ones == 0 {
+        Look::Low
+    } else {
+        Look::High
+    }
+}
+
+// Whether the value is that of the span.
+fn is_of(span: Span, value: Vec4) -> bool {
+    span.value.planes() == value.planes()
+}
+
+// One column more, with this value.
+fn put_column(spans: &mut Vec<Span>, column: usize, value: Vec4) -> Result<(), NoMemory> {
+    if let Some(last) = spans.last_mut() {
+        if is_of(*last, value) {
+            last.count = last.count.saturating_add(1);
+            return Ok(());
+        }
+    }
+    spans.push(Span {
+        from: column,
+        count: 1,
+        value,
+    })?;
+    Ok(())
+}
+
+// The values, column by column, as spans. A run has no value behind its end.
+fn spans_of(alloc: Global, values: &[Option<Vec4>]) -> Result<Vec<Span>, NoMemory> {
+    let mut spans = Vec::new(alloc);
+    for (column, value) in values.iter().enumerate() {
+        if let Some(value) = value {
+            put_column(&mut spans, column, *value)?;
+        }
+    }
+    Ok(spans)
+}
+
 /// Where the column of this number begins.
-pub(crate) fn column_at(number: usize) -> u64 {
-    LEFT.saturating_add(WIDTH.saturating_mul(number as u64))
+pub(crate) fn column_at(left: u64, number: usize) -> u64 {
+    left.saturating_add(WIDTH.saturating_mul(number as u64))
 }
 
-// The class of a value: that of one bit, of a vector with unknown bits, or of one without.
-fn class_of(value: Vec4) -> &'static str {
-    let bit = value.bit(0);
-    if value.len() > 1 {
-        return if value.planes().1 == 0 { "n" } else { "x" };
+// Where the span stands in a lane.
+fn spot_of(span: Span, left: u64, y: u64) -> Spot {
+    Spot {
+        x: column_at(left, span.from),
+        y,
+        width: WIDTH.saturating_mul(span.count as u64),
     }
-    if bit.is_x() {
-        return "x";
+}
+
+// The spot, so much further down, and so much further to the right.
+fn moved(spot: Spot, right: u64, down: u64) -> Spot {
+    Spot {
+        x: spot.x.saturating_add(right),
+        y: spot.y.saturating_add(down),
+        width: spot.width.saturating_sub(right),
     }
-    if bit.is_z() {
-        return "z";
-    }
-    if value.planes().0 == 0 { "l" } else { "h" }
 }
 
-/// `<rect class=".." x=".." y=".." width=".." height=".."/>`
-pub(crate) fn put_rectangle(
-    page: &mut Vec<u8>,
-    class: &str,
-    corner: (u64, u64),
-    size: (u64, u64),
-) -> Result<(), NoMemory> {
-    put(page, "<rect class=\"")?;
-    put(page, class)?;
-    put(page, "\"")?;
-    put_attribute(page, "x", corner.0)?;
-    put_attribute(page, "y", corner.1)?;
-    put_attribute(page, "width", size.0)?;
-    put_attribute(page, "height", size.1)?;
-    put(page, "/>")
-}
-
-/// `<text class=".." x=".." y="..">..</text>`
-pub(crate) fn put_text(
-    page: &mut Vec<u8>,
-    class: &str,
-    corner: (u64, u64),
-    text: &[u8],
-) -> Result<(), NoMemory> {
-    put(page, "<text class=\"")?;
-    put(page, class)?;
-    put(page, "\"")?;
-    put_attribute(page, "x", corner.0)?;
-    put_attribute(page, "y", corner.1)?;
-    put(page, ">")?;
-    put_escaped(page, text)?;
-    put(page, "</text>")
-}
-
-// A bit in its column: a low or a high line.
-fn put_bit(page: &mut Vec<u8>, class: &str, corner: (u64, u64)) -> Result<(), NoMemory> {
-    let (x, y) = corner;
-    let down = if class == "l" { HEIGHT - 5 } else { 3 };
-    put_rectangle(page, class, (x, y.saturating_add(down)), (WIDTH, 2))
-}
-
-// The value in its column: a line for a bit, a box with the value for a vector and for what isn't known.
-fn put_cell(
+// A box with the value in it.
+fn put_box(
     alloc: Global,
     page: &mut Vec<u8>,
     variable: &Variable,
     value: Vec4,
-    corner: (u64, u64),
+    class: &str,
+    spot: Spot,
 ) -> Result<(), NoMemory> {
-    let class = class_of(value);
-    if class == "l" || class == "h" {
-        return put_bit(page, class, corner);
-    }
-    let (x, y) = corner;
-    put_rectangle(page, class, (x, y.saturating_add(3)), (WIDTH, HEIGHT - 6))?;
     let mut text = Vec::new(alloc);
     put_value(&mut text, variable, value)?;
-    put_text(
-        page,
-        "v",
-        (x.saturating_add(4), y.saturating_add(15)),
-        &text,
-    )
+    put_rectangle(page, class, moved(spot, 0, 3), HEIGHT - 6)?;
+    put_text(page, "v", moved(spot, 5, 15), &text)
 }
 
-// The edge between two bits.
-fn put_edge(
+// A value where it stays.
+fn put_span(
+    alloc: Global,
     page: &mut Vec<u8>,
-    before: Option<&'static str>,
-    class: &'static str,
-    corner: (u64, u64),
+    variable: &Variable,
+    value: Vec4,
+    spot: Spot,
 ) -> Result<(), NoMemory> {
-    match before {
-        None => Ok(()),
-        Some(before) => {
-            if before == class || class == "n" {
-                return Ok(());
-            }
-            put_rectangle(
-                page,
-                "h",
-                (corner.0, corner.1.saturating_add(3)),
-                (2, HEIGHT - 6),
-            )
-        }
+    match look_of(value) {
+        Look::Low => put_rectangle(page, "l", moved(spot, 0, HEIGHT - 5), 2),
+        Look::High => put_rectangle(page, "l", moved(spot, 0, 3), 2),
+        Look::Number => put_box(alloc, page, variable, value, "n", spot),
+        Look::Unknown => put_box(alloc, page, variable, value, "x", spot),
     }
 }
 
-/// The lane of the variable, whose values are these, column by column; where there is none the run hasn't come so far.
+// Whether the value is a low or a high line.
+fn is_line(value: Vec4) -> bool {
+    match look_of(value) {
+        Look::Low => true,
+        Look::High => true,
+        Look::Number => false,
+        Look::Unknown => false,
+    }
+}
+
+// The edge between two lines.
+fn put_edge(
+    page: &mut Vec<u8>,
+    before: Option<Vec4>,
+    value: Vec4,
+    spot: Spot,
+) -> Result<(), NoMemory> {
+    let Some(before) = before else {
+        return Ok(());
+    };
+    if !is_line(before) || !is_line(value) {
+        return Ok(());
+    }
+    let edge = Spot {
+        x: spot.x,
+        y: spot.y.saturating_add(3),
+        width: 2,
+    };
+    put_rectangle(page, "l", edge, HEIGHT - 6)
+}
+
+/// The lane of the variable, whose values are these, column by column; where there is none the run has ended.
 pub(crate) fn put_lane(
     alloc: Global,
     page: &mut Vec<u8>,
     variable: &Variable,
     values: &[Option<Vec4>],
+    left: u64,
     y: u64,
 ) -> Result<(), NoMemory> {
     let mut before = None;
-    for (column, value) in values.iter().enumerate() {
-        if let Some(value) = value {
-            let corner = (column_at(column), y);
-            put_edge(page, before, class_of(*value), corner)?;
-            put_cell(alloc, page, variable, *value, corner)?;
-            before = Some(class_of(*value));
-        }
+    for span in &spans_of(alloc, values)? {
+        let spot = spot_of(*span, left, y);
+        put_edge(page, before, span.value, spot)?;
+        put_span(alloc, page, variable, span.value, spot)?;
+        before = Some(span.value);
     }
-    Ok(())
+    put(page, "\n")
 }

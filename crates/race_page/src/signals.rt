@@ -1,41 +1,19 @@
-// Which variables a figure shows.
+// Which variables are shown of a race.
 
-use crate::waves::Waves;
 use basis::NoMemory;
 use cause::{Cause, Thing};
+use race_groups::{Difference, Group};
+use run_pair::Runs;
 use std::alloc::Global;
 
-/// How many signals a figure shows at most.
+/// How many variables are shown of a race at most.
 pub(crate) const MOST: usize = 24;
 
-/// The variables that a figure shows, by number, and how many that differ it leaves out.
+/// The variables that are shown, by number, and how many that differ are left out.
 #[derive(Drop)]
 pub(crate) struct Signals {
     pub(crate) shown: Vec<usize>,
     pub(crate) left_out: u64,
-}
-
-// The bits of the variable at the time.
-fn planes_at(waves: &Waves, variable: usize, time: u64) -> Option<(u64, u64)> {
-    match waves.values_at(time).get(variable) {
-        None => None,
-        Some(value) => Some(value.planes()),
-    }
-}
-
-/// Whether the variable has other values in both runs at the time.
-pub(crate) fn differs(one: &Waves, other: &Waves, variable: usize, time: u64) -> bool {
-    planes_at(one, variable, time) != planes_at(other, variable, time)
-}
-
-// The same at one of these times.
-fn differs_somewhere(one: &Waves, other: &Waves, variable: usize, columns: &[u64]) -> bool {
-    for time in columns {
-        if differs(one, other, variable, *time) {
-            return true;
-        }
-    }
-    false
 }
 
 impl Signals {
@@ -52,11 +30,17 @@ impl Signals {
         Ok(())
     }
 
+    // The variable that the race is told of, if it is told of one.
+    fn put_first(&mut self, difference: &Difference) -> Result<(), NoMemory> {
+        match difference {
+            Difference::Values(race) => self.put(race.variable),
+            Difference::Lines(_) => Ok(()),
+            Difference::Ends(_) => Ok(()),
+        }
+    }
+
     // What both statements of the cause touch.
-    fn put_touched(&mut self, cause: &Option<Cause>) -> Result<(), NoMemory> {
-        let Some(cause) = cause else {
-            return Ok(());
-        };
+    fn put_touched(&mut self, cause: &Cause) -> Result<(), NoMemory> {
         for thing in cause.things.as_slice() {
             if let Thing::Variable(variable) = thing {
                 self.put(*variable as usize)?;
@@ -66,22 +50,23 @@ impl Signals {
     }
 }
 
-/// What both statements touch, and then each variable that differs at one of these times.
+/// The variable that the race is told of, what both statements touch, and then each variable that differs at one of the times.
 pub(crate) fn signals_of(
     alloc: Global,
-    cause: &Option<Cause>,
-    one: &Waves,
-    other: &Waves,
-    columns: &[u64],
+    group: &Group,
+    runs: &Runs,
     variables: usize,
 ) -> Result<Signals, NoMemory> {
     let mut signals = Signals {
         shown: Vec::new(alloc),
         left_out: 0,
     };
-    signals.put_touched(cause)?;
+    signals.put_first(&group.first)?;
+    if let Some(cause) = &group.cause {
+        signals.put_touched(cause)?;
+    }
     for variable in 0..variables {
-        if differs_somewhere(one, other, variable, columns) {
+        if runs.differs_somewhere(variable) {
             signals.put(variable)?;
         }
     }

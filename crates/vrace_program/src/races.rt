@@ -7,12 +7,13 @@ use crate::words::{RaceWords, Request, Search, VERSION};
 use crate::{Stop, finish, options_for, read_file, texts};
 use basis::NoMemory;
 use byte_sinks::Metered;
-use race_groups::{Races, Scope};
-use race_page::{Page, races_dump};
+use race_groups::{Group, Races, Scope};
+use race_page::Page;
 use race_text::{
     Findings, NAMED, Sources, Told, Tops, Waived, Waiver, WaiverFault, WaiverLines, WaiverScope,
     read_waivers,
 };
+use run_pair::write_pair;
 use std::alloc::Global;
 use std::io::{BufWriter, Write};
 use std::process::ExitCode;
@@ -200,16 +201,34 @@ fn no_answer<'w>(
     })
 }
 
-// The dump of both runs of the first race, if there is one.
+// The dump of both runs of the group. A text that is held refuses for want of memory alone.
 fn dump_of(
     alloc: Global,
     findings: &Findings<'_>,
+    group: &Group,
     steps: u32,
-) -> Result<Option<Vec<u8>>, NoMemory> {
-    match findings.races.groups.first() {
-        None => Ok(None),
-        Some(group) => Ok(Some(races_dump(alloc, findings.machine, group, steps)?)),
+) -> Result<Vec<u8>, Stop> {
+    let mut writer = Metered::new(Vec::new(alloc));
+    match write_pair(alloc, findings.machine, &group.log, steps, &mut writer) {
+        Ok(()) => Ok(writer.into_inner()),
+        Err(_) => Err(Stop::NoMemory),
     }
+}
+
+// The dump of both runs of the first race, where one is asked for, there isn't one yet, and there is a race.
+fn put_dump(
+    alloc: Global,
+    answer: &mut Answer<'_>,
+    findings: &Findings<'_>,
+    asked: &Asked<'_>,
+) -> Result<(), Stop> {
+    if asked.words.vcd.is_none() || answer.dump.is_some() {
+        return Ok(());
+    }
+    if let Some(group) = findings.races.groups.first() {
+        answer.dump = Some(dump_of(alloc, findings, group, asked.steps)?);
+    }
+    Ok(())
 }
 
 // Puts what was found of a top module onto the page and into the dump, where they are asked for.
@@ -217,31 +236,24 @@ fn put_pictures(
     alloc: Global,
     answer: &mut Answer<'_>,
     findings: &Findings<'_>,
-    words: &RaceWords<'_>,
-    steps: u32,
-) -> Result<(), NoMemory> {
+    asked: &Asked<'_>,
+) -> Result<(), Stop> {
     if let Some(page) = &mut answer.page {
         page.tell(findings)?;
     }
-    if words.vcd.is_some() && answer.dump.is_none() {
-        answer.dump = dump_of(alloc, findings, steps)?;
-    }
-    Ok(())
+    put_dump(alloc, answer, findings, asked)
 }
 
 // Puts what was found of a top module.
 fn put_findings(
-    alloc: Global,
     answer: &mut Answer<'_>,
     findings: &Findings<'_>,
     words: &RaceWords<'_>,
-    steps: u32,
 ) -> Result<(), NoMemory> {
     answer.tops.tell(findings)?;
     if words.write_waivers.is_some() {
         answer.waivers.waive(findings)?;
     }
-    put_pictures(alloc, answer, findings, words, steps)?;
     let verdict = verdict_of(findings.races, findings.waived);
     answer.verdict = answer.verdict.worse(verdict);
     Ok(())
@@ -274,8 +286,8 @@ fn tell_top<R: Clock + Eprint>(
         waivers: asked.waivers,
         waived: &waived,
     };
-    put_findings(alloc, answer, &findings, words, asked.steps)?;
-    Ok(())
+    put_findings(answer, &findings, words)?;
+    put_pictures(alloc, answer, &findings, asked)
 }
 
 // Searches each top module on its own, each with all that a search may take.

@@ -1,4 +1,4 @@
-// The columns of a figure: the times of the slots of both runs.
+// The columns of a figure: the times at which slots of either run end.
 
 use crate::waves::Waves;
 use basis::NoMemory;
@@ -22,12 +22,12 @@ fn next_of(waves: &Waves, last: Option<u64>) -> Option<u64> {
     None
 }
 
-// The least time of both beyond the last one.
-fn next_time(one: &Waves, other: &Waves, last: Option<u64>) -> Option<u64> {
-    match (next_of(one, last), next_of(other, last)) {
-        (Some(time), Some(also)) => Some(if also < time { also } else { time }),
+/// The earlier of two times.
+pub(crate) fn earlier(one: Option<u64>, other: Option<u64>) -> Option<u64> {
+    match (one, other) {
+        (Some(time), Some(also)) => Some(time.min(also)),
         (Some(time), None) => Some(time),
-        (None, next) => next,
+        (None, time) => time,
     }
 }
 
@@ -36,7 +36,7 @@ pub(crate) fn columns_of(alloc: Global, one: &Waves, other: &Waves) -> Result<Ve
     let mut columns = Vec::new(alloc);
     let mut last = None;
     for _ in 0..one.slots.len().saturating_add(other.slots.len()) {
-        let Some(time) = next_time(one, other, last) else {
+        let Some(time) = earlier(next_of(one, last), next_of(other, last)) else {
             return Ok(columns);
         };
         columns.push(time)?;
