@@ -37,7 +37,9 @@ struct Figure<'a> {
 fn width_of(variables: &[Variable], number: usize) -> u64 {
     match variables.get(number) {
         None => 0,
-        Some(variable) => (variable.name.len() as u64).saturating_mul(8).saturating_add(16),
+        Some(variable) => (variable.name.len() as u64)
+            .saturating_mul(8)
+            .saturating_add(16),
     }
 }
 
@@ -150,7 +152,10 @@ impl<'a> Figure<'a> {
         y: u64,
     ) -> Result<(), NoMemory> {
         let Figure {
-            alloc, runs, left, ..
+            alloc,
+            runs,
+            left,
+            ..
         } = *self;
         self.put_marks(page, number, y)?;
         self.put_name(page, number, &variable.name, y)?;
@@ -193,7 +198,14 @@ fn put_left_out(page: &mut Vec<u8>, left_out: u64) -> Result<(), NoMemory> {
     }
     put(page, "<p>")?;
     put_number(page, left_out)?;
-    put(page, " more variables differ here and are left out.</p>\n")
+    put(
+        page,
+        if left_out == 1 {
+            " more variable differs here and is left out.</p>\n"
+        } else {
+            " more variables differ here and are left out.</p>\n"
+        },
+    )
 }
 
 /// The waveforms of both runs round the slot in which they differ first.

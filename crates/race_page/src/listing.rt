@@ -5,8 +5,8 @@ use crate::files::Files;
 use crate::html::{put, put_cut, put_escaped, put_number};
 use basis::NoMemory;
 use race_text::put_value;
-use sched_core::{LogHead, write_named_log};
 use run_pair::{Change, Row, Runs, Seen, Steps};
+use sched_core::{LogHead, write_named_log};
 use std::alloc::Global;
 use vbits::Vec4;
 use vdesign::design::Variable;
@@ -15,12 +15,26 @@ use vmachine::Machine;
 // How many bytes of a statement are shown.
 const SOURCE: usize = 60;
 
+// How many bytes of a value.
+const VALUE: usize = 24;
+
 // What steps are told of.
 #[derive(Clone, Copy)]
 pub(crate) struct Subject<'a> {
     pub(crate) alloc: Global,
     pub(crate) machine: &'a Machine,
     pub(crate) files: &'a Files<'a>,
+}
+
+// The name of a file without its folders.
+fn own_name(path: &[u8]) -> &[u8] {
+    for back in 0..path.len() {
+        let (front, name) = path.split_at(path.len().saturating_sub(back));
+        if front.ends_with(b"/") {
+            return name;
+        }
+    }
+    path
 }
 
 // So many steps that aren't listed.
@@ -51,7 +65,7 @@ impl<'a> Subject<'a> {
     ) -> Result<(), NoMemory> {
         let mut text = Vec::new(self.alloc);
         put_value(&mut text, variable, value)?;
-        put_escaped(page, &text)
+        put_cut(page, &text, VALUE)
     }
 
     // `tb.a: 0 → 1`
@@ -86,13 +100,13 @@ impl<'a> Subject<'a> {
     // Where the statement of the action stands, and what it says.
     fn put_statement(&self, page: &mut Vec<u8>, action: Option<usize>) -> Result<(), NoMemory> {
         let Some(action) = action else {
-            return put(page, "<td></td><td>update, or the time goes on</td>");
+            return put(page, "<td></td><td>a nonblocking update</td>");
         };
         let Some(place) = self.files.place(action) else {
             return put(page, "<td></td><td></td>");
         };
-        put(page, "<td>")?;
-        put_escaped(page, self.files.name(place.file).as_bytes())?;
+        put(page, "<td class=\"line-of\">")?;
+        put_escaped(page, own_name(self.files.name(place.file).as_bytes()))?;
         put(page, ":")?;
         put_number(page, place.line as u64)?;
         put(page, "</td><td>")?;
@@ -103,7 +117,14 @@ impl<'a> Subject<'a> {
     // A step; one of the two that race is marked.
     fn put_row(&self, page: &mut Vec<u8>, row: &Row) -> Result<(), NoMemory> {
         put_gap(page, row.gap)?;
-        put(page, if row.races { "<tr class=\"races\">" } else { "<tr>" })?;
+        put(
+            page,
+            if row.races {
+                "<tr class=\"races\">"
+            } else {
+                "<tr>"
+            },
+        )?;
         put(page, "<td class=\"number\">")?;
         put_number(page, u64::from(row.number))?;
         put(page, "</td>")?;
@@ -134,7 +155,10 @@ impl<'a> Subject<'a> {
 
     // The steps of a run, under its name.
     fn put_run(&self, page: &mut Vec<u8>, name: &str, seen: &Seen) -> Result<(), NoMemory> {
-        put(page, "<div class=\"wide\" tabindex=\"0\"><table>\n<caption>")?;
+        put(
+            page,
+            "<div class=\"wide\" tabindex=\"0\"><table>\n<caption>",
+        )?;
         put(page, name)?;
         put(page, ": <code>--log ")?;
         self.put_log(page, seen)?;
@@ -149,7 +173,10 @@ impl<'a> Subject<'a> {
 
     /// The steps of both runs side by side, from the one at which they part to the end of its slot.
     pub(crate) fn put_listing(&self, page: &mut Vec<u8>, runs: &Runs) -> Result<(), NoMemory> {
-        put(page, "<h3>The steps from where the runs part to the end of the slot</h3>\n")?;
+        put(
+            page,
+            "<h3>The steps from where the runs part to the end of the slot</h3>\n",
+        )?;
         put(page, "<div class=\"runs\">\n")?;
         self.put_run(page, "default", &runs.parent)?;
         self.put_run(page, "departed", &runs.departed)?;

@@ -73,13 +73,17 @@ fn put_link(page: &mut Vec<u8>, number: u64, text: &[u8]) -> Result<(), NoMemory
 
 // The list of races, the first of which has this number: the first line of what is told of each, as a link.
 fn put_list(page: &mut Vec<u8>, first: u64, words: &[Vec<u8>]) -> Result<(), NoMemory> {
-    put(page, "<nav aria-label=\"races\">\n<ol>\n")?;
+    put(page, "<nav aria-label=\"races\">\n<ul>\n")?;
     for (place, words) in words.iter().enumerate() {
         put(page, "<li>")?;
-        put_link(page, first.saturating_add(place as u64), first_line(words).0)?;
+        put_link(
+            page,
+            first.saturating_add(place as u64),
+            first_line(words).0,
+        )?;
         put(page, "</li>\n")?;
     }
-    put(page, "</ol>\n</nav>\n")
+    put(page, "</ul>\n</nav>\n")
 }
 
 // In which units times are counted.
@@ -89,7 +93,10 @@ fn put_unit(page: &mut Vec<u8>, findings: &Findings<'_>) -> Result<(), NoMemory>
     put_number(page, u64::from(precision.count.number()))?;
     put(page, " ")?;
     put(page, precision.unit.name())?;
-    put(page, ". <em>default</em> is the run that departs less, <em>departed</em> the other one.</p>\n")
+    put(
+        page,
+        ". <em>departed</em> is the run in the other order, <em>default</em> the one that it departs from.</p>\n",
+    )
 }
 
 // The heading of a race, as the first line of what is told of it, and the other lines.
@@ -170,7 +177,10 @@ impl Page {
         }
         let runs = self.runs_of(findings, group)?;
         put_runs(self.alloc, &mut self.text, findings, files, group, &runs)?;
-        put(&mut self.text, "<p class=\"links\"><a href=\"#top\">All races</a></p>\n</section>\n")
+        put(
+            &mut self.text,
+            "<p><a href=\"#top\">All races</a></p>\n</section>\n",
+        )
     }
 
     // What stands before the races of a top module: its name, how many races there are, what wasn't looked at, and the list.

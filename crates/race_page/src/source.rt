@@ -102,11 +102,7 @@ fn put_block(page: &mut Vec<u8>, files: &Files<'_>, block: Block) -> Result<(), 
 }
 
 // The lines round a place, if that is known.
-fn put_place(
-    page: &mut Vec<u8>,
-    files: &Files<'_>,
-    place: Option<Place>,
-) -> Result<(), NoMemory> {
+fn put_place(page: &mut Vec<u8>, files: &Files<'_>, place: Option<Place>) -> Result<(), NoMemory> {
     match place {
         None => Ok(()),
         Some(place) => put_block(page, files, block_of(place, place)),

@@ -18,7 +18,8 @@ h1, h2, h3 { line-height: 1.3; overflow-wrap: anywhere; }
 h2 { font-size: 1.3em; }
 h3 { font-size: 1em; margin: 1.5em 0 .5em; }
 a { color: var(--link); }
-nav li, .links { overflow-wrap: anywhere; }
+nav ul { list-style: none; padding: 0; }
+nav li { overflow-wrap: anywhere; }
 section { border-top: 1px solid var(--rule); margin-top: 2.5em; content-visibility: auto; contain-intrinsic-size: auto 60em; }
 pre, table, code, caption { font: 13px/1.5 ui-monospace, monospace; }
 pre { margin: 0; overflow-x: auto; tab-size: 4; }
@@ -30,6 +31,8 @@ table { border-collapse: collapse; margin: .5em 0; }
 caption { color: var(--weak); padding: .2em 0; text-align: left; }
 th, td { border: 1px solid var(--rule); padding: .15em .6em; text-align: left; vertical-align: top; white-space: pre; }
 th[scope=col], .gap { color: var(--weak); font-weight: normal; }
+.runs td { overflow-wrap: anywhere; white-space: pre-wrap; }
+.runs .number, .runs .line-of { white-space: nowrap; }
 .number { text-align: right; }
 .runs { display: grid; gap: 1.5em; grid-template-columns: repeat(auto-fit, minmax(min(100%, 34em), 1fr)); }
 svg { display: block; }

@@ -38,7 +38,14 @@ fn put_row(
 ) -> Result<(), NoMemory> {
     let time = runs.time;
     let differs = runs.differs(number, time);
-    put(page, if differs { "<tr class=\"differs\">" } else { "<tr>" })?;
+    put(
+        page,
+        if differs {
+            "<tr class=\"differs\">"
+        } else {
+            "<tr>"
+        },
+    )?;
     put(page, "<th scope=\"row\">")?;
     put_escaped(page, &variable.name)?;
     put(page, "</th>")?;

@@ -1,5 +1,7 @@
 // A design that has each scope and variable of another one twice.
 
+ghost use Rattle.std.specs.Prelude.{◌≡◌, ◌++◌, IfOk, OnOk, map};
+ghost use Rattle.run_pair.specs.Pairs as spec;
 
 use basis::NoMemory;
 use std::alloc::Global;
@@ -13,7 +15,9 @@ pub(crate) const PARENT: &[u8] = b"default";
 pub(crate) const DEPARTED: &[u8] = b"departed";
 
 // The name of something that stands in this scope.
-fn name_in(alloc: Global, scope: &[u8], name: &[u8]) -> Result<Vec<u8>, NoMemory> {
+fn name_in(alloc: Global, scope: &[u8], name: &[u8]) -> Result<Vec<u8>, NoMemory>
+    ensures { IfOk result (λ whole. whole.items ≡ spec.name_in scope.now name.now) }
+{
     let mut whole = Vec::from_slice(alloc, scope)?;
     whole.push(b'.')?;
     whole.extend_from_slice(name)?;
@@ -21,7 +25,9 @@ fn name_in(alloc: Global, scope: &[u8], name: &[u8]) -> Result<Vec<u8>, NoMemory
 }
 
 // The variable, as it is called in this scope.
-fn variable_in(alloc: Global, scope: &[u8], variable: &Variable) -> Result<Variable, NoMemory> {
+fn variable_in(alloc: Global, scope: &[u8], variable: &Variable) -> Result<Variable, NoMemory>
+    ensures { IfOk result (λ inner. inner ≡ spec.variable_in scope.now variable.now) }
+{
     Ok(Variable {
         name: name_in(alloc, scope, &variable.name)?,
         kind: variable.kind,
@@ -33,7 +39,9 @@ fn variable_in(alloc: Global, scope: &[u8], variable: &Variable) -> Result<Varia
 }
 
 // The scope, as it stands in this one.
-fn scope_in(alloc: Global, around: &[u8], scope: &Scope) -> Result<Scope, NoMemory> {
+fn scope_in(alloc: Global, around: &[u8], scope: &Scope) -> Result<Scope, NoMemory>
+    ensures { IfOk result (λ inner. inner ≡ spec.scope_in around.now scope.now) }
+{
     Ok(Scope {
         name: Vec::from_slice(alloc, &scope.name)?,
         path: name_in(alloc, around, &scope.path)?,
@@ -43,7 +51,9 @@ fn scope_in(alloc: Global, around: &[u8], scope: &Scope) -> Result<Scope, NoMemo
 }
 
 // A scope of the top that has no variable of its own.
-fn top_scope(alloc: Global, name: &[u8]) -> Result<Scope, NoMemory> {
+fn top_scope(alloc: Global, name: &[u8]) -> Result<Scope, NoMemory>
+    ensures { IfOk result (λ scope. scope ≡ spec.top_scope name.now) }
+{
     Ok(Scope {
         name: Vec::from_slice(alloc, name)?,
         path: Vec::from_slice(alloc, name)?,
@@ -58,29 +68,47 @@ fn put_variables(
     all: &mut Vec<Variable>,
     scope: &[u8],
     variables: &[Variable],
-) -> Result<(), NoMemory> {
+) -> Result<(), NoMemory>
+    ensures { OnOk result (all.new.items ≡ all.old.items ++ spec.variables_in scope.now variables.now) }
+{
     for variable in variables {
         all.push(variable_in(alloc, scope, variable)?)?;
     }
     Ok(())
 }
 
-// Puts a scope of this name with the scopes in it.
+// Puts the scopes into this one.
+fn put_inner(
+    alloc: Global,
+    all: &mut Vec<Scope>,
+    around: &[u8],
+    scopes: &[Scope],
+) -> Result<(), NoMemory>
+    ensures { OnOk result (all.new.items ≡ all.old.items ++ map (spec.scope_in around.now) scopes.now) }
+{
+    for scope in scopes {
+        all.push(scope_in(alloc, around, scope)?)?;
+    }
+    Ok(())
+}
+
+// Puts a scope of this name, and the scopes in it.
 fn put_scopes(
     alloc: Global,
     all: &mut Vec<Scope>,
     name: &[u8],
     scopes: &[Scope],
-) -> Result<(), NoMemory> {
+) -> Result<(), NoMemory>
+    ensures { OnOk result (all.new.items ≡ all.old.items ++ spec.scopes_in name.now scopes.now) }
+{
     all.push(top_scope(alloc, name)?)?;
-    for scope in scopes {
-        all.push(scope_in(alloc, name, scope)?)?;
-    }
-    Ok(())
+    put_inner(alloc, all, name, scopes)
 }
 
 // The variables of both runs.
-fn variables_of(alloc: Global, design: &Design) -> Result<Vec<Variable>, NoMemory> {
+fn variables_of(alloc: Global, design: &Design) -> Result<Vec<Variable>, NoMemory>
+    ensures { IfOk result (λ all. all.items ≡ (spec.pair design.now).variables) }
+{
     let mut all = Vec::new(alloc);
     put_variables(alloc, &mut all, PARENT, &design.variables)?;
     put_variables(alloc, &mut all, DEPARTED, &design.variables)?;
@@ -88,7 +116,9 @@ fn variables_of(alloc: Global, design: &Design) -> Result<Vec<Variable>, NoMemor
 }
 
 // The scopes of both runs.
-fn scopes_of(alloc: Global, design: &Design) -> Result<Vec<Scope>, NoMemory> {
+fn scopes_of(alloc: Global, design: &Design) -> Result<Vec<Scope>, NoMemory>
+    ensures { IfOk result (λ all. all.items ≡ (spec.pair design.now).scopes) }
+{
     let mut all = Vec::new(alloc);
     put_scopes(alloc, &mut all, PARENT, &design.scopes)?;
     put_scopes(alloc, &mut all, DEPARTED, &design.scopes)?;
@@ -97,7 +127,9 @@ fn scopes_of(alloc: Global, design: &Design) -> Result<Vec<Scope>, NoMemory> {
 
 /// The scopes and variables of the design twice: under the scope `default`, and under `departed`. There is no process; the action of place
 /// 0 is a `$dumpvars` of all.
-pub(crate) fn pair_of(alloc: Global, design: &Design) -> Result<Design, NoMemory> {
+pub(crate) fn pair_of(alloc: Global, design: &Design) -> Result<Design, NoMemory>
+    ensures { IfOk result (λ both. both ≡ spec.pair design.now) }
+{
     let mut actions = Vec::new(alloc);
     actions.push(Action::DumpVars(Selection::everything(alloc)))?;
     Ok(Design {

@@ -137,11 +137,7 @@ impl Steps {
     }
 
     /// Takes the next step, if there is one; lists it where it is looked at.
-    pub(crate) fn go_on(
-        &mut self,
-        alloc: Global,
-        walk: &mut Walk<'_>,
-    ) -> Result<bool, NoMemory> {
+    pub(crate) fn go_on(&mut self, alloc: Global, walk: &mut Walk<'_>) -> Result<bool, NoMemory> {
         let step = walk.step();
         if self.closed || step < self.looked.from {
             return walk.go_on();
