@@ -20,7 +20,7 @@ h3 { font-size: 1em; margin: 1.5em 0 .5em; }
 a { color: var(--link); }
 nav ul { list-style: none; padding: 0; }
 nav li { overflow-wrap: anywhere; }
-section { border-top: 1px solid var(--rule); margin-top: 2.5em; content-visibility: auto; contain-intrinsic-size: auto 60em; }
+section { border-top: 1px solid var(--rule); margin-top: 2.5em; }
 pre, table, code, caption { font: 13px/1.5 ui-monospace, monospace; }
 pre { margin: 0; overflow-x: auto; tab-size: 4; }
 figure, .wide { margin: 0; overflow-x: auto; }

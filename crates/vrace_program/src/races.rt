@@ -354,13 +354,21 @@ fn write_pictures(
     Ok(())
 }
 
+// Whether there is a folder of this name.
+fn is_folder(rt: &HostRuntime, name: &str) -> bool {
+    match fs::metadata(rt, name) {
+        Ok(found) => found.is_dir(),
+        Err(_) => false,
+    }
+}
+
 // Whether the file can be written: it is tried beside.
 fn try_file(rt: &HostRuntime, name: Option<&str>) -> Result<(), Stop> {
     let Some(name) = name else {
         return Ok(());
     };
     let new = new_name(rt.alloc(), name)?;
-    if fs::write(rt, new.as_str(), b"").is_err() {
+    if is_folder(rt, name) || fs::write(rt, new.as_str(), b"").is_err() {
         return Err(Stop::Refused(Fault::Write));
     }
     let _ = fs::remove_file(rt, new.as_str());
