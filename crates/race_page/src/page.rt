@@ -24,12 +24,19 @@ pub struct Page {
     steps: u32,
 }
 
+// What stands before the line feed at this place, and what after it.
+fn cut_at(text: &[u8], at: usize) -> (&[u8], &[u8]) {
+    match text.split_at_checked(at) {
+        None => (text, &[]),
+        Some((line, rest)) => (line, rest.get(1..).unwrap_or(&[])),
+    }
+}
+
 // What stands before the first line feed, and what after it.
 fn first_line(text: &[u8]) -> (&[u8], &[u8]) {
     for (at, byte) in text.iter().enumerate() {
         if *byte == b'\n' {
-            let (line, rest) = text.split_at(at);
-            return (line, rest.get(1..).unwrap_or(&[]));
+            return cut_at(text, at);
         }
     }
     (text, &[])
@@ -203,8 +210,10 @@ impl Page {
         let words = groups_texts(self.alloc, findings)?;
         let files = Files::new(self.alloc, findings.sources)?;
         self.put_head(findings, &words)?;
-        for (group, words) in findings.races.groups.iter().zip(words.iter()) {
-            self.put_race(findings, &files, group, words)?;
+        for (place, group) in findings.races.groups.iter().enumerate() {
+            if let Some(words) = words.get(place) {
+                self.put_race(findings, &files, group, words)?;
+            }
         }
         Ok(())
     }

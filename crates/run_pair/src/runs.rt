@@ -5,7 +5,7 @@ use crate::steps::{Looked, Steps};
 use crate::walk::Walk;
 use crate::waves::Waves;
 use basis::NoMemory;
-use sched_core::Log;
+use sched_core::{Log, Member};
 use std::alloc::Global;
 use vmachine::Machine;
 
@@ -26,14 +26,20 @@ pub struct Runs {
     pub time: u64,
 }
 
+// Puts the member last, as far as the log stays one.
+fn put_member(log: &mut Log, member: Member) -> Result<(), NoMemory> {
+    if log.takes(member) {
+        log.push(member.0, member.1)?;
+    }
+    Ok(())
+}
+
 /// The log without its last member.
 pub(crate) fn parent_log(alloc: Global, log: &Log) -> Result<Log, NoMemory> {
     let mut parent = Log::new(alloc);
     let front = log.members().len().saturating_sub(1);
     for member in log.members().iter().take(front) {
-        if parent.takes(*member) {
-            parent.push(member.0, member.1)?;
-        }
+        put_member(&mut parent, *member)?;
     }
     Ok(parent)
 }
