@@ -1,5 +1,5 @@
 -- Groups that were added.
-use Rattle.std.proofs.Common.{◌≡◌, ℕ, ◌<◌, ◌⊎◌, List, [], ◌∷◌, ◌++◌, length, map, get_or, slice_get, slice_set, Option, Some, IfSome, Result, Ok, Err, OnOk, refl, sym, ap, ◌∙◌, subst, inl, inr, append-nil, append_assoc, arith}
+use Rattle.std.proofs.Common.{◌≡◌, ℕ, List, [], ◌∷◌, ◌++◌, map, get_or, slice_get, slice_set, Some, IfSome, sym, ap, ◌∙◌, subst, inl, inr, append-nil, append_assoc}
 use Rattle.std.specs.List.{Contains}
 use Rattle.std.proofs.lemmas.List.{map-append}
 use Rattle.std.proofs.Math.Seq.{map-set_same}
@@ -9,6 +9,7 @@ use Rattle.cause.specs.Causes.{IsCause}
 use Rattle.racebook.proofs.ListLemmas.{contains_at}
 use Rattle.race_groups.specs.declared.group.Difference.{Difference}
 use Rattle.race_groups.specs.declared.group.Group.{Group}
+use Rattle.race_groups.specs.Found.{IsLogOf}
 use Rattle.race_groups.specs.Inner.{Adds, IsCaused, Told, told, tolds_of}
 use Rattle.race_groups.proofs.ListLemmas.{nothing_in, to_map}
 
@@ -55,10 +56,12 @@ adds_one setting P old new t is caused so = record {
 
 -- a group that was pushed
 pub adds_group : (setting : Setting) (difference : Difference) (old new : List Group) (group : Group) (log : List (ℕ × ℕ)) → new ≡ old ++ group ∷ [] → group.log ≡ log → IfSome group.cause (IsCause setting log) →
-    group.first ≡ difference → Adds setting (λ d. d ≡ difference) (tolds_of old) (tolds_of new)
-adds_group setting difference old new group log is log_is caused first =
-    adds_one setting (λ d. d ≡ difference) (tolds_of old) (tolds_of new) (told group) (ap tolds_of is ∙ map-append told old (group ∷ []))
-    (subst (λ (l : List (ℕ × ℕ)). IfSome group.cause (IsCause setting l)) (sym log_is) caused) first
+    IsLogOf difference log → group.first ≡ difference → Adds setting (λ d. d ≡ difference) (tolds_of old) (tolds_of new)
+adds_group setting difference old new group log is log_is caused of first =
+    adds_one setting (λ d. d ≡ difference) (tolds_of old) (tolds_of new) (told group) (ap tolds_of is ∙ map-append told old (group ∷ [])) (
+      subst (λ (l : List (ℕ × ℕ)). IfSome group.cause (IsCause setting l)) (sym log_is) caused,
+      subst (λ (d : Difference). IsLogOf d group.log) (sym first) (subst (IsLogOf difference) (sym log_is) of),
+    ) first
 
 -- what of a group is told stays, where one is changed elsewhere
 pub told_alike : (groups : List Group) (place : ℕ) (group other : Group) → told group ≡ told (get_or groups place other) → tolds_of (slice_set groups place group) ≡ tolds_of groups

@@ -1,6 +1,6 @@
 -- What a search for races tells, by what it was handed on.
 use Rattle.std.specs.Prelude.{⊤}
-use Rattle.std.proofs.Common.{◌≡◌, ◌≢◌, ℕ, ◌<◌, ◌≤◌, ◌⊎◌, Bool, true, false, List, [], ◌∷◌, ◌++◌, length, map, slice_get, Option, Some, IfSome, refl, sym, ap, ◌∙◌, subst, inl, inr, arith}
+use Rattle.std.proofs.Common.{◌≡◌, ℕ, ◌<◌, ◌≤◌, Bool, true, false, List, [], ◌∷◌, length, slice_get, None, Some, IfSome, refl, sym, ap, ◌∙◌, subst, inl, inr, arith}
 use Rattle.std.specs.List.{Contains}
 use Rattle.std.proofs.lemmas.Bool.{cases_lt}
 use Rattle.std.proofs.lemmas.List.{length-map}
@@ -8,11 +8,9 @@ use Rattle.std.proofs.lemmas.Option.{IfSome_then, same_Some}
 use Rattle.basis.proofs.Lists.{at_contains, listed_place}
 use Rattle.sched_core.specs.Replay.{EndsAfter}
 use Rattle.sched_core.specs.Rules.{IsRun, stands}
-use Rattle.sched_core.specs.declared.end.End.{End}
-use Rattle.sched_core.specs.declared.end.Cause.TheVariants.{Limit}
 use Rattle.statebook.specs.declared.limits.Limits.{Limits}
 use Rattle.explore.specs.Found.{AreFound, IsListedMark}
-use Rattle.explore.specs.Ranked.{Closing, HandsOn, HandsOnAllTo, OfEach, WasHandedOn, pairs_of}
+use Rattle.explore.specs.Ranked.{Closing, HandsOn, HandsOnAllTo, WasHandedOn, pairs_of}
 use Rattle.explore.specs.declared.rank_marks.FoundMark.{FoundMark}
 use Rattle.explore.specs.declared.ranked_findings.RankedFindings.{RankedFindings}
 use Rattle.explore.specs.declared.ranked_findings.RankedStatus.TheVariants.{Exhausted}
@@ -21,14 +19,15 @@ use Rattle.vmodel.specs.Choices.{choices}
 use Rattle.vmodel.specs.Run.{Setting, rules_of, state_after, end_of}
 use Rattle.vmodel.specs.RulesLaws.{lawful}
 use Rattle.vmodel.specs.RunProgress.{width_is}
-use Rattle.vbits.specs.Vectors.{Vector}
 use Rattle.vmachine.specs.declared.machine_state.MachineState.{MachineState}
 use Rattle.vmachine.specs.Machines.{Stands, machine_rules, rank_of}
 use Rattle.vmachine.specs.Reads.{end_in}
-use Rattle.racebook.specs.Races.{IsRace, TwoRunsDiffer}
-use Rattle.racebook.specs.LineRaces.{IsLineRace, TwoRunsPrint}
-use Rattle.racebook.specs.InTime.{EachEnd, IsEndOfRun}
-use Rattle.racebook.specs.Inner.{AreEndsOf, GoesOn}
+use Rattle.racebook.specs.Races.{TwoRunsDiffer}
+use Rattle.racebook.specs.LineRaces.{TwoRunsPrint}
+use Rattle.racebook.specs.InTime.{EachEnd, IsClosed, IsEndOfRun}
+use Rattle.racebook.specs.Inner.{AreEndsOf, AreSlotStates}
+use Rattle.racebook.specs.declared.slot_state.SlotState.{SlotState}
+use Rattle.racebook.proofs.ClosedLemmas.{slot_time}
 use Rattle.racebook.proofs.FoundLemmas.{Alike, AllStand, AreEndsListed, HasVariables, MarkAlike, RunHere, RunThere, end_marked, lines_at, lines_found, races_at, races_found}
 use Rattle.racebook.proofs.InTimeLemmas.{RankIsTime, ended_here, told_where_ended}
 use Rattle.racebook.proofs.ListLemmas.{contains_at}
@@ -36,8 +35,10 @@ use Rattle.race_groups.specs.declared.collected.RaceGroups.{RaceGroups}
 use Rattle.race_groups.specs.declared.group.Difference.{Difference}
 use Rattle.race_groups.specs.declared.group.Difference.TheVariants.{Values, Lines, Ends}
 use Rattle.race_groups.specs.declared.group.Group.{Group}
-use Rattle.race_groups.specs.Found.{EachGroup, EndsAlike, HasFirstDifference, HasItsCause, IsDifference, NoneDiffer, NoneIsCut, TwoEndsDiffer}
-use Rattle.race_groups.specs.Inner.{AreGroupsOf, AreTold, AreUncut, CollectsGroups, IsCaused, IsShownBy, KeepsGroups, OfEnds, Shape, TellsEnds, Told, setting_of, shape_of, told, tolds_of}
+use Rattle.race_groups.specs.declared.group.Name.{Name}
+use Rattle.race_groups.specs.declared.group.Scope.{Scope}
+use Rattle.race_groups.specs.Found.{AllAreCounted, AllStandFor, EachGroup, EndsAlike, HasFirstDifference, HasItsCause, HasLogOfFirst, IsDifference, IsNameInOne, IsOfClosed, NoneDiffer, NoneIsCut, TwoEndsDiffer}
+use Rattle.race_groups.specs.Inner.{AreGroupsOf, AreTold, CollectsGroups, IsShownBy, KeepsGroups, Shape, TellsEnds, Told, setting_of, shape_of, told, tolds_of}
 use Rattle.race_groups.proofs.ListLemmas.{at_most_one, nothing_in, to_map}
 
 abbrev Pair : Type 0
@@ -67,8 +68,11 @@ record IsIn (setting : Setting) (closings : List (Closing MachineState)) (log : 
   rank_is : closing.rank ≡ (state_after setting log steps).queue.time
 
 module _ (setting : Setting) (alike : Alike setting) (all : AllStand setting) (there : RunThere setting) (here : RunHere setting) (mark_alike : MarkAlike setting) (wide : HasVariables setting) (ranked : RankIsTime setting)
-    (limits : Limits) (from : ℕ) (tolds : List Told) (ends : List (FoundMark MachineState)) (cut : Bool) (findings : RankedFindings)
-    (hands : HandsOn (machine_rules setting) limits (rank_of setting) (AreGroupsOf setting from tolds (pairs_of ends) cut) findings) where
+    (limits : Limits) (scope : Scope) (groups : List Group) (tolds : List Told) (ends : List (FoundMark MachineState)) (cut : Bool) (findings : RankedFindings)
+    (hands : HandsOn (machine_rules setting) limits (rank_of setting) (AreGroupsOf setting scope groups tolds (pairs_of ends) cut) findings) where
+  abbrev from : ℕ
+  from = scope.from
+
   abbrev state_of : List (ℕ × ℕ) → ℕ → State
   state_of log steps = state_after setting log steps
 
@@ -85,6 +89,43 @@ module _ (setting : Setting) (alike : Alike setting) (all : AllStand setting) (t
 
   pub told_first : (t : Told) → Contains tolds t → IsDifference setting limits t.first
   told_first t has = let o = hands.collected.firsts t has in shown_is o.closing.marks (hands.found o.place o.closing o.at) t.first o.shown
+
+  -- the time of what is seen of its marks was closed
+  closed_here : (i : ℕ) (c : Closing MachineState) → slice_get hands.closings i ≡ Some c → (gs : List SlotState) → AreSlotStates setting c.marks gs → (g : SlotState) → Contains gs g → IsClosed findings.closed g.time
+  closed_here i c at gs are g has =
+      let o = are.each g has in
+      let f = hands.found i c at o.place o.found o.at in
+      let t = state_of o.found.1 f.steps in
+      let st : Stands setting o.found.0 t = alike (stands (machine_rules setting) o.found.1 f.steps) o.found.0 t (all o.found.1 f.steps) f.at in
+      let is = slot_time setting o.found g c.rank o.of (t, st, sym (ranked o.found.0 t st) ∙ hands.ranks i c at o.place o.found o.at) in
+      let l = hands.last i c at in
+      let le = l.2 in
+      (l.0, l.1, omega (arith, is, le))
+
+  shown_closed : (i : ℕ) (c : Closing MachineState) → slice_get hands.closings i ≡ Some c → (d : Difference) → IsShownBy setting c.marks d → IsOfClosed findings.closed d
+  shown_closed i c at (Values race) (races, are, has) =
+      let p = at_contains races race has in
+      let r = are.all.each p.0 race p.1 in
+      let two = r.two in
+      let s = listed_place race.values 0 (omega arith) in
+      let seen = r.seen 0 s.0 s.1 in
+      subst (IsClosed findings.closed) seen.time_is (closed_here i c at are.slot_states are.are seen.slot_state seen.among)
+  shown_closed i c at (Lines race) (races, are, has) =
+      let p = at_contains races race has in
+      let r = are.all.each p.0 race p.1 in
+      let two = r.two in
+      let s = listed_place race.sides 0 (omega arith) in
+      let seen = r.seen 0 s.0 s.1 in
+      subst (IsClosed findings.closed) seen.time_is (closed_here i c at are.slot_states are.are seen.slot_state seen.among)
+  shown_closed i c at (Ends list) none = tt
+
+  pub told_closed : (t : Told) → Contains tolds t → IsOfClosed findings.closed t.first
+  told_closed t has = let o = hands.collected.firsts t has in shown_closed o.place o.closing o.at t.first o.shown
+
+  pub ends_are_told : (d : Difference) → TellsEnds ends d → IsOfClosed findings.closed d
+  ends_are_told (Values race) tells = absurd tells
+  ends_are_told (Lines race) tells = absurd tells
+  ends_are_told (Ends list) tells = tt
 
   -- a kept end is one
   end_is : (end : Pair) → Contains (pairs_of ends) end → IsEndOfRun setting limits end
@@ -195,31 +236,37 @@ module _ (setting : Setting) (alike : Alike setting) (all : AllStand setting) (t
         u.2 h.listed.found (among_ends log steps after h u.0 u.1) t (end_of t) h.stands_so (told_where_ended t (no_choice_left log steps after))
 
     module _ (after_from : (time : ℕ) → Within time → from ≤ time) where
-      no_values : tolds ≡ [] → (time variable : ℕ) → Within time → TwoRunsDiffer setting limits.depart time variable → ⊥
-      no_values none time variable within differ =
+      all_values : (time variable : ℕ) → Within time → TwoRunsDiffer setting limits.depart time variable → IsNameInOne groups hands.collected.all.rests (record { time = time; variable = Some variable })
+      all_values time variable within differ =
           let log = differ.shows_one.log in
           let steps = differ.shows_one.steps in
           let shown = differ.shows_one.shown in
           let time_is : time ≡ (state_after setting log steps).queue.time = sym shown.slot.time_is in
           let h = is_in log steps (handed log steps differ.shows_one.short shown.run (end_marked setting all mark_alike time shown.values log steps shown.slot) (subst Within time_is within)) in
           let late : from ≤ h.closing.rank = subst (λ (n : ℕ). from ≤ n) (time_is ∙ sym h.rank_is) (after_from time within) in
-          let shows = hands.collected.none none h.place h.closing h.at late in
-          let l = races_at setting limits.depart h.closing.marks shows.values.slot_states [] alike all wide time
+          let shows = hands.collected.all.shown h.place h.closing h.at late in
+          let l = races_at setting limits.depart h.closing.marks shows.values.slot_states shows.races alike all wide time
           (listed_in h.place h.closing h.at time within (h.rank_is ∙ sym time_is)) shows.values.are shows.values.all variable differ.one differ differ.shows_one in
-          absurd (let at = l.at in cc)
+          subst (λ (t : ℕ). IsNameInOne groups hands.collected.all.rests (record { time = t; variable = Some variable })) l.time_is
+          (subst (λ (v : ℕ). IsNameInOne groups hands.collected.all.rests (record { time = l.race.time; variable = Some v })) l.variable_is
+          (shows.each l.race (contains_at shows.races l.place l.race l.at)))
 
-      no_lines : tolds ≡ [] → (time : ℕ) → Within time → TwoRunsPrint setting limits.depart time → ⊥
-      no_lines none time within differ =
+      all_lines : (time : ℕ) → Within time → TwoRunsPrint setting limits.depart time → IsNameInOne groups hands.collected.all.rests (record { time = time; variable = None })
+      all_lines time within differ =
           let log = differ.prints_one.log in
           let steps = differ.prints_one.steps in
           let shown = differ.prints_one.shown in
           let time_is : time ≡ (state_after setting log steps).queue.time = sym shown.slot.time_is in
           let h = is_in log steps (handed log steps differ.prints_one.short shown.run (end_marked setting all mark_alike time shown.values log steps shown.slot) (subst Within time_is within)) in
           let late : from ≤ h.closing.rank = subst (λ (n : ℕ). from ≤ n) (time_is ∙ sym h.rank_is) (after_from time within) in
-          let shows = hands.collected.none none h.place h.closing h.at late in
-          let l = lines_at setting limits.depart h.closing.marks shows.lines.slot_states [] alike all wide time
+          let shows = hands.collected.all.shown h.place h.closing h.at late in
+          let l = lines_at setting limits.depart h.closing.marks shows.lines.slot_states shows.line_races alike all wide time
           (listed_in h.place h.closing h.at time within (h.rank_is ∙ sym time_is)) shows.lines.are shows.lines.all differ.one differ differ.prints_one in
-          absurd (let at = l.at in cc)
+          subst (λ (t : ℕ). IsNameInOne groups hands.collected.all.rests (record { time = t; variable = None })) l.time_is
+          (shows.each_line l.race (contains_at shows.line_races l.place l.race l.at))
+
+      pub all_counted : AllAreCounted setting limits.depart scope.names groups Within
+      all_counted = record { rests = hands.collected.all.rests; stand = hands.collected.all.stand; values = all_values; lines = all_lines }
 
       late_enough : (log : List (ℕ × ℕ)) (steps : ℕ) → Within (state_after setting log steps).queue.time → (h : IsIn setting hands.closings log steps) → from ≤ h.closing.rank
       late_enough log steps within h = subst (λ (n : ℕ). from ≤ n) (sym h.rank_is) (after_from (state_after setting log steps).queue.time within)
@@ -250,23 +297,57 @@ module _ (setting : Setting) (alike : Alike setting) (all : AllStand setting) (t
             alike_ends (state_after setting log steps) (state_after setting other others) (no_choice_left log steps after) (no_choice_left other others after') (s ∙ sym s')
       ]
 
-      pub none_differ : tolds ≡ [] → length (pairs_of ends) ≤ 1 → NoneDiffer setting limits.depart Within
-      none_differ none few = record { values = no_values none; lines = no_lines none; ends = all_ends few }
+      none_in : groups ≡ [] → (name : Name) → IsNameInOne groups hands.collected.all.rests name → ⊥
+      none_in none name is = absurd (let at = ap (λ (l : List Group). slice_get l is.0) (sym none) ∙ is.1.at in cc)
+
+      pub none_differ : groups ≡ [] → length (pairs_of ends) ≤ 1 → NoneDiffer setting limits.depart Within
+      none_differ none few = record {
+        values = λ time variable within differ. none_in none (record { time = time; variable = Some variable }) (all_values time variable within differ);
+        lines = λ time within differ. none_in none (record { time = time; variable = None }) (all_lines time within differ);
+        ends = all_ends few;
+      }
 
   -- ---- the clauses
 
   abbrev AllTo : ℕ → Type 0
   AllTo top = HandsOnAllTo (machine_rules setting) limits (rank_of setting) hands.closings top
 
-  pub told_to : tolds ≡ [] → length (pairs_of ends) ≤ 1 → IfSome findings.closed (λ top. NoneDiffer setting limits.depart (λ time. (from ≤ time) × (time ≤ top)))
-  told_to none few = IfSome_then findings.closed hands.covered (λ top covered. none_differ (λ time. (from ≤ time) × (time ≤ top)) (λ log steps short run mark within.
-      (let at = ranked (stands (machine_rules setting) log steps) (state_after setting log steps) (all log steps) in
-      let le = within.1 in
-      covered log steps short (here log steps run) mark (omega arith))) (λ time within. within.0) none few)
+  handed_to : (top : ℕ) → AllTo top → (log : List (ℕ × ℕ)) (steps : ℕ) → length log ≤ limits.depart → IsRun (rules_of setting) log steps → (machine_rules setting).mark (stands (machine_rules setting) log steps) ≡ true →
+      (state_after setting log steps).queue.time ≤ top → WasHandedOn (machine_rules setting) hands.closings (stands (machine_rules setting) log steps) (length log)
+  handed_to top covered log steps short run mark le =
+      let at = ranked (stands (machine_rules setting) log steps) (state_after setting log steps) (all log steps) in
+      covered log steps short (here log steps run) mark (omega arith)
 
-  pub told_throughout : tolds ≡ [] → length (pairs_of ends) ≤ 1 → findings.status ≡ Exhausted → NoneDiffer setting limits.depart (λ time. from ≤ time)
+  abbrev To : ℕ → ℕ → Type 0
+  To top time = (from ≤ time) × (time ≤ top)
+
+  pub told_to : groups ≡ [] → length (pairs_of ends) ≤ 1 → IfSome findings.closed (λ top. NoneDiffer setting limits.depart (λ time. (from ≤ time) × (time ≤ top)))
+  told_to none few = IfSome_then findings.closed hands.covered (λ top covered.
+      none_differ (To top) (λ log steps short run mark within. handed_to top covered log steps short run mark within.1) (λ time within. within.0) none few)
+
+  pub told_throughout : groups ≡ [] → length (pairs_of ends) ≤ 1 → findings.status ≡ Exhausted → NoneDiffer setting limits.depart (λ time. from ≤ time)
   told_throughout none few e =
       none_differ (λ time. from ≤ time) (λ log steps short run mark within. hands.exhausted e log steps short (here log steps run) mark) (λ time within. within) none few
+
+  pub all_to : IfSome findings.closed (λ top. AllAreCounted setting limits.depart scope.names groups (λ time. (from ≤ time) × (time ≤ top)))
+  all_to = IfSome_then findings.closed hands.covered (λ top covered.
+      all_counted (To top) (λ log steps short run mark within. handed_to top covered log steps short run mark within.1) (λ time within. within.0))
+
+  pub all_throughout : findings.status ≡ Exhausted → AllAreCounted setting limits.depart scope.names groups (λ time. from ≤ time)
+  all_throughout e = all_counted (λ time. from ≤ time) (λ log steps short run mark within. hands.exhausted e log steps short (here log steps run) mark) (λ time within. within)
+
+  -- the time at which a run ends is one that was closed, or one before
+  pub ends_closed : findings.status ≡ Exhausted → (log : List (ℕ × ℕ)) (steps : ℕ) → length log ≤ limits.depart → EndsAfter (rules_of setting) log steps →
+      (top : ℕ) × (findings.closed ≡ Some top) × ((state_after setting log steps).queue.time ≤ top)
+  ends_closed e log steps short after =
+      let Any : ℕ → Type 0 = λ time. ⊤ in
+      let given : (l : List (ℕ × ℕ)) (n : ℕ) → length l ≤ limits.depart → IsRun (rules_of setting) l n → (machine_rules setting).mark (stands (machine_rules setting) l n) ≡ true →
+      Any (state_after setting l n).queue.time → WasHandedOn (machine_rules setting) hands.closings (stands (machine_rules setting) l n) (length l) = λ l n less run mark within. hands.exhausted e l n less (here l n run) mark in
+      let h = end_in_one Any given log steps short after tt in
+      let last = hands.last h.place h.closing h.at in
+      let rank_is = h.rank_is in
+      let le = last.2 in
+      (last.0, last.1, omega (arith, rank_is, le))
 
   pub cuts_to : cut ≡ false → IfSome findings.closed (λ top. NoneIsCut setting limits.depart (λ time. time ≤ top))
   cuts_to none = IfSome_then findings.closed hands.covered (λ top covered. none_cut (λ time. time ≤ top) (λ log steps short run mark within.
@@ -277,15 +358,15 @@ module _ (setting : Setting) (alike : Alike setting) (all : AllStand setting) (t
   cuts_throughout none e = none_cut (λ time. ⊤) (λ log steps short run mark within. hands.exhausted e log steps short (here log steps run) mark) none
 
 -- what was handed on has made this of what is kept
-pub handed_so : (setting : Setting) (limits : Limits) (from : ℕ) (first now : RaceGroups) (findings : RankedFindings) → setting_of first ≡ setting → first.scope.from ≡ from → KeepsGroups setting from first [] →
+pub handed_so : (setting : Setting) (limits : Limits) (scope : Scope) (first now : RaceGroups) (findings : RankedFindings) → setting_of first ≡ setting → first.scope ≡ scope → KeepsGroups setting scope first [] →
     HandsOn (machine_rules setting) limits (rank_of setting) (λ closings. CollectsGroups first closings now) findings →
-    HandsOn (machine_rules setting) limits (rank_of setting) (AreGroupsOf setting from (tolds_of now.groups.items) (pairs_of now.ends.items) now.cut_runs) findings
-handed_so setting limits from first now findings is same none hands =
-    let P : Setting → ℕ → Type 0 = λ s f. KeepsGroups s f first [] → KeepsGroups s f now hands.closings in
-    let kept : P (setting_of first) first.scope.from = hands.collected.kept [] in
+    HandsOn (machine_rules setting) limits (rank_of setting) (AreGroupsOf setting scope now.groups.items (tolds_of now.groups.items) (pairs_of now.ends.items) now.cut_runs) findings
+handed_so setting limits scope first now findings is same none hands =
+    let P : Setting → Scope → Type 0 = λ s f. KeepsGroups s f first [] → KeepsGroups s f now hands.closings in
+    let kept : P (setting_of first) first.scope = hands.collected.kept [] in
     record {
       closings = hands.closings;
-      collected = subst (λ (s : Setting). P s from) is (subst (P (setting_of first)) same kept) none;
+      collected = subst (λ (s : Setting). P s scope) is (subst (P (setting_of first)) same kept) none;
       found = hands.found;
       ranks = hands.ranks;
       rise = hands.rise;
@@ -296,51 +377,87 @@ handed_so setting limits from first now findings is same none hands =
     }
 
 -- all that is told
-pub record IsTold (setting : Setting) (limits : Limits) (from : ℕ) (groups : List Group) (cut : Bool) (findings : RankedFindings) : Type 0 where
+pub record IsTold (setting : Setting) (limits : Limits) (scope : Scope) (groups : List Group) (cut : Bool) (findings : RankedFindings) : Type 0 where
   pub cause : EachGroup (HasItsCause setting) groups
   pub first : EachGroup (HasFirstDifference setting limits) groups
-  pub none : groups ≡ [] → IfSome findings.closed (λ top. NoneDiffer setting limits.depart (λ time. (from ≤ time) × (time ≤ top)))
-  pub exhausted : groups ≡ [] → findings.status ≡ Exhausted → NoneDiffer setting limits.depart (λ time. from ≤ time)
+  pub log : EachGroup HasLogOfFirst groups
+  pub all : IfSome findings.closed (λ top. AllAreCounted setting limits.depart scope.names groups (λ time. (scope.from ≤ time) × (time ≤ top)))
+  pub all_exhausted : findings.status ≡ Exhausted → AllAreCounted setting limits.depart scope.names groups (λ time. scope.from ≤ time)
+  pub none : groups ≡ [] → IfSome findings.closed (λ top. NoneDiffer setting limits.depart (λ time. (scope.from ≤ time) × (time ≤ top)))
+  pub exhausted : groups ≡ [] → findings.status ≡ Exhausted → NoneDiffer setting limits.depart (λ time. scope.from ≤ time)
+  pub of_closed : EachGroup (λ group. IsOfClosed findings.closed group.first) groups
+  pub closed : findings.status ≡ Exhausted → (log : List (ℕ × ℕ)) (steps : ℕ) → length log ≤ limits.depart → EndsAfter (rules_of setting) log steps →
+      (top : ℕ) × (findings.closed ≡ Some top) × ((state_after setting log steps).queue.time ≤ top)
   pub cuts : cut ≡ false → IfSome findings.closed (λ top. NoneIsCut setting limits.depart (λ time. time ≤ top))
   pub cuts_exhausted : cut ≡ false → findings.status ≡ Exhausted → NoneIsCut setting limits.depart (λ time. ⊤)
 
 module _ (setting : Setting) (alike : Alike setting) (all : AllStand setting) (there : RunThere setting) (here : RunHere setting) (mark_alike : MarkAlike setting) (wide : HasVariables setting) (ranked : RankIsTime setting)
-    (limits : Limits) (from : ℕ) (kept : RaceGroups) (findings : RankedFindings)
-    (hands : HandsOn (machine_rules setting) limits (rank_of setting) (AreGroupsOf setting from (tolds_of kept.groups.items) (pairs_of kept.ends.items) kept.cut_runs) findings)
-    (groups : List Group) (tells : AreTold setting kept groups) where
+    (limits : Limits) (scope : Scope) (kept : RaceGroups) (findings : RankedFindings)
+    (hands : HandsOn (machine_rules setting) limits (rank_of setting) (AreGroupsOf setting scope kept.groups.items (tolds_of kept.groups.items) (pairs_of kept.ends.items) kept.cut_runs) findings)
+    (groups : List Group) (names_are : kept.scope.names ≡ scope.names) (tells : AreTold setting kept groups) where
   abbrev tolds : List Told
   tolds = tolds_of kept.groups.items
 
   abbrev ends : List (FoundMark MachineState)
   ends = kept.ends.items
 
-  no_told : groups ≡ [] → tolds ≡ []
-  no_told none = ap tolds_of (tells.none none).0
+  no_told : groups ≡ [] → kept.groups.items ≡ []
+  no_told none = (tells.none none).0
+
+  -- what the groups that were kept count, those that are told do
+  told_counted : (Within : ℕ → Type 0) → AllAreCounted setting limits.depart scope.names kept.groups.items Within → AllAreCounted setting limits.depart scope.names groups Within
+  told_counted Within all_in = elim tells.whole [
+    | inl same ↦ subst (λ (l : List Group). AllAreCounted setting limits.depart scope.names l Within) (sym same) all_in
+    | inr (none, alone) ↦ record {
+      rests = λ place. [];
+      stand = subst (λ (n : ℕ). AllStandFor n groups (λ place. [])) names_are alone;
+      values = λ time variable within differ. absurd (let is = all_in.values time variable within differ in let at = ap (λ (l : List Group). slice_get l is.0) (sym none) ∙ is.1.at in cc);
+      lines = λ time within differ. absurd (let is = all_in.lines time within differ in let at = ap (λ (l : List Group). slice_get l is.0) (sym none) ∙ is.1.at in cc);
+    }
+  ]
 
   few : groups ≡ [] → length (pairs_of ends) ≤ 1
   few none = let e : length (pairs_of ends) ≡ length ends = length-map ends (λ (f : FoundMark MachineState). (f.state, f.log)) in let le = (tells.none none).1 in omega arith
 
   its_cause : EachGroup (HasItsCause setting) groups
   its_cause i group at = elim (tells.each group (contains_at groups i group at)) [
-    | inl old ↦ hands.collected.causes (told group) (to_map told kept.groups.items group old)
-    | inr new ↦ new.1.caused
+    | inl old ↦ (hands.collected.causes (told group) (to_map told kept.groups.items group old)).0
+    | inr new ↦ new.1.caused.0
+  ]
+
+  its_log : EachGroup HasLogOfFirst groups
+  its_log i group at = elim (tells.each group (contains_at groups i group at)) [
+    | inl old ↦ (hands.collected.causes (told group) (to_map told kept.groups.items group old)).1
+    | inr new ↦ new.1.caused.1
   ]
 
   its_first : EachGroup (HasFirstDifference setting limits) groups
   its_first i group at = elim (tells.each group (contains_at groups i group at)) [
-    | inl old ↦ told_first setting alike all there here mark_alike wide ranked limits from tolds ends kept.cut_runs findings hands (told group) (to_map told kept.groups.items group old)
+    | inl old ↦ told_first setting alike all there here mark_alike wide ranked limits scope kept.groups.items tolds ends kept.cut_runs findings hands (told group) (to_map told kept.groups.items group old)
     | inr new ↦
         let e : length (pairs_of ends) ≡ length ends = length-map ends (λ (f : FoundMark MachineState). (f.state, f.log)) in
         let two = new.0 in
-        told_ends setting alike all there here mark_alike wide ranked limits from tolds ends kept.cut_runs findings hands group.first new.1.tells (omega arith)
+        told_ends setting alike all there here mark_alike wide ranked limits scope kept.groups.items tolds ends kept.cut_runs findings hands group.first new.1.tells (omega arith)
   ]
 
-  pub is_told : IsTold setting limits from groups kept.cut_runs findings
+  its_time : EachGroup (λ group. IsOfClosed findings.closed group.first) groups
+  its_time i group at = elim (tells.each group (contains_at groups i group at)) [
+    | inl old ↦ told_closed setting alike all there here mark_alike wide ranked limits scope kept.groups.items tolds ends kept.cut_runs findings hands (told group) (to_map told kept.groups.items group old)
+    | inr new ↦ ends_are_told setting alike all there here mark_alike wide ranked limits scope kept.groups.items tolds ends kept.cut_runs findings hands group.first new.1.tells
+  ]
+
+  pub is_told : IsTold setting limits scope groups kept.cut_runs findings
   is_told = record {
     cause = its_cause;
     first = its_first;
-    none = λ e. told_to setting alike all there here mark_alike wide ranked limits from tolds ends kept.cut_runs findings hands (no_told e) (few e);
-    exhausted = λ e. told_throughout setting alike all there here mark_alike wide ranked limits from tolds ends kept.cut_runs findings hands (no_told e) (few e);
-    cuts = cuts_to setting alike all there here mark_alike wide ranked limits from tolds ends kept.cut_runs findings hands;
-    cuts_exhausted = cuts_throughout setting alike all there here mark_alike wide ranked limits from tolds ends kept.cut_runs findings hands;
+    log = its_log;
+    all = IfSome_then findings.closed (all_to setting alike all there here mark_alike wide ranked limits scope kept.groups.items tolds ends kept.cut_runs findings hands)
+        (λ top. told_counted (λ time. (scope.from ≤ time) × (time ≤ top)));
+    all_exhausted = λ e. told_counted (λ time. scope.from ≤ time) (all_throughout setting alike all there here mark_alike wide ranked limits scope kept.groups.items tolds ends kept.cut_runs findings hands e);
+    of_closed = its_time;
+    closed = ends_closed setting alike all there here mark_alike wide ranked limits scope kept.groups.items tolds ends kept.cut_runs findings hands;
+    none = λ e. told_to setting alike all there here mark_alike wide ranked limits scope kept.groups.items tolds ends kept.cut_runs findings hands (no_told e) (few e);
+    exhausted = λ e. told_throughout setting alike all there here mark_alike wide ranked limits scope kept.groups.items tolds ends kept.cut_runs findings hands (no_told e) (few e);
+    cuts = cuts_to setting alike all there here mark_alike wide ranked limits scope kept.groups.items tolds ends kept.cut_runs findings hands;
+    cuts_exhausted = cuts_throughout setting alike all there here mark_alike wide ranked limits scope kept.groups.items tolds ends kept.cut_runs findings hands;
   }

@@ -1,5 +1,7 @@
 pub mod ListLemmas
 pub mod AddsLemmas
+pub mod CountLemmas
+pub mod SideLemmas
 pub mod SumLemmas
 pub mod KeptLemmas
 pub mod FoundLemmas

@@ -2,7 +2,7 @@
 use Rattle.std.specs.Prelude.{Decides, option_map}
 use Rattle.std.specs.Bool.{MatchBool}
 use Rattle.std.proofs.lemmas.Bool.Decides.{Decides-like}
-use Rattle.std.proofs.Common.{◌≡◌, ◌&&◌, Bool, true, false, Option, ℕ, ◌<◌, ◌≤◌, ◌⊎◌, List, [], ◌∷◌, ◌++◌, length, map, drop, slice_get, Some, refl, sym, ap, ◌∙◌, subst, inl, inr, append-nil, append_assoc, arith}
+use Rattle.std.proofs.Common.{◌≡◌, ◌&&◌, Bool, true, false, Option, ℕ, ◌<◌, ◌≤◌, List, [], ◌∷◌, ◌++◌, length, drop, slice_get, Some, refl, sym, ap, ◌∙◌, subst, inl, inr, append-nil, append_assoc, arith}
 use Rattle.std.specs.List.{Contains}
 use Rattle.std.proofs.lemmas.List.{map-append}
 use Rattle.std.proofs.lemmas.List.Elements.{Contains-append_cases, Contains-append_left, Contains-append_right, Contains-push_cases}
@@ -17,7 +17,7 @@ use Rattle.vmachine.specs.Reads.{end_in}
 use Rattle.vbits.specs.Vectors.{Vector}
 use Rattle.sched_core.specs.declared.end.End.{End}
 use Rattle.std.proofs.lemmas.Option.{same_Some}
-use Rattle.race_groups.specs.Inner.{AllAlike, AreAlike, AreUncut, AreUnlike, FirstTwoUnlike, GrowsTo, IsUncut, Shape, SumsUp, shape_of}
+use Rattle.race_groups.specs.Inner.{AreAlike, AreUncut, AreUnlike, GrowsTo, IsUncut, Shape, SumsUp, shape_of}
 use Rattle.race_groups.proofs.ListLemmas.{from_map, front_of_one, none_in_front, nothing_in}
 
 abbrev Pair : Type 0

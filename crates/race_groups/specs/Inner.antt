@@ -1,5 +1,5 @@
 -- *internal*: Words for the contracts of calls within: what is kept of closed slots, group by group.
-use Rattle.std.specs.Prelude.{◌≡◌, ◌≢◌, Bool, false, ℕ, ◌<◌, ◌≤◌, ◌⊎◌, List, [], ◌∷◌, ◌++◌, length, map, slice_get, Option, Some, IfSome}
+use Rattle.std.specs.Prelude.{◌≡◌, ◌≢◌, Bool, false, ℕ, ◌+◌, ◌<◌, ◌≤◌, ◌⊎◌, List, [], ◌∷◌, ◌++◌, length, map, slice_get, min, Option, Some, None, IfSome}
 use Rattle.std.specs.List.{Contains}
 use Rattle.std.proofs.Common.{append-nil, refl, subst, sym}
 use Rattle.sched_core.specs.declared.end.End.{End}
@@ -24,6 +24,9 @@ use Rattle.race_groups.specs.declared.collected.RaceGroups.{RaceGroups}
 use Rattle.race_groups.specs.declared.group.Difference.{Difference}
 use Rattle.race_groups.specs.declared.group.Difference.TheVariants.{Values, Lines, Ends}
 use Rattle.race_groups.specs.declared.group.Group.{Group}
+use Rattle.race_groups.specs.declared.group.Name.{Name}
+use Rattle.race_groups.specs.declared.group.Scope.{Scope}
+use Rattle.race_groups.specs.Found.{AllStandFor, IsLogOf, IsNameIn, IsNameInOne, name_of}
 
 -- ---- groups
 
@@ -39,9 +42,9 @@ told group = record { cause = group.cause; log = group.log; first = group.first 
 abbrev pub tolds_of : List Group → List Told
 tolds_of groups = map told groups
 
--- its cause, where it has one, is that of its log
+-- its cause, where it has one, is that of its log, and this is one of its first difference
 abbrev pub IsCaused : Setting → Told → Type 0
-IsCaused setting t = IfSome t.cause (IsCause setting t.log)
+IsCaused setting t = IfSome t.cause (IsCause setting t.log) × IsLogOf t.first t.log
 
 -- a log belongs to the group at a place, or to none, with its cause
 abbrev pub IsPlaced : Setting → ℕ → List (ℕ × ℕ) → Placed → Type 0
@@ -54,6 +57,63 @@ pub record Adds (setting : Setting) (P : Difference → Type 0) (old new : List 
   pub is : new ≡ old ++ more
   pub causes : (t : Told) → Contains more t → IsCaused setting t
   pub firsts : (t : Told) → Contains more t → P t.first
+
+-- ---- logs
+
+-- the side's log names a departure
+abbrev pub IsDeparted : List (List (ℕ × ℕ)) → ℕ → List (ℕ × ℕ) → Type 0
+IsDeparted logs side log = (slice_get logs side ≡ Some log) × (log ≢ [])
+
+-- the log of the side, if there is one, names none
+abbrev pub IsDefault : List (List (ℕ × ℕ)) → ℕ → Type 0
+IsDefault logs side = (log : List (ℕ × ℕ)) → slice_get logs side ≡ Some log → log ≡ []
+
+-- so it is of the first so many
+abbrev pub AreDefault : List (List (ℕ × ℕ)) → ℕ → Type 0
+AreDefault logs count = (side : ℕ) → side < count → IsDefault logs side
+
+-- ---- what groups count
+
+-- one difference more follows the group's first
+pub record Follows (names : ℕ) (name : Name) (old new : Group) : Type 0 where
+  pub told : told new ≡ told old
+  pub room : length old.next.items < names → new.next.items ≡ old.next.items ++ name ∷ []
+  pub full : names ≤ length old.next.items → new.next.items ≡ old.next.items
+  pub more : new.more ≡ min (old.more + 1) 18446744073709551615
+  pub last : new.last ≡ name.time
+
+pub record IsUntouched (old new : Group) : Type 0 where
+  pub told : told new ≡ told old
+  pub next : new.next.items ≡ old.next.items
+  pub more : new.more ≡ old.more
+  pub last : new.last ≡ old.last
+
+-- the groups stood for these, and stand for them and more: also for those that are new
+pub record StandsForMore (names : ℕ) (IsNew : Name → Type 0) (old : List Group) (before : ℕ → List Name) (new : List Group) : Type 0 where
+  pub after : ℕ → List Name
+  pub stand : AllStandFor names new after
+  pub still : (place : ℕ) (name : Name) → IsNameIn old before place name → IsNameIn new after place name
+  pub named : (name : Name) → IsNew name → IsNameInOne new after name
+
+-- so it is, whatever they stood for
+abbrev pub Counts : ℕ → (Name → Type 0) → List Group → List Group → Type 0
+Counts names IsNew old new = (before : ℕ → List Name) → AllStandFor names old before → StandsForMore names IsNew old before new
+
+abbrev pub NoName : Name → Type 0
+NoName name = ⊥
+
+-- one of the first so many has this name
+pub record IsNamedIn {R : Type 0} (difference : R → Difference) (races : List R) (count : ℕ) (name : Name) : Type 0 where
+  pub place : ℕ
+  pub race : R
+  pub within : place < count
+  pub at : slice_get races place ≡ Some race
+  pub is : name_of (difference race) ≡ Some name
+
+-- a slot gave a difference of this name
+abbrev pub IsNamedInSlot : FoundInSlot → Name → Type 0
+IsNamedInSlot found name = IsNamedIn Values found.races.items (length found.races.items) name
+    ⊎ IsNamedIn Lines found.line_races.items (length found.line_races.items) name
 
 abbrev pub setting_of : RaceGroups → Setting
 setting_of kept = kept.causes.checkpoints
@@ -112,18 +172,19 @@ differences_in found = map Values found.races.items ++ map Lines found.line_race
 -- all that a slot gave was taken
 pub record TakesAll (found : FoundInSlot) (old new : RaceGroups) : Type 0 where
   pub machine : setting_of new ≡ setting_of old
-  pub from : new.scope.from ≡ old.scope.from
+  pub scope : new.scope ≡ old.scope
   pub cut : new.cut_runs ≡ old.cut_runs
   pub adds : Adds (setting_of old) (Contains (differences_in found)) (tolds_of old.groups.items) (tolds_of new.groups.items)
-  pub none : new.groups.items ≡ [] → differences_in found ≡ []
+  pub counts : Counts old.scope.names (IsNamedInSlot found) old.groups.items new.groups.items
   pub ends : SumsUp (setting_of old) (pairs_of found.ends.items) (pairs_of old.ends.items) (pairs_of new.ends.items)
 
 -- what a slot gave was taken: from the scope's time on
 pub record TakesSlot (time : ℕ) (found : FoundInSlot) (old new : RaceGroups) : Type 0 where
   pub machine : setting_of new ≡ setting_of old
-  pub from : new.scope.from ≡ old.scope.from
+  pub scope : new.scope ≡ old.scope
   pub adds : Adds (setting_of old) (Contains (differences_in found)) (tolds_of old.groups.items) (tolds_of new.groups.items)
-  pub none : old.scope.from ≤ time → new.groups.items ≡ [] → differences_in found ≡ []
+  pub still : Counts old.scope.names NoName old.groups.items new.groups.items
+  pub counts : old.scope.from ≤ time → Counts old.scope.names (IsNamedInSlot found) old.groups.items new.groups.items
   pub before : time < old.scope.from → new.ends.items ≡ old.ends.items
   pub ends : old.scope.from ≤ time → SumsUp (setting_of old) (pairs_of found.ends.items) (pairs_of old.ends.items) (pairs_of new.ends.items)
   pub cut : new.cut_runs ≡ false → (old.cut_runs ≡ false) × AreUncut (setting_of old) (pairs_of found.ends.items)
@@ -131,16 +192,18 @@ pub record TakesSlot (time : ℕ) (found : FoundInSlot) (old new : RaceGroups) :
 -- what is new stands behind what there was
 pub record GrowsBehind (old new : RaceGroups) : Type 0 where
   pub machine : setting_of new ≡ setting_of old
-  pub from : new.scope.from ≡ old.scope.from
+  pub scope : new.scope ≡ old.scope
   pub groups : GrowsTo (tolds_of old.groups.items) (tolds_of new.groups.items)
+  pub counts : Counts old.scope.names NoName old.groups.items new.groups.items
   pub ends : GrowsTo old.ends.items new.ends.items
   pub cut : new.cut_runs ≡ false → old.cut_runs ≡ false
 
 -- no more is kept than was
 pub record StaysSo (old new : RaceGroups) : Type 0 where
   pub machine : setting_of new ≡ setting_of old
-  pub from : new.scope.from ≡ old.scope.from
+  pub scope : new.scope ≡ old.scope
   pub groups : tolds_of new.groups.items ≡ tolds_of old.groups.items
+  pub counts : Counts old.scope.names NoName old.groups.items new.groups.items
   pub ends : new.ends.items ≡ old.ends.items
   pub cut : new.cut_runs ≡ false → old.cut_runs ≡ false
 
@@ -165,10 +228,14 @@ pub record IsEndOfSome (setting : Setting) (closings : List (Closing MachineStat
   pub among : Contains closing.marks end
   pub ended : HasEnded setting end.0
 
--- the marks show no difference
-pub record ShowsNone (setting : Setting) (marks : List (MachineState × List (ℕ × ℕ))) : Type 0 where
-  pub values : AreRacesOf setting marks []
-  pub lines : AreLineRacesOf setting marks []
+-- each difference that the marks show has its name here
+pub record ShowsNamed (setting : Setting) (IsHere : Name → Type 0) (marks : List (MachineState × List (ℕ × ℕ))) : Type 0 where
+  pub races : List Race
+  pub line_races : List LineRace
+  pub values : AreRacesOf setting marks races
+  pub lines : AreLineRacesOf setting marks line_races
+  pub each : (race : Race) → Contains races race → IsHere (record { time = race.time; variable = Some race.variable })
+  pub each_line : (race : LineRace) → Contains line_races race → IsHere (record { time = race.time; variable = None })
 
 -- the marks in which runs end are so
 abbrev pub OfEnds : Setting → List (MachineState × List (ℕ × ℕ)) → (List (MachineState × List (ℕ × ℕ)) → Type 0) → Type 0
@@ -178,36 +245,49 @@ OfEnds setting marks P = (ends : List (MachineState × List (ℕ × ℕ))) × Ar
 abbrev pub OfEachFrom : ℕ → List (Closing MachineState) → (List (MachineState × List (ℕ × ℕ)) → Type 0) → Type 0
 OfEachFrom from closings P = OfEach closings (λ c. from ≤ c.rank → P c.marks)
 
+-- from this time on each difference that the marks of a closing show is in a group
+pub record HaveAllOf (setting : Setting) (scope : Scope) (groups : List Group) (closings : List (Closing MachineState)) : Type 0 where
+  pub rests : ℕ → List Name
+  pub stand : AllStandFor scope.names groups rests
+  pub shown : OfEachFrom scope.from closings (ShowsNamed setting (IsNameInOne groups rests))
+
 -- what is kept of closings
-pub record AreGroupsOf (setting : Setting) (from : ℕ) (tolds : List Told) (kept : List (MachineState × List (ℕ × ℕ))) (cut : Bool) (closings : List (Closing MachineState)) : Type 0 where
+pub record AreGroupsOf (setting : Setting) (scope : Scope) (groups : List Group) (tolds : List Told)
+    (kept : List (MachineState × List (ℕ × ℕ))) (cut : Bool) (closings : List (Closing MachineState)) : Type 0 where
   pub causes : (t : Told) → Contains tolds t → IsCaused setting t
   pub firsts : (t : Told) → Contains tolds t → IsOfSome setting closings t.first
-  pub none : tolds ≡ [] → OfEachFrom from closings (ShowsNone setting)
+  pub all : HaveAllOf setting scope groups closings
   pub ends : (end : MachineState × List (ℕ × ℕ)) → Contains kept end → IsEndOfSome setting closings end
-  pub no_end : kept ≡ [] → OfEachFrom from closings (λ marks. AreEndsOf setting marks [])
+  pub no_end : kept ≡ [] → OfEachFrom scope.from closings (λ marks. AreEndsOf setting marks [])
   pub alike : (one : MachineState × List (ℕ × ℕ)) → kept ≡ one ∷ [] →
-      OfEachFrom from closings (λ marks. OfEnds setting marks (λ ends. AllAlike setting ends one))
+      OfEachFrom scope.from closings (λ marks. OfEnds setting marks (λ ends. AllAlike setting ends one))
   pub unlike : FirstTwoUnlike setting kept
   pub uncut : cut ≡ false → OfEach closings (λ c. OfEnds setting c.marks (AreUncut setting))
 
-abbrev pub KeepsGroups : Setting → ℕ → RaceGroups → List (Closing MachineState) → Type 0
-KeepsGroups setting from kept closings = AreGroupsOf setting from (tolds_of kept.groups.items) (pairs_of kept.ends.items) kept.cut_runs closings
+abbrev pub KeepsGroups : Setting → Scope → RaceGroups → List (Closing MachineState) → Type 0
+KeepsGroups setting scope kept closings =
+    AreGroupsOf setting scope kept.groups.items (tolds_of kept.groups.items) (pairs_of kept.ends.items) kept.cut_runs closings
 
 -- what collecting these closings makes of groups that kept what there was before
 pub record CollectsGroups (first : RaceGroups) (closings : List (Closing MachineState)) (now : RaceGroups) : Type 0 where
   pub machine : setting_of now ≡ setting_of first
-  pub from : now.scope.from ≡ first.scope.from
-  pub kept : (before : List (Closing MachineState)) → KeepsGroups (setting_of first) first.scope.from first before →
-      KeepsGroups (setting_of first) first.scope.from now (before ++ closings)
+  pub scope : now.scope ≡ first.scope
+  pub kept : (before : List (Closing MachineState)) → KeepsGroups (setting_of first) first.scope first before →
+      KeepsGroups (setting_of first) first.scope now (before ++ closings)
 
 pub collects_nothing : (kept : RaceGroups) → CollectsGroups kept [] kept
 collects_nothing kept = record {
   machine = refl;
-  from = refl;
-  kept = λ before so. subst (KeepsGroups (setting_of kept) kept.scope.from kept) (sym (append-nil before)) so;
+  scope = refl;
+  kept = λ before so. subst (KeepsGroups (setting_of kept) kept.scope kept) (sym (append-nil before)) so;
 }
 
 -- ---- what is told
+
+-- the log of one of these that names a departure; or none that does, as none of these does
+abbrev pub IsLogOfEnds : List (MachineState × List (ℕ × ℕ)) → List (ℕ × ℕ) → Type 0
+IsLogOfEnds ends log = (Contains (map (λ end. end.1) ends) log × (log ≢ []))
+    ⊎ ((log ≡ []) × ((other : List (ℕ × ℕ)) → Contains (map (λ end. end.1) ends) other → other ≡ []))
 
 -- these ends are the difference
 abbrev pub TellsEnds : List (FoundMark MachineState) → Difference → Type 0
@@ -218,10 +298,13 @@ TellsEnds ends (Ends list) = list.items ≡ ends
 -- the group tells them, with their cause
 pub record IsGroupOfEnds (setting : Setting) (ends : List (FoundMark MachineState)) (group : Group) : Type 0 where
   pub caused : IsCaused setting (told group)
+  pub next : group.next.items ≡ []
+  pub more : group.more ≡ 0
   pub tells : TellsEnds ends group.first
 
 -- the groups that were kept, or, where there is none and two ends aren't alike, a group of these
 pub record AreTold (setting : Setting) (kept : RaceGroups) (groups : List Group) : Type 0 where
   pub none : groups ≡ [] → (kept.groups.items ≡ []) × (length kept.ends.items ≤ 1)
+  pub whole : (groups ≡ kept.groups.items) ⊎ ((kept.groups.items ≡ []) × AllStandFor kept.scope.names groups (λ place. []))
   pub each : (group : Group) → Contains groups group →
       Contains kept.groups.items group ⊎ ((1 < length kept.ends.items) × IsGroupOfEnds setting kept.ends.items group)

@@ -47,8 +47,8 @@ impl<'m> RaceGroups<'m> {
         scope: &Scope,
     ) -> RaceGroups<'m>
         ensures machine { setting_of result ≡ machine.now }
-        ensures from { result.scope.from ≡ scope.now.from }
-        ensures none { KeepsGroups machine.now scope.now.from result [] }
+        ensures scope { result.scope ≡ scope.now }
+        ensures none { KeepsGroups machine.now scope.now result [] }
     {
         RaceGroups {
             causes: Causes::new(alloc, machine, limits.steps),
@@ -97,7 +97,7 @@ impl<'m> RaceGroups<'m> {
     // No more than so many groups and ends.
     fn forget_behind(&mut self, groups: usize, ends: usize)
         ensures machine { setting_of self.new ≡ setting_of self.old }
-        ensures from { self.new.scope.from ≡ self.old.scope.from }
+        ensures scope { self.new.scope ≡ self.old.scope }
         ensures groups { self.new.groups.items ≡ take groups self.old.groups.items }
         ensures ends { self.new.ends.items ≡ take ends self.old.ends.items }
         ensures cut { self.new.cut_runs ≡ self.old.cut_runs }

@@ -1,10 +1,10 @@
 // A search for races, by time.
 
 ghost use Rattle.std.specs.Prelude.{IfOk};
-ghost use Rattle.explore.specs.Ranked.{TellsOfEntries, TellsOfSteps, TellsOfStop};
+ghost use Rattle.explore.specs.Ranked.{pairs_of, TellsOfEntries, TellsOfSteps, TellsOfStop};
 ghost use Rattle.vmachine.specs.Machines.{machine_rules};
-ghost use Rattle.race_groups.specs.Found.{EachGroup, HasFirstDifference, HasItsCause, TellsOfCuts, TellsOfCutsThroughout, TellsOfNone, TellsOfNoneThroughout};
-ghost use Rattle.race_groups.specs.Inner.{AreTold, IsGroupOfEnds, setting_of};
+ghost use Rattle.race_groups.specs.Found.{ClosesAllEnds, EachGroup, HasFirstDifference, HasItsCause, HasLogOfFirst, TellsOfAll, TellsOfAllThroughout, TellsOfClosed, TellsOfCuts, TellsOfCutsThroughout, TellsOfNone, TellsOfNoneThroughout};
+ghost use Rattle.race_groups.specs.Inner.{AreTold, IsGroupOfEnds, IsLogOfEnds, setting_of};
 
 use crate::causes::{Causes, Placed};
 use crate::collected::RaceGroups;
@@ -18,7 +18,9 @@ use vmachine::{Machine, MachineState, machine_law};
 use vmodel::run_law;
 
 // The log of the first that has departures.
-fn departed_log(alloc: Global, ends: &[FoundMark<MachineState>]) -> Result<Log, NoMemory> {
+fn departed_log(alloc: Global, ends: &[FoundMark<MachineState>]) -> Result<Log, NoMemory>
+    ensures { IfOk result (λ log. IsLogOfEnds (pairs_of ends.now) log) }
+{
     for found in ends {
         if !found.log.members().is_empty() {
             return found.log.copy();
@@ -73,7 +75,9 @@ fn groups_told(found: RaceGroups) -> Result<Vec<Group>, NoMemory>
 /// are to blame. Of each group it keeps the first difference; the rest is counted, and named as far as the scope says. So the memory
 /// that it takes doesn't grow with the length of the runs, nor with the differences that one cause explains.
 ///
-/// However the search ended: where it tells no group, no two runs within the limit of departures differ at the end of a slot up to
+/// However the search ended: wherever two runs within the limit of departures differ in a variable at the end of a slot, or in the
+/// lines that a slot printed, from the time `scope.from` on and up to the time `search.closed`, a group counts it. Where the search is
+/// exhausted, so it is at every time, and no run ends later than that. Where it tells no group, no two runs within the limit of departures differ at the end of a slot up to
 /// the time `search.closed`, none print other lines there, and all that end do so alike; where the search is exhausted, at no time at
 /// all. What is before `scope.from` is left out.
 pub fn find_races<W: Watcher>(
@@ -85,8 +89,13 @@ pub fn find_races<W: Watcher>(
 ) -> Result<Races, NoMemory>
     ensures cause { IfOk result (λ races. EachGroup (HasItsCause machine.now) races.groups.items) }
     ensures first { IfOk result (λ races. EachGroup (HasFirstDifference machine.now limits.now) races.groups.items) }
+    ensures log { IfOk result (λ races. EachGroup HasLogOfFirst races.groups.items) }
+    ensures all { IfOk result (TellsOfAll machine.now limits.now scope.now) }
+    ensures all_exhausted { IfOk result (TellsOfAllThroughout machine.now limits.now scope.now) }
     ensures none { IfOk result (TellsOfNone machine.now limits.now scope.now) }
     ensures exhausted { IfOk result (TellsOfNoneThroughout machine.now limits.now scope.now) }
+    ensures of_closed { IfOk result TellsOfClosed }
+    ensures closed { IfOk result (ClosesAllEnds machine.now limits.now) }
     ensures cuts { IfOk result (TellsOfCuts machine.now limits.now) }
     ensures cuts_exhausted { IfOk result (TellsOfCutsThroughout machine.now limits.now) }
     ensures entries { IfOk result (λ races. TellsOfEntries (machine_rules machine.now) limits.now races.search) }

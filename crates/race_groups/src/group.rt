@@ -1,7 +1,7 @@
 // What is told of races: differences, by their causes.
 
-ghost use Rattle.std.specs.Prelude.{◌≡◌};
-ghost use Rattle.race_groups.specs.Inner.{told};
+ghost use Rattle.std.specs.Prelude.{OnErr, OnOk};
+ghost use Rattle.race_groups.specs.Inner.{Follows, IsUntouched};
 ghost use Rattle.race_groups.specs.Times.{IsTimeOf, IsTimeOfEnds};
 
 use basis::NoMemory;
@@ -97,7 +97,8 @@ impl Difference {
 impl Group {
     /// One difference more.
     pub(crate) fn follow(&mut self, name: Name, names: usize) -> Result<(), NoMemory>
-        ensures { told self.new ≡ told self.old }
+        ensures ok { OnOk result (Follows names name self.old self.new) }
+        ensures err { OnErr result (IsUntouched self.old self.new) }
     {
         if self.next.len() < names {
             self.next.push(name)?;

@@ -1,10 +1,11 @@
 // Differences are put into groups.
 
-ghost use Rattle.std.specs.Prelude.{◌≡◌, ◌<◌, [], IfOk, IfSome, OnOk, length, map, true};
+ghost use Rattle.std.specs.Prelude.{◌≡◌, ◌<◌, ℕ, IfOk, IfSome, OnOk, Some, false, length, map, true};
 ghost use Rattle.std.specs.List.{Contains};
 ghost use Rattle.vmodel.specs.Run.{Setting};
 ghost use Rattle.cause.specs.Causes.{IsCause};
-ghost use Rattle.race_groups.specs.Inner.{Adds, tolds_of};
+ghost use Rattle.race_groups.specs.Found.{IsLogOf, logs_of, name_of};
+ghost use Rattle.race_groups.specs.Inner.{Adds, Counts, IsDefault, IsNamedIn, NoName, tolds_of};
 
 use crate::causes::{Causes, Placed};
 use crate::group::{Group, Name};
@@ -19,14 +20,15 @@ use std::alloc::Global;
 fn follow(groups: &mut Vec<Group>, place: usize, name: Name, names: usize) -> Result<(), NoMemory>
     requires { place < length groups.old.items }
     ensures told { tolds_of groups.new.items ≡ tolds_of groups.old.items }
-    ensures some { 0 < length groups.new.items }
+    ensures still { Counts names NoName groups.old.items groups.new.items }
+    ensures counts { OnOk result (Counts names (λ n. name ≡ n) groups.old.items groups.new.items) }
 {
     let group = &mut groups[place];
     group.follow(name, names)
 }
 
 // A group of its own.
-#[tactic(auto, using(crate::proofs::AddsLemmas::adds_none, crate::proofs::AddsLemmas::adds_group))]
+#[tactic(auto, using(crate::proofs::AddsLemmas::adds_none, crate::proofs::AddsLemmas::adds_group, crate::proofs::CountLemmas::counts_none))]
 fn open<R: SlotRace>(
     alloc: Global,
     groups: &mut Vec<Group>,
@@ -35,8 +37,10 @@ fn open<R: SlotRace>(
     race: &R,
 ) -> Result<(), NoMemory>
     ensures adds { (setting : Setting) → IfSome cause (IsCause setting log.now) →
-        Adds setting (λ d. d ≡ R.difference race.now) (tolds_of groups.old.items) (tolds_of groups.new.items) }
-    ensures some { OnOk result (0 < length groups.new.items) }
+        IsLogOf (R.difference race.now) log.now → Adds setting (λ d. d ≡ R.difference race.now) (tolds_of groups.old.items) (tolds_of groups.new.items) }
+    ensures still { (names : ℕ) → Counts names NoName groups.old.items groups.new.items }
+    ensures counts { OnOk result ((names : ℕ) → Counts names (λ n. name_of (R.difference race.now) ≡ Some n)
+        groups.old.items groups.new.items) }
 {
     let name = race.name();
     groups.push(Group {
@@ -51,7 +55,7 @@ fn open<R: SlotRace>(
 }
 
 // The difference, by the log of one side. Where the group isn't new, it is counted there only if it wasn't yet.
-#[tactic(auto, using(crate::proofs::AddsLemmas::adds_none))]
+#[tactic(auto, using(crate::proofs::AddsLemmas::adds_none, crate::proofs::CountLemmas::counts_none))]
 fn put_side<R: SlotRace>(
     causes: &mut Causes<'_>,
     groups: &mut Vec<Group>,
@@ -60,10 +64,13 @@ fn put_side<R: SlotRace>(
     log: &Log,
     counted: bool,
 ) -> Result<(), NoMemory>
+    requires log { IsLogOf (R.difference race.now) log.now }
     ensures machine { causes.new.checkpoints ≡ causes.old.checkpoints }
     ensures adds { Adds causes.old.checkpoints (λ d. d ≡ R.difference race.now)
         (tolds_of groups.old.items) (tolds_of groups.new.items) }
-    ensures some { OnOk result (0 < length groups.new.items) }
+    ensures still { Counts names NoName groups.old.items groups.new.items }
+    ensures counts { OnOk result (counted ≡ false → Counts names (λ n. name_of (R.difference race.now) ≡ Some n)
+        groups.old.items groups.new.items) }
 {
     match causes.place(groups, log)? {
         Placed::With(place) => {
@@ -77,7 +84,7 @@ fn put_side<R: SlotRace>(
 }
 
 // The same, if the side has departures. Answers whether it is counted.
-#[tactic(auto, using(crate::proofs::AddsLemmas::adds_none))]
+#[tactic(auto, using(crate::proofs::AddsLemmas::adds_none, crate::proofs::CountLemmas::counts_none))]
 fn put_departed<R: SlotRace>(
     causes: &mut Causes<'_>,
     groups: &mut Vec<Group>,
@@ -86,11 +93,14 @@ fn put_departed<R: SlotRace>(
     side: usize,
     counted: bool,
 ) -> Result<bool, NoMemory>
-    requires { counted ≡ true → 0 < length groups.old.items }
     ensures machine { causes.new.checkpoints ≡ causes.old.checkpoints }
     ensures adds { Adds causes.old.checkpoints (λ d. d ≡ R.difference race.now)
         (tolds_of groups.old.items) (tolds_of groups.new.items) }
-    ensures some { IfOk result (λ is. is ≡ true → 0 < length groups.new.items) }
+    ensures still { Counts names NoName groups.old.items groups.new.items }
+    ensures counts { IfOk result (λ is. is ≡ true → counted ≡ false → Counts names (λ n. name_of (R.difference race.now) ≡ Some n)
+        groups.old.items groups.new.items) }
+    ensures default { IfOk result (λ is. is ≡ false →
+        (counted ≡ false) × IsDefault (logs_of (R.difference race.now)) side) }
 {
     match race.departed(side) {
         None => Ok(counted),
@@ -111,7 +121,9 @@ fn put<R: SlotRace>(
     ensures machine { causes.new.checkpoints ≡ causes.old.checkpoints }
     ensures adds { Adds causes.old.checkpoints (λ d. d ≡ R.difference race.now)
         (tolds_of groups.old.items) (tolds_of groups.new.items) }
-    ensures some { OnOk result (0 < length groups.new.items) }
+    ensures still { Counts names NoName groups.old.items groups.new.items }
+    ensures counts { OnOk result (Counts names (λ n. name_of (R.difference race.now) ≡ Some n)
+        groups.old.items groups.new.items) }
 {
     let mut counted = false;
     for side in 0..race.sides() {
@@ -134,7 +146,9 @@ pub(crate) fn put_all<R: SlotRace>(
     ensures machine { causes.new.checkpoints ≡ causes.old.checkpoints }
     ensures adds { Adds causes.old.checkpoints (Contains (map R.difference races.now))
         (tolds_of groups.old.items) (tolds_of groups.new.items) }
-    ensures some { OnOk result (groups.new.items ≡ [] → races.now ≡ []) }
+    ensures still { Counts names NoName groups.old.items groups.new.items }
+    ensures counts { OnOk result (Counts names (IsNamedIn R.difference races.now (length races.now))
+        groups.old.items groups.new.items) }
 {
     for race in races {
         put(causes, groups, names, race)?;

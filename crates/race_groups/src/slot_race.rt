@@ -1,6 +1,8 @@
 // Races of values and of lines alike.
 
-ghost use Rattle.std.specs.Prelude.{◌≡◌, IfOk};
+ghost use Rattle.std.specs.Prelude.{◌≡◌, ◌≢◌, [], IfNone, IfOk, IfSome, Some, length};
+ghost use Rattle.race_groups.specs.Found.{logs_of, name_of};
+ghost use Rattle.race_groups.specs.Inner.{IsDefault, IsDeparted};
 ghost use Rattle.race_groups.specs.declared.group.Difference.TheVariants.{Lines, Values};
 
 use crate::group::{Difference, Name};
@@ -11,18 +13,24 @@ use std::alloc::Global;
 
 /// What runs differ in at the end of a slot.
 pub(crate) trait SlotRace {
+    ghost use Rattle.race_groups.specs.Found.{logs_of, name_of};
+    ghost use Rattle.race_groups.specs.Inner.{IsDefault, IsDeparted};
     ghost use Rattle.race_groups.specs.declared.group.Difference.{Difference};
 
     ghost difference: { Self → Difference };
 
     /// Its name.
-    fn name(&self) -> Name;
+    fn name(&self) -> Name
+        ensures { name_of (difference self.now) ≡ Some result };
 
     /// How many sides it has.
-    fn sides(&self) -> usize;
+    fn sides(&self) -> usize
+        ensures { result ≡ length (logs_of (difference self.now)) };
 
     /// The log of a side, where it has departures.
-    fn departed(&self, side: usize) -> Option<&Log>;
+    fn departed(&self, side: usize) -> Option<&Log>
+        ensures some { IfSome result (λ log. IsDeparted (logs_of (difference self.now)) side log.now) }
+        ensures none { IfNone result (IsDefault (logs_of (difference self.now)) side) };
 
     /// The same, whole.
     fn whole(&self, alloc: Global) -> Result<Difference, NoMemory>
@@ -30,7 +38,10 @@ pub(crate) trait SlotRace {
 }
 
 // The log, where it has departures.
-fn if_departed(log: &Log) -> Option<&Log> {
+fn if_departed(log: &Log) -> Option<&Log>
+    ensures some { IfSome result (λ departed. (departed.now ≡ log.now) × (log.now ≢ [])) }
+    ensures none { IfNone result (log.now ≡ []) }
+{
     if log.members().is_empty() {
         None
     } else {
@@ -60,18 +71,25 @@ fn copy_witnesses(alloc: Global, values: &[Witness]) -> Result<Vec<Witness>, NoM
 impl SlotRace for Race {
     ghost difference = { Values };
 
-    fn name(&self) -> Name {
+    fn name(&self) -> Name
+        ensures { name_of (Values self.now) ≡ Some result }
+    {
         Name {
             time: self.time,
             variable: Some(self.variable),
         }
     }
 
-    fn sides(&self) -> usize {
+    fn sides(&self) -> usize
+        ensures { result ≡ length (logs_of (Values self.now)) }
+    {
         self.values.len()
     }
 
-    fn departed(&self, side: usize) -> Option<&Log> {
+    fn departed(&self, side: usize) -> Option<&Log>
+        ensures some { IfSome result (λ log. IsDeparted (logs_of (Values self.now)) side log.now) }
+        ensures none { IfNone result (IsDefault (logs_of (Values self.now)) side) }
+    {
         match self.values.get(side) {
             None => None,
             Some(witness) => if_departed(&witness.log),
@@ -111,18 +129,25 @@ fn copy_sides(alloc: Global, sides: &[Side]) -> Result<Vec<Side>, NoMemory>
 impl SlotRace for LineRace {
     ghost difference = { Lines };
 
-    fn name(&self) -> Name {
+    fn name(&self) -> Name
+        ensures { name_of (Lines self.now) ≡ Some result }
+    {
         Name {
             time: self.time,
             variable: None,
         }
     }
 
-    fn sides(&self) -> usize {
+    fn sides(&self) -> usize
+        ensures { result ≡ length (logs_of (Lines self.now)) }
+    {
         self.sides.len()
     }
 
-    fn departed(&self, side: usize) -> Option<&Log> {
+    fn departed(&self, side: usize) -> Option<&Log>
+        ensures some { IfSome result (λ log. IsDeparted (logs_of (Lines self.now)) side log.now) }
+        ensures none { IfNone result (IsDefault (logs_of (Lines self.now)) side) }
+    {
         match self.sides.get(side) {
             None => None,
             Some(side) => if_departed(&side.log),

@@ -24,7 +24,7 @@ use Rattle.racebook.specs.declared.slot_state.SlotState.{SlotState}
 use Rattle.racebook.specs.declared.slots.ClosedSlots.{ClosedSlots}
 use Rattle.racebook.specs.Races.{EachRace, AreRacesInOrder, AreValuesInOrder, HasFewest, IsRace, ListsEveryValue, Race}
 use Rattle.racebook.specs.LineRaces.{AreAllSidesInOrder, AreLineRacesInOrder, EachLineRace, HasFewestOfLines, IsLineRace, LineRace, ListsAllLines}
-use Rattle.racebook.specs.InTime.{EachEnd, HasFewestToEnd, IsEndOfRun, KeepsEnd, KeepsEveryEnd, KeepsEveryEndTo, ListsAllLinesTo, ListsEveryValueTo}
+use Rattle.racebook.specs.InTime.{EachEnd, HasFewestToEnd, IsClosed, IsEndOfRun, KeepsEnd, KeepsEveryEnd, KeepsEveryEndTo, ListsAllLinesTo, ListsEveryValueTo}
 use Rattle.racebook.specs.Inner.{AreInTurn, AreKept, AreLineRacesOf, AreRacesOf, AreSlotStates, CollectsSlots, KeepsSlots, marks_of}
 use Rattle.racebook.proofs.ClosedLemmas.{closing_of, mark_of_closing, slot_time}
 use Rattle.racebook.proofs.FoundLemmas.{Alike, AllStand, AreEndsListed, HasVariables, MarkAlike, RunHere, RunThere, end_marked, ends_listed, lines_at, lines_fewest, lines_found, lines_order, races_at, races_fewest, races_found, races_order, sides_order}
@@ -71,6 +71,9 @@ pub record IsTold (setting : Setting) (limits : Limits) (races : List Race) (lin
   pub ends_closed : IfSome findings.closed (KeepsEveryEndTo setting limits.depart ends)
   pub ends_exhausted : findings.status ≡ Exhausted → KeepsEveryEnd setting limits.depart ends
   pub ends_fewest : EachEnd (HasFewestToEnd setting) ends
+  pub races_of_closed : EachRace (λ race. IsClosed findings.closed race.time) races
+  pub lines_of_closed : EachLineRace (λ race. IsClosed findings.closed race.time) line_races
+  pub ends_of_closed : EachEnd (λ end. (t : State) → Stands setting end.0 t → IsClosed findings.closed t.queue.time) ends
 
 module _ (setting : Setting) (alike : Alike setting) (all : AllStand setting) (there : RunThere setting) (here : RunHere setting) (mark_alike : MarkAlike setting) (wide : HasVariables setting) (ranked : RankIsTime setting) (one : SameForOne setting)
     (limits : Limits) (races : List Race) (line_races : List LineRace) (ends : List (MachineState × List (ℕ × ℕ))) (findings : RankedFindings)
@@ -124,6 +127,16 @@ module _ (setting : Setting) (alike : Alike setting) (all : AllStand setting) (t
       let le = l.2 in
       listed_to l.0 (subst (λ (closed : Option ℕ). IfSome closed AllTo) l.1 hands.covered) g.time (omega arith)
 
+  -- the time of a slot state was closed
+  closed_here : (gs : List SlotState) → AreSlotStates setting marks gs → (g : SlotState) → Contains gs g → IsClosed findings.closed g.time
+  closed_here gs are g has =
+      let o = are.each g has in
+      let c = closing_of hands.closings o.place o.found o.at in
+      let is = slot_time setting o.found g c.closing.rank o.of (in_turn.times c.place c.closing c.at c.mark_place o.found c.mark_at) in
+      let l = hands.last c.place c.closing c.at in
+      let le = l.2 in
+      (l.0, l.1, omega (arith, is, le))
+
   -- ---- races
 
   kept_races : AreRacesOf setting marks races
@@ -148,6 +161,14 @@ module _ (setting : Setting) (alike : Alike setting) (all : AllStand setting) (t
       let s = listed_place race.values 0 (omega arith) in
       let seen = r.seen 0 s.0 s.1 in
       subst (AreEndsListed setting limits.depart marks) seen.time_is (listed_here kept_races.slot_states kept_races.are seen.slot_state seen.among)))
+
+  timed_of_closed : EachRace (λ race. IsClosed findings.closed race.time) races
+  timed_of_closed = λ i race at.
+      (let r = kept_races.all.each i race at in
+      let two = r.two in
+      let s = listed_place race.values 0 (omega arith) in
+      let seen = r.seen 0 s.0 s.1 in
+      subst (IsClosed findings.closed) seen.time_is (closed_here kept_races.slot_states kept_races.are seen.slot_state seen.among))
 
   timed_order : AreRacesInOrder races
   timed_order = kept_races.all.order
@@ -179,6 +200,14 @@ module _ (setting : Setting) (alike : Alike setting) (all : AllStand setting) (t
       let s = listed_place race.sides 0 (omega arith) in
       let seen = r.seen 0 s.0 s.1 in
       subst (AreEndsListed setting limits.depart marks) seen.time_is (listed_here kept_lines.slot_states kept_lines.are seen.slot_state seen.among)))
+
+  timed_lines_of_closed : EachLineRace (λ race. IsClosed findings.closed race.time) line_races
+  timed_lines_of_closed = λ i race at.
+      (let r = kept_lines.all.each i race at in
+      let two = r.two in
+      let s = listed_place race.sides 0 (omega arith) in
+      let seen = r.seen 0 s.0 s.1 in
+      subst (IsClosed findings.closed) seen.time_is (closed_here kept_lines.slot_states kept_lines.are seen.slot_state seen.among))
 
   timed_lines_order : AreLineRacesInOrder line_races
   timed_lines_order = lines_order kept_lines.slot_states line_races kept_lines.all
@@ -235,6 +264,17 @@ module _ (setting : Setting) (alike : Alike setting) (all : AllStand setting) (t
       let o = closing_of hands.closings m.0 end m.1 in
       hands.fewest o.place o.closing o.at o.mark_place end o.mark_at log steps (here log steps run) (one end.0 (stands (machine_rules setting) log steps) (state_after setting log steps) st (all log steps)))
 
+  timed_ends_of_closed : EachEnd (λ end. (t : State) → Stands setting end.0 t → IsClosed findings.closed t.queue.time) ends
+  timed_ends_of_closed = λ i end at t st.
+      (let e = hands.collected.of_ends.each end (contains_at ends i end at) in
+      let m = at_contains marks end e.0 in
+      let c = closing_of hands.closings m.0 end m.1 in
+      let l = hands.last c.place c.closing c.at in
+      let le = l.2 in
+      let rank_is = hands.ranks c.place c.closing c.at c.mark_place end c.mark_at in
+      let time_is = ranked end.0 t st in
+      (l.0, l.1, omega (arith, le, rank_is, time_is)))
+
   pub told : IsTold setting limits races line_races ends findings
   told = record {
     found = timed_found;
@@ -253,6 +293,9 @@ module _ (setting : Setting) (alike : Alike setting) (all : AllStand setting) (t
     ends_closed = timed_ends_closed;
     ends_exhausted = timed_ends_exhausted;
     ends_fewest = timed_ends_fewest;
+    races_of_closed = timed_of_closed;
+    lines_of_closed = timed_lines_of_closed;
+    ends_of_closed = timed_ends_of_closed;
   }
 
 -- what was handed on has made this of what is kept

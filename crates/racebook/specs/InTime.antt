@@ -1,6 +1,6 @@
 -- *product rule*: What a search that goes by time tells of slots (IEEE 1364-2005, 11.3, 11.4): races and races of lines up to the time
 -- that it closed, and the states in which runs end.
-use Rattle.std.specs.Prelude.{◌≡◌, ℕ, ◌≤◌, List, length, slice_get, Some, IfSome}
+use Rattle.std.specs.Prelude.{◌≡◌, ℕ, ◌≤◌, List, length, slice_get, Option, Some, IfSome}
 use Rattle.vbits.specs.Vectors.{Vector}
 use Rattle.sched_core.specs.Replay.{EndsAfter}
 use Rattle.sched_core.specs.Rules.{IsRun}
@@ -11,8 +11,8 @@ use Rattle.vmodel.specs.State.{State}
 use Rattle.vmodel.specs.Run.{Setting, rules_of, state_after}
 use Rattle.vmachine.specs.declared.machine_state.MachineState.{MachineState}
 use Rattle.vmachine.specs.Machines.{Stands}
-use Rattle.racebook.specs.Races.{Race, ListsEveryValue, ListsValue, SomeRunShows, TwoRunsDiffer}
-use Rattle.racebook.specs.LineRaces.{LineRace, Texts, ListsAllLines, ListsLines, SomeRunPrints, TwoRunsPrint}
+use Rattle.racebook.specs.Races.{EachRace, Race, ListsEveryValue, ListsValue, SomeRunShows, TwoRunsDiffer}
+use Rattle.racebook.specs.LineRaces.{EachLineRace, LineRace, Texts, ListsAllLines, ListsLines, SomeRunPrints, TwoRunsPrint}
 use Rattle.racebook.specs.declared.timed_findings.TimedFindings.{TimedFindings}
 
 -- ---- up to a time
@@ -65,6 +65,18 @@ abbrev pub KeepsEveryEndTo : Setting → ℕ → List (MachineState × List (ℕ
 KeepsEveryEndTo setting depart ends top = (log : List (ℕ × ℕ)) (steps : ℕ) → length log ≤ depart →
     EndsAfter (rules_of setting) log steps → (state_after setting log steps).queue.time ≤ top →
     KeepsEnd setting ends (state_after setting log steps) (length log)
+
+-- ---- what is listed is of times that were closed
+
+-- this time was closed: it is the last that was, or one before
+abbrev pub IsClosed : Option ℕ → ℕ → Type 0
+IsClosed closed time = (top : ℕ) × (closed ≡ Some top) × (time ≤ top)
+
+-- each race, each race of lines and each end is of such a time
+pub record ListsOfClosed (setting : Setting) (found : TimedFindings) : Type 0 where
+  pub races : EachRace (λ race. IsClosed found.search.closed race.time) found.races.items
+  pub line_races : EachLineRace (λ race. IsClosed found.search.closed race.time) found.line_races.items
+  pub ends : EachEnd (λ end. (t : State) → Stands setting end.0 t → IsClosed found.search.closed t.queue.time) (pairs_of found.ends.items)
 
 -- ---- the clauses
 

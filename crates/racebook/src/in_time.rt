@@ -3,7 +3,7 @@
 ghost use Rattle.std.specs.Prelude.{◌≡◌, IfOk};
 ghost use Rattle.explore.specs.Ranked.{TellsOfEntries, TellsOfSteps, TellsOfStop, pairs_of};
 ghost use Rattle.vmachine.specs.Machines.{machine_rules};
-ghost use Rattle.racebook.specs.InTime.{EachEnd, HasFewestToEnd, IsEndOfRun, KeepsEndsThroughout, KeepsEndsTo, ListsLineRacesThroughout, ListsLineRacesTo, ListsRacesThroughout, ListsRacesTo};
+ghost use Rattle.racebook.specs.InTime.{EachEnd, HasFewestToEnd, IsEndOfRun, KeepsEndsThroughout, KeepsEndsTo, ListsLineRacesThroughout, ListsLineRacesTo, ListsOfClosed, ListsRacesThroughout, ListsRacesTo};
 ghost use Rattle.racebook.specs.LineRaces.{AreAllSidesInOrder, AreLineRacesInOrder, EachLineRace, HasFewestOfLines, IsLineRace};
 ghost use Rattle.racebook.specs.Races.{AreRacesInOrder, AreValuesInOrder, EachRace, HasFewest, IsRace};
 
@@ -21,7 +21,7 @@ use vmodel::run_law;
 /// However the search ended, whatever two runs within the limit of departures differ in at the end of a slot up to the time
 /// `search.closed` is listed, with every value that any such run shows there, and no run at all shows a value there with fewer
 /// departures than its log; so it is of races of lines, and of the states in which runs end. Where the search is exhausted, this
-/// holds of all times. Want of memory, too, only cuts the search.
+/// holds of all times. Nothing is listed of a time that wasn't closed. Want of memory, too, only cuts the search.
 pub fn explore_in_time<W: Watcher>(
     alloc: Global,
     machine: &Machine,
@@ -44,6 +44,7 @@ pub fn explore_in_time<W: Watcher>(
     ensures ends_closed { KeepsEndsTo machine.now limits.now result }
     ensures ends_exhausted { KeepsEndsThroughout machine.now limits.now result }
     ensures ends_fewest { EachEnd (HasFewestToEnd machine.now) (pairs_of result.ends.items) }
+    ensures of_closed { ListsOfClosed machine.now result }
     ensures entries { TellsOfEntries (machine_rules machine.now) limits.now result.search }
     ensures steps { TellsOfSteps (machine_rules machine.now) limits.now result.search }
     ensures stopped { TellsOfStop (W.stopped watcher.new) result.search }

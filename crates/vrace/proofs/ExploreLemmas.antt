@@ -16,7 +16,7 @@ use Rattle.report_text.specs.Report.{Report}
 use Rattle.report_text.specs.ReportText.{report_text}
 use Rattle.vreport.specs.Ends.{HasSomeLongDump}
 use Rattle.vreport.specs.Formed.{IsFormed}
-use Rattle.vreport.specs.InTime.{TellsUpTo, outcome_in_time}
+use Rattle.vreport.specs.InTime.{TellsOfClosed, TellsUpTo, outcome_in_time}
 use Rattle.vreport.specs.declared.timed.Spent.{Spent}
 use Rattle.vreport.specs.Reports.{IsExploration}
 use Rattle.vreport.specs.Written.{TakesReport, StopsReport as StopsByteSink}
@@ -50,14 +50,15 @@ module _ {W : Type 0} (contents : W → Option (List ℕ)) (setting : Setting) (
     written = taken.taken;
   }
 
-  pub reported_in_time : (lacked : Spent) (search : RankedFindings) (timed : Timed) → TellsUpTo setting limits search.closed report → report.outcome ≡ outcome_in_time lacked search.status →
+  pub reported_in_time : (lacked : Spent) (search : RankedFindings) (timed : Timed) → TellsUpTo setting limits search.closed report → TellsOfClosed search.closed report → report.outcome ≡ outcome_in_time lacked search.status →
       (report.outcome ≡ CutEntries → HasEntries (rules_of setting) limits) → SaysInShort report timed → timed.search ≡ search → TakesReport (Written contents) setting report old new →
       ReportsInTime contents setting limits lacked timed old new
-  reported_in_time lacked search timed up_to outcome_is entries says same taken = record {
+  reported_in_time lacked search timed up_to of_closed outcome_is entries says same taken = record {
     report = report;
     dumps = taken.dumps;
     is_report = record { exploration = exploration; are_dumps = taken.are_dumps; formed = formed taken.dumps taken.are_dumps };
     up_to = subst (λ (s : RankedFindings). TellsUpTo setting limits s.closed report) (sym same) up_to;
+    of_closed = subst (λ (s : RankedFindings). TellsOfClosed s.closed report) (sym same) of_closed;
     says = says;
     outcome_is = sym says.outcome_is ∙ outcome_is ∙ ap (λ (s : RankedFindings). outcome_in_time lacked s.status) (sym same);
     entries = λ e. entries (says.outcome_is ∙ e);

@@ -9,7 +9,7 @@ use Rattle.byte_sinks.specs.declared.metered.Metered.{Metered}
 use Rattle.report_text.specs.declared.report.Outcome.TheVariants.{CutEntries}
 use Rattle.report_text.specs.Report.{Report}
 use Rattle.report_text.specs.ReportText.{report_text}
-use Rattle.vreport.specs.InTime.{TellsOutcomeInTime, TellsUpTo, outcome_in_time}
+use Rattle.vreport.specs.InTime.{TellsOfClosed, TellsOutcomeInTime, TellsUpTo, outcome_in_time}
 use Rattle.vreport.specs.declared.timed.Spent.{Spent}
 use Rattle.vreport.specs.declared.timed.TimedReport.{TimedReport}
 use Rattle.vrace.specs.Request.{Request}
@@ -27,13 +27,14 @@ pub record SaysInShort (report : Report) (timed : Timed) : Type 0 where
   pub outcome_is : report.outcome ≡ timed.outcome
 
 -- The text of such a report was written. What is answered says it in short, how the search went, and up to which time every end and
--- every race is listed. Where it stopped, this is what its budget lacked; where it says that it was cut for entries, there are so many
+-- every race is listed, and no race of a later time. Where it stopped, this is what its budget lacked; where it says that it was cut for entries, there are so many
 -- that it may come to.
 pub record ReportsInTime {W : Type 0} (contents : W → Option (List ℕ)) (setting : Setting) (limits : Limits) (lacked : Spent) (timed : Timed) (old new : Metered W) : Type 0 where
   pub report : Report
   pub dumps : List (List ℕ)
   pub is_report : IsReported setting limits report dumps
   pub up_to : TellsUpTo setting limits timed.search.closed report
+  pub of_closed : TellsOfClosed timed.search.closed report
   pub says : SaysInShort report timed
   pub outcome_is : timed.outcome ≡ outcome_in_time lacked timed.search.status
   pub entries : timed.outcome ≡ CutEntries → HasEntries (rules_of setting) limits

@@ -3,7 +3,7 @@
 ghost use Rattle.std.specs.Prelude.{◌≡◌, ◌≤◌, IfOk, IfErr};
 ghost use Rattle.vsrc.specs.Source.{file_bytes};
 ghost use Rattle.vdesign.specs.Named.{AreNamed};
-ghost use Rattle.vreport.specs.InTime.{HoldsDumpsInTime, IsReadableInTime, IsTimedExploration, MeansEntriesInTime, ReportsUpTo, TellsBytesInTime};
+ghost use Rattle.vreport.specs.InTime.{HoldsDumpsInTime, IsReadableInTime, IsTimedExploration, MeansEntriesInTime, ReportsOfClosed, ReportsUpTo, TellsBytesInTime};
 ghost use Rattle.vrace.specs.Request.{request_of};
 ghost use Rattle.vrace.specs.Explores.{EndsSearch, IsExploreReason, LeavesReport};
 ghost use Rattle.vrace.specs.ExploresInTime.{ExploresInTime, ReportsAsTold, ReportsInTime, SaysIfStopped, SaysInShort, SaysWhetherRaced};
@@ -68,6 +68,7 @@ fn write_timed<W: Write>(
     requires until { machine.now.until ≤ 4611686018427387903 }
     requires exploration { IsTimedExploration machine.now limits.now told.now }
     requires up_to { ReportsUpTo machine.now limits.now told.now }
+    requires of_closed { ReportsOfClosed told.now }
     requires entries { MeansEntriesInTime machine.now limits.now told.now }
     requires bytes { TellsBytesInTime machine.now told.now }
     requires formed { IsReadableInTime machine.now told.now }
@@ -112,8 +113,8 @@ fn explore_machine_in_time<B: Budget, W: Write>(
 ///
 /// Each end listed is that of a run under its log, with the dump of that run; each race listed is one. Up to the time
 /// `search.closed` every end and every race of runs of at most so many departures is listed, with all its values, and no log
-/// has more departures than needed; where the report says `exhausted`, so it is of all times. It says `cut time` only where
-/// the budget said that the exploration is to stop, and that time was spent.
+/// has more departures than needed; where the report says `exhausted`, so it is of all times. No race is listed of a time that
+/// wasn't closed. It says `cut time` only where the budget said that the exploration is to stop, and that time was spent.
 ///
 /// Refusals, in the order in which they are looked for: those of `explore_text_alone`.
 pub fn explore_text_in_time<B: Budget, W: Write>(

@@ -1,9 +1,10 @@
 // From files to their races by causes.
 
 ghost use Rattle.std.specs.Prelude.{◌≡◌, IfOk, IfErr};
-ghost use Rattle.explore.specs.Ranked.{TellsOfStop};
+ghost use Rattle.explore.specs.Ranked.{TellsOfEntries, TellsOfSteps, TellsOfStop};
+ghost use Rattle.vmachine.specs.Machines.{machine_rules};
 ghost use Rattle.vsrc.specs.Source.{file_bytes};
-ghost use Rattle.race_groups.specs.Found.{EachGroup, HasFirstDifference, HasItsCause, TellsOfCuts, TellsOfCutsThroughout, TellsOfNone, TellsOfNoneThroughout};
+ghost use Rattle.race_groups.specs.Found.{ClosesAllEnds, EachGroup, HasFirstDifference, HasItsCause, HasLogOfFirst, TellsOfAll, TellsOfAllThroughout, TellsOfClosed, TellsOfCuts, TellsOfCutsThroughout, TellsOfNone, TellsOfNoneThroughout};
 ghost use Rattle.vrace.specs.Request.{request_of};
 ghost use Rattle.vrace.specs.Explores.{IsSearched};
 ghost use Rattle.vrace.specs.Refusals.{IsDesignFault};
@@ -26,12 +27,13 @@ pub struct FoundRaces {
     pub races: Races,
 }
 
-/// Explores the files by time, within a budget, on the caller's own thread: every run of at most `options.limits.depart` departures from the default
-/// order; and tells what two of them differ in, each difference under the two statements that are to blame (docs/RACES.md).
+/// Explores the files by time, within a budget, on the caller's own thread: every run of at most `options.limits.depart` departures from
+/// the default order; and tells what two of them differ in, each difference under the two statements that are to blame (docs/RACES.md).
 ///
-/// Each difference told is one, and each cause is that of its log. Where none is told, no two such runs differ from the time
-/// `scope.from` on, up to the time `races.search.closed`; where the search is exhausted, at no later time either. Where it isn't said
-/// that a run was cut by the time limit, so none was, up to that time.
+/// Each difference told is one, and each cause is that of its log. Wherever two such runs differ from the time `scope.from` on, up to the
+/// time `races.search.closed`, a group counts the difference; where the search is exhausted, at every time. So where none is told, none
+/// differ. Where it isn't said that a run was cut by the time limit, so none was, up to that time. `Cut(Entries)` is said only where
+/// there are so many entries, `Cut(Steps)` only where a run takes more steps.
 ///
 /// Refusals, in the order in which they are looked for: E904 where the files together are longer than 16,777,216 bytes; E110 to
 /// E114, E101, E102, E2xx and E3xx where their text has no design; E901.
@@ -47,13 +49,23 @@ pub fn find_races_in<B: Budget>(
     ensures cause { IfOk result (λ found. EachGroup (HasItsCause found.machine) found.races.groups.items) }
     ensures first { IfOk result (λ found.
         EachGroup (HasFirstDifference found.machine options.now.limits) found.races.groups.items) }
+    ensures log { IfOk result (λ found. EachGroup HasLogOfFirst found.races.groups.items) }
+    ensures all { IfOk result (λ found. TellsOfAll found.machine options.now.limits scope.now found.races) }
+    ensures all_exhausted { IfOk result (λ found.
+        TellsOfAllThroughout found.machine options.now.limits scope.now found.races) }
     ensures none { IfOk result (λ found.
         TellsOfNone found.machine options.now.limits scope.now found.races) }
     ensures exhausted { IfOk result (λ found.
         TellsOfNoneThroughout found.machine options.now.limits scope.now found.races) }
+    ensures of_closed { IfOk result (λ found. TellsOfClosed found.races) }
+    ensures closed { IfOk result (λ found. ClosesAllEnds found.machine options.now.limits found.races) }
     ensures cuts { IfOk result (λ found. TellsOfCuts found.machine options.now.limits found.races) }
     ensures cuts_exhausted { IfOk result (λ found.
         TellsOfCutsThroughout found.machine options.now.limits found.races) }
+    ensures entries { IfOk result (λ found.
+        TellsOfEntries (machine_rules found.machine) options.now.limits found.races.search) }
+    ensures steps { IfOk result (λ found.
+        TellsOfSteps (machine_rules found.machine) options.now.limits found.races.search) }
     ensures stopped { IfOk result (λ found. TellsOfStop (B.stopped budget.new) found.races.search) }
     ensures reason { IfErr result (IsDesignFault (file_bytes files.now) (request_of options.now).top) }
 {

@@ -1,6 +1,7 @@
 -- What the report of a search that goes by time says.
-use Rattle.std.proofs.Common.{◌≡◌, ℕ, map, Option, Some, None, refl, sym, ◌∙◌}
+use Rattle.std.proofs.Common.{◌≡◌, ℕ, List, map, slice_get, Option, Some, None, refl, sym, ap, ◌∙◌, subst}
 use Rattle.std.specs.Prelude.{IfSome}
+use Rattle.basis.proofs.Lists.{of_mapped}
 use Rattle.sched_core.specs.Rules.{stands}
 use Rattle.statebook.specs.declared.limits.Limits.{Limits}
 use Rattle.explore.specs.Found.{AreFound, HasEntries}
@@ -11,13 +12,13 @@ use Rattle.explore.specs.declared.ranked_findings.RankedStatus.TheVariants.{Exha
 use Rattle.vmodel.specs.Run.{Setting, rules_of, state_after}
 use Rattle.vmodel.specs.RulesLaws.{lawful}
 use Rattle.vmachine.specs.Machines.{machine_rules}
-use Rattle.racebook.specs.InTime.{KeepsEveryEndTo, ListsAllLinesTo, ListsEveryValueTo}
+use Rattle.racebook.specs.InTime.{IsClosed, KeepsEveryEndTo, ListsAllLinesTo, ListsEveryValueTo}
 use Rattle.racebook.specs.declared.timed_findings.TimedFindings.{TimedFindings}
 use Rattle.report_text.specs.declared.report.Outcome.TheVariants as outcome
-use Rattle.report_text.specs.Report.{Report}
+use Rattle.report_text.specs.Report.{LineRace, Race, Report}
 use Rattle.vreport.specs.Ends.{ListsEndsOf}
 use Rattle.vreport.specs.Inner.{MayBeTold}
-use Rattle.vreport.specs.InTime.{AreFoundInTime, TellsUpTo, outcome_in_time}
+use Rattle.vreport.specs.InTime.{AreFoundInTime, TellsOfClosed, TellsUpTo, outcome_in_time}
 use Rattle.vreport.specs.Reports.{IsExploration, IsHeadOf, report_line_race, report_race}
 use Rattle.vreport.specs.declared.timed.Spent.{Spent}
 use Rattle.vreport.specs.declared.timed.Spent.TheVariants as spent
@@ -78,6 +79,16 @@ module _ (setting : Setting) (known : KnowsMachine setting) (limits : Limits) (t
 
     pub tells_up_to : TellsUpTo setting limits timed.search.closed report
     tells_up_to = told_to timed.search.closed are.races_closed are.lines_closed are.ends_closed
+
+    pub tells_of_closed : TellsOfClosed timed.search.closed report
+    tells_of_closed = record {
+      races = λ i race at.
+          (let m = of_mapped report_race timed.races.items i race (ap (λ (l : List Race). slice_get l i) (sym races_are) ∙ at) in
+          subst (λ (r : Race). IsClosed timed.search.closed r.time) m.2 (are.of_closed.races i m.0 m.1));
+      line_races = λ i race at.
+          (let m = of_mapped report_line_race timed.line_races.items i race (ap (λ (l : List LineRace). slice_get l i) (sym lines_are) ∙ at) in
+          subst (λ (r : LineRace). IsClosed timed.search.closed r.time) m.2 (are.of_closed.line_races i m.0 m.1));
+    }
 
     module _ (what : Spent) (outcome_is : report.outcome ≡ outcome_in_time what timed.search.status) where
       exhausted : report.outcome ≡ outcome.Exhausted → timed.search.status ≡ Exhausted

@@ -10,7 +10,7 @@ use Rattle.explore.specs.declared.ranked_findings.RankedStatus.TheVariants.{Exha
 use Rattle.vmodel.specs.Run.{Setting, rules_of}
 use Rattle.vmachine.specs.Machines.{machine_rules}
 use Rattle.sched_core.specs.declared.end.Cause.{Cause}
-use Rattle.racebook.specs.InTime.{EachEnd, IsEndOfRun, KeepsEndsThroughout, KeepsEndsTo, ListsAllLinesTo, ListsEveryValueTo, ListsLineRacesThroughout, ListsLineRacesTo, ListsRacesThroughout, ListsRacesTo}
+use Rattle.racebook.specs.InTime.{EachEnd, IsClosed, IsEndOfRun, KeepsEndsThroughout, KeepsEndsTo, ListsAllLinesTo, ListsEveryValueTo, ListsLineRacesThroughout, ListsLineRacesTo, ListsOfClosed, ListsRacesThroughout, ListsRacesTo}
 use Rattle.racebook.specs.LineRaces as lines
 use Rattle.racebook.specs.Races as found
 use Rattle.racebook.specs.declared.timed_findings.TimedFindings.{TimedFindings}
@@ -72,6 +72,11 @@ pub record TellsAllTo (setting : Setting) (limits : Limits) (report : Report) (t
 abbrev pub TellsUpTo : Setting → Limits → Option ℕ → Report → Type 0
 TellsUpTo setting limits closed report = IfSome closed (TellsAllTo setting limits report)
 
+-- each race that is told, and each race of lines, is of a time that was closed
+pub record TellsOfClosed (closed : Option ℕ) (report : Report) : Type 0 where
+  pub races : Each (λ race. IsClosed closed race.time) report.races
+  pub line_races : Each (λ race. IsClosed closed race.time) report.line_races
+
 -- ---- of a report and its search
 
 abbrev pub IsTimedExploration : Setting → Limits → TimedReport → Type 0
@@ -79,6 +84,9 @@ IsTimedExploration setting limits told = IsExploration setting limits told.repor
 
 abbrev pub ReportsUpTo : Setting → Limits → TimedReport → Type 0
 ReportsUpTo setting limits told = TellsUpTo setting limits told.search.closed told.report
+
+abbrev pub ReportsOfClosed : TimedReport → Type 0
+ReportsOfClosed told = TellsOfClosed told.search.closed told.report
 
 -- the report says how the search went
 abbrev pub TellsOutcomeInTime : Spent → TimedReport → Type 0
@@ -121,5 +129,6 @@ pub record AreFoundInTime (setting : Setting) (limits : Limits) (timed : TimedFi
   pub ends_found : EachEnd (IsEndOfRun setting limits) (pairs_of timed.ends.items)
   pub ends_closed : KeepsEndsTo setting limits timed
   pub ends_exhausted : KeepsEndsThroughout setting limits timed
+  pub of_closed : ListsOfClosed setting timed
   pub entries : TellsOfEntries (machine_rules setting) limits timed.search
   pub steps : TellsOfSteps (machine_rules setting) limits timed.search

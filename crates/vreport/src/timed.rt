@@ -3,7 +3,7 @@
 ghost use Rattle.std.specs.Prelude.{◌≡◌, ◌≤◌, IfOk};
 ghost use Rattle.basis.specs.Reasons.{IfFault};
 ghost use Rattle.vreport.specs.Ends.{HasSomeLongDump};
-ghost use Rattle.vreport.specs.InTime.{AreFoundInTime, HoldsDumpsInTime, IsReadableInTime, MeansEntriesInTime, MeansStopInTime, IsTimedExploration, ReportsUpTo, TellsBytesInTime, TellsOutcomeInTime, outcome_in_time, outcome_of_spent};
+ghost use Rattle.vreport.specs.InTime.{AreFoundInTime, HoldsDumpsInTime, IsReadableInTime, MeansEntriesInTime, MeansStopInTime, IsTimedExploration, ReportsOfClosed, ReportsUpTo, TellsBytesInTime, TellsOutcomeInTime, outcome_in_time, outcome_of_spent};
 
 use crate::ends::{HeldEnds, ends_of};
 use crate::report::report_with;
@@ -88,6 +88,7 @@ fn report_timed(
     requires { AreFoundInTime machine.now limits.now found.now }
     ensures exploration { IfOk result (IsTimedExploration machine.now limits.now) }
     ensures up_to { IfOk result (ReportsUpTo machine.now limits.now) }
+    ensures of_closed { IfOk result ReportsOfClosed }
     ensures search { IfOk result (λ told. told.search ≡ found.now.search) }
     ensures outcome { IfOk result (TellsOutcomeInTime spent) }
     ensures entries { IfOk result (MeansEntriesInTime machine.now limits.now) }
@@ -120,8 +121,8 @@ fn report_timed(
 /// found (docs/SCHEDULING.md; docs/RACES.md).
 ///
 /// Whatever it says, each end and each race is listed that a run of at most `limits.depart` departures shows up to the time
-/// `search.closed`, with no more departures than needed; where it says `exhausted`, those of all times. It says `cut time`
-/// only where the budget said that the search is to stop, and that time was spent.
+/// `search.closed`, with no more departures than needed; where it says `exhausted`, those of all times. No race is listed of a
+/// time that wasn't closed. It says `cut time` only where the budget said that the search is to stop, and that time was spent.
 ///
 /// E901 where memory was refused for the report; in the search it only cuts it. The other fault is that the dump of a run
 /// within the limits has 2^64 bytes or more.
@@ -133,6 +134,7 @@ pub fn report_in_time<B: Budget>(
 ) -> Result<TimedReport, OrMemory<TooMany>>
     ensures exploration { IfOk result (IsTimedExploration machine.now limits.now) }
     ensures up_to { IfOk result (ReportsUpTo machine.now limits.now) }
+    ensures of_closed { IfOk result ReportsOfClosed }
     ensures outcome { IfOk result (TellsOutcomeInTime (B.lacks budget.new)) }
     ensures stopped { IfOk result (MeansStopInTime (B.stopped budget.new)) }
     ensures entries { IfOk result (MeansEntriesInTime machine.now limits.now) }

@@ -27,6 +27,7 @@ returns g c =
       ends_closed = t.ends_closed;
       ends_exhausted = t.ends_exhausted;
       ends_fewest = t.ends_fewest;
+      of_closed = record { races = t.races_of_closed; line_races = t.lines_of_closed; ends = t.ends_of_closed };
       entries = c.explore_ranked-search.ensures.entries;
       steps = c.explore_ranked-search.ensures.steps;
       stopped = c.explore_ranked-search.ensures.stopped;

@@ -24,6 +24,7 @@ report_timed-requires g c =
       ends_found = e.ends_found;
       ends_closed = e.ends_closed;
       ends_exhausted = e.ends_exhausted;
+      of_closed = e.of_closed;
       entries = e.entries;
       steps = e.steps;
     }

@@ -8,7 +8,7 @@ use Rattle.vreport.specs.Reports.{report_line_race, report_race}
 use Rattle.vreport.specs.Written.{AreHeld}
 use Rattle.vreport.proofs.EntriesLemmas.{KnowsMachine}
 use Rattle.vreport.proofs.FormedLemmas.{told_as}
-use Rattle.vreport.proofs.TimedLemmas.{ends_are_found, entries_in_time, explored_in_time, tells_up_to}
+use Rattle.vreport.proofs.TimedLemmas.{ends_are_found, entries_in_time, explored_in_time, tells_of_closed, tells_up_to}
 use Rattle.vreport.proofs.timed.report_timed.Goals as goal
 
 pub ends_of-requires : goal.ends_of-requires
@@ -79,6 +79,7 @@ returns c =
       exploration = explored_in_time setting known limits timed are report races_are lines_are listed c.args.spent outcome_is told.head
           (subst (λ (xs : List End). MayBeTold setting limits xs timed.races.items timed.line_races.items) (sym told.ends) may);
       up_to = tells_up_to setting known limits timed are report races_are lines_are listed;
+      of_closed = tells_of_closed setting known limits timed are report races_are lines_are listed;
       search = refl;
       outcome = outcome_is;
       entries = entries_in_time setting known limits timed are report races_are lines_are listed c.args.spent outcome_is;

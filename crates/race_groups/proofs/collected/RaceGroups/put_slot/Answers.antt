@@ -1,11 +1,13 @@
-use Rattle.std.proofs.Common.{List, refl, subst, ◌∙◌}
+use Rattle.std.proofs.Common.{List, refl, subst}
 use Rattle.std.proofs.lemmas.Result.{on_ok_weaker}
 use Rattle.explore.specs.Ranked.{pairs_of}
 use Rattle.explore.specs.declared.rank_marks.FoundMark.{FoundMark}
 use Rattle.vmachine.specs.declared.machine_state.MachineState.{MachineState}
 use Rattle.vmodel.specs.Run.{Setting}
-use Rattle.race_groups.specs.Inner.{AreUncut}
-use Rattle.race_groups.proofs.KeptLemmas.{takes_late}
+use Rattle.race_groups.specs.Inner.{AreUncut, tolds_of}
+use Rattle.race_groups.proofs.CountLemmas.{counts_none}
+use Rattle.race_groups.proofs.KeptLemmas.{takes_early, takes_late}
+use Rattle.race_groups.proofs.SumLemmas.{grows_none}
 use Rattle.race_groups.proofs.collected.RaceGroups.put_slot.Goals as goal
 
 pub returns-clause-ok : goal.returns-clause-ok
@@ -19,3 +21,25 @@ returns-clause-ok c =
           (subst (λ (s : Setting). AreUncut s (pairs_of c.deref.result.now)) c.machine.ensures (c.some_is_cut-is_cut.ensures e.1)),
     )))
     all) c.put_found.ensures.ok
+
+pub returns-then-time-self-clause-ok : goal.returns-then-time-self-clause-ok
+returns-then-time-self-clause-ok c =
+    let old = c.args.self.now in
+    takes_early c.args.time c.args.found old _ c.if-time-self.true refl refl refl refl
+    (λ none. (let e = c.either-self.ensures none in (
+      e.0,
+      subst (λ (l : List (FoundMark MachineState)). AreUncut old.causes.checkpoints (pairs_of l)) c.deref.ensures.value
+          (subst (λ (s : Setting). AreUncut s (pairs_of c.deref.result.now)) c.machine.ensures (c.some_is_cut-is_cut.ensures e.1)),
+    )))
+
+pub returns-then-time-self-clause-grows : goal.returns-then-time-self-clause-grows
+returns-then-time-self-clause-grows c =
+    let old = c.args.self.now in
+    record {
+      machine = refl;
+      scope = refl;
+      groups = grows_none (tolds_of old.groups.items);
+      counts = counts_none old.scope.names old.groups.items old.groups.items refl;
+      ends = grows_none old.ends.items;
+      cut = λ none. (c.either-self.ensures none).0;
+    }

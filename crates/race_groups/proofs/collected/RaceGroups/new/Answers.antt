@@ -1,0 +1,7 @@
+use Rattle.std.proofs.Common.{ap}
+use Rattle.explore.specs.Ranked.{pairs_of}
+use Rattle.race_groups.proofs.KeptLemmas.{kept_none}
+use Rattle.race_groups.proofs.collected.RaceGroups.new.Goals as goal
+
+pub returns-clause-none : goal.returns-clause-none
+returns-clause-none c = kept_none c.args.machine.now c.args.scope.now c.new-2.result.items _ c.new-2.ensures.items (ap pairs_of c.new-3.ensures.items)
