@@ -29,6 +29,8 @@ mod whole;
 pub use place::Sources;
 pub use summary::{Findings, NAMED, Told};
 pub use tops::{Format, Tops};
+pub use value::put_value;
 pub use waived::Waived;
 pub use waiver_file::WaiverLines;
 pub use waivers::{Spot, Waiver, WaiverFault, WaiverScope, read_waivers};
+pub use whole::{groups_texts, summary_text};

@@ -214,6 +214,39 @@ fn put_group(
     put_more(text, subject.machine, subject.group, findings.told.all)
 }
 
+// What is told of the group.
+fn text_of(
+    alloc: Global,
+    findings: &Findings<'_>,
+    group: &Group,
+    place: usize,
+) -> Result<Vec<u8>, NoMemory> {
+    let mut text = Vec::new(alloc);
+    let subject = Subject {
+        machine: findings.machine,
+        sources: findings.sources,
+        group,
+    };
+    put_group(alloc, &mut text, findings, subject, place)?;
+    Ok(text)
+}
+
+/// What is told of each group of a top module, in their order.
+pub fn groups_texts(alloc: Global, findings: &Findings<'_>) -> Result<Vec<Vec<u8>>, NoMemory> {
+    let mut texts = Vec::new(alloc);
+    for (place, group) in findings.races.groups.iter().enumerate() {
+        texts.push(text_of(alloc, findings, group, place)?)?;
+    }
+    Ok(texts)
+}
+
+/// How many races there are, and what wasn't looked at.
+pub fn summary_text(alloc: Global, findings: &Findings<'_>) -> Result<Vec<u8>, NoMemory> {
+    let mut text = Vec::new(alloc);
+    put_summary(&mut text, findings)?;
+    Ok(text)
+}
+
 /// The races of a top module, each by its cause, and what wasn't looked at.
 pub fn put_races(
     alloc: Global,

@@ -33,7 +33,7 @@ use vrace::{
 };
 use words::{
     Request, Search, Wanted, commands, files_of, has_dashed_log, has_dashed_report, has_dashed_top,
-    has_dashed_waivers, has_joined_letters, has_waivers_over_file, is_in_words, log_of,
+    has_dashed_waivers, has_joined_letters, has_output_over_file, is_in_words, log_of,
     race_request_of, race_search_of, race_words_of, report_of, request_of, search_of, steps_of,
     until_of, wanted_of,
 };
@@ -433,7 +433,7 @@ fn explore_by<'a, R: Threads + Wait + Sync>(
 
 // Tells the races that the words ask for.
 fn races_by<'a>(rt: &HostRuntime, matches: &ArgMatches<'a>) -> Result<ExitCode, Stop> {
-    if has_dashed_top(matches) || has_dashed_waivers(matches) || has_waivers_over_file(matches) {
+    if has_dashed_top(matches) || has_dashed_waivers(matches) || has_output_over_file(matches) {
         return Err(Stop::Usage);
     }
     let request = race_request_of(rt.alloc(), matches)?;

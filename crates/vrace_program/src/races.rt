@@ -7,11 +7,13 @@ use crate::words::{RaceWords, Request, Search, VERSION};
 use crate::{Stop, finish, options_for, read_file, texts};
 use basis::NoMemory;
 use byte_sinks::Metered;
-use race_groups::{Races, Scope};
+use race_groups::{Group, Races, Scope};
+use race_page::Page;
 use race_text::{
     Findings, NAMED, Sources, Told, Tops, Waived, Waiver, WaiverFault, WaiverLines, WaiverScope,
     read_waivers,
 };
+use run_pair::write_pair;
 use std::alloc::Global;
 use std::io::{BufWriter, Write};
 use std::process::ExitCode;
@@ -146,6 +148,14 @@ fn waived_of(
     Waived::new(alloc, waivers, &found.machine, sources, &found.races.groups)
 }
 
+// How many steps a run may have, as far as a log counts them.
+fn steps_of(request: &Request<'_>) -> u32 {
+    match u32::try_from(request.steps) {
+        Ok(steps) => steps,
+        Err(_) => u32::MAX,
+    }
+}
+
 // What is asked for: the files, by their names and texts, how they are searched, between which times, and the waivers.
 #[derive(Clone, Copy)]
 struct Asked<'a> {
@@ -156,6 +166,7 @@ struct Asked<'a> {
     words: &'a RaceWords<'a>,
     waivers: &'a [Waiver<'a>],
     bounds: Bounds,
+    steps: u32,
 }
 
 // What was told so far: of each top module, the file of waivers, and the worst that was found.
@@ -163,26 +174,86 @@ struct Asked<'a> {
 struct Answer<'w> {
     tops: Tops<'w>,
     waivers: WaiverLines,
+    page: Option<Page>,
+    dump: Option<Vec<u8>>,
     verdict: Verdict,
 }
 
+// A page that nothing is told on yet, where one is asked for.
+fn no_page(alloc: Global, words: &RaceWords<'_>, steps: u32) -> Result<Option<Page>, NoMemory> {
+    match words.html {
+        None => Ok(None),
+        Some(_) => Ok(Some(Page::new(alloc, steps)?)),
+    }
+}
+
 // Nothing.
-fn no_answer<'w>(alloc: Global, words: &RaceWords<'_>, waivers: &'w [Waiver<'w>]) -> Answer<'w> {
-    Answer {
+fn no_answer<'w>(
+    alloc: Global,
+    words: &RaceWords<'_>,
+    waivers: &'w [Waiver<'w>],
+    steps: u32,
+) -> Result<Answer<'w>, NoMemory> {
+    Ok(Answer {
         tops: Tops::new(alloc, words.format, words.tops.len() > 1, waivers),
         waivers: WaiverLines::new(alloc),
+        page: no_page(alloc, words, steps)?,
+        dump: None,
         verdict: Verdict::Clean,
+    })
+}
+
+// The dump of both runs of the group. A text that is held refuses for want of memory alone.
+fn dump_of(
+    alloc: Global,
+    findings: &Findings<'_>,
+    group: &Group,
+    steps: u32,
+) -> Result<Vec<u8>, Stop> {
+    let mut writer = Metered::new(Vec::new(alloc));
+    match write_pair(alloc, findings.machine, &group.log, steps, &mut writer) {
+        Ok(()) => Ok(writer.into_inner()),
+        Err(_) => Err(Stop::NoMemory),
     }
+}
+
+// The dump of both runs of the first race, where one is asked for, there isn't one yet, and there is a race.
+fn put_dump(
+    alloc: Global,
+    answer: &mut Answer<'_>,
+    findings: &Findings<'_>,
+    asked: &Asked<'_>,
+) -> Result<(), Stop> {
+    if asked.words.vcd.is_none() || answer.dump.is_some() {
+        return Ok(());
+    }
+    if let Some(group) = findings.races.groups.first() {
+        answer.dump = Some(dump_of(alloc, findings, group, asked.steps)?);
+    }
+    Ok(())
+}
+
+// Puts what was found of a top module onto the page and into the dump, where they are asked for.
+fn put_pictures(
+    alloc: Global,
+    answer: &mut Answer<'_>,
+    findings: &Findings<'_>,
+    asked: &Asked<'_>,
+) -> Result<(), Stop> {
+    if let Some(page) = &mut answer.page {
+        page.tell(findings)?;
+    }
+    put_dump(alloc, answer, findings, asked)
 }
 
 // Puts what was found of a top module.
 fn put_findings(
     answer: &mut Answer<'_>,
     findings: &Findings<'_>,
-    is_written: bool,
+    words: &RaceWords<'_>,
 ) -> Result<(), NoMemory> {
     answer.tops.tell(findings)?;
-    if is_written {
+    if words.write_waivers.is_some() {
         answer.waivers.waive(findings)?;
     }
     let verdict = verdict_of(findings.races, findings.waived);
@@ -217,8 +288,8 @@ fn tell_top<R: Clock + Eprint>(
         waivers: asked.waivers,
         waived: &waived,
     };
-    put_findings(answer, &findings, words.write_waivers.is_some())?;
-    Ok(())
+    put_findings(answer, &findings, words)?;
+    put_pictures(alloc, answer, &findings, asked)
 }
 
 // Searches each top module on its own, each with all that a search may take.
@@ -228,7 +299,7 @@ fn tell_tops<'w>(
     waivers: &'w [Waiver<'w>],
 ) -> Result<Answer<'w>, Stop> {
     let allowance = asked.search.allowance.unwrap_or(NO_LIMIT);
-    let mut answer = no_answer(rt.alloc(), asked.words, waivers);
+    let mut answer = no_answer(rt.alloc(), asked.words, waivers, asked.steps)?;
     if asked.words.tops.is_empty() {
         let mut meter = Meter::new(rt, allowance);
         tell_top(rt.alloc(), asked, None, &mut meter, &mut answer)?;
@@ -269,6 +340,50 @@ fn write_out(rt: &HostRuntime, text: &[u8]) -> Result<(), Stop> {
     finish(&mut writer)
 }
 
+// Writes the page and the dump where they are asked for; where no race was found there is no dump.
+fn write_pictures(
+    rt: &HostRuntime,
+    words: &RaceWords<'_>,
+    page: Option<Page>,
+    dump: Option<Vec<u8>>,
+) -> Result<(), Stop> {
+    if let (Some(name), Some(page)) = (words.html, page) {
+        write_file(rt, name, &page.document()?)?;
+    }
+    if let (Some(name), Some(dump)) = (words.vcd, dump) {
+        write_file(rt, name, &dump)?;
+    }
+    Ok(())
+}
+
+// Whether there is a folder of this name.
+fn is_folder(rt: &HostRuntime, name: &str) -> bool {
+    match fs::metadata(rt, name) {
+        Ok(found) => found.is_dir(),
+        Err(_) => false,
+    }
+}
+
+// Whether the file can be written: it is tried beside.
+fn try_file(rt: &HostRuntime, name: Option<&str>) -> Result<(), Stop> {
+    let Some(name) = name else {
+        return Ok(());
+    };
+    let new = new_name(rt.alloc(), name)?;
+    if is_folder(rt, name) || fs::write(rt, new.as_str(), b"").is_err() {
+        return Err(Stop::Refused(Fault::Write));
+    }
+    let _ = fs::remove_file(rt, new.as_str());
+    Ok(())
+}
+
+// Whether each file that is asked for can be written.
+fn try_files(rt: &HostRuntime, words: &RaceWords<'_>) -> Result<(), Stop> {
+    try_file(rt, words.write_waivers)?;
+    try_file(rt, words.html)?;
+    try_file(rt, words.vcd)
+}
+
 // Writes what was told, and the file of waivers where one is asked for.
 fn write_answer(
     rt: &HostRuntime,
@@ -278,6 +393,8 @@ fn write_answer(
     let Answer {
         tops,
         waivers,
+        page,
+        dump,
         verdict,
     } = answer;
     let document = tops.document(VERSION)?;
@@ -285,6 +402,7 @@ fn write_answer(
     if let Some(name) = words.write_waivers {
         write_file(rt, name, &waivers)?;
     }
+    write_pictures(rt, words, page, dump)?;
     write_out(rt, &document)?;
     Ok(verdict.code())
 }
@@ -307,6 +425,7 @@ fn tell(
         words,
         waivers,
         bounds: times.bounds(rt.alloc(), texts)?,
+        steps: steps_of(request),
     };
     let answer = tell_tops(rt, &asked, waivers)?;
     write_answer(rt, words, answer)
@@ -321,6 +440,7 @@ pub fn tell_races(
 ) -> Result<ExitCode, Stop> {
     options_for(request, search, None, 0)?;
     let times = Times::new(words.until, words.from)?;
+    try_files(rt, words)?;
     let waivers = waivers_of(rt, words)?;
     let waivers = read(rt.alloc(), &waivers)?;
     let texts = texts(rt, &request.files)?;

@@ -260,6 +260,24 @@ fn write_waivers<'a>(alloc: Global) -> Arg<'a> {
     )
 }
 
+fn html<'a>(alloc: Global) -> Arg<'a> {
+    option(
+        alloc,
+        "html",
+        "FILE",
+        "Writes a page for a browser: each race with the waveforms of both runs and the two statements",
+    )
+}
+
+fn vcd<'a>(alloc: Global) -> Arg<'a> {
+    option(
+        alloc,
+        "vcd",
+        "FILE",
+        "Writes a value change dump of both runs of the first race, under the scopes default and departed",
+    )
+}
+
 fn races_command<'a>(alloc: Global) -> Result<Command<'a>, NoMemory> {
     let until = option(
         alloc,
@@ -282,6 +300,8 @@ fn races_command<'a>(alloc: Global) -> Result<Command<'a>, NoMemory> {
         .arg(format(alloc))?
         .arg(waive(alloc))?
         .arg(write_waivers(alloc))?
+        .arg(html(alloc))?
+        .arg(vcd(alloc))?
         .arg(seconds(alloc))?
         .arg(number(alloc, "memory", MEMORY, "2000"))?
         .arg(progress(alloc))?
@@ -518,11 +538,16 @@ pub struct RaceWords<'a> {
     pub format: Format,
     pub waive: Option<&'a str>,
     pub write_waivers: Option<&'a str>,
+    pub html: Option<&'a str>,
+    pub vcd: Option<&'a str>,
 }
 
 /// Whether the value of an option that names a file of waivers reads as an option.
 pub fn has_dashed_waivers(matches: &ArgMatches<'_>) -> bool {
-    is_dashed(matches, "waive") || is_dashed(matches, "write-waivers")
+    is_dashed(matches, "waive")
+        || is_dashed(matches, "write-waivers")
+        || is_dashed(matches, "html")
+        || is_dashed(matches, "vcd")
 }
 
 // Whether the word stands among these.
@@ -535,12 +560,19 @@ fn is_among(words: &[&str], word: &str) -> bool {
     false
 }
 
-/// Whether waivers are to be written over a file of Verilog.
-pub fn has_waivers_over_file(matches: &ArgMatches<'_>) -> bool {
-    match (matches.get_str("write-waivers"), matches.get_strs("FILE")) {
+// Whether the option names one of the files that are read.
+fn is_over_file(matches: &ArgMatches<'_>, option: &str) -> bool {
+    match (matches.get_str(option), matches.get_strs("FILE")) {
         (Some(name), Some(files)) => is_among(files, name),
         _ => false,
     }
+}
+
+/// Whether a file that is written would take the place of one that is read.
+pub fn has_output_over_file(matches: &ArgMatches<'_>) -> bool {
+    is_over_file(matches, "write-waivers")
+        || is_over_file(matches, "html")
+        || is_over_file(matches, "vcd")
 }
 
 // The value of `--format`.
@@ -565,6 +597,8 @@ pub fn race_words_of<'a>(
         format: format_of(matches),
         waive: matches.get_str("waive"),
         write_waivers: matches.get_str("write-waivers"),
+        html: matches.get_str("html"),
+        vcd: matches.get_str("vcd"),
     })
 }
 

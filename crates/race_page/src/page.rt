@@ -1,0 +1,227 @@
+// The page of all races.
+
+use crate::figure::put_figure;
+use crate::files::Files;
+use crate::html::{put, put_escaped, put_number};
+use crate::listing::Subject;
+use crate::signals::signals_of;
+use crate::source::put_sources;
+use crate::style::{END, HEAD};
+use crate::table::put_table;
+use basis::NoMemory;
+use cause::Cause;
+use race_groups::{Difference, Group};
+use race_text::{Findings, groups_texts, summary_text};
+use run_pair::{Marked, Runs};
+use std::alloc::Global;
+
+/// A page on its way: what was told so far, and of how many races. A run is followed for at most so many steps.
+#[derive(Drop)]
+pub struct Page {
+    alloc: Global,
+    text: Vec<u8>,
+    races: u64,
+    steps: u32,
+}
+
+// What stands before the line feed at this place, and what after it.
+fn cut_at(text: &[u8], at: usize) -> (&[u8], &[u8]) {
+    match text.split_at_checked(at) {
+        None => (text, &[]),
+        Some((line, rest)) => (line, rest.get(1..).unwrap_or(&[])),
+    }
+}
+
+// What stands before the first line feed, and what after it.
+fn first_line(text: &[u8]) -> (&[u8], &[u8]) {
+    for (at, byte) in text.iter().enumerate() {
+        if *byte == b'\n' {
+            return cut_at(text, at);
+        }
+    }
+    (text, &[])
+}
+
+// The time of the slot in which both runs differ, where one does.
+fn time_of(difference: &Difference) -> Option<u64> {
+    match difference {
+        Difference::Values(race) => Some(race.time),
+        Difference::Lines(race) => Some(race.time),
+        Difference::Ends(_) => None,
+    }
+}
+
+// The steps of the two statements that race, in the run under the log or in its parent.
+fn marked_in(cause: &Option<Cause>, in_run: bool) -> Marked {
+    match cause {
+        None => Marked {
+            one: None,
+            other: None,
+        },
+        Some(cause) if in_run => Marked {
+            one: cause.first.in_run,
+            other: cause.second.in_run,
+        },
+        Some(cause) => Marked {
+            one: cause.first.in_parent,
+            other: cause.second.in_parent,
+        },
+    }
+}
+
+// A link to the race of this number.
+fn put_link(page: &mut Vec<u8>, number: u64, text: &[u8]) -> Result<(), NoMemory> {
+    put(page, "<a href=\"#race-")?;
+    put_number(page, number)?;
+    put(page, "\">")?;
+    put_escaped(page, text)?;
+    put(page, "</a>")
+}
+
+// The list of races, the first of which has this number: the first line of what is told of each, as a link.
+fn put_list(page: &mut Vec<u8>, first: u64, words: &[Vec<u8>]) -> Result<(), NoMemory> {
+    put(page, "<nav aria-label=\"races\">\n<ul>\n")?;
+    for (place, words) in words.iter().enumerate() {
+        put(page, "<li>")?;
+        put_link(
+            page,
+            first.saturating_add(place as u64),
+            first_line(words).0,
+        )?;
+        put(page, "</li>\n")?;
+    }
+    put(page, "</ul>\n</nav>\n")
+}
+
+// In which units times are counted.
+fn put_unit(page: &mut Vec<u8>, findings: &Findings<'_>) -> Result<(), NoMemory> {
+    let precision = findings.machine.design().scale.precision;
+    put(page, "<p>Times count units of ")?;
+    put_number(page, u64::from(precision.count.number()))?;
+    put(page, " ")?;
+    put(page, precision.unit.name())?;
+    put(
+        page,
+        ". <em>departed</em> is the run in the other order, <em>default</em> the one that it departs from.</p>\n",
+    )
+}
+
+// The heading of a race, as the first line of what is told of it, and the other lines.
+fn put_words(page: &mut Vec<u8>, words: &[u8]) -> Result<(), NoMemory> {
+    let (head, rest) = first_line(words);
+    put(page, "<h2>")?;
+    put_escaped(page, head)?;
+    put(page, "</h2>\n<pre tabindex=\"0\">")?;
+    put_escaped(page, rest)?;
+    put(page, "</pre>\n")
+}
+
+// What both runs do, as waveforms, as a table, and step by step.
+fn put_runs(
+    alloc: Global,
+    page: &mut Vec<u8>,
+    findings: &Findings<'_>,
+    files: &Files<'_>,
+    group: &Group,
+    runs: &Runs,
+) -> Result<(), NoMemory> {
+    let variables = &findings.machine.design().variables;
+    let signals = signals_of(alloc, group, runs, variables.len())?;
+    put(page, "<h3>The waveforms round the slot at ")?;
+    put_number(page, runs.time)?;
+    put(page, "</h3>\n")?;
+    put_figure(alloc, page, runs, variables, &signals)?;
+    put_table(alloc, page, runs, variables, &signals.shown)?;
+    let subject = Subject {
+        alloc,
+        machine: findings.machine,
+        files,
+    };
+    subject.put_listing(page, runs)
+}
+
+impl Page {
+    /// A page of which nothing was told yet. A run is followed for at most so many steps.
+    pub fn new(alloc: Global, steps: u32) -> Result<Page, NoMemory> {
+        let mut text = Vec::new(alloc);
+        put(&mut text, HEAD)?;
+        Ok(Page {
+            alloc,
+            text,
+            races: 0,
+            steps,
+        })
+    }
+
+    // Both runs of the group.
+    fn runs_of(&self, findings: &Findings<'_>, group: &Group) -> Result<Runs, NoMemory> {
+        Runs::new(
+            self.alloc,
+            findings.machine,
+            &group.log,
+            time_of(&group.first),
+            marked_in(&group.cause, true),
+            marked_in(&group.cause, false),
+            self.steps,
+        )
+    }
+
+    // A race: what is told of it in words, both statements, and both runs.
+    fn put_race(
+        &mut self,
+        findings: &Findings<'_>,
+        files: &Files<'_>,
+        group: &Group,
+        words: &[u8],
+    ) -> Result<(), NoMemory> {
+        self.races = self.races.saturating_add(1);
+        put(&mut self.text, "<section id=\"race-")?;
+        put_number(&mut self.text, self.races)?;
+        put(&mut self.text, "\">\n")?;
+        put_words(&mut self.text, words)?;
+        if let Some(cause) = &group.cause {
+            put_sources(&mut self.text, files, cause)?;
+        }
+        let runs = self.runs_of(findings, group)?;
+        put_runs(self.alloc, &mut self.text, findings, files, group, &runs)?;
+        put(
+            &mut self.text,
+            "<p><a href=\"#top\">All races</a></p>\n</section>\n",
+        )
+    }
+
+    // What stands before the races of a top module: its name, how many races there are, what wasn't looked at, and the list.
+    fn put_head(&mut self, findings: &Findings<'_>, words: &[Vec<u8>]) -> Result<(), NoMemory> {
+        put(&mut self.text, "<h1>Races of ")?;
+        put_escaped(&mut self.text, &findings.machine.design().top)?;
+        put(&mut self.text, "</h1>\n<p>")?;
+        put_escaped(&mut self.text, &summary_text(self.alloc, findings)?)?;
+        put(&mut self.text, "</p>\n")?;
+        if words.is_empty() {
+            return Ok(());
+        }
+        put_unit(&mut self.text, findings)?;
+        put_list(&mut self.text, self.races.saturating_add(1), words)
+    }
+
+    /// What was found of a top module: a list of all races, and of each what is told of it in words, both statements in their files, the
+    /// waveforms of both runs round the slot in which they differ, and the steps of both from where they part. E901 is the only refusal.
+    pub fn tell(&mut self, findings: &Findings<'_>) -> Result<(), NoMemory> {
+        let words = groups_texts(self.alloc, findings)?;
+        let files = Files::new(self.alloc, findings.sources)?;
+        self.put_head(findings, &words)?;
+        for (place, group) in findings.races.groups.iter().enumerate() {
+            if let Some(words) = words.get(place) {
+                self.put_race(findings, &files, group, words)?;
+            }
+        }
+        Ok(())
+    }
+
+    /// The document.
+    pub fn document(self) -> Result<Vec<u8>, NoMemory> {
+        let mut text = self.text;
+        put(&mut text, END)?;
+        Ok(text)
+    }
+}

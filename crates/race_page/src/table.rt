@@ -1,0 +1,80 @@
+// The values of both runs at the end of the slot in which they differ first, as a table.
+
+use crate::html::{put, put_escaped, put_number};
+use basis::NoMemory;
+use race_text::put_value;
+use run_pair::{Runs, Waves};
+use std::alloc::Global;
+use vdesign::design::Variable;
+
+// The value of the variable in a run, in a cell; nothing where the run has ended.
+fn put_cell(
+    alloc: Global,
+    page: &mut Vec<u8>,
+    waves: &Waves,
+    variable: &Variable,
+    number: usize,
+    time: u64,
+) -> Result<(), NoMemory> {
+    put(page, "<td>")?;
+    match waves.value_at(number, time) {
+        None => put(page, "the run has ended")?,
+        Some(value) => {
+            let mut text = Vec::new(alloc);
+            put_value(&mut text, variable, value)?;
+            put_escaped(page, &text)?;
+        }
+    }
+    put(page, "</td>")
+}
+
+// The row of the variable, marked where its values differ.
+fn put_row(
+    alloc: Global,
+    page: &mut Vec<u8>,
+    runs: &Runs,
+    variable: &Variable,
+    number: usize,
+) -> Result<(), NoMemory> {
+    let time = runs.time;
+    let differs = runs.differs(number, time);
+    put(
+        page,
+        if differs {
+            "<tr class=\"differs\">"
+        } else {
+            "<tr>"
+        },
+    )?;
+    put(page, "<th scope=\"row\">")?;
+    put_escaped(page, &variable.name)?;
+    put(page, "</th>")?;
+    put_cell(alloc, page, &runs.parent.waves, variable, number, time)?;
+    put_cell(alloc, page, &runs.departed.waves, variable, number, time)?;
+    put(page, "</tr>\n")
+}
+
+/// The values of these variables, by number, in both runs.
+pub(crate) fn put_table(
+    alloc: Global,
+    page: &mut Vec<u8>,
+    runs: &Runs,
+    variables: &[Variable],
+    shown: &[usize],
+) -> Result<(), NoMemory> {
+    put(
+        page,
+        "<div class=\"wide\" tabindex=\"0\"><table>\n<caption>At the end of the slot at ",
+    )?;
+    put_number(page, runs.time)?;
+    put(
+        page,
+        "</caption>\n<tr><th scope=\"col\">variable</th><th scope=\"col\">default</th><th scope=\"col\">departed</th></tr>\n",
+    )?;
+    for number in shown {
+        if let Some(variable) = variables.get(*number) {
+            put_row(alloc, page, runs, variable, *number)?;
+        }
+    }
+    put(page, "</table></div>\n")
+}
