@@ -1,61 +1,128 @@
-// Constructs of declarations and of heads of modules, told by their form.
+// Constructs of declarations, of items and of heads of modules, told by their words.
 
 use crate::construct::Construct;
+use crate::walk::{ALWAYS, Group, Level, NETS, Opening, Walk, is_type};
 use crate::words::{Words, is, is_one_of};
 
-// With these a declaration begins.
+// With these a declaration begins, beside those that a keyword tells.
 const DECLARATIONS: [&str; 6] = ["reg", "wire", "integer", "event", "parameter", "localparam"];
 
-// Words that begin something in SystemVerilog alone.
-const ALWAYS: [&str; 3] = ["always_com", "always_ff", "always_latch"];
+// As items these generate others.
+const GENERATING: [&str; 6] = ["if", "for", "case", "casez", "casex", "begin"];
 
-const TYPES: [&str; 6] = ["logic", "bit", "int", "byte", "shortint", "longint"];
+// Behind these an item belongs to what generates it.
+const GENERATED: [&str; 3] = [")", "else", ":"];
 
-// After these a declaration may begin.
-const FRONTS: [&str; 7] = [";", "(", ",", ")", "input", "output", "begin"];
+// Switches whose names aren't reserved here.
+const SWITCHES: [&str; 9] = [
+    "tran", "tranif0", "tranif1", "rtran", "rtranif0", "rtranif1", "rnmos", "rpmos", "rcmos",
+];
 
-// Whether the word is the first of a block, or of a block with a name.
-fn is_first_of_block(words: Words<'_>) -> bool {
-    is(words.before(1), "begin") || (is(words.before(2), ":") && is(words.before(3), "begin"))
+// Between modules these begin what SystemVerilog alone has.
+const UNITS: [&str; 6] = [
+    "package", "interface", "class", "program", "typedef", "import",
+];
+
+const KINDS: [&str; 8] = ["enum", "struct", "union", "logic", "bit", "int", "byte", "reg"];
+
+const BODIES: [&str; 5] = ["{", "packed", "logic", "bit", "int"];
+
+const CHOICES: [&str; 4] = ["case", "casez", "casex", "if"];
+
+// Whether the word begins a definition of a type, or its likes.
+fn is_definition(words: Words<'_>) -> bool {
+    let next = words.after(1);
+    match words.word() {
+        word if is(word, "typedef") => is_one_of(next, &KINDS),
+        word if is(word, "enum") || is(word, "struct") => {
+            is_one_of(next, &BODIES) && !is(words.before(1), "typedef")
+        }
+        word if is(word, "import") => is(words.after(2), ":"),
+        word if is(word, "unique") || is(word, "priority") => is_one_of(next, &CHOICES),
+        _ => false,
+    }
+}
+
+// Whether the word begins what SystemVerilog alone has.
+fn is_of_system_verilog(words: Words<'_>, walk: Walk) -> bool {
+    if walk.level == Level::Outside {
+        return is_one_of(words.word(), &UNITS);
+    }
+    if is_one_of(words.word(), &ALWAYS) {
+        return walk.starts;
+    }
+    is_type(words) || is_definition(words)
 }
 
 // Whether the word is the first name of a module's ports, without a direction.
-fn is_old_port(words: Words<'_>) -> bool {
-    let head = words.before(2);
-    is(words.before(1), "(")
-        && words.is_name_before(0)
-        && (is(head, ")") || is(words.before(3), "module"))
-        && words.is_in("module")
+fn is_old_port(words: Words<'_>, walk: Walk) -> bool {
+    let next = words.after(1);
+    let is_alone = is(next, ",") || is(next, ")") || is(next, "[");
+    walk.level == Level::Head
+        && walk.group == Group::Plain
+        && walk.open == 1
+        && is(words.before(1), "(")
+        && words.is_name_after(0)
+        && is_alone
 }
 
-/// The construct of a declaration that this word begins.
-pub(crate) fn by_name(words: Words<'_>) -> Option<Construct> {
+// The construct of an item that this word begins.
+fn by_item(words: Words<'_>, walk: Walk) -> Option<Construct> {
     let (word, before) = (words.word(), words.before(1));
-    if is_one_of(word, &DECLARATIONS) && is_first_of_block(words) {
+    if !walk.starts {
+        return None;
+    }
+    if is_one_of(word, &SWITCHES) || is(word, "or") {
+        return Some(Construct::Gate);
+    }
+    if is_one_of(word, &GENERATING) && !walk.generates && !is_one_of(before, &GENERATED) {
+        return Some(Construct::Generate);
+    }
+    None
+}
+
+/// The construct of a declaration, an item or a port that this word begins.
+pub(crate) fn by_name(words: Words<'_>, walk: Walk) -> Option<Construct> {
+    let word = words.word();
+    if is_of_system_verilog(words, walk) {
+        return Some(Construct::SystemVerilog);
+    }
+    if is_one_of(word, &DECLARATIONS) && walk.is_in_block() {
         return Some(Construct::BlockDeclaration);
     }
-    if is(word, "integer")
-        && (is(before, "output") || is(before, "input"))
-        && words.is_in("module")
-    {
+    if is(word, "integer") && walk.level == Level::Head && walk.group == Group::Plain {
         return Some(Construct::PortValue);
     }
-    if is_one_of(word, &ALWAYS) {
-        return Some(Construct::SystemVerilog);
+    if (is(word, "vectored") || is(word, "scalared")) && is_one_of(words.before(1), &NETS) {
+        return Some(Construct::Vectored);
     }
-    if is_one_of(word, &TYPES) && is_one_of(before, &FRONTS) && words.is_name_after(1) {
-        return Some(Construct::SystemVerilog);
-    }
-    if is_old_port(words) {
+    if is_old_port(words, walk) {
         return Some(Construct::OldPorts);
     }
-    None
+    by_item(words, walk)
 }
 
-/// The construct of `=` in the head of a module: a port with a value.
-pub(crate) fn by_value(words: Words<'_>) -> Option<Construct> {
-    if is(words.word(), "=") && words.is_port_value() {
-        return Some(Construct::PortValue);
+// Whether the word stands among what an `assign` or a net begins with, before its value.
+fn is_before_value(walk: Walk, opening: Opening) -> bool {
+    walk.level == Level::Items && walk.opening == opening && walk.open == 0 && !walk.assigned
+}
+
+/// The construct of a symbol in the head of a module, or in an item.
+pub(crate) fn by_symbol(words: Words<'_>, walk: Walk) -> Option<Construct> {
+    let assigns = is_before_value(walk, Opening::Assign);
+    let is_driven = assigns || is_before_value(walk, Opening::Net);
+    match words.word() {
+        word if is(word, "=") => {
+            let is_port = walk.level == Level::Head && walk.group == Group::Plain;
+            if is_port && walk.open == 1 {
+                Some(Construct::PortValue)
+            } else {
+                None
+            }
+        }
+        word if is(word, "#") && is_driven => Some(Construct::NetDelay),
+        word if is(word, "(") && is_driven => Some(Construct::Strength),
+        word if (is(word, "{") || is(word, "[")) && assigns => Some(Construct::PartialAssign),
+        _ => None,
     }
-    None
 }

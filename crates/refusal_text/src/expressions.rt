@@ -1,21 +1,41 @@
 // Constructs in expressions, told by their form.
 
 use crate::construct::Construct;
+use crate::walk::{Group, Level, Opening, TYPES, Walk};
 use crate::words::{Words, is, is_one_of};
 
-// After these an expression begins or goes on.
-const OPERATORS: [&str; 20] = [
-    "=", "<=", "+", "-", "*", "/", "%", "&", "|", "^", "~", "!", "?", "&&", "||", "==", "!=", "<",
-    ">", ">=",
-];
+// Operators that SystemVerilog joins to `=`.
+const JOINED: [&str; 11] = ["+", "-", "*", "/", "%", "&", "|", "^", "<<", ">>", "<<<"];
 
-// After these a string is no argument.
-const VALUES: [&str; 5] = ["=", "<=", "{", "?", "=="];
+// Whether the word stands in statements.
+pub(crate) fn is_in_statements(walk: Walk) -> bool {
+    walk.level == Level::Statement || walk.level == Level::Routine
+}
+
+// Whether the word stands in an expression, or among what a statement begins with.
+fn is_in_expression(walk: Walk) -> bool {
+    walk.open > 0 || walk.assigned
+}
+
+// The construct of `[` behind a name that is declared, or of which there are instances.
+fn by_range(words: Words<'_>, walk: Walk) -> Option<Construct> {
+    let is_type = is_one_of(words.before(1), &["vectored", "scalared"]);
+    if is_in_expression(walk) || is_type || is_one_of(words.before(1), &TYPES) {
+        return None;
+    }
+    match walk.opening {
+        Opening::Variable => Some(Construct::Memory),
+        Opening::Net => Some(Construct::Memory),
+        Opening::Instance if is(words.behind_brackets(), "(") => Some(Construct::InstanceArray),
+        _ => None,
+    }
+}
 
 // The construct of `[`: an array, a select of a select or of an expression, an edge of a bit, or an array of instances.
-fn by_bracket(words: Words<'_>) -> Option<Construct> {
+fn by_bracket(words: Words<'_>, walk: Walk) -> Option<Construct> {
     let before = words.before(1);
-    if is(before, "}") || (is(before, ")") && words.is_in("=")) {
+    let has_value = is_in_statements(walk) || is_in_expression(walk);
+    if is(before, "}") || (is(before, ")") && has_value) {
         return Some(Construct::SelectOfSelect);
     }
     if is(before, "]") {
@@ -24,125 +44,189 @@ fn by_bracket(words: Words<'_>) -> Option<Construct> {
     if !words.is_name_before(1) {
         return None;
     }
-    if words.is_in_event_control() {
-        return Some(Construct::EventTerm);
+    if walk.group == Group::Event || is(words.before(2), "@") {
+        return if walk.told {
+            None
+        } else {
+            Some(Construct::EventTerm)
+        };
     }
-    if is(words.before(2), "assign") {
-        return Some(Construct::PartialAssign);
+    by_range(words, walk)
+}
+
+// Whether the point goes on with a path that was told.
+fn goes_on(words: Words<'_>) -> bool {
+    if is(words.before(1), "]") {
+        is(words.before_brackets(), ".")
+    } else {
+        is(words.before(2), ".")
     }
-    if words.is_name_before(2) && !is(words.before(3), ":") {
-        return Some(Construct::InstanceArray);
-    }
-    if words.is_in_declaration() {
-        return Some(Construct::Memory);
-    }
-    None
 }
 
 // The construct of a point: a real number, a hierarchical name, or a port that is an expression.
-fn by_point(words: Words<'_>) -> Option<Construct> {
+fn by_point(words: Words<'_>, walk: Walk) -> Option<Construct> {
     let before = words.before(1);
-    if words.is_number_before(1) {
+    if words.is_plain_before(1) {
         return Some(Construct::Real);
     }
-    if (is(before, "(") || is(before, ",")) && words.is_in("module") {
-        return Some(Construct::PortExpression);
+    if is(before, "(") || is(before, ",") {
+        return by_first_point(words, walk);
     }
-    if !words.is_name_before(1) || !words.is_name_after(1) {
+    if !(words.is_name_before(1) || is(before, "]")) || !words.is_name_after(1) || goes_on(words) {
         return None;
     }
-    if is(words.before(2), ".") || words.is_in("$dumpvars") || words.is_in("defparam") {
+    if walk.group == Group::Dump || walk.opening == Opening::Defparam {
         return None;
     }
     Some(Construct::HierarchicalName)
 }
 
-// The construct of `(`: an attribute, a call, a strength, or parentheses with nothing inside.
-fn by_parenthesis(words: Words<'_>) -> Option<Construct> {
-    let before = words.before(1);
-    if is(words.after(1), "*") && !is(words.after(2), ")") {
-        return Some(Construct::Attribute);
+// The construct of a point that begins a connection, or a port.
+fn by_first_point(words: Words<'_>, walk: Walk) -> Option<Construct> {
+    if walk.level == Level::Head {
+        return Some(Construct::PortExpression);
     }
-    if before.starts_with(b"$") && is(words.after(1), ")") {
-        return Some(Construct::MissingArgument);
-    }
-    if is(before, "assign") || is(before, "wire") {
-        return Some(Construct::Strength);
-    }
-    if words.is_name_before(1) && is_one_of(words.before(2), &OPERATORS) {
-        return Some(Construct::Function);
-    }
-    None
-}
-
-// The construct of `+` or `-`: SystemVerilog's `a++`, `a += b`.
-fn by_sign(words: Words<'_>) -> Option<Construct> {
-    let (sign, next) = (words.word(), words.after(1));
-    let is_step = next == sign && (is(words.after(2), ";") || is(words.after(2), ")"));
-    if is_step || is(next, "=") {
+    let is_short = is(words.after(2), ",") || is(words.after(2), ")");
+    if walk.opening == Opening::Instance && (is(words.after(1), "*") || is_short) {
         return Some(Construct::SystemVerilog);
     }
     None
 }
 
-/// The construct of an expression that this symbol tells.
-pub(crate) fn by_symbol(words: Words<'_>) -> Option<Construct> {
-    match words.word() {
-        word if is(word, "[") => by_bracket(words),
-        word if is(word, ".") => by_point(words),
-        word if is(word, "(") => by_parenthesis(words),
-        word if is(word, "+") || is(word, "-") => by_sign(words),
-        word if is(word, ",") && (is(words.after(1), ",") || is(words.after(1), ")")) => {
-            Some(Construct::MissingArgument)
-        }
-        _ => None,
+// The construct of `(`: parentheses with nothing inside, or a call of a function.
+fn by_parenthesis(words: Words<'_>, walk: Walk) -> Option<Construct> {
+    let before = words.before(1);
+    if before.starts_with(b"$") && is(words.after(1), ")") {
+        return Some(Construct::MissingArgument);
     }
-}
-
-// What stands behind the first letter, or behind the format that it begins; none where it begins one that there isn't.
-fn behind_front(rest: &[u8]) -> Option<&[u8]> {
-    let Some((letter, after)) = rest.split_first() else {
-        return Some(rest);
-    };
-    if *letter == b'%' {
-        after.get(format_len(after)?..)
-    } else {
-        Some(after)
-    }
-}
-
-// Whether a percent sign of the string has a width or a letter of no format behind it.
-fn has_bad_format(letters: &[u8]) -> bool {
-    let mut rest = letters;
-    for _ in 0..letters.len() {
-        match behind_front(rest) {
-            None => return true,
-            Some(behind) => rest = behind,
-        }
-    }
-    false
-}
-
-// How many letters the format has, if it is one of the profile.
-fn format_len(after: &[u8]) -> Option<usize> {
-    let first = after.first()?;
-    match first {
-        b'%' | b'b' | b'B' | b'h' | b'H' | b'd' | b'D' | b't' | b'T' => Some(1),
-        b'0' => match after.get(1)? {
-            b'd' | b'D' | b't' | b'T' => Some(2),
-            _ => None,
-        },
-        _ => None,
-    }
-}
-
-/// The construct that a string tells: a value, or a format that isn't one.
-pub(crate) fn by_string(words: Words<'_>) -> Option<Construct> {
-    if is_one_of(words.before(1), &VALUES) {
-        return Some(Construct::StringValue);
-    }
-    if !is(words.before(2), "$dumpfile") && has_bad_format(words.word()) {
-        return Some(Construct::Format);
+    if words.is_name_before(1) && !is(words.before(2), ".") && is_in_expression(walk) {
+        return Some(Construct::Function);
     }
     None
+}
+
+// The construct of an operator: SystemVerilog's `a++`, `a += b`.
+fn by_operator(words: Words<'_>, walk: Walk) -> Option<Construct> {
+    let (sign, next) = (words.word(), words.after(1));
+    let is_sign = is(sign, "+") || is(sign, "-");
+    let is_step = next == sign && (is(words.after(2), ";") || is(words.after(2), ")"));
+    let is_joined = is_one_of(sign, &JOINED) && is(next, "=");
+    if is_in_statements(walk) && ((is_sign && is_step) || is_joined) {
+        return Some(Construct::SystemVerilog);
+    }
+    None
+}
+
+// The construct of a comma with nothing before it or behind it: an argument or a connection that is left out.
+fn by_comma(words: Words<'_>, walk: Walk) -> Option<Construct> {
+    let next = words.after(1);
+    let is_gap = is(next, ",") || is(next, ")") || is(words.before(1), "(");
+    if !is_gap || walk.open != 1 {
+        return None;
+    }
+    if walk.group == Group::Print {
+        return Some(Construct::MissingArgument);
+    }
+    if walk.level == Level::Items && walk.opening == Opening::Instance {
+        return Some(Construct::PortGap);
+    }
+    None
+}
+
+// The construct of an indexed part: one that is read, or the target of an assignment.
+fn by_indexed_part(walk: Walk) -> Option<Construct> {
+    let is_target = is_in_statements(walk) && walk.open == 1 && !walk.assigned;
+    if is_target && walk.group == Group::Plain {
+        return Some(Construct::IndexedTarget);
+    }
+    Some(Construct::IndexedPart)
+}
+
+/// The construct of an expression that this symbol tells.
+pub(crate) fn by_symbol(words: Words<'_>, walk: Walk) -> Option<Construct> {
+    match words.word() {
+        _ if walk.begins_attribute(words) => Some(Construct::Attribute),
+        word if is(word, "[") => by_bracket(words, walk),
+        word if is(word, ".") => by_point(words, walk),
+        word if is(word, "(") => by_parenthesis(words, walk),
+        word if is(word, ",") => by_comma(words, walk),
+        word if is(word, "+:") || is(word, "-:") => by_indexed_part(walk),
+        word if is(word, ";") && is(words.before(1), "$monitor") => {
+            Some(Construct::MissingArgument)
+        }
+        _ => by_operator(words, walk),
+    }
+}
+
+// Whether the word is the exponent of a real number that has no point: `1e3`.
+fn is_exponent(words: Words<'_>) -> bool {
+    let Some((first, rest)) = words.word().split_first() else {
+        return false;
+    };
+    let is_letter = *first == b'e' || *first == b'E';
+    let has_digits = rest.iter().all(|digit| digit.is_ascii_digit());
+    is_letter && has_digits && words.is_plain_before(1) && words.adjoins()
+}
+
+/// The construct that a name tells in an expression: a real number.
+pub(crate) fn by_name(words: Words<'_>) -> Option<Construct> {
+    if is_exponent(words) && !is(words.before(2), ".") {
+        return Some(Construct::Real);
+    }
+    None
+}
+
+// The number that digits write, or the greatest.
+fn number_of(digits: &[u8]) -> u64 {
+    let mut number = 0u64;
+    for digit in digits {
+        if digit.is_ascii_digit() {
+            let unit = u64::from(digit.saturating_sub(b'0'));
+            number = number.saturating_mul(10).saturating_add(unit);
+        }
+    }
+    number
+}
+
+/// The construct of a decimal number without size: the range of a vector of more than 64 bits.
+pub(crate) fn by_plain_number(words: Words<'_>) -> Option<Construct> {
+    let owner = words.before(2);
+    let is_range = is(words.before(1), "[") && is(words.after(1), ":") && is(words.after(3), "]");
+    let selects = words.is_name_before(2) || is_one_of(owner, &["]", ")", "}"]);
+    if !is_range || selects || !words.is_plain_after(2) {
+        return None;
+    }
+    let (left, right) = (number_of(words.word()), number_of(words.after(2)));
+    if left.abs_diff(right) < 64 {
+        return None;
+    }
+    Some(Construct::WideVector)
+}
+
+/// The construct of a number with a base: a blank behind its size.
+pub(crate) fn by_based_number(words: Words<'_>) -> Option<Construct> {
+    if words.word().starts_with(b"'") && words.is_plain_before(1) {
+        return Some(Construct::NumberBlank);
+    }
+    None
+}
+
+/// Whether the word is an argument of a task that prints.
+pub(crate) fn is_printed(words: Words<'_>, walk: Walk) -> bool {
+    let is_argument = is(words.before(1), "(") || is(words.before(1), ",");
+    walk.group == Group::Print && walk.open == 1 && is_argument
+}
+
+// Whether the word stands in a system call that isn't one of those.
+fn is_in_other_call(walk: Walk) -> bool {
+    let is_other = walk.group == Group::System || walk.group == Group::Dump;
+    (is_other && walk.open == 1) || (walk.call > 1 && walk.open == walk.call)
+}
+
+/// The construct that a string tells: a value. Formats are told by themselves.
+pub(crate) fn by_string(words: Words<'_>, walk: Walk) -> Option<Construct> {
+    if is_printed(words, walk) || is_in_other_call(walk) {
+        return None;
+    }
+    Some(Construct::StringValue)
 }

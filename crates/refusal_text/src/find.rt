@@ -1,84 +1,191 @@
 // Which constructs that the profile leaves out a text has, and where.
 
-use crate::construct::Construct;
-use crate::words::Words;
+use crate::construct::{Construct, row_of};
+use crate::formats::{bad_format, letters_of};
+use crate::walk::{Level, Walk};
+use crate::words::{Words, is};
 use crate::{declarations, expressions, keywords, statements};
 use basis::NoMemory;
 use std::alloc::Global;
 use vlex::{TokenKind, Tokens};
 use vsrc::Place;
 
-/// A construct of the text: where it stands first, and how often it comes later.
+/// What is told of a word: a construct that the profile leaves out, or the number of a fault.
+#[derive(Clone, Copy, Debug, PartialEq, Eq)]
+pub(crate) enum What {
+    LeftOut(Construct),
+    Broken(u16),
+}
+
+/// What is told, the word, where it stands first, and how often it comes later.
 #[derive(Clone, Copy)]
-pub(crate) struct Found {
-    pub(crate) construct: Construct,
+pub(crate) struct Found<'a> {
+    pub(crate) what: What,
+    pub(crate) word: &'a [u8],
     pub(crate) place: Place,
     pub(crate) more: usize,
 }
 
+// How many words before the one that is refused a construct may begin.
+const NEAR: usize = 3;
+
+// How many words of a task are looked at for a format.
+const FAR: usize = 256;
+
 // The construct that a symbol tells.
-fn by_symbol(words: Words<'_>) -> Option<Construct> {
-    if let Some(construct) = expressions::by_symbol(words) {
+fn by_symbol(words: Words<'_>, walk: Walk) -> Option<Construct> {
+    if let Some(construct) = expressions::by_symbol(words, walk) {
         return Some(construct);
     }
-    match statements::by_symbol(words) {
+    match statements::by_symbol(words, walk) {
         Some(construct) => Some(construct),
-        None => declarations::by_value(words),
+        None => declarations::by_symbol(words, walk),
     }
 }
 
-// The construct that a name or a keyword tells by what stands round it.
-fn by_name(words: Words<'_>) -> Option<Construct> {
-    match declarations::by_name(words) {
+// The construct that a name or a keyword tells by where it stands.
+fn by_name(words: Words<'_>, walk: Walk) -> Option<Construct> {
+    if let Some(construct) = declarations::by_name(words, walk) {
+        return Some(construct);
+    }
+    match statements::by_name(words, walk) {
         Some(construct) => Some(construct),
-        None => statements::by_name(words),
+        None => expressions::by_name(words),
     }
 }
 
-/// The construct that the word at this place tells, if it tells one.
-pub(crate) fn construct_at<'a>(tokens: &'a Tokens<'a>, at: usize) -> Option<Construct> {
-    let words = Words::new(tokens, at);
+/// The construct that the word tells, if it tells one; but for the formats of a string.
+pub(crate) fn construct_of(words: Words<'_>, walk: Walk) -> Option<Construct> {
+    if walk.attribute || walk.level == Level::Passed {
+        return None;
+    }
     if let Some(construct) = keywords::by_keyword(words) {
         return Some(construct);
     }
-    if words.is(TokenKind::Symbol) {
-        return by_symbol(words);
+    match words.kind()? {
+        TokenKind::Symbol => by_symbol(words, walk),
+        TokenKind::Name => by_name(words, walk),
+        TokenKind::Plain => expressions::by_plain_number(words),
+        TokenKind::Based => expressions::by_based_number(words),
+        TokenKind::Text => expressions::by_string(words, walk),
+        TokenKind::System => None,
     }
-    if words.is(TokenKind::Name) {
-        return by_name(words);
-    }
-    if words.is(TokenKind::Text) {
-        return expressions::by_string(words);
-    }
-    None
 }
 
-// Keeps the construct, or counts it where it is there.
-fn keep(all: &mut Vec<Found>, construct: Construct, place: Place) -> Result<(), NoMemory> {
-    for found in all.iter_mut() {
-        if found.construct == construct {
-            found.more = found.more.saturating_add(1);
+/// Whether two that are found are told as one: of what is told with its word, where the words are the same.
+pub(crate) fn is_same(one: &Found<'_>, other: &Found<'_>) -> bool {
+    let names_word = match one.what {
+        What::LeftOut(construct) => match row_of(construct) {
+            None => false,
+            Some(row) => row.names_word,
+        },
+        What::Broken(number) => number == 111 || number == 301,
+    };
+    one.what == other.what && (!names_word || one.word == other.word)
+}
+
+/// Keeps what was found, or counts it where it is there.
+pub(crate) fn keep<'a>(all: &mut Vec<Found<'a>>, found: Found<'a>) -> Result<(), NoMemory> {
+    for kept in all.iter_mut() {
+        if is_same(kept, &found) {
+            kept.more = kept.more.saturating_add(1);
             return Ok(());
         }
     }
-    all.push(Found {
-        construct,
-        place,
-        more: 0,
-    })?;
+    all.push(found)?;
     Ok(())
+}
+
+/// A construct at this word.
+pub(crate) fn found_at<'a>(words: Words<'a>, construct: Construct, word: &'a [u8]) -> Found<'a> {
+    Found {
+        what: What::LeftOut(construct),
+        word,
+        place: words.place(),
+        more: 0,
+    }
+}
+
+// Keeps each format of the string that the profile leaves out.
+fn keep_formats<'a>(all: &mut Vec<Found<'a>>, words: Words<'a>) -> Result<(), NoMemory> {
+    let mut rest = letters_of(words.word());
+    while let Some((format, behind)) = bad_format(rest) {
+        keep(all, found_at(words, Construct::Format, format))?;
+        rest = behind;
+    }
+    Ok(())
+}
+
+// Whether the word is a string of which formats are looked at.
+fn is_format(words: Words<'_>, walk: Walk) -> bool {
+    words.is(TokenKind::Text) && expressions::is_printed(words, walk) && !walk.attribute
 }
 
 /// Each construct that the words tell, in the order in which they come first.
 pub(crate) fn constructs<'a>(
     alloc: Global,
     tokens: &'a Tokens<'a>,
-) -> Result<Vec<Found>, NoMemory> {
+) -> Result<Vec<Found<'a>>, NoMemory> {
     let mut all = Vec::new(alloc);
+    let mut walk = Walk::new();
     for at in 0..tokens.len() {
-        if let Some(construct) = construct_at(tokens, at) {
-            keep(&mut all, construct, Words::new(tokens, at).place())?;
+        let words = Words::new(tokens, at);
+        if let Some(construct) = construct_of(words, walk) {
+            keep(&mut all, found_at(words, construct, words.word()))?;
+        } else if is_format(words, walk) {
+            keep_formats(&mut all, words)?;
         }
+        walk = walk.after(words);
     }
     Ok(all)
+}
+
+// Whether a text with the construct has a tree, so that it isn't what a word is refused for.
+fn has_tree(construct: Construct) -> bool {
+    construct == Construct::WideVector
+}
+
+/// The construct that the word at the place tells, or one of those just before it.
+pub(crate) fn construct_near<'a>(tokens: &'a Tokens<'a>, refused: usize) -> Option<Found<'a>> {
+    let mut near = None;
+    let mut walk = Walk::new();
+    for at in 0..refused.saturating_add(1) {
+        let words = Words::new(tokens, at);
+        if at.saturating_add(NEAR) > refused {
+            if let Some(construct) = construct_of(words, walk) {
+                if !has_tree(construct) {
+                    near = Some(found_at(words, construct, words.word()));
+                }
+            }
+        }
+        walk = walk.after(words);
+    }
+    near
+}
+
+/// The construct that the word at the place tells.
+pub(crate) fn construct_at<'a>(tokens: &'a Tokens<'a>, at: usize) -> Option<Found<'a>> {
+    let mut walk = Walk::new();
+    for before in 0..at {
+        walk = walk.after(Words::new(tokens, before));
+    }
+    let words = Words::new(tokens, at);
+    let construct = construct_of(words, walk)?;
+    Some(found_at(words, construct, words.word()))
+}
+
+/// The first format that the profile leaves out, from this word to the end of its statement.
+pub(crate) fn format_near<'a>(tokens: &'a Tokens<'a>, from: usize) -> Option<Found<'a>> {
+    for more in 0..FAR {
+        let words = Words::new(tokens, from.saturating_add(more));
+        if is(words.word(), ";") {
+            return None;
+        }
+        if words.is(TokenKind::Text) {
+            if let Some((format, _)) = bad_format(letters_of(words.word())) {
+                return Some(found_at(words, Construct::Format, format));
+            }
+        }
+    }
+    None
 }

@@ -1,247 +1,70 @@
 // Constructs that one word tells: keywords, names of system tasks, operators.
 
 use crate::construct::Construct;
-use crate::words::{Words, is, is_one_of};
+use crate::words::{Words, is_one_of};
 use vlex::TokenKind;
 
-// A word, and the construct that it begins.
-struct Keyword {
-    word: &'static str,
+// Words, and the construct that each of them begins.
+struct Keywords {
+    words: &'static [&'static str],
     construct: Construct,
 }
 
-const KEYWORDS: [Keyword; 58] = [
-    Keyword {
-        word: "fork",
-        construct: Construct::Fork,
-    },
-    Keyword {
-        word: "disable",
-        construct: Construct::Disable,
-    },
-    Keyword {
-        word: "function",
-        construct: Construct::Function,
-    },
-    Keyword {
-        word: "task",
-        construct: Construct::Task,
-    },
-    Keyword {
-        word: "generate",
-        construct: Construct::Generate,
-    },
-    Keyword {
-        word: "genvar",
-        construct: Construct::Generate,
-    },
-    Keyword {
-        word: "real",
-        construct: Construct::Real,
-    },
-    Keyword {
-        word: "realtime",
-        construct: Construct::Real,
-    },
-    Keyword {
-        word: "time",
-        construct: Construct::Time,
-    },
-    Keyword {
-        word: "tri",
+const KEYWORDS: [Keywords; 21] = [
+    Keywords { words: &["fork"], construct: Construct::Fork },
+    Keywords { words: &["disable"], construct: Construct::Disable },
+    Keywords { words: &["function"], construct: Construct::Function },
+    Keywords { words: &["task"], construct: Construct::Task },
+    Keywords { words: &["generate", "genvar"], construct: Construct::Generate },
+    Keywords { words: &["real", "realtime"], construct: Construct::Real },
+    Keywords { words: &["time"], construct: Construct::Time },
+    Keywords {
+        words: &[
+            "tri", "tri0", "tri1", "triand", "trior", "trireg", "uwire", "wand", "wor", "supply0",
+            "supply1",
+        ],
         construct: Construct::NetKind,
     },
-    Keyword {
-        word: "tri0",
-        construct: Construct::NetKind,
-    },
-    Keyword {
-        word: "tri1",
-        construct: Construct::NetKind,
-    },
-    Keyword {
-        word: "triand",
-        construct: Construct::NetKind,
-    },
-    Keyword {
-        word: "trior",
-        construct: Construct::NetKind,
-    },
-    Keyword {
-        word: "trireg",
-        construct: Construct::NetKind,
-    },
-    Keyword {
-        word: "uwire",
-        construct: Construct::NetKind,
-    },
-    Keyword {
-        word: "wand",
-        construct: Construct::NetKind,
-    },
-    Keyword {
-        word: "wor",
-        construct: Construct::NetKind,
-    },
-    Keyword {
-        word: "supply0",
-        construct: Construct::NetKind,
-    },
-    Keyword {
-        word: "supply1",
-        construct: Construct::NetKind,
-    },
-    Keyword {
-        word: "force",
-        construct: Construct::Force,
-    },
-    Keyword {
-        word: "release",
-        construct: Construct::Force,
-    },
-    Keyword {
-        word: "deassign",
-        construct: Construct::Force,
-    },
-    Keyword {
-        word: "and",
+    Keywords { words: &["force", "release", "deassign"], construct: Construct::Force },
+    Keywords {
+        words: &[
+            "and", "nand", "nor", "xor", "xnor", "not", "buf", "bufif0", "bufif1", "notif0",
+            "notif1", "nmos", "pmos", "cmos", "pullup", "pulldown",
+        ],
         construct: Construct::Gate,
     },
-    Keyword {
-        word: "nand",
-        construct: Construct::Gate,
-    },
-    Keyword {
-        word: "nor",
-        construct: Construct::Gate,
-    },
-    Keyword {
-        word: "xor",
-        construct: Construct::Gate,
-    },
-    Keyword {
-        word: "xnor",
-        construct: Construct::Gate,
-    },
-    Keyword {
-        word: "not",
-        construct: Construct::Gate,
-    },
-    Keyword {
-        word: "buf",
-        construct: Construct::Gate,
-    },
-    Keyword {
-        word: "bufif0",
-        construct: Construct::Gate,
-    },
-    Keyword {
-        word: "bufif1",
-        construct: Construct::Gate,
-    },
-    Keyword {
-        word: "notif0",
-        construct: Construct::Gate,
-    },
-    Keyword {
-        word: "notif1",
-        construct: Construct::Gate,
-    },
-    Keyword {
-        word: "nmos",
-        construct: Construct::Gate,
-    },
-    Keyword {
-        word: "pmos",
-        construct: Construct::Gate,
-    },
-    Keyword {
-        word: "cmos",
-        construct: Construct::Gate,
-    },
-    Keyword {
-        word: "pullup",
-        construct: Construct::Gate,
-    },
-    Keyword {
-        word: "pulldown",
-        construct: Construct::Gate,
-    },
-    Keyword {
-        word: "defparam",
-        construct: Construct::Defparam,
-    },
-    Keyword {
-        word: "primitive",
+    Keywords { words: &["defparam"], construct: Construct::Defparam },
+    Keywords {
+        words: &["primitive", "specify", "specparam", "config", "library", "macromodule"],
         construct: Construct::Primitive,
     },
-    Keyword {
-        word: "specify",
-        construct: Construct::Primitive,
-    },
-    Keyword {
-        word: "specparam",
-        construct: Construct::Primitive,
-    },
-    Keyword {
-        word: "config",
-        construct: Construct::Primitive,
-    },
-    Keyword {
-        word: "library",
-        construct: Construct::Primitive,
-    },
-    Keyword {
-        word: "macromodule",
-        construct: Construct::Primitive,
-    },
-    Keyword {
-        word: "inout",
-        construct: Construct::Inout,
-    },
-    Keyword {
-        word: "**",
-        construct: Construct::Power,
-    },
-    Keyword {
-        word: "+:",
-        construct: Construct::IndexedPart,
-    },
-    Keyword {
-        word: "-:",
-        construct: Construct::IndexedPart,
-    },
-    Keyword {
-        word: "$write",
-        construct: Construct::Write,
-    },
-    Keyword {
-        word: "$random",
+    Keywords { words: &["inout"], construct: Construct::Inout },
+    Keywords { words: &["**"], construct: Construct::Power },
+    Keywords { words: &["$write"], construct: Construct::Write },
+    Keywords {
+        words: &["$random", "$urandom", "$urandom_range"],
         construct: Construct::Random,
     },
-    Keyword {
-        word: "$urandom",
-        construct: Construct::Random,
+    Keywords { words: &["$monitoron", "$monitoroff"], construct: Construct::MonitorSwitch },
+    Keywords { words: &["$readmemb", "$readmemh"], construct: Construct::ReadMemory },
+    Keywords {
+        words: &["$test$plusargs", "$value$plusargs"],
+        construct: Construct::Plusargs,
     },
-    Keyword {
-        word: "$urandom_range",
-        construct: Construct::Random,
+    Keywords {
+        words: &[
+            "$fopen", "$fclose", "$fdisplay", "$fwrite", "$fstrobe", "$fmonitor", "$fflush",
+            "$fgetc", "$fgets", "$fscanf", "$fread", "$fseek", "$ftell", "$rewind", "$feof",
+            "$ferror", "$ungetc",
+        ],
+        construct: Construct::FileTask,
     },
-    Keyword {
-        word: "$monitoron",
-        construct: Construct::MonitorSwitch,
-    },
-    Keyword {
-        word: "$monitoroff",
-        construct: Construct::MonitorSwitch,
-    },
-    Keyword {
-        word: "$readmemb",
-        construct: Construct::Memory,
-    },
-    Keyword {
-        word: "$readmemh",
-        construct: Construct::Memory,
+    Keywords {
+        words: &[
+            "$displayb", "$displayo", "$displayh", "$writeb", "$writeo", "$writeh", "$strobeb",
+            "$strobeo", "$strobeh", "$monitorb", "$monitoro", "$monitorh",
+        ],
+        construct: Construct::RadixDisplay,
     },
 ];
 
@@ -263,58 +86,14 @@ const SYSTEM_NAMES: [&str; 14] = [
     "$unsigned",
 ];
 
-// Print tasks, of which there are some with a radix of their own, and some that write to files.
-const PRINT_TASKS: [&str; 4] = ["$display", "$write", "$strobe", "$monitor"];
-
-const FILE_TASKS: [&str; 14] = [
-    "$fopen",
-    "$fclose",
-    "$fdisplay",
-    "$fwrite",
-    "$fstrobe",
-    "$fmonitor",
-    "$fflush",
-    "$fgetc",
-    "$fgets",
-    "$fscanf",
-    "$fread",
-    "$fseek",
-    "$feof",
-    "$sscanf",
-];
-
-// Whether the word is a print task's name with a letter behind it: `$displayb`.
-fn has_radix(word: &[u8]) -> bool {
-    match word.split_last() {
-        None => false,
-        Some((radix, task)) => {
-            (*radix == b'b' || *radix == b'o' || *radix == b'h') && is_one_of(task, &PRINT_TASKS)
-        }
-    }
-}
-
-// What a system name that the profile hasn't begins.
-fn system_construct(word: &[u8]) -> Option<Construct> {
-    if is_one_of(word, &SYSTEM_NAMES) {
-        return None;
-    }
-    if is_one_of(word, &FILE_TASKS) {
-        return Some(Construct::FileTask);
-    }
-    if has_radix(word) {
-        return Some(Construct::RadixDisplay);
-    }
-    Some(Construct::SystemTask)
-}
-
 /// The construct that the word begins, whatever stands round it.
 pub(crate) fn by_keyword(words: Words<'_>) -> Option<Construct> {
     let word = words.word();
-    if let Some(keyword) = KEYWORDS.iter().find(|row| is(word, row.word)) {
-        return Some(keyword.construct);
+    if let Some(row) = KEYWORDS.iter().find(|row| is_one_of(word, row.words)) {
+        return Some(row.construct);
     }
-    if words.is(TokenKind::System) {
-        return system_construct(word);
+    if words.is(TokenKind::System) && !is_one_of(word, &SYSTEM_NAMES) {
+        return Some(Construct::SystemTask);
     }
     None
 }

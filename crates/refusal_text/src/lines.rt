@@ -39,6 +39,19 @@ pub fn line_of(text: &[u8], number: usize) -> &[u8] {
     first_line(rest)
 }
 
+/// How many bytes stand before the place in the text of its file.
+pub(crate) fn offset_of(text: &[u8], place: Place) -> usize {
+    let mut offset = 0usize;
+    for _ in 1..place.line {
+        let rest = text.get(offset..);
+        match rest.and_then(|rest| memchr(b'\n', rest)) {
+            None => return text.len(),
+            Some(at) => offset = offset.saturating_add(at).saturating_add(1),
+        }
+    }
+    offset.saturating_add(place.column)
+}
+
 impl<'a> Files<'a> {
     /// The name of the file of this number, from 1; `-` of standard input.
     pub fn name(&self, file: usize) -> &'a str {

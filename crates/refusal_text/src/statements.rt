@@ -1,25 +1,62 @@
 // Constructs of statements, told by their form.
 
 use crate::construct::Construct;
+use crate::expressions::is_in_statements;
+use crate::walk::{ALWAYS, Group, Opening, Walk};
 use crate::words::{Words, is, is_one_of};
 
-// Before these a statement ended or begins.
-const BORDERS: [&str; 4] = ["begin", "end", "else", ";"];
+// Behind these a statement begins.
+const FRONTS: [&str; 13] = [
+    "begin", "end", "else", ";", "initial", "always", "forever", "fork", "join", ")", "endcase",
+    "default", "endtask",
+];
 
-// After these a statement stands.
-const HEADS: [&str; 5] = ["begin", "initial", "always", ")", "else"];
+// Statements of SystemVerilog that look like calls of tasks.
+const NEW_STATEMENTS: [&str; 7] = [
+    "foreach", "break", "continue", "return", "do", "assert", "assume",
+];
 
-// Whether the two words before are a name where a statement begins: a call of a task.
-fn is_call(words: Words<'_>) -> bool {
-    words.is_name_before(1) && is_one_of(words.before(2), &BORDERS)
+// Whether a statement begins at the word so many places earlier.
+fn begins_statement(words: Words<'_>, fewer: usize) -> bool {
+    let front = words.before(fewer.saturating_add(1));
+    let second = words.before(fewer.saturating_add(2));
+    let third = words.before(fewer.saturating_add(3));
+    if is_one_of(front, &FRONTS) {
+        return true;
+    }
+    if is(front, ":") {
+        return !is(second, "begin") && !is(second, "fork");
+    }
+    if is(second, ":") {
+        return is(third, "begin") || is(third, "fork");
+    }
+    let is_edge = is(front, "posedge") || is(front, "negedge");
+    (is(second, "#") || is(second, "@")) && !is_edge
 }
 
-// The construct of `:`: the name of a block, or a delay with three values.
-fn by_colon(words: Words<'_>) -> Option<Construct> {
-    if is(words.before(1), "begin") {
+// The construct of a call of a task, at the word behind its name.
+fn by_call(words: Words<'_>, walk: Walk) -> Option<Construct> {
+    let stands_alone = is_in_statements(walk) && walk.open == 0 && !walk.assigned;
+    if !stands_alone || walk.opening != Opening::Other || !words.is_name_before(1) {
+        return None;
+    }
+    if !begins_statement(words, 1) || is_one_of(words.before(1), &ALWAYS) {
+        return None;
+    }
+    if is_one_of(words.before(1), &NEW_STATEMENTS) {
+        return Some(Construct::SystemVerilog);
+    }
+    Some(Construct::Task)
+}
+
+// The construct of `:`: the name of a block, or a value of three.
+fn by_colon(words: Words<'_>, walk: Walk) -> Option<Construct> {
+    if is_in_statements(walk) && is_one_of(words.before(1), &["begin", "fork", "end", "join"]) {
         return Some(Construct::BlockName);
     }
-    if is(words.before(2), "(") && is(words.before(3), "#") {
+    let is_delay = walk.group == Group::Delay && walk.open == 1;
+    let is_parameter = walk.opening == Opening::Parameter && walk.open == 0 && walk.assigned;
+    if (is_delay || is_parameter) && walk.chosen == 0 && !walk.told {
         return Some(Construct::DelayRange);
     }
     None
@@ -36,50 +73,35 @@ fn by_at(words: Words<'_>) -> Option<Construct> {
     None
 }
 
-// The construct of `#`: a delay of a net.
-fn by_delay(words: Words<'_>) -> Option<Construct> {
-    let before = words.before(1);
-    if is(before, "assign") || is(before, "wire") || (is(before, "]") && words.is_in("wire")) {
-        return Some(Construct::NetDelay);
-    }
-    None
-}
-
-/// The construct of a statement that this symbol tells.
-pub(crate) fn by_symbol(words: Words<'_>) -> Option<Construct> {
-    match words.word() {
-        word if is(word, ":") => by_colon(words),
-        word if is(word, "@") => by_at(words),
-        word if is(word, "#") => by_delay(words),
-        word if is(word, "{") && is(words.before(1), "assign") => Some(Construct::PartialAssign),
-        word if (is(word, "(") || is(word, ";")) && is_call(words) => Some(Construct::Task),
-        word if !is(word, ",") && !is(word, ")") && words.is_in_event_control() => {
-            by_event_term(words)
-        }
-        _ => None,
-    }
-}
-
 // The construct of a symbol inside `@( )`: an expression is waited for. The one of `@(*)` is none.
-fn by_event_term(words: Words<'_>) -> Option<Construct> {
-    if is(words.word(), "*") || words.is_in("assign") {
+fn by_event_term(words: Words<'_>, walk: Walk) -> Option<Construct> {
+    let is_all = is(words.word(), "*") && is(words.before(1), "(") && is(words.after(1), ")");
+    if walk.told || is_all || is_one_of(words.word(), &[",", ")", "]", "}"]) {
         return None;
     }
     Some(Construct::EventTerm)
 }
 
-/// The construct that a keyword tells by what stands before it.
-pub(crate) fn by_name(words: Words<'_>) -> Option<Construct> {
+/// The construct of a statement that this symbol tells.
+pub(crate) fn by_symbol(words: Words<'_>, walk: Walk) -> Option<Construct> {
+    match words.word() {
+        word if is(word, ":") => by_colon(words, walk),
+        word if is(word, "@") => by_at(words),
+        word if is(word, "(") && walk.open == 0 => by_call(words, walk),
+        word if is(word, ";") => by_call(words, walk),
+        _ if walk.group == Group::Event && walk.open > 0 => by_event_term(words, walk),
+        _ => None,
+    }
+}
+
+/// The construct that a keyword tells by where it stands.
+pub(crate) fn by_name(words: Words<'_>, walk: Walk) -> Option<Construct> {
     let (word, before) = (words.word(), words.before(1));
-    let is_first = is(words.before(2), ":") && is(words.before(3), "begin");
-    if is(word, "assign") && (is_one_of(before, &HEADS) || is_first) {
+    if is(word, "assign") && is_in_statements(walk) {
         return Some(Construct::ProceduralAssign);
     }
     if is(word, "repeat") && (is(before, "=") || is(before, "<=")) {
         return Some(Construct::EventInAssignment);
-    }
-    if is(word, "or") && is(before, ";") {
-        return Some(Construct::Gate);
     }
     None
 }

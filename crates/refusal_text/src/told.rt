@@ -1,18 +1,23 @@
 // A refusal in words.
 
-use crate::find::{Found, construct_at, constructs};
+use crate::construct::Construct;
+use crate::find::{
+    Found, What, construct_at, construct_near, constructs, format_near, found_at, is_same,
+};
 use crate::lines::Files;
-use crate::message::{put_construct, put_rule};
-use crate::rules::rule_of;
-use crate::words::Words;
-use basis::{NoMemory, is_in_name};
+use crate::mended::{Mended, mend_files};
+use crate::message::put_found;
+use crate::modules::modules_of;
+use crate::tops::{missing_modules, put_none, put_several};
+use crate::walk::PRINTS;
+use crate::words::{Words, is, is_one_of};
+use basis::NoMemory;
 use std::alloc::Global;
-use vlex::{Tokens, tokens};
-use vrace::{At, Detail, Fault};
+use vlex::{TokenKind, Tokens, tokens};
 use vsrc::{Place, expand};
 
-// How many words before the one that is told a construct may begin.
-const NEAR: usize = 3;
+// The first number of a fault of words; below it are those of letters.
+const OF_WORDS: u16 = 200;
 
 // The word that begins at the place; the number of words where none does.
 fn word_at<'a>(tokens: &'a Tokens<'a>, place: Place) -> usize {
@@ -24,144 +29,253 @@ fn word_at<'a>(tokens: &'a Tokens<'a>, place: Place) -> usize {
     tokens.len()
 }
 
-// The construct that the word tells, or one of those just before it.
-fn construct_near<'a>(tokens: &'a Tokens<'a>, at: usize) -> Option<Found> {
-    for fewer in 0..NEAR {
-        let near = at.saturating_sub(fewer);
-        if let Some(construct) = construct_at(tokens, near) {
-            return Some(Found {
-                construct,
-                place: Words::new(tokens, near).place(),
-                more: 0,
-            });
-        }
-    }
-    None
-}
-
-// Whether a fault of this number may come of a construct that the profile leaves out.
-fn is_of_profile(number: u16) -> bool {
-    number == 201 || number == 202 || number == 310
-}
-
-// The message of the fault, by the word at its place.
-fn put_fault(
-    text: &mut Vec<u8>,
-    fault: &Fault,
-    files: Files<'_>,
-    place: Place,
-    word: &[u8],
-) -> Result<(), NoMemory> {
-    match rule_of(fault.number()) {
-        None => Ok(()),
-        Some(rule) => put_rule(text, files, place, word, rule),
+// What was found, if it is this construct.
+fn only(found: Option<Found<'_>>, construct: Construct) -> Option<Found<'_>> {
+    match found {
+        Some(found) if found.what == What::LeftOut(construct) => Some(found),
+        _ => None,
     }
 }
 
-// Whether the construct was told already.
-fn is_told(told: Option<Found>, found: Found) -> bool {
-    match told {
-        None => false,
-        Some(told) => told.construct == found.construct,
+// Whether the word is the number of levels of `$dumpvars`, where what is wrong with its paths is told.
+fn is_dump_path(tokens: &Tokens<'_>, at: usize) -> bool {
+    let words = Words::new(tokens, at);
+    words.is(TokenKind::Plain) && is(words.before(1), "(") && is(words.before(2), "$dumpvars")
+}
+
+// Whether the word is the first argument of a task that prints, at which a wrong format is told.
+fn is_first_argument(tokens: &Tokens<'_>, at: usize) -> bool {
+    let words = Words::new(tokens, at);
+    is(words.before(1), "(") && is_one_of(words.before(2), &PRINTS)
+}
+
+// The construct that the fault is told by, if it comes of one.
+fn construct_of<'a>(tokens: &'a Tokens<'a>, at: usize, number: u16) -> Option<Found<'a>> {
+    match number {
+        201 | 202 => construct_near(tokens, at),
+        301 => only(construct_at(tokens, at), Construct::Gate),
+        306 => only(construct_at(tokens, at), Construct::WideVector),
+        303 | 310 if is_dump_path(tokens, at) => Some(found_at(
+            Words::new(tokens, at),
+            Construct::DumpPath,
+            &[],
+        )),
+        310 if is_first_argument(tokens, at) => format_near(tokens, at),
+        _ => None,
     }
 }
 
-// How often the construct comes in the text beside the one that is told.
-fn with_count(told: Found, all: &[Found]) -> Found {
+// What is told, with how often it comes beside.
+fn with_count<'a>(told: Found<'a>, all: &[Found<'_>]) -> Found<'a> {
     for found in all {
-        if found.construct == told.construct {
-            return Found {
-                construct: told.construct,
-                place: told.place,
-                more: found.more,
-            };
+        if is_same(found, &told) {
+            let mut counted = told;
+            counted.more = found.more;
+            return counted;
         }
     }
     told
 }
 
-// The constructs but for the one that was told.
+// Each that was found but for the one that was told.
 fn put_others(
     text: &mut Vec<u8>,
     files: Files<'_>,
-    all: &[Found],
-    told: Option<Found>,
+    all: &[Found<'_>],
+    told: &Found<'_>,
 ) -> Result<(), NoMemory> {
     for found in all {
-        if !is_told(told, *found) {
-            put_construct(text, files, *found)?;
+        if !is_same(found, told) {
+            put_found(text, files, found)?;
         }
     }
     Ok(())
+}
+
+// A fault of the design for which no module, or none alone, is the top.
+fn put_modules<'a>(
+    alloc: Global,
+    text: &mut Vec<u8>,
+    files: Files<'_>,
+    told: Found<'a>,
+    tokens: &'a Tokens<'a>,
+    at: usize,
+) -> Result<(), NoMemory> {
+    let modules = modules_of(alloc, tokens)?;
+    if is(Words::new(tokens, at).before(1), "module") {
+        return put_several(alloc, text, files, told.place, &modules);
+    }
+    let all = missing_modules(alloc, &modules)?;
+    put_found(text, files, &with_count(told, &all))?;
+    put_others(text, files, &all, &told)
 }
 
 // The messages of a text with words.
 fn put_by_words<'a>(
     alloc: Global,
     text: &mut Vec<u8>,
-    fault: &Fault,
     files: Files<'_>,
+    number: u16,
     place: Place,
     tokens: &'a Tokens<'a>,
 ) -> Result<(), NoMemory> {
     let at = word_at(tokens, place);
-    let word = Words::new(tokens, at).word();
-    if !is_of_profile(fault.number()) {
-        return put_fault(text, fault, files, place, word);
-    }
+    let broken = Found {
+        what: What::Broken(number),
+        word: Words::new(tokens, at).word(),
+        place,
+        more: 0,
+    };
     let all = constructs(alloc, tokens)?;
-    let told = construct_near(tokens, at);
-    match told {
-        None => put_fault(text, fault, files, place, word)?,
-        Some(found) => put_construct(text, files, with_count(found, &all))?,
+    let told = construct_of(tokens, at, number).unwrap_or(broken);
+    if told.what == What::Broken(301) {
+        put_modules(alloc, text, files, told, tokens, at)?;
+    } else {
+        put_found(text, files, &with_count(told, &all))?;
     }
-    put_others(text, files, &all, told)
+    put_others(text, files, &all, &told)
 }
 
-// The bytes of a name at the head, with the backtick before it.
-fn name_len(rest: &[u8]) -> usize {
-    for (at, byte) in rest.iter().enumerate() {
-        if !(is_in_name(*byte) || (at == 0 && *byte == b'`')) {
-            return at;
+// Whether the one stands before the other.
+fn is_before(one: Place, other: Place) -> bool {
+    if one.file != other.file {
+        return one.file < other.file;
+    }
+    if one.line != other.line {
+        return one.line < other.line;
+    }
+    one.column < other.column
+}
+
+// Those from this one on that stand before the place; the answer is the next one.
+fn put_before(
+    text: &mut Vec<u8>,
+    files: Files<'_>,
+    all: &[Found<'_>],
+    from: usize,
+    place: Option<Place>,
+) -> Result<usize, NoMemory> {
+    for (at, found) in all.iter().enumerate() {
+        if at >= from {
+            if let Some(place) = place {
+                if !is_before(found.place, place) {
+                    return Ok(at);
+                }
+            }
+            put_found(text, files, found)?;
         }
     }
-    rest.len()
+    Ok(all.len())
 }
 
-// The messages of a text without words: its macros, or its letters, are refused.
-fn put_by_letters(
+// What was found by letters and by words; first what is refused, and then each in its place.
+fn put_both(
     text: &mut Vec<u8>,
-    fault: &Fault,
     files: Files<'_>,
-    place: Place,
+    by_letters: &[Found<'_>],
+    by_words: &[Found<'_>],
 ) -> Result<(), NoMemory> {
-    let rest = match files.line(place).get(place.column..) {
-        None => &[],
-        Some(rest) => rest,
-    };
-    let word = match rest.get(..name_len(rest)) {
-        None => rest,
-        Some(word) => word,
-    };
-    put_fault(text, fault, files, place, word)
+    let mut next = 0;
+    if let Some(first) = by_letters.first() {
+        put_found(text, files, first)?;
+        next = 1;
+    }
+    for found in by_words {
+        next = put_before(text, files, by_letters, next, Some(found.place))?;
+        put_found(text, files, found)?;
+    }
+    put_before(text, files, by_letters, next, None)?;
+    Ok(())
 }
 
-/// What is told of a refusal of these files beside its number: where it stands, in words what is refused, the source line with a
-/// caret, and what to write in its place; then each construct of the text that the profile leaves out. Nothing where no place is known.
-/// E901 is the only refusal.
-pub fn refusal_text(alloc: Global, fault: &Fault, files: Files<'_>) -> Result<Vec<u8>, NoMemory> {
-    let mut text = Vec::new(alloc);
-    let Detail::Place(At(Some(place))) = fault.detail() else {
-        return Ok(text);
-    };
-    let Ok(source) = expand(alloc, files.texts) else {
-        put_by_letters(&mut text, fault, files, place)?;
-        return Ok(text);
+// The constructs of the words of these files; none where they have no words.
+fn put_left(
+    alloc: Global,
+    text: &mut Vec<u8>,
+    files: Files<'_>,
+    mended: &Mended<'_>,
+) -> Result<(), NoMemory> {
+    let Ok(source) = expand(alloc, &mended.texts) else {
+        return put_both(text, files, &mended.found, &[]);
     };
     let Ok(words) = tokens(alloc, &source) else {
-        put_by_letters(&mut text, fault, files, place)?;
-        return Ok(text);
+        return put_both(text, files, &mended.found, &[]);
     };
-    put_by_words(alloc, &mut text, fault, files, place, &words)?;
+    let by_words = constructs(alloc, &words)?;
+    put_both(text, files, &mended.found, &by_words)
+}
+
+// The messages of files that are refused by their letters: what is refused so, and the constructs of what is left.
+fn put_by_letters(
+    alloc: Global,
+    text: &mut Vec<u8>,
+    files: Files<'_>,
+    number: u16,
+    place: Place,
+) -> Result<(), NoMemory> {
+    let mut mended = mend_files(alloc, files)?;
+    if mended.found.is_empty() {
+        mended.found.push(Found {
+            what: What::Broken(number),
+            word: &[],
+            place,
+            more: 0,
+        })?;
+    }
+    put_left(alloc, text, files, &mended)
+}
+
+// The messages of a fault at this place.
+fn put_at(
+    alloc: Global,
+    text: &mut Vec<u8>,
+    files: Files<'_>,
+    number: u16,
+    place: Place,
+) -> Result<(), NoMemory> {
+    if number < OF_WORDS {
+        return put_by_letters(alloc, text, files, number, place);
+    }
+    let Ok(source) = expand(alloc, files.texts) else {
+        return Ok(());
+    };
+    let Ok(words) = tokens(alloc, &source) else {
+        return Ok(());
+    };
+    put_by_words(alloc, text, files, number, place, &words)
+}
+
+// The messages of files none of whose modules is the top.
+fn put_without_top(
+    alloc: Global,
+    text: &mut Vec<u8>,
+    files: Files<'_>,
+    tops: &[&str],
+) -> Result<(), NoMemory> {
+    let Ok(source) = expand(alloc, files.texts) else {
+        return Ok(());
+    };
+    let Ok(words) = tokens(alloc, &source) else {
+        return Ok(());
+    };
+    put_none(alloc, text, &modules_of(alloc, &words)?, tops)
+}
+
+/// What is told of a refusal of these files by this number, at this place, with these top modules asked for: where it stands, in words
+/// what is refused, the source line with a caret, and what to write in its place; then each construct of the text that the profile
+/// leaves out. Of a top module that isn't there, which there are. Nothing where no place is known otherwise. E901 is the only refusal.
+pub fn refusal_text(
+    alloc: Global,
+    number: u16,
+    place: Option<Place>,
+    files: Files<'_>,
+    tops: &[&str],
+) -> Result<Vec<u8>, NoMemory> {
+    let mut text = Vec::new(alloc);
+    match place {
+        Some(place) => put_at(alloc, &mut text, files, number, place)?,
+        None if number == 301 => put_without_top(alloc, &mut text, files, tops)?,
+        None => {}
+    }
     Ok(text)
 }

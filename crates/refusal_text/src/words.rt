@@ -10,14 +10,8 @@ pub(crate) struct Words<'a> {
     at: usize,
 }
 
-// How far a statement is followed back to its beginning.
+// How far a pair of brackets is followed.
 const FAR: usize = 64;
-
-// With these a declaration begins.
-const DECLARATIONS: [&str; 6] = ["reg", "wire", "integer", "event", "input", "output"];
-
-// These don't stand in a declaration before its names.
-const ENDS: [&str; 5] = [";", "=", "(", "begin", ""];
 
 /// Whether the word is this one.
 pub(crate) fn is(word: &[u8], text: &str) -> bool {
@@ -27,6 +21,11 @@ pub(crate) fn is(word: &[u8], text: &str) -> bool {
 /// Whether the word is one of these.
 pub(crate) fn is_one_of(word: &[u8], words: &[&'static str]) -> bool {
     words.iter().any(|one| is(word, *one))
+}
+
+/// Whether the word is a name, and no keyword.
+pub(crate) fn is_name(word: &[u8]) -> bool {
+    vast::words::is_name(word)
 }
 
 // The word at the place, empty beyond the end.
@@ -54,6 +53,11 @@ impl<'a> Words<'a> {
         word_at(self.tokens, self.at)
     }
 
+    /// The text, looked at from the next word.
+    pub(crate) fn next(&self) -> Words<'a> {
+        Words::new(self.tokens, self.at.saturating_add(1))
+    }
+
     /// The word so many places later.
     pub(crate) fn after(&self, more: usize) -> &'a [u8] {
         word_at(self.tokens, self.at.saturating_add(more))
@@ -67,17 +71,22 @@ impl<'a> Words<'a> {
         }
     }
 
-    /// Whether the word so many places later is a name or a keyword.
+    /// Whether the word so many places later is a name, and no keyword.
     pub(crate) fn is_name_after(&self, more: usize) -> bool {
-        is_of(self.tokens, self.at.saturating_add(more), TokenKind::Name)
+        is_name(self.after(more))
     }
 
     /// Whether the word so many places earlier is a name, and no keyword.
     pub(crate) fn is_name_before(&self, fewer: usize) -> bool {
-        match self.at.checked_sub(fewer) {
-            None => false,
-            Some(at) => is_of(self.tokens, at, TokenKind::Name)
-                && vast::words::is_name(word_at(self.tokens, at)),
+        is_name(self.before(fewer))
+    }
+
+    /// Its kind; none beyond the end of the text.
+    pub(crate) fn kind(&self) -> Option<TokenKind> {
+        if self.at < self.tokens.len() {
+            Some(self.tokens.kind(self.at))
+        } else {
+            None
         }
     }
 
@@ -86,73 +95,71 @@ impl<'a> Words<'a> {
         is_of(self.tokens, self.at, kind)
     }
 
-    /// Where the word stands in the files.
-    pub(crate) fn place(&self) -> Place {
-        let end = self.tokens.len();
-        self.tokens.place(if self.at < end { self.at } else { end })
-    }
-
-    /// Whether the word so many places earlier is a number.
-    pub(crate) fn is_number_before(&self, fewer: usize) -> bool {
+    /// Whether the word so many places earlier is a decimal number without size.
+    pub(crate) fn is_plain_before(&self, fewer: usize) -> bool {
         match self.at.checked_sub(fewer) {
             None => false,
             Some(at) => is_of(self.tokens, at, TokenKind::Plain),
         }
     }
 
-    /// Whether the keyword stands before the word in the same statement.
-    pub(crate) fn is_in(&self, keyword: &str) -> bool {
-        for fewer in 1..FAR {
-            let word = self.before(fewer);
-            if is(word, keyword) {
-                return true;
-            }
-            if word.is_empty() || is(word, ";") {
-                return false;
-            }
-        }
-        false
+    /// Whether the word so many places later is a decimal number without size.
+    pub(crate) fn is_plain_after(&self, more: usize) -> bool {
+        is_of(self.tokens, self.at.saturating_add(more), TokenKind::Plain)
     }
 
-    /// Whether the word stands in a declaration, among its names.
-    pub(crate) fn is_in_declaration(&self) -> bool {
-        for fewer in 1..FAR {
-            let word = self.before(fewer);
-            if is_one_of(word, &DECLARATIONS) {
-                return true;
-            }
-            if is_one_of(word, &ENDS) {
-                return false;
-            }
-        }
-        false
+    /// Where the word stands in the files.
+    pub(crate) fn place(&self) -> Place {
+        let end = self.tokens.len();
+        self.tokens.place(if self.at < end { self.at } else { end })
     }
 
-    /// Whether the word stands inside `@( )`.
-    pub(crate) fn is_in_event_control(&self) -> bool {
-        for fewer in 1..FAR {
-            let word = self.before(fewer);
-            if is(word, "(") {
-                return is(self.before(fewer.saturating_add(1)), "@");
-            }
-            if word.is_empty() || is(word, ";") || is(word, ")") {
-                return false;
-            }
+    /// Whether nothing stands between the word before and this one.
+    pub(crate) fn adjoins(&self) -> bool {
+        let Some(before) = self.at.checked_sub(1) else {
+            return false;
+        };
+        if self.at >= self.tokens.len() {
+            return false;
         }
-        false
+        let (left, here) = (self.tokens.place(before), self.place());
+        let end = left.column.saturating_add(self.before(1).len());
+        left.file == here.file && left.line == here.line && end == here.column
     }
 
-    /// Whether the word follows the name of a port in the head of a module.
-    pub(crate) fn is_port_value(&self) -> bool {
+    /// The second word before the pair of brackets that the word before closes: before the name that the brackets belong to.
+    pub(crate) fn before_brackets(&self) -> &'a [u8] {
+        let mut open = 0usize;
         for fewer in 1..FAR {
             let word = self.before(fewer);
-            if is(word, "output") || is(word, "input") {
-                return self.is_in("module");
+            if is(word, "]") {
+                open = open.saturating_add(1);
             }
-            if is(word, ",") || is_one_of(word, &ENDS) {
-                return false;
+            if is(word, "[") {
+                open = open.saturating_sub(1);
+                if open == 0 {
+                    return self.before(fewer.saturating_add(2));
+                }
             }
         }
-        false
+        &[]
+    }
+
+    /// The word behind the pair of brackets that this one opens; empty where it isn't closed near.
+    pub(crate) fn behind_brackets(&self) -> &'a [u8] {
+        let mut open = 0usize;
+        for more in 0..FAR {
+            let word = self.after(more);
+            if is(word, "[") {
+                open = open.saturating_add(1);
+            }
+            if is(word, "]") {
+                open = open.saturating_sub(1);
+                if open == 0 {
+                    return self.after(more.saturating_add(1));
+                }
+            }
+        }
+        &[]
     }
 }

@@ -239,6 +239,13 @@ pub fn show(rt: &impl Print, row: &Explanation) -> io::Result<()> {
     println!(rt; "What to do: {}", row.advice)
 }
 
+/// Says on standard error what a number means, and what to do.
+pub fn show_advice(rt: &impl Eprint, number: u16) {
+    if let Some(row) = EXPLANATIONS.iter().find(|row| row.number == number) {
+        let _ = eprintln!(rt; "{}\n    instead: {}", row.meaning, row.advice);
+    }
+}
+
 /// Prints each number with what it means.
 pub fn show_all(rt: &impl Print) -> io::Result<()> {
     for row in &EXPLANATIONS {

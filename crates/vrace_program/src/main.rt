@@ -4,6 +4,7 @@
 //! tells is found by `vrace::find_races_in`; what a replay writes is the contract of `vrace::replay_text`.
 #![tactic(auto)]
 
+mod complaints;
 mod explanations;
 mod meter;
 mod races;
@@ -15,7 +16,10 @@ use basis::NoMemory;
 use byte_sinks::Metered;
 use clap::error::ErrorKind;
 use clap::{ArgMatches, Error};
-use explanations::{explanation_of, show, show_all};
+use complaints::{
+    TOO_LONG_TOGETHER, ask_for_words, limits_text, unopened_text, unread_text, value_of, waiver_text,
+};
+use explanations::{explanation_of, show, show_all, show_advice};
 use meter::{Allowance, Meter};
 use races::tell_races;
 use refusals::with_words;
@@ -45,11 +49,27 @@ const DEPART: u64 = 1;
 
 const ENTRIES: u64 = 100_000;
 
+// The refusal of a file, with what is said of it.
+fn refused_file(fault: Fault, words: String) -> Stop {
+    Stop::Told(fault, words.into_bytes())
+}
+
 // The text of one file.
-fn read_file(rt: &HostRuntime, name: &str) -> Result<Vec<u8>, Fault> {
-    match File::open(rt, name) {
-        Ok(file) => read_text(rt.alloc(), &mut Metered::new(file)),
-        Err(_) => Err(Fault::Read),
+fn read_file(rt: &HostRuntime, name: &str) -> Result<Vec<u8>, Stop> {
+    let file = match File::open(rt, name) {
+        Ok(file) => file,
+        Err(error) => {
+            let words = unopened_text(rt.alloc(), name, &error)?;
+            return Err(refused_file(Fault::Read, words));
+        }
+    };
+    match read_text(rt.alloc(), &mut Metered::new(file)) {
+        Ok(text) => Ok(text),
+        Err(Fault::Memory(_)) => Err(Stop::NoMemory),
+        Err(fault) => {
+            let words = unread_text(rt.alloc(), name, fault)?;
+            Err(refused_file(fault, words))
+        }
     }
 }
 
@@ -60,7 +80,7 @@ fn keep(texts: &mut Vec<Vec<u8>>, text: Vec<u8>) -> Result<(), NoMemory> {
 }
 
 // The texts of the files, or of standard input.
-fn texts(rt: &HostRuntime, names: &[&str]) -> Result<Vec<Vec<u8>>, Fault> {
+fn texts(rt: &HostRuntime, names: &[&str]) -> Result<Vec<Vec<u8>>, Stop> {
     let mut texts = Vec::new(rt.alloc());
     if names.is_empty() {
         keep(
@@ -74,12 +94,17 @@ fn texts(rt: &HostRuntime, names: &[&str]) -> Result<Vec<Vec<u8>>, Fault> {
     Ok(texts)
 }
 
+// Said of an option whose value reads as an option.
+const DASHED: &str = "the value of an option begins with a minus";
+
 // What ends the program early.
+#[derive(Drop)]
 enum Stop {
     // Help was asked for and printed.
     Helped,
-    // The words don't parse.
-    Usage,
+    // The words don't parse, for what clap says, or for a reason of the program's own.
+    Unparsed(Error),
+    Usage(&'static str),
     // Memory was refused before a call of the library.
     NoMemory,
     // The line of this number, from 1, is no waiver.
@@ -167,7 +192,8 @@ fn replay(
     options.look(request.departures, Looked::Values);
     let texts = texts(rt, &request.files)?;
     let done = replay_texts(rt, &texts, &options, log, wanted);
-    with_words(rt.alloc(), done, request.in_words, &request.files, &texts)
+    let tops = request.top.as_slice();
+    with_words(rt.alloc(), done, request.in_words, &request.files, &texts, tops)
 }
 
 // The exit status that says what a report says.
@@ -312,7 +338,8 @@ fn explore<R: Threads + Wait + Sync>(
     let options = options_of(request, search)?;
     let texts = texts(rt, &request.files)?;
     let done = explore_texts(rt, threads, &texts, &options, search);
-    with_words(rt.alloc(), done, request.in_words, &request.files, &texts)
+    let tops = request.top.as_slice();
+    with_words(rt.alloc(), done, request.in_words, &request.files, &texts, tops)
 }
 
 // Checks the report against the texts, and says ok where all of it is true.
@@ -341,16 +368,16 @@ fn check(
     let report = read_file(rt, report)?;
     let texts = texts(rt, files)?;
     let done = check_texts(rt, &texts, &report, allowed);
-    with_words(rt.alloc(), done, in_words, files, &texts)
+    with_words(rt.alloc(), done, in_words, files, &texts, &[])
 }
 
 // What clap says of words that it doesn't take: help on standard output, or a refusal.
-fn stopped(rt: &HostRuntime, error: &Error) -> Stop {
+fn stopped(rt: &HostRuntime, error: Error) -> Stop {
     if error.kind() == ErrorKind::OutOfMemory {
         return Stop::NoMemory;
     }
     if error.use_stderr() {
-        return Stop::Usage;
+        return Stop::Unparsed(error);
     }
     match error.print(rt) {
         Ok(()) => Stop::Helped,
@@ -366,7 +393,7 @@ fn words_of(rt: &HostRuntime) -> Result<Vec<String>, Stop> {
             if error.kind() == io::ErrorKind::OutOfMemory {
                 return Err(Stop::NoMemory);
             }
-            return Err(Stop::Usage);
+            return Err(Stop::Usage("a word isn't text"));
         }
     };
     let Ok(mut words) = arguments.collect::<Vec<String>>(rt.alloc()) else {
@@ -388,7 +415,7 @@ fn explain(rt: &HostRuntime, number: Option<&str>) -> Result<ExitCode, Stop> {
     let done = match number {
         None => show_all(rt),
         Some(number) => match explanation_of(number) {
-            None => return Err(Stop::Usage),
+            None => return Err(Stop::Usage("no fault has this number")),
             Some(row) => show(rt, row),
         },
     };
@@ -401,10 +428,10 @@ fn explain(rt: &HostRuntime, number: Option<&str>) -> Result<ExitCode, Stop> {
 // Replays what the words ask for.
 fn replay_by<'a>(rt: &HostRuntime, matches: &ArgMatches<'a>) -> Result<ExitCode, Stop> {
     if has_dashed_top(matches) || has_dashed_log(matches) {
-        return Err(Stop::Usage);
+        return Err(Stop::Usage(DASHED));
     }
     let Some(wanted) = wanted_of(matches) else {
-        return Err(Stop::Usage);
+        return Err(Stop::Usage("--lines and --trace don't go together"));
     };
     let Ok(request) = request_of(rt.alloc(), matches) else {
         return Err(Stop::NoMemory);
@@ -419,11 +446,13 @@ fn explore_by<'a, R: Threads + Wait + Sync>(
     matches: &ArgMatches<'a>,
 ) -> Result<ExitCode, Stop> {
     if has_dashed_top(matches) {
-        return Err(Stop::Usage);
+        return Err(Stop::Usage(DASHED));
     }
     let search = search_of(matches);
     if search.allowance.is_some() && search.workers > 1 {
-        return Err(Stop::Usage);
+        return Err(Stop::Usage(
+            "--seconds, --memory and --progress don't go with --workers above 1",
+        ));
     }
     let Ok(request) = request_of(rt.alloc(), matches) else {
         return Err(Stop::NoMemory);
@@ -433,8 +462,11 @@ fn explore_by<'a, R: Threads + Wait + Sync>(
 
 // Tells the races that the words ask for.
 fn races_by<'a>(rt: &HostRuntime, matches: &ArgMatches<'a>) -> Result<ExitCode, Stop> {
-    if has_dashed_top(matches) || has_dashed_waivers(matches) || has_output_over_file(matches) {
-        return Err(Stop::Usage);
+    if has_dashed_top(matches) || has_dashed_waivers(matches) {
+        return Err(Stop::Usage(DASHED));
+    }
+    if has_output_over_file(matches) {
+        return Err(Stop::Usage("what is written names a file of Verilog"));
     }
     let request = race_request_of(rt.alloc(), matches)?;
     let words = race_words_of(rt.alloc(), matches)?;
@@ -444,7 +476,7 @@ fn races_by<'a>(rt: &HostRuntime, matches: &ArgMatches<'a>) -> Result<ExitCode, 
 // Checks what the words ask for.
 fn check_by<'a>(rt: &HostRuntime, matches: &ArgMatches<'a>) -> Result<ExitCode, Stop> {
     if has_dashed_report(matches) {
-        return Err(Stop::Usage);
+        return Err(Stop::Usage(DASHED));
     }
     let allowed = Allowed::new(until_of(matches), steps_of(matches))?;
     let Ok(files) = files_of(rt.alloc(), matches) else {
@@ -476,14 +508,16 @@ fn run<'a, R: Threads + Wait + Sync>(
     words: &'a [String],
 ) -> Result<ExitCode, Stop> {
     if has_joined_letters(words) {
-        return Err(Stop::Usage);
+        return Err(Stop::Usage(
+            "one dash stands before several letters: an option has two",
+        ));
     }
     let Ok(commands) = commands(rt.alloc()) else {
         return Err(Stop::NoMemory);
     };
     let matches = match commands.try_get_matches_from(words) {
         Ok(matches) => matches,
-        Err(error) => return Err(stopped(rt, &error)),
+        Err(error) => return Err(stopped(rt, error)),
     };
     if let Some(matches) = matches.subcommand_matches("explain") {
         return explain(rt, matches.get_str("NUMBER"));
@@ -499,40 +533,103 @@ fn run<'a, R: Threads + Wait + Sync>(
     }
     match matches.subcommand_matches("replay") {
         Some(matches) => replay_by(rt, matches),
-        None => Err(Stop::Usage),
+        None => Err(Stop::Usage("no command is named")),
     }
 }
 
-fn main(rt: HostRuntime) -> ExitCode {
-    let done = match words_of(&rt) {
-        Ok(words) => run(&rt, &rt, &words),
-        Err(stop) => Err(stop),
+// Says a text on standard error.
+fn say(rt: &HostRuntime, words: &str) {
+    let _ = eprint!(rt; "{words}");
+}
+
+// What is said of a fault of these words beside what its files say.
+fn say_fault(rt: &HostRuntime, words: &[String], fault: Fault) {
+    match fault {
+        Fault::Memory(_) => {}
+        Fault::OutOfLimit => {
+            if let Ok(text) = limits_text(rt.alloc(), words) {
+                say(rt, text.as_str());
+            }
+        }
+        Fault::TooLong => say(rt, TOO_LONG_TOGETHER),
+        _ => show_advice(rt, fault.number()),
+    }
+}
+
+// What is said of a line that is no waiver.
+fn say_waiver(rt: &HostRuntime, words: &[String], line: u64) {
+    let Some(name) = value_of(words, "--waive") else {
+        return;
     };
-    match done {
-        Ok(code) => code,
-        Err(Stop::Helped) => ExitCode::SUCCESS,
-        Err(Stop::Usage) => {
+    let Ok(text) = read_file(rt, name) else {
+        return;
+    };
+    if let Ok(said) = waiver_text(rt.alloc(), name, &text, line) {
+        say(rt, said.as_str());
+    }
+}
+
+// What is said behind the line of a refusal.
+fn say_more(rt: &HostRuntime, words: &[String], stop: &Stop) {
+    match stop {
+        Stop::Helped => {}
+        Stop::NoMemory => {}
+        Stop::Unparsed(error) => {
+            let _ = eprint!(rt; "{error}");
+        }
+        Stop::Usage(reason) => {
+            let _ = eprintln!(rt; "{reason}");
+        }
+        Stop::BadWaiver(line) => say_waiver(rt, words, *line),
+        Stop::Refused(fault) => say_fault(rt, words, *fault),
+        Stop::Told(fault, text) => {
+            if text.is_empty() {
+                say_fault(rt, words, *fault);
+            } else if let Ok(text) = str::from_utf8(text) {
+                say(rt, text);
+            }
+        }
+    }
+}
+
+// The line of a refusal, and the exit status.
+fn say_line(rt: &HostRuntime, stop: &Stop) -> ExitCode {
+    match stop {
+        Stop::Helped => ExitCode::SUCCESS,
+        Stop::Unparsed(_) | Stop::Usage(_) => {
             let _ = eprintln!(rt; "vrace: usage");
             ExitCode::from(2)
         }
-        Err(Stop::NoMemory) => {
+        Stop::NoMemory => {
             let _ = eprintln!(rt; "vrace: E901");
             ExitCode::from(2)
         }
-        Err(Stop::BadWaiver(line)) => {
+        Stop::BadWaiver(line) => {
             let _ = eprintln!(rt; "vrace: E506 at {line}");
             ExitCode::from(2)
         }
-        Err(Stop::Refused(fault)) => {
+        Stop::Refused(fault) | Stop::Told(fault, _) => {
             let _ = eprintln!(rt; "vrace: {fault}");
-            refused_code(fault)
+            refused_code(*fault)
         }
-        Err(Stop::Told(fault, words)) => {
-            let _ = eprintln!(rt; "vrace: {fault}");
-            if let Ok(words) = str::from_utf8(&words) {
-                let _ = eprint!(rt; "{words}");
-            }
-            refused_code(fault)
-        }
+    }
+}
+
+// Says what ended the program: a line, and more where words are asked for.
+fn say_stop(rt: &HostRuntime, words: &[String], stop: &Stop) -> ExitCode {
+    let code = say_line(rt, stop);
+    if ask_for_words(words) {
+        say_more(rt, words, stop);
+    }
+    code
+}
+
+fn main(rt: HostRuntime) -> ExitCode {
+    match words_of(&rt) {
+        Err(stop) => say_stop(&rt, &[], &stop),
+        Ok(words) => match run(&rt, &rt, &words) {
+            Ok(code) => code,
+            Err(stop) => say_stop(&rt, &words, &stop),
+        },
     }
 }

@@ -1,0 +1,231 @@
+// What stands where no words can be read: a directive, a macro, a number, a string or a letter that is refused; and how it is taken out
+// of the text, so that reading can go on behind it.
+
+use crate::construct::Construct;
+use crate::find::What;
+use crate::numbers;
+use basis::is_in_name;
+use memchr::memchr;
+
+/// What is refused at a place: what is told of it, how many letters its word has, and what is put in the place of so many letters, the
+/// first of them and the others.
+#[derive(Clone, Copy)]
+pub(crate) struct Flaw {
+    pub(crate) what: What,
+    pub(crate) word: usize,
+    pub(crate) len: usize,
+    pub(crate) first: u8,
+    pub(crate) other: u8,
+}
+
+// Directives of the standard that stand alone.
+const ALONE: [&str; 5] = [
+    "resetall",
+    "celldefine",
+    "endcelldefine",
+    "nounconnected_drive",
+    "end_keywords",
+];
+
+// Directives of the standard with words behind them.
+const WITH_WORDS: [&str; 4] = ["unconnected_drive", "line", "pragma", "begin_keywords"];
+
+// Whether the word is one of these.
+fn is_among(word: &[u8], words: &[&'static str]) -> bool {
+    words.iter().any(|one| word == one.as_bytes())
+}
+
+// The first so many letters.
+fn front(rest: &[u8], len: usize) -> &[u8] {
+    match rest.get(..len) {
+        None => rest,
+        Some(front) => front,
+    }
+}
+
+// The letters from this one on.
+fn from(rest: &[u8], at: usize) -> &[u8] {
+    match rest.get(at..) {
+        None => &[],
+        Some(behind) => behind,
+    }
+}
+
+// How many letters of names stand at the head.
+fn name_len(rest: &[u8]) -> usize {
+    for (at, letter) in rest.iter().enumerate() {
+        if !is_in_name(*letter) {
+            return at;
+        }
+    }
+    rest.len()
+}
+
+// How many blanks stand at the head.
+fn blanks_len(rest: &[u8]) -> usize {
+    for (at, letter) in rest.iter().enumerate() {
+        if *letter != b' ' && *letter != b'\t' {
+            return at;
+        }
+    }
+    rest.len()
+}
+
+/// The letters up to the end of the line.
+pub(crate) fn line_len(rest: &[u8]) -> usize {
+    match memchr(b'\n', rest) {
+        None => rest.len(),
+        Some(len) => len,
+    }
+}
+
+// The letters of a definition, with the lines on which it continues.
+fn definition_len(rest: &[u8]) -> usize {
+    let mut is_joined = false;
+    for (at, letter) in rest.iter().enumerate() {
+        if *letter == b'\n' && !is_joined {
+            return at;
+        }
+        is_joined = *letter == b'\\';
+    }
+    rest.len()
+}
+
+/// The letters of the use of a macro, with its arguments where they stand at once behind its name.
+pub(crate) fn use_len(rest: &[u8]) -> usize {
+    let name = name_len(from(rest, 1)).saturating_add(1);
+    let mut open = 0usize;
+    for (at, letter) in from(rest, name).iter().enumerate() {
+        if *letter == b'(' {
+            open = open.saturating_add(1);
+        }
+        if *letter == b')' {
+            open = open.saturating_sub(1);
+        }
+        if open == 0 {
+            let is_call = *letter == b')';
+            return if is_call {
+                name.saturating_add(at).saturating_add(1)
+            } else {
+                name
+            };
+        }
+    }
+    name
+}
+
+// What is told, of which so many letters become blanks.
+fn blanked(what: What, word: usize, len: usize) -> Flaw {
+    Flaw {
+        what,
+        word,
+        len,
+        first: b' ',
+        other: b' ',
+    }
+}
+
+/// What is told, of which so many letters become a number.
+pub(crate) fn numbered(what: What, word: usize, len: usize) -> Flaw {
+    Flaw {
+        what,
+        word,
+        len,
+        first: b'0',
+        other: b' ',
+    }
+}
+
+// The word behind the blanks behind so many letters.
+fn word_behind(rest: &[u8], len: usize) -> &[u8] {
+    let behind = from(rest, len);
+    let word = from(behind, blanks_len(behind));
+    front(word, name_len(word))
+}
+
+// Whether the letters begin with the definition of a macro with arguments: of this name, or of any.
+fn defines(rest: &[u8], name: Option<&[u8]>) -> bool {
+    let Some(behind) = rest.strip_prefix(b"`define") else {
+        return false;
+    };
+    let defined = word_behind(behind, 0);
+    let word = from(behind, blanks_len(behind));
+    let is_right = match name {
+        None => true,
+        Some(name) => name == defined,
+    };
+    is_right && from(word, defined.len()).starts_with(b"(")
+}
+
+// Whether the text defines a macro of this name with arguments.
+fn has_arguments(text: &[u8], name: &[u8]) -> bool {
+    let mut rest = text;
+    while let Some(at) = memchr(b'`', rest) {
+        let here = from(rest, at);
+        if defines(here, Some(name)) {
+            return true;
+        }
+        rest = from(here, 1);
+    }
+    false
+}
+
+// A directive that isn't read, or a macro that isn't there.
+fn by_macro(rest: &[u8], files: &[Vec<u8>]) -> Flaw {
+    let name = front(from(rest, 1), name_len(from(rest, 1)));
+    let word = name.len().saturating_add(1);
+    if name == b"include".as_slice() {
+        return blanked(What::LeftOut(Construct::Include), word, line_len(rest));
+    }
+    if is_among(name, &ALONE) {
+        return blanked(What::LeftOut(Construct::Directive), word, word);
+    }
+    if is_among(name, &WITH_WORDS) {
+        return blanked(What::LeftOut(Construct::Directive), word, line_len(rest));
+    }
+    if files.iter().any(|text| has_arguments(text, name)) {
+        let what = What::LeftOut(Construct::MacroArguments);
+        return numbered(what, word, use_len(rest));
+    }
+    numbered(What::Broken(111), word, use_len(rest))
+}
+
+// A directive that is ill formed, or isn't first on its line.
+fn by_directive(rest: &[u8]) -> Flaw {
+    let word = name_len(from(rest, 1)).saturating_add(1);
+    if defines(rest, None) {
+        let what = What::LeftOut(Construct::MacroArguments);
+        return blanked(what, word, definition_len(rest));
+    }
+    if rest.starts_with(b"`define") {
+        return blanked(What::Broken(110), word, definition_len(rest));
+    }
+    let kind = word_behind(rest, word);
+    let is_known = kind.is_empty() || is_among(kind, &["wire", "none"]);
+    if rest.starts_with(b"`default_nettype") && !is_known {
+        let what = What::LeftOut(Construct::NetTypeDirective);
+        return blanked(what, word, line_len(rest));
+    }
+    blanked(What::Broken(110), word, line_len(rest))
+}
+
+// A comment or a string that isn't ended.
+fn by_open(rest: &[u8]) -> Flaw {
+    match rest.first() {
+        Some(b'`') => blanked(What::Broken(101), 0, use_len(rest)),
+        Some(b'/') => blanked(What::Broken(101), 0, rest.len()),
+        _ => blanked(What::Broken(101), 0, line_len(rest)),
+    }
+}
+
+/// What is refused by this number at the head of these letters of the files.
+pub(crate) fn flaw_of(number: u16, rest: &[u8], files: &[Vec<u8>]) -> Flaw {
+    match number {
+        101 => by_open(rest),
+        102 => numbers::flaw_of(rest),
+        110 if rest.starts_with(b"`") => by_directive(rest),
+        111 if rest.starts_with(b"`") => by_macro(rest, files),
+        114 => blanked(What::Broken(114), 0, line_len(rest)),
+        _ => blanked(What::Broken(number), 0, 1),
+    }
+}

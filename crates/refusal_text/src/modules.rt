@@ -1,0 +1,59 @@
+// The modules of a text, and of which of them there are instances.
+
+use crate::walk::{Level, Opening, Walk};
+use crate::words::{Words, is};
+use basis::NoMemory;
+use std::alloc::Global;
+use vlex::Tokens;
+use vsrc::Place;
+
+/// A module, or an instance of one, by the module's name.
+#[derive(Clone, Copy)]
+pub(crate) struct Named<'a> {
+    pub(crate) name: &'a [u8],
+    pub(crate) place: Place,
+}
+
+/// The modules of a text, and its instances, each by the name of its module.
+#[derive(Drop)]
+pub(crate) struct Modules<'a> {
+    pub(crate) modules: Vec<Named<'a>>,
+    pub(crate) instances: Vec<Named<'a>>,
+}
+
+/// Whether one of these has the name.
+pub(crate) fn are_named(all: &[Named<'_>], name: &[u8]) -> bool {
+    all.iter().any(|one| one.name == name)
+}
+
+// Whether the word begins instances of a module.
+fn begins_instances(words: Words<'_>, walk: Walk) -> bool {
+    walk.level == Level::Items
+        && walk.starts
+        && walk.after(words).opening == Opening::Instance
+        && (words.is_name_after(1) || is(words.after(1), "#"))
+}
+
+/// The modules and the instances of a text.
+pub(crate) fn modules_of<'a>(
+    alloc: Global,
+    tokens: &'a Tokens<'a>,
+) -> Result<Modules<'a>, NoMemory> {
+    let mut modules = Vec::new(alloc);
+    let mut instances = Vec::new(alloc);
+    let mut walk = Walk::new();
+    for at in 0..tokens.len() {
+        let words = Words::new(tokens, at);
+        let named = Named {
+            name: words.word(),
+            place: words.place(),
+        };
+        if is(words.before(1), "module") {
+            modules.push(named)?;
+        } else if begins_instances(words, walk) {
+            instances.push(named)?;
+        }
+        walk = walk.after(words);
+    }
+    Ok(Modules { modules, instances })
+}

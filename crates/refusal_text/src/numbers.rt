@@ -1,0 +1,187 @@
+// Numbers, strings, names and letters that are no words (docs/LANGUAGE.md, "Words").
+
+use crate::construct::Construct;
+use crate::find::What;
+use crate::letters::{Flaw, numbered, use_len};
+use basis::{digits_len, is_in_name};
+
+// The widest number, in bits.
+const WIDTH: u64 = 64;
+
+// The letters from this one on.
+fn from(rest: &[u8], at: usize) -> &[u8] {
+    match rest.get(at..) {
+        None => &[],
+        Some(behind) => behind,
+    }
+}
+
+// The first so many letters.
+fn front_of(rest: &[u8], len: usize) -> &[u8] {
+    match rest.get(..len) {
+        None => rest,
+        Some(front) => front,
+    }
+}
+
+// Whether the letter may stand in a number.
+fn is_in_number(letter: u8) -> bool {
+    is_in_name(letter) || letter == b'?' || letter == b'\''
+}
+
+// How many letters of a number stand at the head.
+fn number_len(rest: &[u8]) -> usize {
+    for (at, letter) in rest.iter().enumerate() {
+        if !is_in_number(*letter) {
+            return at;
+        }
+    }
+    rest.len()
+}
+
+// How many letters stand before the first blank.
+fn word_len(rest: &[u8]) -> usize {
+    for (at, letter) in rest.iter().enumerate() {
+        if letter.is_ascii_whitespace() {
+            return at;
+        }
+    }
+    rest.len()
+}
+
+// How many letters a string has, with its quotes.
+fn string_len(rest: &[u8]) -> usize {
+    let mut is_escaped = true;
+    for (at, letter) in rest.iter().enumerate() {
+        if *letter == b'"' && !is_escaped {
+            return at.saturating_add(1);
+        }
+        is_escaped = *letter == b'\\' && !is_escaped;
+    }
+    rest.len()
+}
+
+// Whether the letter names a base.
+fn is_base(letter: u8) -> bool {
+    b"bBoOdDhH".contains(&letter)
+}
+
+// Whether a letter of the number that these digits write is past the widest one.
+fn is_wide(digits: &[u8]) -> bool {
+    let mut size = 0u64;
+    for digit in digits {
+        let unit = u64::from(digit.saturating_sub(b'0'));
+        size = size.saturating_mul(10).saturating_add(unit);
+    }
+    size > WIDTH
+}
+
+// What is told of a number, and what is put in its place.
+fn number(what: What, len: usize) -> Flaw {
+    numbered(what, len, len)
+}
+
+// What stands behind an apostrophe that no base follows: a value of SystemVerilog, if there is no size.
+fn without_base(size: usize, behind: &[u8], whole: usize) -> Flaw {
+    let what = What::LeftOut(Construct::SystemVerilog);
+    match behind.first() {
+        Some(b'{') | Some(b'(') if size == 0 => number(what, 1),
+        Some(b'0') | Some(b'1') | Some(b'x') | Some(b'X') | Some(b'z') | Some(b'Z')
+            if size == 0 =>
+        {
+            number(what, 2)
+        }
+        _ => number(What::Broken(102), whole),
+    }
+}
+
+// How many blanks stand at the head.
+fn blanks_len(rest: &[u8]) -> usize {
+    for (at, letter) in rest.iter().enumerate() {
+        if !letter.is_ascii_whitespace() {
+            return at;
+        }
+    }
+    rest.len()
+}
+
+// A number whose digits, or whose size, there aren't.
+fn by_number(rest: &[u8]) -> Flaw {
+    let whole = number_len(rest);
+    let size = digits_len(rest);
+    let behind = from(rest, size.saturating_add(1));
+    let is_signed = behind.starts_with(b"s") || behind.starts_with(b"S");
+    let sign = if is_signed { 1usize } else { 0usize };
+    let base = from(behind, sign);
+    let has_base = match base.first() {
+        None => false,
+        Some(letter) => is_base(*letter),
+    };
+    if !has_base {
+        return without_base(size, behind, whole);
+    }
+    let digits = from(base, 1);
+    let blanks = blanks_len(digits);
+    let front = size.saturating_add(sign).saturating_add(2);
+    let end = front
+        .saturating_add(blanks)
+        .saturating_add(number_len(from(digits, blanks)));
+    let len = if blanks > 0 { end } else { whole };
+    if is_wide(front_of(rest, size)) {
+        return number(What::LeftOut(Construct::WideNumber), len);
+    }
+    if blanks > 0 {
+        return number(What::LeftOut(Construct::NumberBlank), len);
+    }
+    number(What::Broken(102), len)
+}
+
+// A string with an escape that there isn't; its letters become blanks.
+fn by_string(rest: &[u8]) -> Flaw {
+    let whole = string_len(rest);
+    let string = front_of(rest, whole);
+    let is_octal = string
+        .windows(2)
+        .any(|pair| pair[0] == b'\\' && pair[1].is_ascii_digit());
+    Flaw {
+        what: if is_octal {
+            What::LeftOut(Construct::OctalEscape)
+        } else {
+            What::Broken(102)
+        },
+        word: whole,
+        len: whole.saturating_sub(1),
+        first: b'"',
+        other: b' ',
+    }
+}
+
+// A name that is escaped.
+fn by_escape(rest: &[u8]) -> Flaw {
+    let len = word_len(rest);
+    Flaw {
+        what: What::LeftOut(Construct::EscapedName),
+        word: len,
+        len,
+        first: b'_',
+        other: b'_',
+    }
+}
+
+/// What is refused at the head of these letters, at which no word stands.
+pub(crate) fn flaw_of(rest: &[u8]) -> Flaw {
+    match rest.first() {
+        Some(b'\\') => by_escape(rest),
+        Some(b'"') => by_string(rest),
+        Some(b'`') => numbered(What::Broken(102), 0, use_len(rest)),
+        Some(b'\'') => by_number(rest),
+        Some(letter) if letter.is_ascii_digit() => by_number(rest),
+        _ => Flaw {
+            what: What::Broken(102),
+            word: 1,
+            len: 1,
+            first: b' ',
+            other: b' ',
+        },
+    }
+}

@@ -1,0 +1,453 @@
+// Where a word stands, by the words before it: in the head of a module, among its items, in a statement, in a task or a function.
+
+use crate::words::{Words, is, is_name, is_one_of};
+use vlex::TokenKind;
+
+/// What a word stands in.
+#[derive(Clone, Copy, Debug, PartialEq, Eq)]
+pub(crate) enum Level {
+    Outside,
+    Head,
+    Items,
+    Statement,
+    /// The words of a task or a function before its first semicolon.
+    RoutineHead,
+    Routine,
+    /// What has rules of its own, and is passed over: a primitive, a `specify` block, a configuration.
+    Passed,
+}
+
+/// What stands before the outermost brackets that are open.
+#[derive(Clone, Copy, Debug, PartialEq, Eq)]
+pub(crate) enum Group {
+    Plain,
+    Condition,
+    Delay,
+    Event,
+    Print,
+    Dump,
+    System,
+}
+
+/// What an item, or a declaration in a block, begins with.
+#[derive(Clone, Copy, Debug, PartialEq, Eq)]
+pub(crate) enum Opening {
+    Other,
+    Variable,
+    Net,
+    Parameter,
+    Assign,
+    Instance,
+    Defparam,
+}
+
+/// What is known of a word from those before it.
+#[derive(Clone, Copy)]
+pub(crate) struct Walk {
+    pub(crate) level: Level,
+    pub(crate) group: Group,
+    pub(crate) opening: Opening,
+    /// How many brackets are open, and how many were when the innermost system call began; 0 outside of one.
+    pub(crate) open: usize,
+    pub(crate) call: usize,
+    /// Whether an item begins here.
+    pub(crate) starts: bool,
+    /// Whether the value of an assignment or of a declaration has begun.
+    pub(crate) assigned: bool,
+    /// Whether a word of this event term, or of this delay, told something.
+    pub(crate) told: bool,
+    /// How many `?` wait for their `:`, outside of brackets or in those of a delay.
+    pub(crate) chosen: usize,
+    /// Whether this is inside `generate`, or an attribute.
+    pub(crate) generates: bool,
+    pub(crate) attribute: bool,
+    // the blocks of the statement that are open
+    depth: usize,
+}
+
+pub(crate) const NETS: [&str; 12] = [
+    "wire", "tri", "tri0", "tri1", "triand", "trior", "trireg", "uwire", "wand", "wor", "supply0",
+    "supply1",
+];
+
+pub(crate) const VARIABLES: [&str; 6] = ["reg", "integer", "event", "time", "real", "realtime"];
+
+pub(crate) const TYPES: [&str; 7] = [
+    "logic", "bit", "int", "byte", "shortint", "longint", "string",
+];
+
+/// With these processes of SystemVerilog begin.
+pub(crate) const ALWAYS: [&str; 3] = ["always_comb", "always_ff", "always_latch"];
+
+/// The tasks that print.
+pub(crate) const PRINTS: [&str; 3] = ["$display", "$strobe", "$monitor"];
+
+// Behind these, parentheses have a statement after them.
+const CONDITIONS: [&str; 8] = [
+    "if", "while", "for", "repeat", "wait", "case", "casez", "casex",
+];
+
+const BLOCKS: [&str; 5] = ["begin", "fork", "case", "casez", "casex"];
+
+const BLOCK_ENDS: [&str; 5] = ["end", "join", "endcase", "join_any", "join_none"];
+
+// Behind these `fork` begins no block.
+const WAITS: [&str; 2] = ["wait", "disable"];
+
+const ROUTINE_ENDS: [&str; 2] = ["endfunction", "endtask"];
+
+// These stand in no brackets: where some are open, one was forgotten.
+const UNBRACKETED: [&str; 16] = [
+    "module",
+    "endmodule",
+    "initial",
+    "always",
+    "begin",
+    "end",
+    "else",
+    "fork",
+    "join",
+    "case",
+    "endcase",
+    "function",
+    "endfunction",
+    "task",
+    "endtask",
+    "endgenerate",
+];
+
+// These begin an item wherever they stand.
+const ITEMS: [&str; 7] = [
+    "initial",
+    "always",
+    "function",
+    "task",
+    "generate",
+    "endgenerate",
+    "specify",
+];
+
+// Behind these items an item begins.
+const ITEM_ENDS: [&str; 5] = ["end", "else", "endcase", "endgenerate", "generate"];
+
+const PASSED: [&str; 3] = ["primitive", "config", "table"];
+
+const PASSED_ENDS: [&str; 3] = ["endprimitive", "endconfig", "endtable"];
+
+// What the brackets that this word opens stand behind.
+fn group_of(words: Words<'_>) -> Group {
+    let before = words.before(1);
+    if !is(words.word(), "(") {
+        return Group::Plain;
+    }
+    match before {
+        word if is(word, "#") => Group::Delay,
+        word if is(word, "@") => Group::Event,
+        word if is(word, "$dumpvars") => Group::Dump,
+        word if is_one_of(word, &CONDITIONS) => Group::Condition,
+        word if is_one_of(word, &PRINTS) => Group::Print,
+        word if word.starts_with(b"$") => Group::System,
+        _ => Group::Plain,
+    }
+}
+
+// What the item that this word begins is.
+fn opening_of(words: Words<'_>) -> Opening {
+    match words.word() {
+        word if is_one_of(word, &VARIABLES) => Opening::Variable,
+        word if is_one_of(word, &NETS) => Opening::Net,
+        word if is(word, "input") || is(word, "output") || is(word, "inout") => Opening::Net,
+        word if is(word, "parameter") || is(word, "localparam") => Opening::Parameter,
+        word if is(word, "assign") => Opening::Assign,
+        word if is(word, "defparam") => Opening::Defparam,
+        _ if is_type(words) => Opening::Variable,
+        _ if words.is_name_after(0) => Opening::Instance,
+        _ => Opening::Other,
+    }
+}
+
+/// Whether the word is a type of SystemVerilog, and no other name.
+pub(crate) fn is_type(words: Words<'_>) -> bool {
+    let next = words.after(1);
+    let declares = words.is_name_after(1) && !is(words.after(2), "(") && !is(words.after(2), "#");
+    let sized = is(next, "[") && is_name(words.next().behind_brackets());
+    is_one_of(words.word(), &TYPES)
+        && (declares || sized || is(next, "signed") || is(next, "unsigned"))
+}
+
+impl Walk {
+    /// Where a text begins.
+    pub(crate) fn new() -> Walk {
+        Walk {
+            level: Level::Outside,
+            group: Group::Plain,
+            opening: Opening::Other,
+            open: 0,
+            call: 0,
+            starts: false,
+            assigned: false,
+            told: false,
+            chosen: 0,
+            generates: false,
+            attribute: false,
+            depth: 0,
+        }
+    }
+
+    // At this level, where something begins.
+    fn at(&self, level: Level) -> Walk {
+        let mut next = Walk::new();
+        next.level = level;
+        next.generates = self.generates;
+        next.depth = self.depth;
+        next.starts = level == Level::Items;
+        next
+    }
+
+    // With so many blocks open.
+    fn at_depth(&self, depth: usize) -> Walk {
+        let mut next = self.at(self.level);
+        next.depth = depth;
+        next
+    }
+
+    /// Whether the word stands in the block of a statement.
+    pub(crate) fn is_in_block(&self) -> bool {
+        self.level == Level::Statement || (self.level == Level::Routine && self.depth > 0)
+    }
+
+    /// Where the word after this one stands.
+    pub(crate) fn after(&self, words: Words<'_>) -> Walk {
+        let word = words.word();
+        if self.attribute {
+            return self.in_attribute(words);
+        }
+        if is(word, "module") || is(word, "macromodule") {
+            return self.at(Level::Head);
+        }
+        if is(word, "endmodule") {
+            return Walk::new();
+        }
+        if self.level == Level::Passed {
+            return self.passed(word);
+        }
+        if self.level == Level::Outside {
+            return self.outside(words);
+        }
+        self.inside(words)
+    }
+
+    // In an attribute.
+    fn in_attribute(&self, words: Words<'_>) -> Walk {
+        let mut next = *self;
+        if is(words.word(), ")") && is(words.before(1), "*") {
+            next.attribute = false;
+        }
+        next
+    }
+
+    // In what is passed over.
+    fn passed(&self, word: &[u8]) -> Walk {
+        if is(word, "endspecify") {
+            return self.at(Level::Items);
+        }
+        if is_one_of(word, &PASSED_ENDS) {
+            return Walk::new();
+        }
+        *self
+    }
+
+    /// Whether the word begins an attribute.
+    pub(crate) fn begins_attribute(&self, words: Words<'_>) -> bool {
+        is(words.word(), "(")
+            && is(words.after(1), "*")
+            && !is(words.after(2), ")")
+            && !is(words.before(1), "@")
+    }
+
+    // Between modules.
+    fn outside(&self, words: Words<'_>) -> Walk {
+        let mut next = *self;
+        if self.begins_attribute(words) {
+            next.attribute = true;
+        }
+        if is_one_of(words.word(), &PASSED) {
+            next.level = Level::Passed;
+        }
+        next
+    }
+
+    // In a module.
+    fn inside(&self, words: Words<'_>) -> Walk {
+        match words.word() {
+            _ if self.begins_attribute(words) => {
+                let mut next = *self;
+                next.attribute = true;
+                next
+            }
+            word if is_one_of(word, &["(", "[", "{"]) => self.opened(words),
+            word if is_one_of(word, &[")", "]", "}"]) => self.closed(),
+            word if self.open > 0 && !is_one_of(word, &UNBRACKETED) => self.in_brackets(words),
+            _ => self.along(words),
+        }
+    }
+
+    // Behind an opening bracket.
+    fn opened(&self, words: Words<'_>) -> Walk {
+        let mut next = *self;
+        next.starts = false;
+        next.open = self.open.saturating_add(1);
+        if self.open == 0 {
+            next.group = group_of(words);
+        }
+        next.told = self.open > 0 && (self.told || self.group == Group::Event);
+        if is(words.word(), "(") && words.before(1).starts_with(b"$") {
+            next.call = next.open;
+        }
+        next
+    }
+
+    // Behind a closing bracket.
+    fn closed(&self) -> Walk {
+        let mut next = *self;
+        next.open = self.open.saturating_sub(1);
+        if next.open < next.call {
+            next.call = 0;
+        }
+        if next.open == 0 {
+            next.starts = self.level == Level::Items && self.group == Group::Condition;
+            next.group = Group::Plain;
+        }
+        next
+    }
+
+    // Between brackets.
+    fn in_brackets(&self, words: Words<'_>) -> Walk {
+        let word = words.word();
+        let mut next = *self;
+        if (is(word, ",") || is(word, "or")) && self.open == 1 {
+            next.told = false;
+        } else if is(word, ":") || self.group == Group::Event {
+            next.told = self.told || words.is(TokenKind::Symbol);
+        }
+        if self.open == 1 && self.group == Group::Delay {
+            next.chosen = self.chosen_after(word);
+        }
+        next
+    }
+
+    // How many `?` wait for their `:` behind the word.
+    fn chosen_after(&self, word: &[u8]) -> usize {
+        match word {
+            word if is(word, "?") => self.chosen.saturating_add(1),
+            word if is(word, ":") => self.chosen.saturating_sub(1),
+            _ => self.chosen,
+        }
+    }
+
+    // Outside of brackets.
+    fn along(&self, words: Words<'_>) -> Walk {
+        let word = words.word();
+        match self.level {
+            Level::Head if is(word, ";") => self.at(Level::Items),
+            Level::RoutineHead if is(word, ";") => self.at(Level::Routine),
+            Level::Routine if is_one_of(word, &ROUTINE_ENDS) => self.at(Level::Items),
+            Level::Items => self.item(words),
+            Level::Statement if is_one_of(word, &ITEMS) => self.item_at(words),
+            Level::Statement | Level::Routine => self.statement(words),
+            _ => *self,
+        }
+    }
+
+    // At the first word of an item.
+    fn item_at(&self, words: Words<'_>) -> Walk {
+        let word = words.word();
+        let mut next = self.at(Level::Items);
+        next.depth = 0;
+        match word {
+            word if is(word, "initial") || is(word, "always") || is_one_of(word, &ALWAYS) => {
+                next.at(Level::Statement)
+            }
+            word if is(word, "function") || is(word, "task") => next.at(Level::RoutineHead),
+            word if is(word, "specify") => next.at(Level::Passed),
+            word if is(word, "generate") || is(word, "endgenerate") => {
+                next.generates = is(word, "generate");
+                next
+            }
+            word if is(word, "begin") => {
+                next.starts = !is(words.after(1), ":");
+                next
+            }
+            word if is_one_of(word, &ITEM_ENDS) || is(word, ";") => next,
+            _ => {
+                next.opening = opening_of(words);
+                next.starts = false;
+                next
+            }
+        }
+    }
+
+    // Among items.
+    fn item(&self, words: Words<'_>) -> Walk {
+        let word = words.word();
+        if self.starts || is_one_of(word, &ITEMS) || is_one_of(word, &ITEM_ENDS) {
+            return self.item_at(words);
+        }
+        if is(word, ";") {
+            return self.at(Level::Items);
+        }
+        let names_block = is(words.before(1), ":") && is(words.before(2), "begin");
+        let labels = is(word, ":") && !is(words.before(1), "begin");
+        let holds_items = self.opening == Opening::Other || self.opening == Opening::Instance;
+        if holds_items && (names_block || labels) {
+            return self.at(Level::Items);
+        }
+        self.marked(word)
+    }
+
+    // Behind a word that ends nothing.
+    fn marked(&self, word: &[u8]) -> Walk {
+        let mut next = *self;
+        match word {
+            word if is(word, "=") || is(word, "<=") => next.assigned = true,
+            word if is(word, ",") && self.opening != Opening::Other => {
+                next.assigned = false;
+                next.told = false;
+            }
+            word if is(word, ":") => next.told = true,
+            _ => {}
+        }
+        next.chosen = self.chosen_after(word);
+        next
+    }
+
+    // Where a statement ended: among items, if it was the last one.
+    fn ended(&self, words: Words<'_>) -> Walk {
+        if self.level == Level::Statement && self.depth == 0 && !is(words.after(1), "else") {
+            return self.at(Level::Items);
+        }
+        self.at(self.level)
+    }
+
+    // In statements.
+    fn statement(&self, words: Words<'_>) -> Walk {
+        let word = words.word();
+        match word {
+            word if is(word, ";") => self.ended(words),
+            word if is_one_of(word, &BLOCKS) && !is_one_of(words.before(1), &WAITS) => {
+                self.at_depth(self.depth.saturating_add(1))
+            }
+            word if is_one_of(word, &BLOCK_ENDS) => {
+                self.at_depth(self.depth.saturating_sub(1)).ended(words)
+            }
+            word if is(word, ":") && self.chosen == 0 => self.at(self.level),
+            word if is(word, "else") => self.at(self.level),
+            word if is_one_of(word, &VARIABLES) || is_type(words) => {
+                let mut next = self.at(self.level);
+                next.opening = Opening::Variable;
+                next
+            }
+            _ => self.marked(word),
+        }
+    }
+}

@@ -1,0 +1,168 @@
+// What is said of a command line, a file or a number that is refused, behind the line of the refusal.
+
+use basis::NoMemory;
+use refusal_text::line_of;
+use std::alloc::Global;
+use std::io;
+use vrace::Fault;
+
+// An option whose value is a number, and its limits.
+struct Limit {
+    option: &'static str,
+    least: u64,
+    most: u64,
+}
+
+const LIMITS: [Limit; 6] = [
+    Limit { option: "--depart", least: 0, most: 4 },
+    Limit { option: "--steps", least: 1, most: 1_000_000 },
+    Limit { option: "--entries", least: 1, most: 1_000_000 },
+    Limit { option: "--workers", least: 1, most: 64 },
+    Limit { option: "--seconds", least: 1, most: 1_000_000 },
+    Limit { option: "--memory", least: 1, most: 1_000_000 },
+];
+
+// The options whose value is a time.
+const TIMES: [&str; 2] = ["--until", "--ignore-before"];
+
+/// Whether these words tell races.
+pub fn tell_races(words: &[String]) -> bool {
+    match words.get(1) {
+        None => false,
+        Some(command) => command.as_str() == "races",
+    }
+}
+
+/// Whether a refusal is told in words: that of `races` is, and each behind `--words`.
+pub fn ask_for_words(words: &[String]) -> bool {
+    for word in words {
+        if word.as_str() == "--words" {
+            return true;
+        }
+        if word.as_str() == "--" {
+            return tell_races(words);
+        }
+    }
+    tell_races(words)
+}
+
+// What stands behind `=` where the word is the option with its value.
+fn joined_value<'a>(word: &'a str, option: &str) -> Option<&'a str> {
+    word.strip_prefix(option)?.strip_prefix("=")
+}
+
+/// The value of the option, if it is given.
+pub fn value_of<'a>(words: &'a [String], option: &str) -> Option<&'a str> {
+    let mut is_next = false;
+    for word in words {
+        let word = word.as_str();
+        if is_next {
+            return Some(word);
+        }
+        if word == "--" {
+            return None;
+        }
+        if let Some(value) = joined_value(word, option) {
+            return Some(value);
+        }
+        is_next = word == option;
+    }
+    None
+}
+
+// Whether the value is a number out of these limits.
+fn is_out(value: &str, limit: &Limit) -> bool {
+    match value.parse::<u64>() {
+        Ok(number) => number < limit.least || number > limit.most,
+        Err(_) => false,
+    }
+}
+
+// Says what is wrong with a number, if it is out of its limits.
+fn put_limit(text: &mut String, words: &[String], limit: &Limit) -> Result<(), NoMemory> {
+    let Some(value) = value_of(words, limit.option) else {
+        return Ok(());
+    };
+    if !is_out(value, limit) {
+        return Ok(());
+    }
+    let alloc = *text.allocator();
+    let (option, least, most) = (limit.option, limit.least, limit.most);
+    let line = format!(in alloc; "{option} {value}: out of its limits, {least} to {most}\n")?;
+    text.push_str(line.as_str())?;
+    Ok(())
+}
+
+// Says how a time is written, if the option is there.
+fn put_time(text: &mut String, words: &[String], option: &str) -> Result<(), NoMemory> {
+    let Some(value) = value_of(words, option) else {
+        return Ok(());
+    };
+    let alloc = *text.allocator();
+    let line = if tell_races(words) {
+        format!(in alloc; "{option} {value}: a time is digits and a unit, s, ms, us, ns, ps or fs, as 10us, and at most 2^62 - 1 units of the precision\n")?
+    } else {
+        format!(in alloc; "{option} {value}: at most 4611686018427387903 units of the precision\n")?
+    };
+    text.push_str(line.as_str())?;
+    Ok(())
+}
+
+/// What is said of a number that is out of its limit: each such option with its value, and what is allowed. Where there is none it is a
+/// time, or what the head of a report asks for.
+pub fn limits_text(alloc: Global, words: &[String]) -> Result<String, NoMemory> {
+    let mut text = String::new(alloc);
+    for limit in &LIMITS {
+        put_limit(&mut text, words, limit)?;
+    }
+    if text.is_empty() {
+        for option in TIMES {
+            put_time(&mut text, words, option)?;
+        }
+    }
+    if value_of(words, "--report").is_some() {
+        text.push_str(
+            "or the report asks for more time or more steps than --until and --steps allow\n",
+        )?;
+    }
+    Ok(text)
+}
+
+/// What is said of a file that can't be opened.
+pub fn unopened_text(alloc: Global, name: &str, error: &io::Error) -> Result<String, NoMemory> {
+    Ok(format!(in alloc; "{name}: can't be opened: {error}\n")?)
+}
+
+/// What is said of a file whose text isn't taken.
+pub fn unread_text(alloc: Global, name: &str, fault: Fault) -> Result<String, NoMemory> {
+    Ok(match fault {
+        Fault::TooLong => format!(in alloc; "{name}: has over 16,777,216 bytes\n")?,
+        _ => format!(in alloc; "{name}: can't be read; is it a folder?\n")?,
+    })
+}
+
+/// What is said of files that have too many bytes together.
+pub const TOO_LONG_TOGETHER: &str = "the files have over 16,777,216 bytes together\n";
+
+// The letters as any terminal may be shown them.
+fn shown(alloc: Global, line: &[u8]) -> Result<String, NoMemory> {
+    let mut text = String::new(alloc);
+    for letter in line {
+        let is_shown = letter.is_ascii_graphic() || *letter == b' ';
+        text.push(if is_shown { char::from(*letter) } else { '?' })?;
+    }
+    Ok(text)
+}
+
+/// What is said of a line that is no waiver.
+pub fn waiver_text(
+    alloc: Global,
+    name: &str,
+    text: &[u8],
+    number: u64,
+) -> Result<String, NoMemory> {
+    let line = shown(alloc, line_of(text, number as usize))?;
+    Ok(
+        format!(in alloc; "{name}:{number}: no waiver\n    {line}\n    instead: write FILE:LINE FILE:LINE # reason, or variable PATTERN # reason\n")?,
+    )
+}
