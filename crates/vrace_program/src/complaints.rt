@@ -18,8 +18,8 @@ const LIMITS: [Limit; 6] = [
     Limit { option: "--steps", least: 1, most: 1_000_000 },
     Limit { option: "--entries", least: 1, most: 1_000_000 },
     Limit { option: "--workers", least: 1, most: 64 },
-    Limit { option: "--seconds", least: 1, most: 1_000_000 },
-    Limit { option: "--memory", least: 1, most: 1_000_000 },
+    Limit { option: "--seconds", least: 0, most: 1_000_000 },
+    Limit { option: "--memory", least: 0, most: 1_000_000 },
 ];
 
 // The options whose value is a time.

@@ -37,7 +37,7 @@ use vrace::{
 };
 use words::{
     Request, Search, Wanted, commands, files_of, has_dashed_log, has_dashed_report, has_dashed_top,
-    has_dashed_waivers, has_joined_letters, has_output_over_file, is_in_words, log_of,
+    has_dashed_waivers, has_joined_letters, is_in_words, log_of, output_over_file,
     race_request_of, race_search_of, race_words_of, report_of, request_of, search_of, steps_of,
     until_of, wanted_of,
 };
@@ -465,8 +465,8 @@ fn races_by<'a>(rt: &HostRuntime, matches: &ArgMatches<'a>) -> Result<ExitCode, 
     if has_dashed_top(matches) || has_dashed_waivers(matches) {
         return Err(Stop::Usage(DASHED));
     }
-    if has_output_over_file(matches) {
-        return Err(Stop::Usage("what is written names a file of Verilog"));
+    if let Some(reason) = output_over_file(matches) {
+        return Err(Stop::Usage(reason));
     }
     let request = race_request_of(rt.alloc(), matches)?;
     let words = race_words_of(rt.alloc(), matches)?;
