@@ -214,28 +214,27 @@ fn put_group(
     put_more(text, subject.machine, subject.group, findings.told.all)
 }
 
-// What is told of the group.
+// What is told of the race of this place. The commands that replay its sides end so.
 fn text_of(
     alloc: Global,
     findings: &Findings<'_>,
     group: &Group,
     place: usize,
+    behind: &[u8],
 ) -> Result<Vec<u8>, NoMemory> {
     let mut text = Vec::new(alloc);
-    let subject = Subject {
-        machine: findings.machine,
-        sources: findings.sources,
-        group,
-    };
-    put_group(alloc, &mut text, findings, subject, place)?;
+    let facts = Facts::new(alloc, findings.machine, group)?;
+    let subject = findings.subject(group, &facts);
+    put_group(alloc, &mut text, findings, subject, place, behind)?;
     Ok(text)
 }
 
-/// What is told of each group of a top module, in their order.
+/// What is told of each race of a top module, in their order.
 pub fn groups_texts(alloc: Global, findings: &Findings<'_>) -> Result<Vec<Vec<u8>>, NoMemory> {
+    let behind = behind_log(alloc, findings)?;
     let mut texts = Vec::new(alloc);
     for (place, group) in findings.races.groups.iter().enumerate() {
-        texts.push(text_of(alloc, findings, group, place)?)?;
+        texts.push(text_of(alloc, findings, group, place, &behind)?)?;
     }
     Ok(texts)
 }
@@ -253,11 +252,8 @@ pub fn put_races(
     text: &mut Vec<u8>,
     findings: &Findings<'_>,
 ) -> Result<(), NoMemory> {
-    let behind = behind_log(alloc, findings)?;
-    for (place, group) in findings.races.groups.iter().enumerate() {
-        let facts = Facts::new(alloc, findings.machine, group)?;
-        let subject = findings.subject(group, &facts);
-        put_group(alloc, text, findings, subject, place, &behind)?;
+    for told in groups_texts(alloc, findings)? {
+        text.extend_from_slice(&told)?;
     }
     put_summary(text, findings)
 }
