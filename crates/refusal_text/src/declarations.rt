@@ -111,15 +111,10 @@ fn is_before_value(walk: Walk, opening: Opening) -> bool {
 pub(crate) fn by_symbol(words: Words<'_>, walk: Walk) -> Option<Construct> {
     let assigns = is_before_value(walk, Opening::Assign);
     let is_driven = assigns || is_before_value(walk, Opening::Net);
+    let is_port = walk.level == Level::Head && walk.group == Group::Plain && walk.open == 1;
     match words.word() {
-        word if is(word, "=") => {
-            let is_port = walk.level == Level::Head && walk.group == Group::Plain;
-            if is_port && walk.open == 1 {
-                Some(Construct::PortValue)
-            } else {
-                None
-            }
-        }
+        word if is(word, "=") && is_port => Some(Construct::PortValue),
+        word if is(word, "{") && is_port => Some(Construct::PortExpression),
         word if is(word, "#") && is_driven => Some(Construct::NetDelay),
         word if is(word, "(") && is_driven => Some(Construct::Strength),
         word if (is(word, "{") || is(word, "[")) && assigns => Some(Construct::PartialAssign),

@@ -99,7 +99,8 @@ fn by_parenthesis(words: Words<'_>, walk: Walk) -> Option<Construct> {
     if before.starts_with(b"$") && is(words.after(1), ")") {
         return Some(Construct::MissingArgument);
     }
-    if words.is_name_before(1) && !is(words.before(2), ".") && is_in_expression(walk) {
+    let follows = is(words.before(2), ".") || is(words.before(2), "#");
+    if words.is_name_before(1) && !follows && is_in_expression(walk) {
         return Some(Construct::Function);
     }
     None
@@ -205,7 +206,8 @@ pub(crate) fn by_plain_number(words: Words<'_>) -> Option<Construct> {
 
 /// The construct of a number with a base: a blank behind its size.
 pub(crate) fn by_based_number(words: Words<'_>) -> Option<Construct> {
-    if words.word().starts_with(b"'") && words.is_plain_before(1) {
+    let is_delay = is(words.before(2), "#");
+    if words.word().starts_with(b"'") && words.is_plain_before(1) && !is_delay {
         return Some(Construct::NumberBlank);
     }
     None

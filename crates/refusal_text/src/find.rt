@@ -109,7 +109,10 @@ pub(crate) fn found_at<'a>(words: Words<'a>, construct: Construct, word: &'a [u8
 // Keeps each format of the string that the profile leaves out.
 fn keep_formats<'a>(all: &mut Vec<Found<'a>>, words: Words<'a>) -> Result<(), NoMemory> {
     let mut rest = letters_of(words.word());
-    while let Some((format, behind)) = bad_format(rest) {
+    for _ in 0..rest.len() {
+        let Some((format, behind)) = bad_format(rest) else {
+            return Ok(());
+        };
         keep(all, found_at(words, Construct::Format, format))?;
         rest = behind;
     }

@@ -160,7 +160,10 @@ fn defines(rest: &[u8], name: Option<&[u8]>) -> bool {
 // Whether the text defines a macro of this name with arguments.
 fn has_arguments(text: &[u8], name: &[u8]) -> bool {
     let mut rest = text;
-    while let Some(at) = memchr(b'`', rest) {
+    for _ in 0..text.len() {
+        let Some(at) = memchr(b'`', rest) else {
+            return false;
+        };
         let here = from(rest, at);
         if defines(here, Some(name)) {
             return true;

@@ -136,15 +136,24 @@ fn by_number(rest: &[u8]) -> Flaw {
     number(What::Broken(102), len)
 }
 
+// Whether a digit stands behind a backslash.
+fn has_octal(string: &[u8]) -> bool {
+    let mut is_escape = false;
+    for letter in string {
+        if is_escape && letter.is_ascii_digit() {
+            return true;
+        }
+        is_escape = *letter == b'\\' && !is_escape;
+    }
+    false
+}
+
 // A string with an escape that there isn't; its letters become blanks.
 fn by_string(rest: &[u8]) -> Flaw {
     let whole = string_len(rest);
     let string = front_of(rest, whole);
-    let is_octal = string
-        .windows(2)
-        .any(|pair| pair[0] == b'\\' && pair[1].is_ascii_digit());
     Flaw {
-        what: if is_octal {
+        what: if has_octal(string) {
             What::LeftOut(Construct::OctalEscape)
         } else {
             What::Broken(102)

@@ -1,6 +1,6 @@
 // What is said of a command line, a file or a number that is refused, behind the line of the refusal.
 
-use basis::NoMemory;
+use basis::{NoMemory, digits_len};
 use refusal_text::line_of;
 use std::alloc::Global;
 use std::io;
@@ -14,16 +14,42 @@ struct Limit {
 }
 
 const LIMITS: [Limit; 6] = [
-    Limit { option: "--depart", least: 0, most: 4 },
-    Limit { option: "--steps", least: 1, most: 1_000_000 },
-    Limit { option: "--entries", least: 1, most: 1_000_000 },
-    Limit { option: "--workers", least: 1, most: 64 },
-    Limit { option: "--seconds", least: 0, most: 1_000_000 },
-    Limit { option: "--memory", least: 0, most: 1_000_000 },
+    Limit {
+        option: "--depart",
+        least: 0,
+        most: 4,
+    },
+    Limit {
+        option: "--steps",
+        least: 1,
+        most: 1_000_000,
+    },
+    Limit {
+        option: "--entries",
+        least: 1,
+        most: 1_000_000,
+    },
+    Limit {
+        option: "--workers",
+        least: 1,
+        most: 64,
+    },
+    Limit {
+        option: "--seconds",
+        least: 0,
+        most: 1_000_000,
+    },
+    Limit {
+        option: "--memory",
+        least: 0,
+        most: 1_000_000,
+    },
 ];
 
-// The options whose value is a time.
-const TIMES: [&str; 2] = ["--until", "--ignore-before"];
+const UNITS: [&str; 6] = ["s", "ms", "us", "ns", "ps", "fs"];
+
+// The latest time that there is.
+const LAST_TIME: u64 = 4_611_686_018_427_387_903;
 
 /// Whether these words tell races.
 pub fn tell_races(words: &[String]) -> bool {
@@ -93,38 +119,70 @@ fn put_limit(text: &mut String, words: &[String], limit: &Limit) -> Result<(), N
     Ok(())
 }
 
-// Says how a time is written, if the option is there.
-fn put_time(text: &mut String, words: &[String], option: &str) -> Result<(), NoMemory> {
+// Whether the word is digits and a unit.
+fn is_time(word: &str) -> bool {
+    let (digits, unit) = word.as_bytes().split_at(digits_len(word.as_bytes()));
+    !digits.is_empty() && UNITS.iter().any(|name| name.as_bytes() == unit)
+}
+
+// Whether a time is wrong in itself: of `races` as it is written, elsewhere as it is too late.
+fn is_wrong_time(words: &[String], value: &str) -> bool {
+    if tell_races(words) {
+        return !is_time(value);
+    }
+    match value.parse::<u64>() {
+        Ok(time) => time > LAST_TIME,
+        Err(_) => false,
+    }
+}
+
+// Says what is wrong with a time, if the option is there and its value is wrong, or each is told.
+fn put_time(text: &mut String, words: &[String], option: &str, each: bool) -> Result<(), NoMemory> {
     let Some(value) = value_of(words, option) else {
         return Ok(());
     };
-    let alloc = *text.allocator();
-    let line = if tell_races(words) {
-        format!(in alloc; "{option} {value}: a time is digits and a unit, s, ms, us, ns, ps or fs, as 10us, and at most 2^62 - 1 units of the precision\n")?
+    if !(each || is_wrong_time(words, value)) {
+        return Ok(());
+    }
+    let (alloc, last) = (*text.allocator(), LAST_TIME);
+    let line = if is_wrong_time(words, value) && tell_races(words) {
+        format!(in alloc;
+            "{option} {value}: a time is digits and a unit, s, ms, us, ns, ps or fs, as 10us\n"
+        )?
     } else {
-        format!(in alloc; "{option} {value}: at most 4611686018427387903 units of the precision\n")?
+        format!(in alloc;
+            "{option} {value}: later than the last time, {last} units of the precision\n"
+        )?
     };
     text.push_str(line.as_str())?;
     Ok(())
 }
 
-/// What is said of a number that is out of its limit: each such option with its value, and what is allowed. Where there is none it is a
-/// time, or what the head of a report asks for.
+// Says which numbers are out of their limits, and which times are wrong in themselves.
+fn put_wrong(text: &mut String, words: &[String]) -> Result<(), NoMemory> {
+    for limit in &LIMITS {
+        put_limit(text, words, limit)?;
+    }
+    put_time(text, words, "--until", false)?;
+    put_time(text, words, "--ignore-before", false)
+}
+
+/// What is said of a number that is out of its limit: each such option with its value, and what is allowed. Where there is none it is what
+/// the head of a report asks for, or a time that is too late in the precision of the files.
 pub fn limits_text(alloc: Global, words: &[String]) -> Result<String, NoMemory> {
     let mut text = String::new(alloc);
-    for limit in &LIMITS {
-        put_limit(&mut text, words, limit)?;
-    }
-    if text.is_empty() {
-        for option in TIMES {
-            put_time(&mut text, words, option)?;
-        }
+    put_wrong(&mut text, words)?;
+    if !text.is_empty() {
+        return Ok(text);
     }
     if value_of(words, "--report").is_some() {
         text.push_str(
-            "or the report asks for more time or more steps than --until and --steps allow\n",
+            "the report asks for more time or more steps than --until and --steps allow\n",
         )?;
+        return Ok(text);
     }
+    put_time(&mut text, words, "--until", true)?;
+    put_time(&mut text, words, "--ignore-before", true)?;
     Ok(text)
 }
 
@@ -162,7 +220,7 @@ pub fn waiver_text(
     number: u64,
 ) -> Result<String, NoMemory> {
     let line = shown(alloc, line_of(text, number as usize))?;
-    Ok(
-        format!(in alloc; "{name}:{number}: no waiver\n    {line}\n    instead: write FILE:LINE FILE:LINE # reason, or variable PATTERN # reason\n")?,
-    )
+    Ok(format!(in alloc;
+        "{name}:{number}: no waiver\n    {line}\n    instead: write FILE:LINE FILE:LINE # reason, or variable PATTERN # reason\n"
+    )?)
 }

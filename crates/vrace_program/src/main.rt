@@ -17,9 +17,10 @@ use byte_sinks::Metered;
 use clap::error::ErrorKind;
 use clap::{ArgMatches, Error};
 use complaints::{
-    TOO_LONG_TOGETHER, ask_for_words, limits_text, unopened_text, unread_text, value_of, waiver_text,
+    TOO_LONG_TOGETHER, ask_for_words, limits_text, unopened_text, unread_text, value_of,
+    waiver_text,
 };
-use explanations::{explanation_of, show, show_all, show_advice};
+use explanations::{explanation_of, show, show_advice, show_all};
 use meter::{Allowance, Meter};
 use races::tell_races;
 use refusals::with_words;
@@ -37,7 +38,7 @@ use vrace::{
 };
 use words::{
     Request, Search, Wanted, commands, files_of, has_dashed_log, has_dashed_report, has_dashed_top,
-    has_dashed_waivers, has_joined_letters, is_in_words, log_of, output_over_file,
+    has_dashed_waivers, has_joined_letters, has_output_over_file, is_in_words, log_of,
     race_request_of, race_search_of, race_words_of, report_of, request_of, search_of, steps_of,
     until_of, wanted_of,
 };
@@ -193,7 +194,14 @@ fn replay(
     let texts = texts(rt, &request.files)?;
     let done = replay_texts(rt, &texts, &options, log, wanted);
     let tops = request.top.as_slice();
-    with_words(rt.alloc(), done, request.in_words, &request.files, &texts, tops)
+    with_words(
+        rt.alloc(),
+        done,
+        request.in_words,
+        &request.files,
+        &texts,
+        tops,
+    )
 }
 
 // The exit status that says what a report says.
@@ -339,7 +347,14 @@ fn explore<R: Threads + Wait + Sync>(
     let texts = texts(rt, &request.files)?;
     let done = explore_texts(rt, threads, &texts, &options, search);
     let tops = request.top.as_slice();
-    with_words(rt.alloc(), done, request.in_words, &request.files, &texts, tops)
+    with_words(
+        rt.alloc(),
+        done,
+        request.in_words,
+        &request.files,
+        &texts,
+        tops,
+    )
 }
 
 // Checks the report against the texts, and says ok where all of it is true.
@@ -465,8 +480,8 @@ fn races_by<'a>(rt: &HostRuntime, matches: &ArgMatches<'a>) -> Result<ExitCode, 
     if has_dashed_top(matches) || has_dashed_waivers(matches) {
         return Err(Stop::Usage(DASHED));
     }
-    if let Some(reason) = output_over_file(matches) {
-        return Err(Stop::Usage(reason));
+    if has_output_over_file(matches) {
+        return Err(Stop::Usage("a file that is to be written is a file of Verilog"));
     }
     let request = race_request_of(rt.alloc(), matches)?;
     let words = race_words_of(rt.alloc(), matches)?;
@@ -508,9 +523,7 @@ fn run<'a, R: Threads + Wait + Sync>(
     words: &'a [String],
 ) -> Result<ExitCode, Stop> {
     if has_joined_letters(words) {
-        return Err(Stop::Usage(
-            "one dash stands before several letters: an option has two",
-        ));
+        return Err(Stop::Usage("one dash stands before several letters: an option has two"));
     }
     let Ok(commands) = commands(rt.alloc()) else {
         return Err(Stop::NoMemory);

@@ -445,5 +445,12 @@ pub fn tell_races(
     let waivers = read(rt.alloc(), &waivers)?;
     let texts = texts(rt, &request.files)?;
     let done = tell(rt, request, search, words, times, &waivers, &texts);
-    with_words(rt.alloc(), done, request.in_words, &request.files, &texts, &words.tops)
+    with_words(
+        rt.alloc(),
+        done,
+        request.in_words,
+        &request.files,
+        &texts,
+        &words.tops,
+    )
 }

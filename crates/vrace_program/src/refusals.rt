@@ -7,13 +7,7 @@ use std::process::ExitCode;
 use vrace::{At, Detail, Fault};
 
 // The refusal of these files, with what is told of it in words.
-fn told(
-    alloc: Global,
-    fault: Fault,
-    names: &[&str],
-    texts: &[Vec<u8>],
-    tops: &[&str],
-) -> Stop {
+fn told(alloc: Global, fault: Fault, names: &[&str], texts: &[Vec<u8>], tops: &[&str]) -> Stop {
     let place = match fault.detail() {
         Detail::Place(At(place)) => place,
         _ => None,

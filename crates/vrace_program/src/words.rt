@@ -568,17 +568,11 @@ fn is_over_file(matches: &ArgMatches<'_>, option: &str) -> bool {
     }
 }
 
-/// What is wrong where a file that is written would take the place of one that is read.
-pub fn output_over_file(matches: &ArgMatches<'_>) -> Option<&'static str> {
-    if is_over_file(matches, "write-waivers") {
-        Some("--write-waivers names a file of Verilog")
-    } else if is_over_file(matches, "html") {
-        Some("--html names a file of Verilog")
-    } else if is_over_file(matches, "vcd") {
-        Some("--vcd names a file of Verilog")
-    } else {
-        None
-    }
+/// Whether a file that is written would take the place of one that is read.
+pub fn has_output_over_file(matches: &ArgMatches<'_>) -> bool {
+    is_over_file(matches, "write-waivers")
+        || is_over_file(matches, "html")
+        || is_over_file(matches, "vcd")
 }
 
 // The value of `--format`.
