@@ -20,10 +20,17 @@ const SWITCHES: [&str; 9] = [
 
 // Between modules these begin what SystemVerilog alone has.
 const UNITS: [&str; 6] = [
-    "package", "interface", "class", "program", "typedef", "import",
+    "package",
+    "interface",
+    "class",
+    "program",
+    "typedef",
+    "import",
 ];
 
-const KINDS: [&str; 8] = ["enum", "struct", "union", "logic", "bit", "int", "byte", "reg"];
+const KINDS: [&str; 8] = [
+    "enum", "struct", "union", "logic", "bit", "int", "byte", "reg",
+];
 
 const BODIES: [&str; 5] = ["{", "packed", "logic", "bit", "int"];
 

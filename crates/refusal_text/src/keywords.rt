@@ -11,13 +11,34 @@ struct Keywords {
 }
 
 const KEYWORDS: [Keywords; 21] = [
-    Keywords { words: &["fork"], construct: Construct::Fork },
-    Keywords { words: &["disable"], construct: Construct::Disable },
-    Keywords { words: &["function"], construct: Construct::Function },
-    Keywords { words: &["task"], construct: Construct::Task },
-    Keywords { words: &["generate", "genvar"], construct: Construct::Generate },
-    Keywords { words: &["real", "realtime"], construct: Construct::Real },
-    Keywords { words: &["time"], construct: Construct::Time },
+    Keywords {
+        words: &["fork"],
+        construct: Construct::Fork,
+    },
+    Keywords {
+        words: &["disable"],
+        construct: Construct::Disable,
+    },
+    Keywords {
+        words: &["function"],
+        construct: Construct::Function,
+    },
+    Keywords {
+        words: &["task"],
+        construct: Construct::Task,
+    },
+    Keywords {
+        words: &["generate", "genvar"],
+        construct: Construct::Generate,
+    },
+    Keywords {
+        words: &["real", "realtime"],
+        construct: Construct::Real,
+    },
+    Keywords {
+        words: &["time"],
+        construct: Construct::Time,
+    },
     Keywords {
         words: &[
             "tri", "tri0", "tri1", "triand", "trior", "trireg", "uwire", "wand", "wor", "supply0",
@@ -25,7 +46,10 @@ const KEYWORDS: [Keywords; 21] = [
         ],
         construct: Construct::NetKind,
     },
-    Keywords { words: &["force", "release", "deassign"], construct: Construct::Force },
+    Keywords {
+        words: &["force", "release", "deassign"],
+        construct: Construct::Force,
+    },
     Keywords {
         words: &[
             "and", "nand", "nor", "xor", "xnor", "not", "buf", "bufif0", "bufif1", "notif0",
@@ -33,36 +57,85 @@ const KEYWORDS: [Keywords; 21] = [
         ],
         construct: Construct::Gate,
     },
-    Keywords { words: &["defparam"], construct: Construct::Defparam },
     Keywords {
-        words: &["primitive", "specify", "specparam", "config", "library", "macromodule"],
+        words: &["defparam"],
+        construct: Construct::Defparam,
+    },
+    Keywords {
+        words: &[
+            "primitive",
+            "specify",
+            "specparam",
+            "config",
+            "library",
+            "macromodule",
+        ],
         construct: Construct::Primitive,
     },
-    Keywords { words: &["inout"], construct: Construct::Inout },
-    Keywords { words: &["**"], construct: Construct::Power },
-    Keywords { words: &["$write"], construct: Construct::Write },
+    Keywords {
+        words: &["inout"],
+        construct: Construct::Inout,
+    },
+    Keywords {
+        words: &["**"],
+        construct: Construct::Power,
+    },
+    Keywords {
+        words: &["$write"],
+        construct: Construct::Write,
+    },
     Keywords {
         words: &["$random", "$urandom", "$urandom_range"],
         construct: Construct::Random,
     },
-    Keywords { words: &["$monitoron", "$monitoroff"], construct: Construct::MonitorSwitch },
-    Keywords { words: &["$readmemb", "$readmemh"], construct: Construct::ReadMemory },
+    Keywords {
+        words: &["$monitoron", "$monitoroff"],
+        construct: Construct::MonitorSwitch,
+    },
+    Keywords {
+        words: &["$readmemb", "$readmemh"],
+        construct: Construct::ReadMemory,
+    },
     Keywords {
         words: &["$test$plusargs", "$value$plusargs"],
         construct: Construct::Plusargs,
     },
     Keywords {
         words: &[
-            "$fopen", "$fclose", "$fdisplay", "$fwrite", "$fstrobe", "$fmonitor", "$fflush",
-            "$fgetc", "$fgets", "$fscanf", "$fread", "$fseek", "$ftell", "$rewind", "$feof",
-            "$ferror", "$ungetc",
+            "$fopen",
+            "$fclose",
+            "$fdisplay",
+            "$fwrite",
+            "$fstrobe",
+            "$fmonitor",
+            "$fflush",
+            "$fgetc",
+            "$fgets",
+            "$fscanf",
+            "$fread",
+            "$fseek",
+            "$ftell",
+            "$rewind",
+            "$feof",
+            "$ferror",
+            "$ungetc",
         ],
         construct: Construct::FileTask,
     },
     Keywords {
         words: &[
-            "$displayb", "$displayo", "$displayh", "$writeb", "$writeo", "$writeh", "$strobeb",
-            "$strobeo", "$strobeh", "$monitorb", "$monitoro", "$monitorh",
+            "$displayb",
+            "$displayo",
+            "$displayh",
+            "$writeb",
+            "$writeo",
+            "$writeh",
+            "$strobeb",
+            "$strobeo",
+            "$strobeh",
+            "$monitorb",
+            "$monitoro",
+            "$monitorh",
         ],
         construct: Construct::RadixDisplay,
     },

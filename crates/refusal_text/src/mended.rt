@@ -117,11 +117,7 @@ fn told<'a>(files: Files<'a>, place: Place, flaw: Flaw) -> Found<'a> {
 }
 
 // Takes out what is refused, and keeps what it was. False where reading can't go on.
-fn mend<'a>(
-    mended: &mut Mended<'a>,
-    files: Files<'a>,
-    refused: Refusal,
-) -> Result<bool, NoMemory> {
+fn mend<'a>(mended: &mut Mended<'a>, files: Files<'a>, refused: Refusal) -> Result<bool, NoMemory> {
     let rest = letters_from(&mended.texts, refused.place);
     let flaw = flaw_of(refused.number, rest, files.texts);
     keep(&mut mended.found, told(files, refused.place, flaw))?;

@@ -19,7 +19,11 @@ fn put_number(text: &mut Vec<u8>, n: usize) -> Result<(), NoMemory> {
 }
 
 /// The file, the line and the column, from 1.
-pub(crate) fn put_place(text: &mut Vec<u8>, files: Files<'_>, place: Place) -> Result<(), NoMemory> {
+pub(crate) fn put_place(
+    text: &mut Vec<u8>,
+    files: Files<'_>,
+    place: Place,
+) -> Result<(), NoMemory> {
     text.extend_from_slice(files.name(place.file).as_bytes())?;
     text.push(b':')?;
     put_number(text, place.line)?;

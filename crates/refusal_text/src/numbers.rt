@@ -86,11 +86,8 @@ fn without_base(size: usize, behind: &[u8], whole: usize) -> Flaw {
     let what = What::LeftOut(Construct::SystemVerilog);
     match behind.first() {
         Some(b'{') | Some(b'(') if size == 0 => number(what, 1),
-        Some(b'0') | Some(b'1') | Some(b'x') | Some(b'X') | Some(b'z') | Some(b'Z')
-            if size == 0 =>
-        {
-            number(what, 2)
-        }
+        Some(b'0') | Some(b'1') | Some(b'x') | Some(b'X') | Some(b'z') | Some(b'Z') if size == 0 =>
+            { number(what, 2) }
         _ => number(What::Broken(102), whole),
     }
 }

@@ -26,10 +26,7 @@ fn put_names(
 }
 
 // The modules of which there are no instances.
-fn uninstantiated<'a>(
-    alloc: Global,
-    modules: &Modules<'a>,
-) -> Result<Vec<Named<'a>>, NoMemory> {
+fn uninstantiated<'a>(alloc: Global, modules: &Modules<'a>) -> Result<Vec<Named<'a>>, NoMemory> {
     let mut tops = Vec::new(alloc);
     for module in &modules.modules {
         if !are_named(&modules.instances, module.name) {
@@ -78,7 +75,9 @@ pub(crate) fn put_none(
 ) -> Result<(), NoMemory> {
     put_missing(text, modules, tops)?;
     if modules.modules.is_empty() {
-        text.extend_from_slice(b"the files have no module\n    instead: name the file of the testbench\n")?;
+        text.extend_from_slice(
+            b"the files have no module\n    instead: name the file of the testbench\n",
+        )?;
         return Ok(());
     }
     if tops.is_empty() {

@@ -18,7 +18,8 @@ fn told(alloc: Global, fault: Fault, names: &[&str], texts: &[Vec<u8>], tops: &[
     }
 }
 
-/// What was done with these files, of which these top modules are asked for; where they were refused, and words are asked for, with what is told of it.
+/// What was done with these files, of which these top modules are asked for; where they were refused, and words are asked for, with
+/// what is told of it.
 pub fn with_words(
     alloc: Global,
     done: Result<ExitCode, Stop>,
