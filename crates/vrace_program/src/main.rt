@@ -446,7 +446,7 @@ fn replay_by<'a>(rt: &HostRuntime, matches: &ArgMatches<'a>) -> Result<ExitCode,
         return Err(Stop::Usage(DASHED));
     }
     let Some(wanted) = wanted_of(matches) else {
-        return Err(Stop::Usage("--lines and --trace don't go together"));
+        return Err(Stop::Usage("--lines doesn't go with --trace, nor --details without it"));
     };
     let Ok(request) = request_of(rt.alloc(), matches) else {
         return Err(Stop::NoMemory);
