@@ -191,6 +191,11 @@ pub fn unopened_text(alloc: Global, name: &str, error: &io::Error) -> Result<Str
     Ok(format!(in alloc; "{name}: can't be opened: {error}\n")?)
 }
 
+/// What is said of a file that can't be written.
+pub fn unwritten_text(alloc: Global, name: &str) -> Result<String, NoMemory> {
+    Ok(format!(in alloc; "{name}: can't be written; is its folder there?\n")?)
+}
+
 /// What is said of a file whose text isn't taken.
 pub fn unread_text(alloc: Global, name: &str, fault: Fault) -> Result<String, NoMemory> {
     Ok(match fault {

@@ -193,7 +193,7 @@ const EXPLANATIONS: [Explanation; 33] = [
     },
     Explanation {
         number: 902,
-        meaning: "standard output failed, or a file of waivers can't be written",
+        meaning: "standard output failed, or a file of waivers, a page or a dump of two runs can't be written",
         example: "a full disk, a closed pipe; a folder that isn't there",
         advice: "what stands on standard output is a prefix of what was asked for, and a file is as it was before: make room and call again",
     },

@@ -1,10 +1,11 @@
 // The races of files, told to people and to programs.
 
+use crate::complaints::unwritten_text;
 use crate::meter::{Allowance, Meter};
 use crate::refusals::with_words;
 use crate::times::{Bounds, Times};
 use crate::words::{RaceWords, Request, Search, VERSION};
-use crate::{Stop, finish, options_for, read_file, texts};
+use crate::{Stop, finish, options_for, read_file, refused_file, texts};
 use basis::NoMemory;
 use byte_sinks::Metered;
 use race_groups::{Group, Races, Scope};
@@ -318,6 +319,14 @@ fn new_name(alloc: Global, name: &str) -> Result<String, NoMemory> {
     Ok(new)
 }
 
+// The refusal of a file that can't be written.
+fn refused_output(alloc: Global, name: &str) -> Stop {
+    match unwritten_text(alloc, name) {
+        Ok(words) => refused_file(Fault::Write, words),
+        Err(refused) => Stop::from(refused),
+    }
+}
+
 // Writes the file beside, and then gives it its name, so that nothing half written stays.
 fn write_file(rt: &HostRuntime, name: &str, text: &[u8]) -> Result<(), Stop> {
     let new = new_name(rt.alloc(), name)?;
@@ -325,7 +334,7 @@ fn write_file(rt: &HostRuntime, name: &str, text: &[u8]) -> Result<(), Stop> {
         return Ok(());
     }
     let _ = fs::remove_file(rt, new.as_str());
-    Err(Stop::Refused(Fault::Write))
+    Err(refused_output(rt.alloc(), name))
 }
 
 // Writes the document to standard output.
@@ -371,7 +380,7 @@ fn try_file(rt: &HostRuntime, name: Option<&str>) -> Result<(), Stop> {
     };
     let new = new_name(rt.alloc(), name)?;
     if is_folder(rt, name) || fs::write(rt, new.as_str(), b"").is_err() {
-        return Err(Stop::Refused(Fault::Write));
+        return Err(refused_output(rt.alloc(), name));
     }
     let _ = fs::remove_file(rt, new.as_str());
     Ok(())
