@@ -214,27 +214,16 @@ fn put_group(
     put_more(text, subject.machine, subject.group, findings.told.all)
 }
 
-// What is told of the race of this place. The commands that replay its sides end so.
-fn text_of(
-    alloc: Global,
-    findings: &Findings<'_>,
-    group: &Group,
-    place: usize,
-    behind: &[u8],
-) -> Result<Vec<u8>, NoMemory> {
-    let mut text = Vec::new(alloc);
-    let facts = Facts::new(alloc, findings.machine, group)?;
-    let subject = findings.subject(group, &facts);
-    put_group(alloc, &mut text, findings, subject, place, behind)?;
-    Ok(text)
-}
-
 /// What is told of each race of a top module, in their order.
 pub fn groups_texts(alloc: Global, findings: &Findings<'_>) -> Result<Vec<Vec<u8>>, NoMemory> {
     let behind = behind_log(alloc, findings)?;
     let mut texts = Vec::new(alloc);
     for (place, group) in findings.races.groups.iter().enumerate() {
-        texts.push(text_of(alloc, findings, group, place, &behind)?)?;
+        let facts = Facts::new(alloc, findings.machine, group)?;
+        let subject = findings.subject(group, &facts);
+        let mut text = Vec::new(alloc);
+        put_group(alloc, &mut text, findings, subject, place, &behind)?;
+        texts.push(text)?;
     }
     Ok(texts)
 }
