@@ -7,7 +7,7 @@ use crate::difference::{
 use crate::facts::Facts;
 use crate::pieces::{put_count, put_cut, put_number};
 use crate::statements::{put_ending, put_statements};
-use crate::summary::{Findings, NAMED, put_summary};
+use crate::summary::{Findings, NAMED, Told, put_summary};
 use crate::time::put_time;
 use crate::waivers::Waiver;
 use basis::NoMemory;
@@ -197,21 +197,22 @@ fn put_head(
 }
 
 // The race of this place: its head, in which order each side comes about, and what follows. The commands that replay them end so.
-fn put_group(
+fn text_of(
     alloc: Global,
-    text: &mut Vec<u8>,
-    findings: &Findings<'_>,
+    told: Told,
+    waiver: Option<&Waiver<'_>>,
     subject: Subject<'_>,
     place: usize,
     behind: &[u8],
-) -> Result<(), NoMemory> {
+) -> Result<Vec<u8>, NoMemory> {
+    let mut text = Vec::new(alloc);
     let rows = rows_of(alloc, subject)?;
-    let waiver = findings.waiver(place);
-    put_head(alloc, text, waiver, subject, place, &rows)?;
-    put_sides(text, subject, &rows, behind)?;
-    put_others(text, subject, findings.told.named())?;
-    put_cure(text, subject)?;
-    put_more(text, subject.machine, subject.group, findings.told.all)
+    put_head(alloc, &mut text, waiver, subject, place, &rows)?;
+    put_sides(&mut text, subject, &rows, behind)?;
+    put_others(&mut text, subject, told.named())?;
+    put_cure(&mut text, subject)?;
+    put_more(&mut text, subject.machine, subject.group, told.all)?;
+    Ok(text)
 }
 
 /// What is told of each race of a top module, in their order.
@@ -221,9 +222,9 @@ pub fn groups_texts(alloc: Global, findings: &Findings<'_>) -> Result<Vec<Vec<u8
     for (place, group) in findings.races.groups.iter().enumerate() {
         let facts = Facts::new(alloc, findings.machine, group)?;
         let subject = findings.subject(group, &facts);
-        let mut text = Vec::new(alloc);
-        put_group(alloc, &mut text, findings, subject, place, &behind)?;
-        texts.push(text)?;
+        let waiver = findings.waiver(place);
+        let told = *findings.told;
+        texts.push(text_of(alloc, told, waiver, subject, place, &behind)?)?;
     }
     Ok(texts)
 }
