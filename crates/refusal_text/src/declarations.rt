@@ -34,10 +34,7 @@ pub(crate) fn by_name(words: Words<'_>) -> Option<Construct> {
     if is_one_of(word, &DECLARATIONS) && is_first_of_block(words) {
         return Some(Construct::BlockDeclaration);
     }
-    if is(word, "integer")
-        && (is(before, "output") || is(before, "input"))
-        && words.is_in("module")
-    {
+    if is(word, "integer") && (is(before, "output") || is(before, "input")) {
         return Some(Construct::PortValue);
     }
     if is_one_of(word, &ALWAYS) {

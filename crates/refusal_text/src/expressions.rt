@@ -30,7 +30,7 @@ fn by_bracket(words: Words<'_>) -> Option<Construct> {
     if is(words.before(2), "assign") {
         return Some(Construct::PartialAssign);
     }
-    if words.is_name_before(2) && !is(words.before(3), ":") {
+    if words.is_name_before(2) {
         return Some(Construct::InstanceArray);
     }
     if words.is_in_declaration() {
@@ -51,7 +51,7 @@ fn by_point(words: Words<'_>) -> Option<Construct> {
     if !words.is_name_before(1) || !words.is_name_after(1) {
         return None;
     }
-    if is(words.before(2), ".") || words.is_in("$dumpvars") || words.is_in("defparam") {
+    if is(words.before(2), ".") || words.is_in("$dumpvars") {
         return None;
     }
     Some(Construct::HierarchicalName)

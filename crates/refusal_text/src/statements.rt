@@ -71,8 +71,7 @@ fn by_event_term(words: Words<'_>) -> Option<Construct> {
 /// The construct that a keyword tells by what stands before it.
 pub(crate) fn by_name(words: Words<'_>) -> Option<Construct> {
     let (word, before) = (words.word(), words.before(1));
-    let is_first = is(words.before(2), ":") && is(words.before(3), "begin");
-    if is(word, "assign") && (is_one_of(before, &HEADS) || is_first) {
+    if is(word, "assign") && is_one_of(before, &HEADS) {
         return Some(Construct::ProceduralAssign);
     }
     if is(word, "repeat") && (is(before, "=") || is(before, "<=")) {

@@ -66,30 +66,17 @@ fn is_told(told: Option<Found>, found: Found) -> bool {
     }
 }
 
-// How often the construct comes in the text beside the one that is told.
-fn with_count(told: Found, all: &[Found]) -> Found {
-    for found in all {
-        if found.construct == told.construct {
-            return Found {
-                construct: told.construct,
-                place: told.place,
-                more: found.more,
-            };
-        }
-    }
-    told
-}
-
-// The constructs but for the one that was told.
-fn put_others(
+// The constructs of the text but for this one.
+fn put_others<'a>(
+    alloc: Global,
     text: &mut Vec<u8>,
     files: Files<'_>,
-    all: &[Found],
+    tokens: &'a Tokens<'a>,
     told: Option<Found>,
 ) -> Result<(), NoMemory> {
-    for found in all {
-        if !is_told(told, *found) {
-            put_construct(text, files, *found)?;
+    for found in constructs(alloc, tokens)? {
+        if !is_told(told, found) {
+            put_construct(text, files, found)?;
         }
     }
     Ok(())
@@ -105,17 +92,15 @@ fn put_by_words<'a>(
     tokens: &'a Tokens<'a>,
 ) -> Result<(), NoMemory> {
     let at = word_at(tokens, place);
-    let word = Words::new(tokens, at).word();
     if !is_of_profile(fault.number()) {
-        return put_fault(text, fault, files, place, word);
+        return put_fault(text, fault, files, place, Words::new(tokens, at).word());
     }
-    let all = constructs(alloc, tokens)?;
     let told = construct_near(tokens, at);
     match told {
-        None => put_fault(text, fault, files, place, word)?,
-        Some(found) => put_construct(text, files, with_count(found, &all))?,
+        None => put_fault(text, fault, files, place, Words::new(tokens, at).word())?,
+        Some(found) => put_construct(text, files, found)?,
     }
-    put_others(text, files, &all, told)
+    put_others(alloc, text, files, tokens, told)
 }
 
 // The bytes of a name at the head, with the backtick before it.
