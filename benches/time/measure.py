@@ -1,7 +1,8 @@
 #!/usr/bin/env python3
 """Measures searches that go by time (`explore --memory`, and `races`): how long they take, and how much memory, as runs get longer.
 
-- pipeline: the clocked pipeline of 14 stages of benches/races, 17 processes and 65 variables, over 100, 1,000 and 10,000 cycles, K = 1;
+- pipeline: the clocked pipeline of 14 stages of benches/races, 17 processes and 65 variables, over 100, 1,000 and 5,900 cycles, K = 1,
+  which are as many as 1,000,000 steps have; and one of 4 stages over 100 and 10,000;
 - races: the same by `races`, which holds back and looks at lines, over 100 and 1,000 cycles;
 - queue: the queue of examples/fifo-two-clocks, into which words are pushed one after another, over 100, 1,000 and 10,000 words, K = 1,
   by departures that take and by ones that hold back;
@@ -84,9 +85,12 @@ def measured(program, name, text, command="explore", more=()):
 
 def measured_pipeline(program):
     text = races().pipeline
-    rows = [measured(program, "a pipeline of 14 stages, %d cycles" % cycles, text(14, cycles)) for cycles in (100, 1_000, 10_000)]
-    seconds, megabytes, whole = rows[1]
-    return whole and seconds <= 60 and megabytes <= 100 and all(row[2] and row[1] <= 1.2 * rows[0][1] for row in rows)
+    kept = True
+    for stages, lengths in (14, (100, 1_000, 5_900)), (4, (100, 10_000)):
+        rows = [measured(program, "a pipeline of %d stages, %d cycles" % (stages, cycles), text(stages, cycles)) for cycles in lengths]
+        kept = kept and all(row[2] and row[1] <= 1.2 * rows[0][1] for row in rows)
+        kept = kept and (stages != 14 or rows[1][0] <= 60 and rows[1][1] <= 100)
+    return kept
 
 
 def measured_races(program):
