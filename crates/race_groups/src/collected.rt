@@ -107,7 +107,7 @@ impl<'m> RaceGroups<'m> {
     }
 }
 
-/// After want of memory nothing of the slot is told.
+/// After want of memory no group and no end of the slot stays; a group that stood before may count differences of it.
 impl<'m> Collector<MachineState> for RaceGroups<'m> {
     ghost use Rattle.explore.specs.Ranked.{CollectsMore, StaysAs, closing_of};
     ghost use Rattle.race_groups.specs.Inner.{CollectsGroups, collects_nothing};

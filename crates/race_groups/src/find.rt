@@ -73,13 +73,14 @@ fn groups_told(found: RaceGroups) -> Result<Vec<Group>, NoMemory>
 
 /// Explores the machine's runs by time, and tells what two of them differ in at the end of a slot, by the pairs of statements that
 /// are to blame. Of each group it keeps the first difference; the rest is counted, and named as far as the scope says. So the memory
-/// that it takes doesn't grow with the length of the runs, nor with the differences that one cause explains.
+/// that it takes grows with the causes and with the distinct logs that show differences; not with the differences of one log, nor
+/// with the length of runs that don't differ.
 ///
 /// However the search ended: wherever two runs within the limit of departures differ in a variable at the end of a slot, or in the
-/// lines that a slot printed, from the time `scope.from` on and up to the time `search.closed`, a group counts it. Where the search is
-/// exhausted, so it is at every time, and no run ends later than that. Where it tells no group, no two runs within the limit of departures differ at the end of a slot up to
-/// the time `search.closed`, none print other lines there, and all that end do so alike; where the search is exhausted, at no time at
-/// all. What is before `scope.from` is left out.
+/// lines that a slot printed, from the time `scope.from` on and up to the time `search.closed`, a group counts it. Where the search
+/// is exhausted, so it is at every time from `scope.from` on, and no run within the limit of departures ends later than
+/// `search.closed`. Where it tells no group, at these times no two such runs differ at the end of a slot, none print other lines,
+/// and all that end do so alike. What is before `scope.from` is left out.
 pub fn find_races<W: Watcher>(
     alloc: Global,
     machine: &Machine,

@@ -19,7 +19,7 @@ pub struct Allowance {
     pub progress: bool,
 }
 
-// Whether the number, if there is one, is at most 1,000,000. With none at all the search is cut at its first state.
+// Whether the number, if there is one, is at most 1,000,000. With 0 the search is cut at its first state.
 fn is_within(number: Option<u64>) -> bool {
     match number {
         None => true,
