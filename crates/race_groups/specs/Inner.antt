@@ -102,6 +102,10 @@ Counts names IsNew old new = (before : ℕ → List Name) → AllStandFor names 
 abbrev pub NoName : Name → Type 0
 NoName name = ⊥
 
+-- the difference has this name
+abbrev pub HasName : Difference → Name → Type 0
+HasName difference name = name_of difference ≡ Some name
+
 -- one of the first so many has this name
 pub record IsNamedIn {R : Type 0} (difference : R → Difference) (races : List R) (count : ℕ) (name : Name) : Type 0 where
   pub place : ℕ

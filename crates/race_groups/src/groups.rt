@@ -1,11 +1,11 @@
 // Differences are put into groups.
 
-ghost use Rattle.std.specs.Prelude.{◌≡◌, ◌<◌, ℕ, IfOk, IfSome, OnOk, Some, false, length, map, true};
+ghost use Rattle.std.specs.Prelude.{◌≡◌, ◌<◌, ℕ, IfOk, IfSome, OnOk, false, length, map, true};
 ghost use Rattle.std.specs.List.{Contains};
 ghost use Rattle.vmodel.specs.Run.{Setting};
 ghost use Rattle.cause.specs.Causes.{IsCause};
-ghost use Rattle.race_groups.specs.Found.{IsLogOf, logs_of, name_of};
-ghost use Rattle.race_groups.specs.Inner.{Adds, Counts, IsDefault, IsNamedIn, NoName, tolds_of};
+ghost use Rattle.race_groups.specs.Found.{IsLogOf, logs_of};
+ghost use Rattle.race_groups.specs.Inner.{Adds, Counts, HasName, IsDefault, IsNamedIn, NoName, tolds_of};
 
 use crate::causes::{Causes, Placed};
 use crate::group::{Group, Name};
@@ -39,7 +39,7 @@ fn open<R: SlotRace>(
     ensures adds { (setting : Setting) → IfSome cause (IsCause setting log.now) →
         IsLogOf (R.difference race.now) log.now → Adds setting (λ d. d ≡ R.difference race.now) (tolds_of groups.old.items) (tolds_of groups.new.items) }
     ensures still { (names : ℕ) → Counts names NoName groups.old.items groups.new.items }
-    ensures counts { OnOk result ((names : ℕ) → Counts names (λ n. name_of (R.difference race.now) ≡ Some n)
+    ensures counts { OnOk result ((names : ℕ) → Counts names (HasName (R.difference race.now))
         groups.old.items groups.new.items) }
 {
     let name = race.name();
@@ -69,7 +69,7 @@ fn put_side<R: SlotRace>(
     ensures adds { Adds causes.old.checkpoints (λ d. d ≡ R.difference race.now)
         (tolds_of groups.old.items) (tolds_of groups.new.items) }
     ensures still { Counts names NoName groups.old.items groups.new.items }
-    ensures counts { OnOk result (counted ≡ false → Counts names (λ n. name_of (R.difference race.now) ≡ Some n)
+    ensures counts { OnOk result (counted ≡ false → Counts names (HasName (R.difference race.now))
         groups.old.items groups.new.items) }
 {
     match causes.place(groups, log)? {
@@ -97,7 +97,7 @@ fn put_departed<R: SlotRace>(
     ensures adds { Adds causes.old.checkpoints (λ d. d ≡ R.difference race.now)
         (tolds_of groups.old.items) (tolds_of groups.new.items) }
     ensures still { Counts names NoName groups.old.items groups.new.items }
-    ensures counts { IfOk result (λ is. is ≡ true → counted ≡ false → Counts names (λ n. name_of (R.difference race.now) ≡ Some n)
+    ensures counts { IfOk result (λ is. is ≡ true → counted ≡ false → Counts names (HasName (R.difference race.now))
         groups.old.items groups.new.items) }
     ensures default { IfOk result (λ is. is ≡ false →
         (counted ≡ false) × IsDefault (logs_of (R.difference race.now)) side) }
@@ -122,7 +122,7 @@ fn put<R: SlotRace>(
     ensures adds { Adds causes.old.checkpoints (λ d. d ≡ R.difference race.now)
         (tolds_of groups.old.items) (tolds_of groups.new.items) }
     ensures still { Counts names NoName groups.old.items groups.new.items }
-    ensures counts { OnOk result (Counts names (λ n. name_of (R.difference race.now) ≡ Some n)
+    ensures counts { OnOk result (Counts names (HasName (R.difference race.now))
         groups.old.items groups.new.items) }
 {
     let mut counted = false;
