@@ -14,6 +14,7 @@ use sched_core::bag::Bag;
 use sched_core::end::{Cause, End};
 use sched_core::{Log, LogHead, write_named_log};
 use std::alloc::Global;
+use vdesign::action::Action;
 use vdesign::design::Design;
 use vmachine::{Machine, MachineState};
 
@@ -386,6 +387,36 @@ fn widths_of(rows: &[Row]) -> (usize, usize) {
     (order, value)
 }
 
+// Whether a run of the design may write a dump.
+fn has_dump(design: &Design) -> bool {
+    for action in &design.actions {
+        if let Action::DumpVars(_) = action {
+            return true;
+        }
+    }
+    false
+}
+
+// Whether it is printed lines that differ.
+fn differs_in_lines(subject: Subject<'_>) -> bool {
+    match (&subject.group.first, &subject.facts.apart) {
+        (Difference::Lines(_), _) => true,
+        (Difference::Ends(_), Some(apart)) => !apart.in_end && apart.variables.is_empty(),
+        _ => false,
+    }
+}
+
+// What a replay is asked to show: the lines where they differ; the steps where no dump is written.
+fn shown_by_replay(subject: Subject<'_>) -> &'static [u8] {
+    if differs_in_lines(subject) {
+        b" --lines"
+    } else if has_dump(subject.machine.design()) {
+        b""
+    } else {
+        b" --trace"
+    }
+}
+
 /// A line for each side: the order in which it comes about, what is so then, and the command that replays it, which ends so.
 pub fn put_sides(
     text: &mut Vec<u8>,
@@ -394,13 +425,16 @@ pub fn put_sides(
     behind: &[u8],
 ) -> Result<(), NoMemory> {
     let (order, value) = widths_of(rows);
+    let shown = shown_by_replay(subject);
     for row in rows {
         text.extend_from_slice(b"    ")?;
         put_padded(text, &row.order, order)?;
         text.extend_from_slice(b"  ")?;
         put_left(text, subject)?;
         put_padded(text, &row.value, value)?;
-        text.extend_from_slice(b"  vrace replay --log ")?;
+        text.extend_from_slice(b"  vrace replay")?;
+        text.extend_from_slice(shown)?;
+        text.extend_from_slice(b" --log ")?;
         text.extend_from_slice(&row.log)?;
         text.extend_from_slice(behind)?;
         text.push(b'\n')?;

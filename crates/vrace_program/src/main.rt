@@ -38,9 +38,9 @@ use vrace::{
 };
 use words::{
     Request, Search, Wanted, commands, files_of, has_dashed_log, has_dashed_report, has_dashed_top,
-    has_dashed_waivers, has_joined_letters, has_output_over_file, is_in_words, log_of,
-    race_request_of, race_search_of, race_words_of, report_of, request_of, search_of, steps_of,
-    until_of, wanted_of,
+    has_dashed_waivers, has_joined_letters, has_one_output_for_two, has_output_over_file,
+    is_in_words, log_of, race_request_of, race_search_of, race_words_of, report_of, request_of,
+    search_of, steps_of, until_of, wanted_of,
 };
 use workpool::OpenGate;
 
@@ -482,6 +482,9 @@ fn races_by<'a>(rt: &HostRuntime, matches: &ArgMatches<'a>) -> Result<ExitCode, 
     }
     if has_output_over_file(matches) {
         return Err(Stop::Usage("a file that is to be written is a file of Verilog"));
+    }
+    if has_one_output_for_two(matches) {
+        return Err(Stop::Usage("two files that are to be written have one name"));
     }
     let request = race_request_of(rt.alloc(), matches)?;
     let words = race_words_of(rt.alloc(), matches)?;

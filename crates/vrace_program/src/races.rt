@@ -204,6 +204,16 @@ fn no_answer<'w>(
     })
 }
 
+// The first of the races that isn't waived.
+fn first_unwaived<'a>(findings: &Findings<'a>) -> Option<&'a Group> {
+    for (place, group) in findings.races.groups.iter().enumerate() {
+        if findings.waiver(place).is_none() {
+            return Some(group);
+        }
+    }
+    None
+}
+
 // The dump of both runs of the group. A text that is held refuses for want of memory alone.
 fn dump_of(
     alloc: Global,
@@ -218,7 +228,7 @@ fn dump_of(
     }
 }
 
-// The dump of both runs of the first race, where one is asked for, there isn't one yet, and there is a race.
+// The dump of both runs of the first race that isn't waived, where one is asked for, there isn't one yet, and there is such a race.
 fn put_dump(
     alloc: Global,
     answer: &mut Answer<'_>,
@@ -228,7 +238,7 @@ fn put_dump(
     if asked.words.vcd.is_none() || answer.dump.is_some() {
         return Ok(());
     }
-    if let Some(group) = findings.races.groups.first() {
+    if let Some(group) = first_unwaived(findings) {
         answer.dump = Some(dump_of(alloc, findings, group, asked.steps)?);
     }
     Ok(())
@@ -349,7 +359,19 @@ fn write_out(rt: &HostRuntime, text: &[u8]) -> Result<(), Stop> {
     finish(&mut writer)
 }
 
-// Writes the page and the dump where they are asked for; where no race was found there is no dump.
+// Writes the dump; where there is none, one that was written before goes, as it would be taken for that of this call.
+fn write_dump(rt: &HostRuntime, name: &str, dump: Option<Vec<u8>>) -> Result<(), Stop> {
+    match dump {
+        Some(dump) => write_file(rt, name, &dump),
+        None => {
+            let _ = fs::remove_file(rt, name);
+            eprintln!(rt; "no dump is written to {name}: there is no race that isn't waived");
+            Ok(())
+        }
+    }
+}
+
+// Writes the page and the dump where they are asked for.
 fn write_pictures(
     rt: &HostRuntime,
     words: &RaceWords<'_>,
@@ -359,8 +381,8 @@ fn write_pictures(
     if let (Some(name), Some(page)) = (words.html, page) {
         write_file(rt, name, &page.document()?)?;
     }
-    if let (Some(name), Some(dump)) = (words.vcd, dump) {
-        write_file(rt, name, &dump)?;
+    if let Some(name) = words.vcd {
+        write_dump(rt, name, dump)?;
     }
     Ok(())
 }

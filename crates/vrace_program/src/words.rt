@@ -575,6 +575,21 @@ pub fn has_output_over_file(matches: &ArgMatches<'_>) -> bool {
         || is_over_file(matches, "vcd")
 }
 
+// Whether two options name one file.
+fn name_one_file(matches: &ArgMatches<'_>, one: &str, other: &str) -> bool {
+    match (matches.get_str(one), matches.get_str(other)) {
+        (Some(name), Some(same)) => name == same,
+        _ => false,
+    }
+}
+
+/// Whether two files that are written would be one.
+pub fn has_one_output_for_two(matches: &ArgMatches<'_>) -> bool {
+    name_one_file(matches, "html", "vcd")
+        || name_one_file(matches, "html", "write-waivers")
+        || name_one_file(matches, "vcd", "write-waivers")
+}
+
 // The value of `--format`.
 fn format_of(matches: &ArgMatches<'_>) -> Format {
     match matches.get_str("format") {
