@@ -365,7 +365,9 @@ fn write_dump(rt: &HostRuntime, name: &str, dump: Option<Vec<u8>>) -> Result<(),
         Some(dump) => write_file(rt, name, &dump),
         None => {
             let _ = fs::remove_file(rt, name);
-            eprintln!(rt; "no dump is written to {name}: there is no race that isn't waived");
+            let _ = eprintln!(rt;
+                "no dump is written to {name}: there is no race that isn't waived"
+            );
             Ok(())
         }
     }
