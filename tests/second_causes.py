@@ -78,7 +78,7 @@ class Watched(Run):
     """A run that keeps who takes each step, and what that touches."""
 
     def __init__(self, *words, **more):
-        self.visits, self.posts, self.updates, self.counts = [], [], 0, {}
+        self.visits, self.posts, self.updates, self.counts, self.posters = [], [], 0, {}, {}
         super().__init__(*words, **more)
 
     def take(self, choice):
@@ -93,6 +93,7 @@ class Watched(Run):
         else:
             action = self.rest[choice][0]
             visit = Visit(("process", choice), step, name_of(action), action[0] == "drive", *self.touched(action))
+            self.posters[visit.action] = choice
         self.visits.append(visit)
         super().take(choice)
         self.updates *= choice != "advance"
