@@ -1,11 +1,16 @@
 -- What a search for races tells, by what it was handed on.
 use Rattle.std.specs.Prelude.{⊤}
-use Rattle.std.proofs.Common.{◌≡◌, ℕ, ◌<◌, ◌≤◌, Bool, true, false, List, [], ◌∷◌, length, slice_get, None, Some, IfSome, refl, sym, ap, ◌∙◌, subst, inl, inr, arith}
+use Rattle.std.proofs.Common.{◌≡◌, ℕ, ◌<◌, ◌≤◌, Bool, true, false, List, [], ◌∷◌, length, slice_get, None, Option, Some, IfSome, refl, sym}
+use Rattle.std.proofs.Common.{ap, ◌∙◌, subst, inl, inr, arith}
 use Rattle.std.specs.List.{Contains}
 use Rattle.std.proofs.lemmas.Bool.{cases_lt}
 use Rattle.std.proofs.lemmas.List.{length-map}
 use Rattle.std.proofs.lemmas.Option.{IfSome_then, same_Some}
-use Rattle.basis.proofs.Lists.{at_contains, listed_place}
+use Rattle.std.specs.declared.cmp.Ordering.TheVariants.{Less, Equal}
+use Rattle.std.proofs.lemmas.Cmp.{tied_itself}
+use Rattle.sched_core.specs.Bags.{bag_cmp}
+use Rattle.sched_core.specs.BagLaws.{bags_total}
+use Rattle.basis.proofs.Lists.{at_contains, listed_place, place_within}
 use Rattle.sched_core.specs.Replay.{EndsAfter}
 use Rattle.sched_core.specs.Rules.{IsRun, stands}
 use Rattle.statebook.specs.declared.limits.Limits.{Limits}
@@ -22,13 +27,14 @@ use Rattle.vmodel.specs.RunProgress.{width_is}
 use Rattle.vmachine.specs.declared.machine_state.MachineState.{MachineState}
 use Rattle.vmachine.specs.Machines.{Stands, machine_rules, rank_of}
 use Rattle.vmachine.specs.Reads.{end_in}
-use Rattle.racebook.specs.Races.{TwoRunsDiffer}
-use Rattle.racebook.specs.LineRaces.{TwoRunsPrint}
+use Rattle.racebook.specs.Races.{IsRace, Race, TwoRunsDiffer}
+use Rattle.racebook.specs.LineRaces.{IsLineRace, LineRace, TwoRunsPrint}
 use Rattle.racebook.specs.InTime.{EachEnd, IsClosed, IsEndOfRun}
-use Rattle.racebook.specs.Inner.{AreEndsOf, AreSlotStates}
+use Rattle.racebook.specs.Inner.{AreEndsOf, AreInTurn, AreSlotStates}
 use Rattle.racebook.specs.declared.slot_state.SlotState.{SlotState}
 use Rattle.racebook.proofs.ClosedLemmas.{slot_time}
-use Rattle.racebook.proofs.FoundLemmas.{Alike, AllStand, AreEndsListed, HasVariables, MarkAlike, RunHere, RunThere, end_marked, lines_at, lines_found, races_at, races_found}
+use Rattle.racebook.proofs.FoundLemmas.{Alike, AllStand, AreEndsListed, HasVariables, MarkAlike, RunHere, RunThere, end_marked, lines_at}
+use Rattle.racebook.proofs.FoundLemmas.{lines_found, races_at, races_found}
 use Rattle.racebook.proofs.InTimeLemmas.{RankIsTime, ended_here, told_where_ended}
 use Rattle.racebook.proofs.ListLemmas.{contains_at}
 use Rattle.race_groups.specs.declared.collected.RaceGroups.{RaceGroups}
@@ -37,8 +43,11 @@ use Rattle.race_groups.specs.declared.group.Difference.TheVariants.{Values, Line
 use Rattle.race_groups.specs.declared.group.Group.{Group}
 use Rattle.race_groups.specs.declared.group.Name.{Name}
 use Rattle.race_groups.specs.declared.group.Scope.{Scope}
-use Rattle.race_groups.specs.Found.{AllAreCounted, AllStandFor, EachGroup, EndsAlike, HasFirstDifference, HasItsCause, HasLogOfFirst, IsDifference, IsNameInOne, IsOfClosed, NoneDiffer, NoneIsCut, TwoEndsDiffer}
-use Rattle.race_groups.specs.Inner.{AreGroupsOf, AreTold, CollectsGroups, IsShownBy, KeepsGroups, Shape, TellsEnds, Told, setting_of, shape_of, told, tolds_of}
+use Rattle.race_groups.specs.Found.{AllAreCounted, AllSummarize, EachGroup, EndsAlike, HasFirstDifference, HasItsCause, HasLogOfFirst}
+use Rattle.race_groups.specs.Found.{IsDifference, IsNameInOne, IsClosedFrom, IsInTime, IsTimeOfRun, LacksOnlyNoCause, NoneDiffer, NoneIsCut}
+use Rattle.race_groups.specs.Found.{NoneIsMadeUp, TwoEndsDiffer, TwoRunsDifferIn, name_of}
+use Rattle.race_groups.specs.Inner.{AreGroupsOf, AreTold, CollectsGroups, IsLastSeen, IsShownBy, KeepsGroups, Shape, TellsEnds, Told}
+use Rattle.race_groups.specs.Inner.{Tracing, shape_of, told, tolds_of, traced_by}
 use Rattle.race_groups.proofs.ListLemmas.{at_most_one, nothing_in, to_map}
 
 abbrev Pair : Type 0
@@ -58,6 +67,16 @@ shape_alike t u end end' same =
     let e : end_in t ≡ end_in u = told_where_ended t end ∙ ap Some same.end ∙ sym (told_where_ended u end') in
     λ i. record { end = e i; values = same.values i; printed = same.printed i }
 
+-- causes are looked for within the limit of steps
+abbrev pub tracing_in : Setting → Limits → Tracing
+tracing_in setting limits = record { setting = setting; steps = limits.steps }
+
+abbrev value_name : Race → Name
+value_name race = record { time = race.time; variable = Some race.variable }
+
+abbrev lines_name : LineRace → Name
+lines_name race = record { time = race.time; variable = None }
+
 -- a mark of a run stands in a closing of its time
 record IsIn (setting : Setting) (closings : List (Closing MachineState)) (log : List (ℕ × ℕ)) (steps : ℕ) : Type 0 where
   place : ℕ
@@ -67,18 +86,84 @@ record IsIn (setting : Setting) (closings : List (Closing MachineState)) (log : 
   stands_so : Stands setting listed.found.0 (state_after setting log steps)
   rank_is : closing.rank ≡ (state_after setting log steps).queue.time
 
-module _ (setting : Setting) (alike : Alike setting) (all : AllStand setting) (there : RunThere setting) (here : RunHere setting) (mark_alike : MarkAlike setting) (wide : HasVariables setting) (ranked : RankIsTime setting)
-    (limits : Limits) (scope : Scope) (groups : List Group) (tolds : List Told) (ends : List (FoundMark MachineState)) (cut : Bool) (findings : RankedFindings)
-    (hands : HandsOn (machine_rules setting) limits (rank_of setting) (AreGroupsOf setting scope groups tolds (pairs_of ends) cut) findings) where
+module _ (setting : Setting) (alike : Alike setting) (all : AllStand setting) (there : RunThere setting) (here : RunHere setting)
+    (mark_alike : MarkAlike setting) (wide : HasVariables setting) (ranked : RankIsTime setting)
+    (limits : Limits) (scope : Scope) (groups : List Group) (tolds : List Told) (ends : List (FoundMark MachineState)) (cut : Bool)
+    (seen : Option ℕ) (refused : Bool) (findings : RankedFindings)
+    (hands : HandsOn (machine_rules setting) limits (rank_of setting)
+    (AreGroupsOf (tracing_in setting limits) scope groups tolds (pairs_of ends) cut seen refused) findings) where
   abbrev from : ℕ
   from = scope.from
 
   abbrev state_of : List (ℕ × ℕ) → ℕ → State
   state_of log steps = state_after setting log steps
 
+  -- ---- the time that was closed
+
+  -- what has a mark is of such a time
+  marked_by : (o : Option ℕ) → IsLastSeen o hands.closings → (i : ℕ) (c : Closing MachineState) → slice_get hands.closings i ≡ Some c →
+      0 < length c.marks → IsClosed o c.rank
+  marked_by None none i c at some = absurd (let e = ap length (none i c at) in omega (arith, e, some))
+  marked_by (Some top) last i c at some = (
+    top,
+    refl,
+    elim (cases_lt last.place i) [
+      | inl behind ↦ absurd (let e = ap length (last.none_behind i c behind at) in omega (arith, e, some))
+      | inr up_to ↦ elim (cases_lt i last.place) [
+        | inl before ↦ (let lt = hands.rise i last.place c last.closing before at last.at in let is = last.rank_is in omega (arith, lt, is))
+        | inr from_there ↦
+            let here : i ≡ last.place = omega (arith, up_to, from_there) in
+            let same : c ≡ last.closing = same_Some c last.closing (sym at ∙ ap (slice_get hands.closings) here ∙ last.at) in
+            let ranks = ap (λ (d : Closing MachineState). d.rank) same in
+            let is = last.rank_is in
+            omega (arith, ranks, is)
+      ]
+    ],
+  )
+
+  marked_closed : (i : ℕ) (c : Closing MachineState) → slice_get hands.closings i ≡ Some c → 0 < length c.marks → IsClosed seen c.rank
+  marked_closed = marked_by seen hands.collected.last_seen
+
+  -- up to it all marks were handed on
+  covered_by : (o : Option ℕ) → IsLastSeen o hands.closings →
+      IfSome o (HandsOnAllTo (machine_rules setting) limits (rank_of setting) hands.closings)
+  covered_by None none = tt
+  covered_by (Some top) last =
+      let l = hands.last last.place last.closing last.at in
+      let covered : HandsOnAllTo (machine_rules setting) limits (rank_of setting) hands.closings l.0 =
+      subst (λ (o : Option ℕ). IfSome o (HandsOnAllTo (machine_rules setting) limits (rank_of setting) hands.closings)) l.1 hands.covered in
+      let le = l.2 in
+      let is = last.rank_is in
+      λ log steps short run mark below. covered log steps short run mark (omega (arith, below, le, is))
+
+  covered_seen : IfSome seen (HandsOnAllTo (machine_rules setting) limits (rank_of setting) hands.closings)
+  covered_seen = covered_by seen hands.collected.last_seen
+
+  -- a run comes to it
+  time_by : (o : Option ℕ) → IsLastSeen o hands.closings → IfSome o (IsTimeOfRun setting limits)
+  time_by None none = tt
+  time_by (Some top) last =
+      let m = listed_place last.closing.marks 0 last.some in
+      let f = hands.found last.place last.closing last.at 0 m.0 m.1 in
+      let t = state_of m.0.1 f.steps in
+      let st : Stands setting m.0.0 t = alike (stands (machine_rules setting) m.0.1 f.steps) m.0.0 t (all m.0.1 f.steps) f.at in
+      record {
+        log = m.0.1;
+        steps = f.steps;
+        run = there m.0.1 f.steps f.run;
+        mark = sym (mark_alike m.0.0 t st) ∙ f.mark;
+        time_is = sym (ranked m.0.0 t st) ∙ hands.ranks last.place last.closing last.at 0 m.0 m.1 ∙ last.rank_is;
+        within = f.within;
+        short = f.short;
+      }
+
+  pub time_of_run : IfSome seen (IsTimeOfRun setting limits)
+  time_of_run = time_by seen hands.collected.last_seen
+
   -- ---- what was found is true
 
-  shown_is : (marks : List Pair) → AreFound (machine_rules setting) limits marks → (d : Difference) → IsShownBy setting marks d → IsDifference setting limits d
+  shown_is : (marks : List Pair) → AreFound (machine_rules setting) limits marks → (d : Difference) → IsShownBy setting marks d →
+      IsDifference setting limits d
   shown_is marks found (Values race) (races, are, has) =
       let p = at_contains races race has in
       races_found setting limits marks are.slot_states races alike all there found are.are are.all p.0 race p.1
@@ -91,41 +176,131 @@ module _ (setting : Setting) (alike : Alike setting) (all : AllStand setting) (t
   told_first t has = let o = hands.collected.firsts t has in shown_is o.closing.marks (hands.found o.place o.closing o.at) t.first o.shown
 
   -- the time of what is seen of its marks was closed
-  closed_here : (i : ℕ) (c : Closing MachineState) → slice_get hands.closings i ≡ Some c → (gs : List SlotState) → AreSlotStates setting c.marks gs → (g : SlotState) → Contains gs g → IsClosed findings.closed g.time
-  closed_here i c at gs are g has =
+  closed_here : (i : ℕ) (c : Closing MachineState) → slice_get hands.closings i ≡ Some c → from ≤ c.rank → (gs : List SlotState) →
+      AreSlotStates setting c.marks gs → (g : SlotState) → Contains gs g → IsClosedFrom from seen g.time
+  closed_here i c at late gs are g has =
       let o = are.each g has in
       let f = hands.found i c at o.place o.found o.at in
       let t = state_of o.found.1 f.steps in
-      let st : Stands setting o.found.0 t = alike (stands (machine_rules setting) o.found.1 f.steps) o.found.0 t (all o.found.1 f.steps) f.at in
+      let st : Stands setting o.found.0 t = alike (stands (machine_rules setting) o.found.1 f.steps) o.found.0 t
+      (all o.found.1 f.steps) f.at in
       let is = slot_time setting o.found g c.rank o.of (t, st, sym (ranked o.found.0 t st) ∙ hands.ranks i c at o.place o.found o.at) in
-      let l = hands.last i c at in
+      let w = place_within c.marks o.place o.found o.at in
+      let l = marked_closed i c at (omega (arith, w)) in
       let le = l.2 in
-      (l.0, l.1, omega (arith, is, le))
+      (omega (arith, late, is), (l.0, l.1, omega (arith, is, le)))
 
-  shown_closed : (i : ℕ) (c : Closing MachineState) → slice_get hands.closings i ≡ Some c → (d : Difference) → IsShownBy setting c.marks d → IsOfClosed findings.closed d
-  shown_closed i c at (Values race) (races, are, has) =
+  shown_closed : (i : ℕ) (c : Closing MachineState) → slice_get hands.closings i ≡ Some c → from ≤ c.rank → (d : Difference) →
+      IsShownBy setting c.marks d → IsInTime setting from seen d
+  shown_closed i c at late (Values race) (races, are, has) =
       let p = at_contains races race has in
       let r = are.all.each p.0 race p.1 in
       let two = r.two in
-      let s = listed_place race.values 0 (omega arith) in
-      let seen = r.seen 0 s.0 s.1 in
-      subst (IsClosed findings.closed) seen.time_is (closed_here i c at are.slot_states are.are seen.slot_state seen.among)
-  shown_closed i c at (Lines race) (races, are, has) =
+      let s = listed_place race.values 0 (omega (arith, two)) in
+      let visible = r.seen 0 s.0 s.1 in
+      subst (IsClosedFrom from seen) visible.time_is (closed_here i c at late are.slot_states are.are visible.slot_state visible.among)
+  shown_closed i c at late (Lines race) (races, are, has) =
       let p = at_contains races race has in
       let r = are.all.each p.0 race p.1 in
       let two = r.two in
-      let s = listed_place race.sides 0 (omega arith) in
-      let seen = r.seen 0 s.0 s.1 in
-      subst (IsClosed findings.closed) seen.time_is (closed_here i c at are.slot_states are.are seen.slot_state seen.among)
-  shown_closed i c at (Ends list) none = tt
+      let s = listed_place race.sides 0 (omega (arith, two)) in
+      let visible = r.seen 0 s.0 s.1 in
+      subst (IsClosedFrom from seen) visible.time_is (closed_here i c at late are.slot_states are.are visible.slot_state visible.among)
+  shown_closed i c at late (Ends list) none = absurd none
 
-  pub told_closed : (t : Told) → Contains tolds t → IsOfClosed findings.closed t.first
-  told_closed t has = let o = hands.collected.firsts t has in shown_closed o.place o.closing o.at t.first o.shown
+  pub told_in_time : (t : Told) → Contains tolds t → IsInTime setting from seen t.first
+  told_in_time t has = let o = hands.collected.firsts t has in shown_closed o.place o.closing o.at o.late t.first o.shown
 
-  pub ends_are_told : (d : Difference) → TellsEnds ends d → IsOfClosed findings.closed d
-  ends_are_told (Values race) tells = absurd tells
-  ends_are_told (Lines race) tells = absurd tells
-  ends_are_told (Ends list) tells = tt
+  end_in_time : (end : Pair) → Contains (pairs_of ends) end → (t : State) → Stands setting end.0 t → IsClosedFrom from seen t.queue.time
+  end_in_time end has t st =
+      let o = hands.collected.ends end has in
+      let m = at_contains o.closing.marks end o.among in
+      let w = place_within o.closing.marks m.0 end m.1 in
+      let rank_is = sym (ranked end.0 t st) ∙ hands.ranks o.place o.closing o.at m.0 end m.1 in
+      let l = marked_closed o.place o.closing o.at (omega (arith, w)) in
+      let late = o.late in
+      let le = l.2 in
+      (omega (arith, late, rank_is), (l.0, l.1, omega (arith, rank_is, le)))
+
+  pub ends_in_time : (d : Difference) → TellsEnds ends d → IsInTime setting from seen d
+  ends_in_time (Values race) tells = absurd tells
+  ends_in_time (Lines race) tells = absurd tells
+  ends_in_time (Ends list) tells = λ i end at t st. end_in_time end
+      (subst (λ (l : List (FoundMark MachineState)). Contains (pairs_of l) end) tells (contains_at (pairs_of list.items) i end at)) t st
+
+  -- what is told of a difference, of its name
+  race_differs : (race : Race) → IsRace setting limits race → TwoRunsDiffer setting limits.depart race.time race.variable
+  race_differs race is =
+      let two = is.two in
+      let s = listed_place race.values 0 (omega (arith, two)) in
+      let t = listed_place race.values 1 (omega (arith, two)) in
+      let one = is.seen 0 s.0 s.1 in
+      let other = is.seen 1 t.0 t.1 in
+      record {
+        one = s.0.0;
+        other = t.0.0;
+        shows_one = record { log = s.0.1; steps = one.steps; shown = one.shown; short = one.short };
+        shows_other = record { log = t.0.1; steps = other.steps; shown = other.shown; short = other.short };
+        differ = is.differ 0 1 s.0 t.0 (omega arith) s.1 t.1;
+      }
+
+  lines_differ : (race : LineRace) → IsLineRace setting limits race → TwoRunsPrint setting limits.depart race.time
+  lines_differ race is =
+      let two = is.two in
+      let s = listed_place race.sides 0 (omega (arith, two)) in
+      let t = listed_place race.sides 1 (omega (arith, two)) in
+      let one = is.seen 0 s.0 s.1 in
+      let other = is.seen 1 t.0 t.1 in
+      let less = is.order 0 1 s.0 t.0 (omega arith) s.1 t.1 in
+      record {
+        one = s.0.0;
+        other = t.0.0;
+        prints_one = record { log = s.0.1; steps = one.steps; shown = one.shown; short = one.short };
+        prints_other = record { log = t.0.1; steps = other.steps; shown = other.shown; short = other.short };
+        differ = λ same.
+            (let tied : bag_cmp s.0.0 t.0.0 ≡ Equal = ap (λ (x : List (List ℕ)). bag_cmp x t.0.0) same ∙ tied_itself bags_total t.0.0 in
+            let bad : Less ≡ Equal = sym less ∙ tied in
+            cc);
+      }
+
+  name_differs : (d : Difference) (name : Name) → IsDifference setting limits d → name_of d ≡ Some name →
+      TwoRunsDifferIn setting limits.depart name.time name.variable
+  name_differs (Values race) name is named = subst (λ (n : Name). TwoRunsDifferIn setting limits.depart n.time n.variable)
+      (same_Some (value_name race) name named) (race_differs race is)
+  name_differs (Lines race) name is named = subst (λ (n : Name). TwoRunsDifferIn setting limits.depart n.time n.variable)
+      (same_Some (lines_name race) name named) (lines_differ race is)
+  name_differs (Ends list) name is named = absurd (cc)
+
+  name_closed : (d : Difference) (name : Name) → IsInTime setting from seen d → name_of d ≡ Some name → IsClosedFrom from seen name.time
+  name_closed (Values race) name is named = subst (λ (n : Name). IsClosedFrom from seen n.time)
+      (same_Some (value_name race) name named) is
+  name_closed (Lines race) name is named = subst (λ (n : Name). IsClosedFrom from seen n.time)
+      (same_Some (lines_name race) name named) is
+  name_closed (Ends list) name is named = absurd (cc)
+
+  in_turn : AreInTurn setting hands.closings
+  in_turn = record {
+    rise = hands.rise;
+    times = λ i c at k found at'.
+        (let f = hands.found i c at k found at' in
+        let t = state_of found.1 f.steps in
+        let st : Stands setting found.0 t = alike (stands (machine_rules setting) found.1 f.steps) found.0 t (all found.1 f.steps) f.at in
+        (t, st, sym (ranked found.0 t st) ∙ hands.ranks i c at k found at'));
+  }
+
+  -- what is summed up is no more than that
+  none_made_up : (Within : ℕ → Type 0) → ((time : ℕ) → IsClosedFrom from seen time → Within time) → refused ≡ false →
+      NoneIsMadeUp setting limits.depart groups hands.collected.all.rests Within
+  none_made_up Within whole sound = record {
+    differ = λ i k name is.
+        (let has = contains_at (hands.collected.all.rests i) k name is.named in
+        let by = hands.collected.all.only sound name (i, record { group = is.group; at = is.at; has = inr has }) in (
+          whole name.time (name_closed by.difference name (shown_closed by.place by.closing by.at by.late by.difference by.shown) by.is),
+          name_differs by.difference name
+              (shown_is by.closing.marks (hands.found by.place by.closing by.at) by.difference by.shown) by.is,
+        ));
+    named_once = hands.collected.all.once sound in_turn;
+  }
 
   -- a kept end is one
   end_is : (end : Pair) → Contains (pairs_of ends) end → IsEndOfRun setting limits end
@@ -164,8 +339,10 @@ module _ (setting : Setting) (alike : Alike setting) (all : AllStand setting) (t
           other_state = state_of other.0.1 e'.steps;
           stands = e.stands;
           other_stands = e'.stands;
-          differ = λ same. hands.collected.unlike one.0 other.0 one.1 other.1 (state_of one.0.1 e.steps) (state_of other.0.1 e'.steps) e.stands e'.stands
-              (shape_alike (state_of one.0.1 e.steps) (state_of other.0.1 e'.steps) (no_choice_left one.0.1 e.steps e.ends) (no_choice_left other.0.1 e'.steps e'.ends) same);
+          differ = λ same. hands.collected.unlike one.0 other.0 one.1 other.1 (state_of one.0.1 e.steps)
+              (state_of other.0.1 e'.steps) e.stands e'.stands
+              (shape_alike (state_of one.0.1 e.steps) (state_of other.0.1 e'.steps) (no_choice_left one.0.1 e.steps e.ends)
+              (no_choice_left other.0.1 e'.steps e'.ends) same);
         },
       )
 
@@ -173,14 +350,18 @@ module _ (setting : Setting) (alike : Alike setting) (all : AllStand setting) (t
   told_ends (Values race) tells two = absurd tells
   told_ends (Lines race) tells two = absurd tells
   told_ends (Ends list) tells two =
-      subst (λ (l : List (FoundMark MachineState)). EachEnd (IsEndOfRun setting limits) (pairs_of l) × TwoEndsDiffer setting (pairs_of l)) (sym tells) (ends_differ two)
+      subst (λ (l : List (FoundMark MachineState)). EachEnd (IsEndOfRun setting limits) (pairs_of l) × TwoEndsDiffer setting (pairs_of l))
+      (sym tells) (ends_differ two)
 
   -- ---- where all marks of some times were handed on
 
   module _ (Within : ℕ → Type 0)
-      (handed : (log : List (ℕ × ℕ)) (steps : ℕ) → length log ≤ limits.depart → IsRun (rules_of setting) log steps → (machine_rules setting).mark (stands (machine_rules setting) log steps) ≡ true →
-      Within (state_after setting log steps).queue.time → WasHandedOn (machine_rules setting) hands.closings (stands (machine_rules setting) log steps) (length log)) where
-    is_in : (log : List (ℕ × ℕ)) (steps : ℕ) → WasHandedOn (machine_rules setting) hands.closings (stands (machine_rules setting) log steps) (length log) → IsIn setting hands.closings log steps
+      (handed : (log : List (ℕ × ℕ)) (steps : ℕ) → length log ≤ limits.depart → IsRun (rules_of setting) log steps →
+      (machine_rules setting).mark (stands (machine_rules setting) log steps) ≡ true →
+      Within (state_after setting log steps).queue.time → WasHandedOn (machine_rules setting) hands.closings
+      (stands (machine_rules setting) log steps) (length log)) where
+    is_in : (log : List (ℕ × ℕ)) (steps : ℕ) → WasHandedOn (machine_rules setting) hands.closings (stands (machine_rules setting) log steps)
+        (length log) → IsIn setting hands.closings log steps
     is_in log steps (i, c, at, l) =
         let t = state_after setting log steps in
         let st : Stands setting l.found.0 t = alike (stands (machine_rules setting) log steps) l.found.0 t (all log steps) l.same in
@@ -194,7 +375,8 @@ module _ (setting : Setting) (alike : Alike setting) (all : AllStand setting) (t
         }
 
     -- each rank was closed once
-    one_closing : (i j : ℕ) (c d : Closing MachineState) → slice_get hands.closings i ≡ Some c → slice_get hands.closings j ≡ Some d → c.rank ≡ d.rank → d ≡ c
+    one_closing : (i j : ℕ) (c d : Closing MachineState) → slice_get hands.closings i ≡ Some c → slice_get hands.closings j ≡ Some d →
+        c.rank ≡ d.rank → d ≡ c
     one_closing i j c d at at' same = elim (cases_lt i j) [
       | inl before ↦ absurd (let lt = hands.rise i j c d before at at' in omega arith)
       | inr from_there ↦ elim (cases_lt j i) [
@@ -204,28 +386,37 @@ module _ (setting : Setting) (alike : Alike setting) (all : AllStand setting) (t
     ]
 
     -- the slot ends of a time stand in one closing
-    listed_in : (i : ℕ) (c : Closing MachineState) → slice_get hands.closings i ≡ Some c → (time : ℕ) → Within time → c.rank ≡ time → AreEndsListed setting limits.depart c.marks time
+    listed_in : (i : ℕ) (c : Closing MachineState) → slice_get hands.closings i ≡ Some c → (time : ℕ) → Within time → c.rank ≡ time →
+        AreEndsListed setting limits.depart c.marks time
     listed_in i c at time within rank = λ values log steps short run is.
         let time_is : time ≡ (state_after setting log steps).queue.time = sym is.time_is in
-        let h = is_in log steps (handed log steps short run (end_marked setting all mark_alike time values log steps is) (subst Within time_is within)) in
+        let h = is_in log steps (handed log steps short run (end_marked setting all mark_alike time values log steps is)
+        (subst Within time_is within)) in
         let same = one_closing i h.place c h.closing at h.at (rank ∙ time_is ∙ sym h.rank_is) in
-        subst (λ (d : Closing MachineState). IsListedMark (machine_rules setting) d.marks (stands (machine_rules setting) log steps) (length log)) same h.listed
+        subst (λ (d : Closing MachineState). IsListedMark (machine_rules setting) d.marks (stands (machine_rules setting) log steps)
+        (length log)) same h.listed
 
     -- ---- ends
 
-    end_mark : (log : List (ℕ × ℕ)) (steps : ℕ) → EndsAfter (rules_of setting) log steps → (machine_rules setting).mark (stands (machine_rules setting) log steps) ≡ true
+    end_mark : (log : List (ℕ × ℕ)) (steps : ℕ) → EndsAfter (rules_of setting) log steps → (machine_rules setting).mark
+        (stands (machine_rules setting) log steps) ≡ true
     end_mark log steps after =
-        mark_alike (stands (machine_rules setting) log steps) (state_after setting log steps) (all log steps) ∙ (lawful setting).end_is_mark (state_after setting log steps) after.end
+        mark_alike (stands (machine_rules setting) log steps) (state_after setting log steps) (all log steps) ∙ (lawful setting).end_is_mark
+        (state_after setting log steps) after.end
 
-    end_in_one : (log : List (ℕ × ℕ)) (steps : ℕ) → length log ≤ limits.depart → EndsAfter (rules_of setting) log steps → Within (state_after setting log steps).queue.time → IsIn setting hands.closings log steps
+    end_in_one : (log : List (ℕ × ℕ)) (steps : ℕ) → length log ≤ limits.depart → EndsAfter (rules_of setting) log steps →
+        Within (state_after setting log steps).queue.time → IsIn setting hands.closings log steps
     end_in_one log steps short after within = is_in log steps (handed log steps short after.run (end_mark log steps after) within)
 
     -- it is one of the ends of its closing
-    among_ends : (log : List (ℕ × ℕ)) (steps : ℕ) → EndsAfter (rules_of setting) log steps → (h : IsIn setting hands.closings log steps) → (list : List Pair) → AreEndsOf setting h.closing.marks list → Contains list h.listed.found
-    among_ends log steps after h list are = elim (are.whole h.listed.found (contains_at h.closing.marks h.listed.place h.listed.found h.listed.at)) [
-      | inl kept ↦ kept
-      | inr on ↦ absurd (let none = on (state_after setting log steps) h.stands_so in let is = told_where_ended (state_after setting log steps) (no_choice_left log steps after) in cc)
-    ]
+    among_ends : (log : List (ℕ × ℕ)) (steps : ℕ) → EndsAfter (rules_of setting) log steps → (h : IsIn setting hands.closings log steps) →
+        (list : List Pair) → AreEndsOf setting h.closing.marks list → Contains list h.listed.found
+    among_ends log steps after h list are =
+        elim (are.whole h.listed.found (contains_at h.closing.marks h.listed.place h.listed.found h.listed.at)) [
+          | inl kept ↦ kept
+          | inr on ↦ absurd (let none = on (state_after setting log steps) h.stands_so in let is = told_where_ended
+              (state_after setting log steps) (no_choice_left log steps after) in cc)
+        ]
 
     -- where no run is said to be cut, none is
     pub none_cut : cut ≡ false → NoneIsCut setting limits.depart Within
@@ -233,60 +424,80 @@ module _ (setting : Setting) (alike : Alike setting) (all : AllStand setting) (t
         let t = state_after setting log steps in
         let h = end_in_one log steps short after within in
         let u = hands.collected.uncut none h.place h.closing h.at in
-        u.2 h.listed.found (among_ends log steps after h u.0 u.1) t (end_of t) h.stands_so (told_where_ended t (no_choice_left log steps after))
+        u.2 h.listed.found (among_ends log steps after h u.0 u.1) t (end_of t) h.stands_so
+        (told_where_ended t (no_choice_left log steps after))
 
     module _ (after_from : (time : ℕ) → Within time → from ≤ time) where
-      all_values : (time variable : ℕ) → Within time → TwoRunsDiffer setting limits.depart time variable → IsNameInOne groups hands.collected.all.rests (record { time = time; variable = Some variable })
+      all_values : (time variable : ℕ) → Within time → TwoRunsDiffer setting limits.depart time variable →
+          IsNameInOne groups hands.collected.all.rests (record { time = time; variable = Some variable })
       all_values time variable within differ =
           let log = differ.shows_one.log in
           let steps = differ.shows_one.steps in
           let shown = differ.shows_one.shown in
           let time_is : time ≡ (state_after setting log steps).queue.time = sym shown.slot.time_is in
-          let h = is_in log steps (handed log steps differ.shows_one.short shown.run (end_marked setting all mark_alike time shown.values log steps shown.slot) (subst Within time_is within)) in
+          let h = is_in log steps (handed log steps differ.shows_one.short shown.run
+          (end_marked setting all mark_alike time shown.values log steps shown.slot) (subst Within time_is within)) in
           let late : from ≤ h.closing.rank = subst (λ (n : ℕ). from ≤ n) (time_is ∙ sym h.rank_is) (after_from time within) in
           let shows = hands.collected.all.shown h.place h.closing h.at late in
           let l = races_at setting limits.depart h.closing.marks shows.values.slot_states shows.races alike all wide time
-          (listed_in h.place h.closing h.at time within (h.rank_is ∙ sym time_is)) shows.values.are shows.values.all variable differ.one differ differ.shows_one in
+          (listed_in h.place h.closing h.at time within (h.rank_is ∙ sym time_is)) shows.values.are shows.values.all variable differ.one
+          differ differ.shows_one in
           subst (λ (t : ℕ). IsNameInOne groups hands.collected.all.rests (record { time = t; variable = Some variable })) l.time_is
           (subst (λ (v : ℕ). IsNameInOne groups hands.collected.all.rests (record { time = l.race.time; variable = Some v })) l.variable_is
           (shows.each l.race (contains_at shows.races l.place l.race l.at)))
 
-      all_lines : (time : ℕ) → Within time → TwoRunsPrint setting limits.depart time → IsNameInOne groups hands.collected.all.rests (record { time = time; variable = None })
+      all_lines : (time : ℕ) → Within time → TwoRunsPrint setting limits.depart time → IsNameInOne groups hands.collected.all.rests
+          (record { time = time; variable = None })
       all_lines time within differ =
           let log = differ.prints_one.log in
           let steps = differ.prints_one.steps in
           let shown = differ.prints_one.shown in
           let time_is : time ≡ (state_after setting log steps).queue.time = sym shown.slot.time_is in
-          let h = is_in log steps (handed log steps differ.prints_one.short shown.run (end_marked setting all mark_alike time shown.values log steps shown.slot) (subst Within time_is within)) in
+          let h = is_in log steps (handed log steps differ.prints_one.short shown.run
+          (end_marked setting all mark_alike time shown.values log steps shown.slot) (subst Within time_is within)) in
           let late : from ≤ h.closing.rank = subst (λ (n : ℕ). from ≤ n) (time_is ∙ sym h.rank_is) (after_from time within) in
           let shows = hands.collected.all.shown h.place h.closing h.at late in
           let l = lines_at setting limits.depart h.closing.marks shows.lines.slot_states shows.line_races alike all wide time
-          (listed_in h.place h.closing h.at time within (h.rank_is ∙ sym time_is)) shows.lines.are shows.lines.all differ.one differ differ.prints_one in
+          (listed_in h.place h.closing h.at time within (h.rank_is ∙ sym time_is)) shows.lines.are shows.lines.all differ.one
+          differ differ.prints_one in
           subst (λ (t : ℕ). IsNameInOne groups hands.collected.all.rests (record { time = t; variable = None })) l.time_is
           (shows.each_line l.race (contains_at shows.line_races l.place l.race l.at))
 
-      pub all_counted : AllAreCounted setting limits.depart scope.names groups Within
-      all_counted = record { rests = hands.collected.all.rests; stand = hands.collected.all.stand; values = all_values; lines = all_lines }
+      pub all_counted : ((time : ℕ) → IsClosedFrom from seen time → Within time) →
+          AllAreCounted setting limits.depart scope.names groups refused Within
+      all_counted whole = record {
+        rests = hands.collected.all.rests;
+        summaries = hands.collected.all.summaries;
+        values = all_values;
+        lines = all_lines;
+        none_made_up = none_made_up Within whole;
+      }
 
-      late_enough : (log : List (ℕ × ℕ)) (steps : ℕ) → Within (state_after setting log steps).queue.time → (h : IsIn setting hands.closings log steps) → from ≤ h.closing.rank
-      late_enough log steps within h = subst (λ (n : ℕ). from ≤ n) (sym h.rank_is) (after_from (state_after setting log steps).queue.time within)
+      late_enough : (log : List (ℕ × ℕ)) (steps : ℕ) → Within (state_after setting log steps).queue.time →
+          (h : IsIn setting hands.closings log steps) → from ≤ h.closing.rank
+      late_enough log steps within h = subst (λ (n : ℕ). from ≤ n) (sym h.rank_is)
+          (after_from (state_after setting log steps).queue.time within)
 
       -- all are alike the one that is kept
-      like_one : (one : Pair) → pairs_of ends ≡ one ∷ [] → (u : State) → Stands setting one.0 u → (log : List (ℕ × ℕ)) (steps : ℕ) → length log ≤ limits.depart → EndsAfter (rules_of setting) log steps →
+      like_one : (one : Pair) → pairs_of ends ≡ one ∷ [] → (u : State) → Stands setting one.0 u → (log : List (ℕ × ℕ)) (steps : ℕ) →
+          length log ≤ limits.depart → EndsAfter (rules_of setting) log steps →
           Within (state_after setting log steps).queue.time → shape_of (state_after setting log steps) ≡ shape_of u
       like_one one is u st log steps short after within =
           let h = end_in_one log steps short after within in
           let a = hands.collected.alike one is h.place h.closing h.at (late_enough log steps within h) in
           a.2 h.listed.found (among_ends log steps after h a.0 a.1) (state_after setting log steps) u h.stands_so st
 
-      no_end_at_all : pairs_of ends ≡ [] → (log : List (ℕ × ℕ)) (steps : ℕ) → length log ≤ limits.depart → EndsAfter (rules_of setting) log steps → Within (state_after setting log steps).queue.time → ⊥
+      no_end_at_all : pairs_of ends ≡ [] → (log : List (ℕ × ℕ)) (steps : ℕ) → length log ≤ limits.depart →
+          EndsAfter (rules_of setting) log steps → Within (state_after setting log steps).queue.time → ⊥
       no_end_at_all none log steps short after within =
           let h = end_in_one log steps short after within in
           let a = hands.collected.no_end none h.place h.closing h.at (late_enough log steps within h) in
           nothing_in h.listed.found (among_ends log steps after h [] a)
 
-      all_ends : length (pairs_of ends) ≤ 1 → (log other : List (ℕ × ℕ)) (steps others : ℕ) → length log ≤ limits.depart → length other ≤ limits.depart → EndsAfter (rules_of setting) log steps → EndsAfter (rules_of setting) other others →
-          Within (state_after setting log steps).queue.time → Within (state_after setting other others).queue.time → EndsAlike (state_after setting log steps) (state_after setting other others)
+      all_ends : length (pairs_of ends) ≤ 1 → (log other : List (ℕ × ℕ)) (steps others : ℕ) → length log ≤ limits.depart →
+          length other ≤ limits.depart → EndsAfter (rules_of setting) log steps → EndsAfter (rules_of setting) other others →
+          Within (state_after setting log steps).queue.time → Within (state_after setting other others).queue.time →
+          EndsAlike (state_after setting log steps) (state_after setting other others)
       all_ends few log other steps others short short' after after' within within' = elim (at_most_one (pairs_of ends) few) [
         | inl none ↦ absurd (no_end_at_all none log steps short after within)
         | inr one ↦
@@ -294,7 +505,8 @@ module _ (setting : Setting) (alike : Alike setting) (all : AllStand setting) (t
             let u = state_after setting one.0.1 e.steps in
             let s = like_one one.0 one.1 u e.stands log steps short after within in
             let s' = like_one one.0 one.1 u e.stands other others short' after' within' in
-            alike_ends (state_after setting log steps) (state_after setting other others) (no_choice_left log steps after) (no_choice_left other others after') (s ∙ sym s')
+            alike_ends (state_after setting log steps) (state_after setting other others) (no_choice_left log steps after)
+            (no_choice_left other others after') (s ∙ sym s')
       ]
 
       none_in : groups ≡ [] → (name : Name) → IsNameInOne groups hands.collected.all.rests name → ⊥
@@ -302,7 +514,8 @@ module _ (setting : Setting) (alike : Alike setting) (all : AllStand setting) (t
 
       pub none_differ : groups ≡ [] → length (pairs_of ends) ≤ 1 → NoneDiffer setting limits.depart Within
       none_differ none few = record {
-        values = λ time variable within differ. none_in none (record { time = time; variable = Some variable }) (all_values time variable within differ);
+        values = λ time variable within differ. none_in none (record { time = time; variable = Some variable })
+            (all_values time variable within differ);
         lines = λ time within differ. none_in none (record { time = time; variable = None }) (all_lines time within differ);
         ends = all_ends few;
       }
@@ -312,8 +525,10 @@ module _ (setting : Setting) (alike : Alike setting) (all : AllStand setting) (t
   abbrev AllTo : ℕ → Type 0
   AllTo top = HandsOnAllTo (machine_rules setting) limits (rank_of setting) hands.closings top
 
-  handed_to : (top : ℕ) → AllTo top → (log : List (ℕ × ℕ)) (steps : ℕ) → length log ≤ limits.depart → IsRun (rules_of setting) log steps → (machine_rules setting).mark (stands (machine_rules setting) log steps) ≡ true →
-      (state_after setting log steps).queue.time ≤ top → WasHandedOn (machine_rules setting) hands.closings (stands (machine_rules setting) log steps) (length log)
+  handed_to : (top : ℕ) → AllTo top → (log : List (ℕ × ℕ)) (steps : ℕ) → length log ≤ limits.depart → IsRun (rules_of setting) log steps →
+      (machine_rules setting).mark (stands (machine_rules setting) log steps) ≡ true →
+      (state_after setting log steps).queue.time ≤ top → WasHandedOn (machine_rules setting) hands.closings
+      (stands (machine_rules setting) log steps) (length log)
   handed_to top covered log steps short run mark le =
       let at = ranked (stands (machine_rules setting) log steps) (state_after setting log steps) (all log steps) in
       covered log steps short (here log steps run) mark (omega arith)
@@ -321,52 +536,76 @@ module _ (setting : Setting) (alike : Alike setting) (all : AllStand setting) (t
   abbrev To : ℕ → ℕ → Type 0
   To top time = (from ≤ time) × (time ≤ top)
 
-  pub told_to : groups ≡ [] → length (pairs_of ends) ≤ 1 → IfSome findings.closed (λ top. NoneDiffer setting limits.depart (λ time. (from ≤ time) × (time ≤ top)))
-  told_to none few = IfSome_then findings.closed hands.covered (λ top covered.
-      none_differ (To top) (λ log steps short run mark within. handed_to top covered log steps short run mark within.1) (λ time within. within.0) none few)
+  pub told_to : groups ≡ [] → length (pairs_of ends) ≤ 1 →
+      IfSome seen (λ top. NoneDiffer setting limits.depart (λ time. (from ≤ time) × (time ≤ top)))
+  told_to none few = IfSome_then seen covered_seen (λ top covered.
+      none_differ (To top) (λ log steps short run mark within. handed_to top covered log steps short run mark within.1)
+      (λ time within. within.0) none few)
 
-  pub told_throughout : groups ≡ [] → length (pairs_of ends) ≤ 1 → findings.status ≡ Exhausted → NoneDiffer setting limits.depart (λ time. from ≤ time)
+  pub told_throughout : groups ≡ [] → length (pairs_of ends) ≤ 1 → findings.status ≡ Exhausted →
+      NoneDiffer setting limits.depart (λ time. from ≤ time)
   told_throughout none few e =
-      none_differ (λ time. from ≤ time) (λ log steps short run mark within. hands.exhausted e log steps short (here log steps run) mark) (λ time within. within) none few
+      none_differ (λ time. from ≤ time) (λ log steps short run mark within. hands.exhausted e log steps short (here log steps run) mark)
+      (λ time within. within) none few
 
-  pub all_to : IfSome findings.closed (λ top. AllAreCounted setting limits.depart scope.names groups (λ time. (from ≤ time) × (time ≤ top)))
-  all_to = IfSome_then findings.closed hands.covered (λ top covered.
-      all_counted (To top) (λ log steps short run mark within. handed_to top covered log steps short run mark within.1) (λ time within. within.0))
+  -- what was closed was handed on
+  handed_closed : (log : List (ℕ × ℕ)) (steps : ℕ) → length log ≤ limits.depart → IsRun (rules_of setting) log steps →
+      (machine_rules setting).mark (stands (machine_rules setting) log steps) ≡ true →
+      IsClosed seen (state_after setting log steps).queue.time →
+      WasHandedOn (machine_rules setting) hands.closings (stands (machine_rules setting) log steps) (length log)
+  handed_closed log steps short run mark (top, is, le) =
+      handed_to top
+      (subst (λ (o : Option ℕ). IfSome o (HandsOnAllTo (machine_rules setting) limits (rank_of setting) hands.closings)) is covered_seen)
+      log steps short run mark le
 
-  pub all_throughout : findings.status ≡ Exhausted → AllAreCounted setting limits.depart scope.names groups (λ time. from ≤ time)
-  all_throughout e = all_counted (λ time. from ≤ time) (λ log steps short run mark within. hands.exhausted e log steps short (here log steps run) mark) (λ time within. within)
+  pub all_to : AllAreCounted setting limits.depart scope.names groups refused (IsClosedFrom from seen)
+  all_to = all_counted (IsClosedFrom from seen)
+      (λ log steps short run mark within. handed_closed log steps short run mark within.1) (λ time within. within.0)
+      (λ time within. within)
+
+  pub all_throughout : findings.status ≡ Exhausted → AllAreCounted setting limits.depart scope.names groups refused (λ time. from ≤ time)
+  all_throughout e = all_counted (λ time. from ≤ time)
+      (λ log steps short run mark within. hands.exhausted e log steps short (here log steps run) mark) (λ time within. within)
+      (λ time within. within.0)
 
   -- the time at which a run ends is one that was closed, or one before
-  pub ends_closed : findings.status ≡ Exhausted → (log : List (ℕ × ℕ)) (steps : ℕ) → length log ≤ limits.depart → EndsAfter (rules_of setting) log steps →
-      (top : ℕ) × (findings.closed ≡ Some top) × ((state_after setting log steps).queue.time ≤ top)
+  pub ends_closed : findings.status ≡ Exhausted → (log : List (ℕ × ℕ)) (steps : ℕ) → length log ≤ limits.depart →
+      EndsAfter (rules_of setting) log steps →
+      (top : ℕ) × (seen ≡ Some top) × ((state_after setting log steps).queue.time ≤ top)
   ends_closed e log steps short after =
       let Any : ℕ → Type 0 = λ time. ⊤ in
-      let given : (l : List (ℕ × ℕ)) (n : ℕ) → length l ≤ limits.depart → IsRun (rules_of setting) l n → (machine_rules setting).mark (stands (machine_rules setting) l n) ≡ true →
-      Any (state_after setting l n).queue.time → WasHandedOn (machine_rules setting) hands.closings (stands (machine_rules setting) l n) (length l) = λ l n less run mark within. hands.exhausted e l n less (here l n run) mark in
+      let given : (l : List (ℕ × ℕ)) (n : ℕ) → length l ≤ limits.depart → IsRun (rules_of setting) l n → (machine_rules setting).mark
+      (stands (machine_rules setting) l n) ≡ true →
+      Any (state_after setting l n).queue.time → WasHandedOn (machine_rules setting) hands.closings (stands (machine_rules setting) l n)
+      (length l) = λ l n less run mark within. hands.exhausted e l n less (here l n run) mark in
       let h = end_in_one Any given log steps short after tt in
-      let last = hands.last h.place h.closing h.at in
+      let w = place_within h.closing.marks h.listed.place h.listed.found h.listed.at in
+      let last = marked_closed h.place h.closing h.at (omega (arith, w)) in
       let rank_is = h.rank_is in
       let le = last.2 in
       (last.0, last.1, omega (arith, rank_is, le))
 
-  pub cuts_to : cut ≡ false → IfSome findings.closed (λ top. NoneIsCut setting limits.depart (λ time. time ≤ top))
-  cuts_to none = IfSome_then findings.closed hands.covered (λ top covered. none_cut (λ time. time ≤ top) (λ log steps short run mark within.
+  pub cuts_to : cut ≡ false → IfSome seen (λ top. NoneIsCut setting limits.depart (λ time. time ≤ top))
+  cuts_to none = IfSome_then seen covered_seen (λ top covered. none_cut (λ time. time ≤ top) (λ log steps short run mark within.
       (let at = ranked (stands (machine_rules setting) log steps) (state_after setting log steps) (all log steps) in
       covered log steps short (here log steps run) mark (omega arith))) none)
 
   pub cuts_throughout : cut ≡ false → findings.status ≡ Exhausted → NoneIsCut setting limits.depart (λ time. ⊤)
-  cuts_throughout none e = none_cut (λ time. ⊤) (λ log steps short run mark within. hands.exhausted e log steps short (here log steps run) mark) none
+  cuts_throughout none e = none_cut (λ time. ⊤) (λ log steps short run mark within. hands.exhausted e log steps short
+      (here log steps run) mark) none
 
 -- what was handed on has made this of what is kept
-pub handed_so : (setting : Setting) (limits : Limits) (scope : Scope) (first now : RaceGroups) (findings : RankedFindings) → setting_of first ≡ setting → first.scope ≡ scope → KeepsGroups setting scope first [] →
+pub handed_so : (setting : Setting) (limits : Limits) (scope : Scope) (first now : RaceGroups) (findings : RankedFindings) →
+    traced_by first ≡ tracing_in setting limits → first.scope ≡ scope → KeepsGroups (tracing_in setting limits) scope first [] →
     HandsOn (machine_rules setting) limits (rank_of setting) (λ closings. CollectsGroups first closings now) findings →
-    HandsOn (machine_rules setting) limits (rank_of setting) (AreGroupsOf setting scope now.groups.items (tolds_of now.groups.items) (pairs_of now.ends.items) now.cut_runs) findings
+    HandsOn (machine_rules setting) limits (rank_of setting) (AreGroupsOf (tracing_in setting limits) scope now.groups.items
+    (tolds_of now.groups.items) (pairs_of now.ends.items) now.cut_runs now.seen now.refused) findings
 handed_so setting limits scope first now findings is same none hands =
-    let P : Setting → Scope → Type 0 = λ s f. KeepsGroups s f first [] → KeepsGroups s f now hands.closings in
-    let kept : P (setting_of first) first.scope = hands.collected.kept [] in
+    let P : Tracing → Scope → Type 0 = λ t f. KeepsGroups t f first [] → KeepsGroups t f now hands.closings in
+    let kept : P (traced_by first) first.scope = hands.collected.kept [] in
     record {
       closings = hands.closings;
-      collected = subst (λ (s : Setting). P s scope) is (subst (P (setting_of first)) same kept) none;
+      collected = subst (λ (t : Tracing). P t scope) is (subst (P (traced_by first)) same kept) none;
       found = hands.found;
       ranks = hands.ranks;
       rise = hands.rise;
@@ -377,24 +616,31 @@ handed_so setting limits scope first now findings is same none hands =
     }
 
 -- all that is told
-pub record IsTold (setting : Setting) (limits : Limits) (scope : Scope) (groups : List Group) (cut : Bool) (findings : RankedFindings) : Type 0 where
+pub record IsTold (setting : Setting) (limits : Limits) (scope : Scope) (groups : List Group) (cut : Bool) (seen : Option ℕ)
+    (refused : Bool) (findings : RankedFindings) : Type 0 where
   pub cause : EachGroup (HasItsCause setting) groups
+  pub no_cause : EachGroup (LacksOnlyNoCause setting limits) groups
   pub first : EachGroup (HasFirstDifference setting limits) groups
   pub log : EachGroup HasLogOfFirst groups
-  pub all : IfSome findings.closed (λ top. AllAreCounted setting limits.depart scope.names groups (λ time. (scope.from ≤ time) × (time ≤ top)))
-  pub all_exhausted : findings.status ≡ Exhausted → AllAreCounted setting limits.depart scope.names groups (λ time. scope.from ≤ time)
-  pub none : groups ≡ [] → IfSome findings.closed (λ top. NoneDiffer setting limits.depart (λ time. (scope.from ≤ time) × (time ≤ top)))
-  pub exhausted : groups ≡ [] → findings.status ≡ Exhausted → NoneDiffer setting limits.depart (λ time. scope.from ≤ time)
-  pub of_closed : EachGroup (λ group. IsOfClosed findings.closed group.first) groups
-  pub closed : findings.status ≡ Exhausted → (log : List (ℕ × ℕ)) (steps : ℕ) → length log ≤ limits.depart → EndsAfter (rules_of setting) log steps →
-      (top : ℕ) × (findings.closed ≡ Some top) × ((state_after setting log steps).queue.time ≤ top)
-  pub cuts : cut ≡ false → IfSome findings.closed (λ top. NoneIsCut setting limits.depart (λ time. time ≤ top))
+  pub all : AllAreCounted setting limits.depart scope.names groups refused (IsClosedFrom scope.from seen)
+  pub all_exhausted : findings.status ≡ Exhausted → AllAreCounted setting limits.depart scope.names groups refused
+      (λ time. scope.from ≤ time)
+  pub none : groups ≡ [] → IfSome seen (λ top. NoneDiffer setting limits.depart (λ time. (scope.from ≤ time) × (time ≤ top)))
+  pub none_exhausted : groups ≡ [] → findings.status ≡ Exhausted → NoneDiffer setting limits.depart (λ time. scope.from ≤ time)
+  pub in_time : EachGroup (λ group. IsInTime setting scope.from seen group.first) groups
+  pub closed : findings.status ≡ Exhausted → (log : List (ℕ × ℕ)) (steps : ℕ) → length log ≤ limits.depart →
+      EndsAfter (rules_of setting) log steps →
+      (top : ℕ) × (seen ≡ Some top) × ((state_after setting log steps).queue.time ≤ top)
+  pub closed_time : IfSome seen (IsTimeOfRun setting limits)
+  pub cuts : cut ≡ false → IfSome seen (λ top. NoneIsCut setting limits.depart (λ time. time ≤ top))
   pub cuts_exhausted : cut ≡ false → findings.status ≡ Exhausted → NoneIsCut setting limits.depart (λ time. ⊤)
 
-module _ (setting : Setting) (alike : Alike setting) (all : AllStand setting) (there : RunThere setting) (here : RunHere setting) (mark_alike : MarkAlike setting) (wide : HasVariables setting) (ranked : RankIsTime setting)
+module _ (setting : Setting) (alike : Alike setting) (all : AllStand setting) (there : RunThere setting) (here : RunHere setting)
+    (mark_alike : MarkAlike setting) (wide : HasVariables setting) (ranked : RankIsTime setting)
     (limits : Limits) (scope : Scope) (kept : RaceGroups) (findings : RankedFindings)
-    (hands : HandsOn (machine_rules setting) limits (rank_of setting) (AreGroupsOf setting scope kept.groups.items (tolds_of kept.groups.items) (pairs_of kept.ends.items) kept.cut_runs) findings)
-    (groups : List Group) (names_are : kept.scope.names ≡ scope.names) (tells : AreTold setting kept groups) where
+    (hands : HandsOn (machine_rules setting) limits (rank_of setting) (AreGroupsOf (tracing_in setting limits) scope kept.groups.items
+    (tolds_of kept.groups.items) (pairs_of kept.ends.items) kept.cut_runs kept.seen kept.refused) findings)
+    (groups : List Group) (names_are : kept.scope.names ≡ scope.names) (tells : AreTold (tracing_in setting limits) kept groups) where
   abbrev tolds : List Told
   tolds = tolds_of kept.groups.items
 
@@ -405,24 +651,41 @@ module _ (setting : Setting) (alike : Alike setting) (all : AllStand setting) (t
   no_told none = (tells.none none).0
 
   -- what the groups that were kept count, those that are told do
-  told_counted : (Within : ℕ → Type 0) → AllAreCounted setting limits.depart scope.names kept.groups.items Within → AllAreCounted setting limits.depart scope.names groups Within
+  told_counted : (Within : ℕ → Type 0) → AllAreCounted setting limits.depart scope.names kept.groups.items kept.refused Within →
+      AllAreCounted setting limits.depart scope.names groups kept.refused Within
   told_counted Within all_in = elim tells.whole [
-    | inl same ↦ subst (λ (l : List Group). AllAreCounted setting limits.depart scope.names l Within) (sym same) all_in
+    | inl same ↦ subst (λ (l : List Group). AllAreCounted setting limits.depart scope.names l kept.refused Within) (sym same) all_in
     | inr (none, alone) ↦ record {
       rests = λ place. [];
-      stand = subst (λ (n : ℕ). AllStandFor n groups (λ place. [])) names_are alone;
-      values = λ time variable within differ. absurd (let is = all_in.values time variable within differ in let at = ap (λ (l : List Group). slice_get l is.0) (sym none) ∙ is.1.at in cc);
-      lines = λ time within differ. absurd (let is = all_in.lines time within differ in let at = ap (λ (l : List Group). slice_get l is.0) (sym none) ∙ is.1.at in cc);
+      summaries = subst (λ (n : ℕ). AllSummarize n groups (λ place. [])) names_are alone;
+      values = λ time variable within differ. absurd (let is = all_in.values time variable within differ in let at =
+          ap (λ (l : List Group). slice_get l is.0) (sym none) ∙ is.1.at in cc);
+      lines = λ time within differ. absurd (let is = all_in.lines time within differ in let at = ap (λ (l : List Group). slice_get l is.0)
+          (sym none) ∙ is.1.at in cc);
+      none_made_up = λ sound. record {
+        differ = λ i k name is. absurd (let none_there = is.named in cc);
+        named_once = record {
+          once = λ i j k l name one other. absurd (let none_there = one.named in cc);
+          not_first = λ i group name at first has. nothing_in name has;
+        };
+      };
     }
   ]
 
   few : groups ≡ [] → length (pairs_of ends) ≤ 1
-  few none = let e : length (pairs_of ends) ≡ length ends = length-map ends (λ (f : FoundMark MachineState). (f.state, f.log)) in let le = (tells.none none).1 in omega arith
+  few none = let e : length (pairs_of ends) ≡ length ends = length-map ends (λ (f : FoundMark MachineState). (f.state, f.log)) in let le =
+      (tells.none none).1 in omega arith
 
   its_cause : EachGroup (HasItsCause setting) groups
   its_cause i group at = elim (tells.each group (contains_at groups i group at)) [
-    | inl old ↦ (hands.collected.causes (told group) (to_map told kept.groups.items group old)).0
-    | inr new ↦ new.1.caused.0
+    | inl old ↦ (hands.collected.causes (told group) (to_map told kept.groups.items group old)).0.0
+    | inr new ↦ new.1.caused.0.0
+  ]
+
+  its_lack : EachGroup (LacksOnlyNoCause setting limits) groups
+  its_lack i group at = elim (tells.each group (contains_at groups i group at)) [
+    | inl old ↦ (hands.collected.causes (told group) (to_map told kept.groups.items group old)).0.1
+    | inr new ↦ new.1.caused.0.1
   ]
 
   its_log : EachGroup HasLogOfFirst groups
@@ -433,31 +696,49 @@ module _ (setting : Setting) (alike : Alike setting) (all : AllStand setting) (t
 
   its_first : EachGroup (HasFirstDifference setting limits) groups
   its_first i group at = elim (tells.each group (contains_at groups i group at)) [
-    | inl old ↦ told_first setting alike all there here mark_alike wide ranked limits scope kept.groups.items tolds ends kept.cut_runs findings hands (told group) (to_map told kept.groups.items group old)
+    | inl old ↦ told_first setting alike all there here mark_alike wide ranked limits scope kept.groups.items tolds ends kept.cut_runs
+        kept.seen kept.refused findings hands (told group) (to_map told kept.groups.items group old)
     | inr new ↦
         let e : length (pairs_of ends) ≡ length ends = length-map ends (λ (f : FoundMark MachineState). (f.state, f.log)) in
         let two = new.0 in
-        told_ends setting alike all there here mark_alike wide ranked limits scope kept.groups.items tolds ends kept.cut_runs findings hands group.first new.1.tells (omega arith)
+        told_ends setting alike all there here mark_alike wide ranked limits scope kept.groups.items tolds ends kept.cut_runs kept.seen
+        kept.refused findings hands group.first new.1.tells (omega arith)
   ]
 
-  its_time : EachGroup (λ group. IsOfClosed findings.closed group.first) groups
+  its_time : EachGroup (λ group. IsInTime setting scope.from kept.seen group.first) groups
   its_time i group at = elim (tells.each group (contains_at groups i group at)) [
-    | inl old ↦ told_closed setting alike all there here mark_alike wide ranked limits scope kept.groups.items tolds ends kept.cut_runs findings hands (told group) (to_map told kept.groups.items group old)
-    | inr new ↦ ends_are_told setting alike all there here mark_alike wide ranked limits scope kept.groups.items tolds ends kept.cut_runs findings hands group.first new.1.tells
+    | inl old ↦ told_in_time setting alike all there here mark_alike wide ranked limits scope kept.groups.items tolds ends
+        kept.cut_runs kept.seen
+        kept.refused findings hands (told group) (to_map told kept.groups.items group old)
+    | inr new ↦ ends_in_time setting alike all there here mark_alike wide ranked limits scope kept.groups.items tolds ends
+        kept.cut_runs kept.seen
+        kept.refused findings hands group.first new.1.tells
   ]
 
-  pub is_told : IsTold setting limits scope groups kept.cut_runs findings
+  pub is_told : IsTold setting limits scope groups kept.cut_runs kept.seen kept.refused findings
   is_told = record {
     cause = its_cause;
+    no_cause = its_lack;
     first = its_first;
     log = its_log;
-    all = IfSome_then findings.closed (all_to setting alike all there here mark_alike wide ranked limits scope kept.groups.items tolds ends kept.cut_runs findings hands)
-        (λ top. told_counted (λ time. (scope.from ≤ time) × (time ≤ top)));
-    all_exhausted = λ e. told_counted (λ time. scope.from ≤ time) (all_throughout setting alike all there here mark_alike wide ranked limits scope kept.groups.items tolds ends kept.cut_runs findings hands e);
-    of_closed = its_time;
-    closed = ends_closed setting alike all there here mark_alike wide ranked limits scope kept.groups.items tolds ends kept.cut_runs findings hands;
-    none = λ e. told_to setting alike all there here mark_alike wide ranked limits scope kept.groups.items tolds ends kept.cut_runs findings hands (no_told e) (few e);
-    exhausted = λ e. told_throughout setting alike all there here mark_alike wide ranked limits scope kept.groups.items tolds ends kept.cut_runs findings hands (no_told e) (few e);
-    cuts = cuts_to setting alike all there here mark_alike wide ranked limits scope kept.groups.items tolds ends kept.cut_runs findings hands;
-    cuts_exhausted = cuts_throughout setting alike all there here mark_alike wide ranked limits scope kept.groups.items tolds ends kept.cut_runs findings hands;
+    all = told_counted (IsClosedFrom scope.from kept.seen)
+        (all_to setting alike all there here mark_alike wide ranked limits scope kept.groups.items tolds ends
+        kept.cut_runs kept.seen kept.refused
+        findings hands);
+    all_exhausted = λ e. told_counted (λ time. scope.from ≤ time)
+        (all_throughout setting alike all there here mark_alike wide ranked limits scope kept.groups.items tolds ends kept.cut_runs
+        kept.seen kept.refused findings hands e);
+    in_time = its_time;
+    closed = ends_closed setting alike all there here mark_alike wide ranked limits scope kept.groups.items tolds ends kept.cut_runs
+        kept.seen kept.refused findings hands;
+    closed_time = time_of_run setting alike all there here mark_alike wide ranked limits scope kept.groups.items tolds ends kept.cut_runs
+        kept.seen kept.refused findings hands;
+    none = λ e. told_to setting alike all there here mark_alike wide ranked limits scope kept.groups.items tolds ends kept.cut_runs
+        kept.seen kept.refused findings hands (no_told e) (few e);
+    none_exhausted = λ e. told_throughout setting alike all there here mark_alike wide ranked limits scope kept.groups.items tolds ends
+        kept.cut_runs kept.seen kept.refused findings hands (no_told e) (few e);
+    cuts = cuts_to setting alike all there here mark_alike wide ranked limits scope kept.groups.items tolds ends kept.cut_runs kept.seen
+        kept.refused findings hands;
+    cuts_exhausted = cuts_throughout setting alike all there here mark_alike wide ranked limits scope kept.groups.items tolds ends
+        kept.cut_runs kept.seen kept.refused findings hands;
   }

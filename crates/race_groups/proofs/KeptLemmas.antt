@@ -1,30 +1,37 @@
 -- What is kept of closed slots, once one more was closed.
-use Rattle.std.proofs.Common.{◌≡◌, ℕ, zero, suc, ◌<◌, ◌≤◌, Bool, false, List, [], ◌∷◌, ◌++◌, length, map, slice_get, take, None, Some, Result, Ok, Err, OnErr, refl, sym, ap, ◌∙◌, subst, inl, inr, append-nil, append_assoc, arith}
+use Rattle.std.proofs.Common.{◌≡◌, ℕ, zero, suc, ◌<◌, ◌≤◌, Bool, false, true, List, [], ◌∷◌, ◌++◌, length, map, slice_get, take, None}
+use Rattle.std.proofs.Common.{Option, Some, Result, Ok, Err, OnErr, refl, sym, ap, ◌∙◌, subst, inl, inr, append-nil, append_assoc, arith}
 use Rattle.std.specs.List.{Contains}
 use Rattle.std.proofs.lemmas.Bool.{cases_lt}
 use Rattle.std.proofs.lemmas.List.Elements.{Contains-append_cases, Contains-append_left, Contains-append_right, Contains-push_cases}
-use Rattle.std.proofs.lemmas.List.{length-map, length_push, take-map, take_all}
+use Rattle.std.proofs.lemmas.List.{length-map, length_push, nil_from_length, take-map, take_all}
 use Rattle.std.proofs.lemmas.Option.{same_Some}
 use Rattle.std.proofs.Math.Seq.{take-append_seam}
-use Rattle.basis.proofs.Lists.{at_contains, last_or_before, place_within, stands_in_front, stands_last}
+use Rattle.basis.proofs.Lists.{at_contains, last_or_before, listed_place, place_within, stands_in_front, stands_last}
 use Rattle.explore.specs.Ranked.{Closing, CollectsMore, OfEach, StaysAs, pairs_of}
 use Rattle.explore.specs.declared.rank_marks.FoundMark.{FoundMark}
 use Rattle.vmodel.specs.Run.{Setting}
 use Rattle.vmachine.specs.declared.machine_state.MachineState.{MachineState}
 use Rattle.racebook.specs.Races.{Race}
 use Rattle.racebook.specs.LineRaces.{LineRace}
-use Rattle.racebook.specs.Inner.{AreEndsOf, IsFoundIn}
+use Rattle.racebook.specs.Inner.{AreEndsOf, AreInTurn, IsFoundIn, IsOfItsTime}
 use Rattle.racebook.specs.declared.slots.FoundInSlot.{FoundInSlot}
+use Rattle.racebook.proofs.ClosedLemmas.{slot_time}
+use Rattle.racebook.proofs.ListLemmas.{contains_at}
 use Rattle.race_groups.specs.declared.collected.RaceGroups.{RaceGroups}
 use Rattle.race_groups.specs.declared.group.Difference.{Difference}
 use Rattle.race_groups.specs.declared.group.Difference.TheVariants.{Values, Lines, Ends}
 use Rattle.race_groups.specs.declared.group.Group.{Group}
 use Rattle.race_groups.specs.declared.group.Name.{Name}
 use Rattle.race_groups.specs.declared.group.Scope.{Scope}
-use Rattle.race_groups.specs.Found.{IsNameInOne, StandsFor, name_of}
-use Rattle.race_groups.specs.Inner.{Adds, AllAlike, AreGroupsOf, AreTold, AreUncut, CollectsGroups, Counts, FirstTwoUnlike, GrowsBehind, GrowsTo, HaveAllOf, IsCaused, IsEndOfSome, IsGroupOfEnds, IsNamedIn, IsNamedInSlot, IsOfSome, IsShownBy, KeepsGroups, NoName, OfEachFrom, OfEnds, ShowsNamed, StandsForMore, StaysSo, SumsUp, TakesAll, TakesSlot, TellsEnds, Told, differences_in, setting_of, told, tolds_of}
+use Rattle.race_groups.specs.Found.{IsNameInOne, Summarizes, name_of}
+use Rattle.race_groups.specs.Inner.{Adds, AllAlike, AreApartInSlot, AreGroupsOf, AreNamedApart, AreTold, AreUncut, CollectsGroups, Counts}
+use Rattle.race_groups.specs.Inner.{CountsStill, FirstTwoUnlike, GrowsBehind, GrowsTo, HaveAllOf, IsCaused, IsEndOfSome, IsGroupOfEnds}
+use Rattle.race_groups.specs.Inner.{IsLastSeen, IsNamedByOne, IsNamedIn, IsNamedInSlot, IsOfSome, IsShownBy, KeepsGroups, OfEachFrom}
+use Rattle.race_groups.specs.Inner.{OfEnds, ShowsNamed, StaysSo, SumsUp, TakesAll, TakesSlot, TellsEnds, Told, Tracing, differences_in}
+use Rattle.race_groups.specs.Inner.{setting_of, told, tolds_of, traced_by}
 use Rattle.race_groups.proofs.AddsLemmas.{adds_none, adds_on, adds_weaker}
-use Rattle.race_groups.proofs.CountLemmas.{counts_less, counts_none, counts_on, counts_still, take_counts}
+use Rattle.race_groups.proofs.CountLemmas.{counts_on, still_on, take_still}
 use Rattle.race_groups.proofs.SumLemmas.{grows_on}
 use Rattle.race_groups.proofs.ListLemmas.{from_map, front_of_one, none_in_front, nothing_in}
 
@@ -32,27 +39,48 @@ abbrev Pair : Type 0
 Pair = MachineState × List (ℕ × ℕ)
 
 -- of one closing more, each of those before and the last
-each_more : (closings : List (Closing MachineState)) (c : Closing MachineState) (P : Closing MachineState → Type 0) → OfEach closings P → P c → OfEach (closings ++ c ∷ []) P
+each_more : (closings : List (Closing MachineState)) (c : Closing MachineState) (P : Closing MachineState → Type 0) → OfEach closings P →
+    P c → OfEach (closings ++ c ∷ []) P
 each_more closings c P before last = λ i d at. elim (last_or_before closings c i d at) [
   | inl there ↦ before i d there
   | inr here ↦ subst P here.1 last
 ]
 
-some_more : (setting : Setting) (closings : List (Closing MachineState)) (c : Closing MachineState) (d : Difference) → IsOfSome setting closings d → IsOfSome setting (closings ++ c ∷ []) d
-some_more setting closings c d of = record { place = of.place; closing = of.closing; at = stands_in_front closings (c ∷ []) of.place of.closing of.at; shown = of.shown }
+some_more : (setting : Setting) (from : ℕ) (closings : List (Closing MachineState)) (c : Closing MachineState) (d : Difference) →
+    IsOfSome setting from closings d → IsOfSome setting from (closings ++ c ∷ []) d
+some_more setting from closings c d of = record {
+  place = of.place;
+  closing = of.closing;
+  at = stands_in_front closings (c ∷ []) of.place of.closing of.at;
+  late = of.late;
+  shown = of.shown;
+}
 
-end_more : (setting : Setting) (closings : List (Closing MachineState)) (c : Closing MachineState) (e : Pair) → IsEndOfSome setting closings e → IsEndOfSome setting (closings ++ c ∷ []) e
-end_more setting closings c e of = record { place = of.place; closing = of.closing; at = stands_in_front closings (c ∷ []) of.place of.closing of.at; among = of.among; ended = of.ended }
+end_more : (setting : Setting) (from : ℕ) (closings : List (Closing MachineState)) (c : Closing MachineState) (e : Pair) →
+    IsEndOfSome setting from closings e → IsEndOfSome setting from (closings ++ c ∷ []) e
+end_more setting from closings c e of = record {
+  place = of.place;
+  closing = of.closing;
+  at = stands_in_front closings (c ∷ []) of.place of.closing of.at;
+  late = of.late;
+  among = of.among;
+  ended = of.ended;
+}
 
 -- the differences of a slot are those that its marks show
-shown_in : (setting : Setting) (marks : List Pair) (found : FoundInSlot) → IsFoundIn setting marks found → (d : Difference) → Contains (differences_in found) d → IsShownBy setting marks d
-shown_in setting marks found is d has = elim (Contains-append_cases (map Values found.races.items) (map Lines found.line_races.items) d has) [
-  | inl one ↦ (let m = from_map Values found.races.items d one in subst (IsShownBy setting marks) m.2 (found.races.items, is.races, m.1))
-  | inr other ↦ (let m = from_map Lines found.line_races.items d other in subst (IsShownBy setting marks) m.2 (found.line_races.items, is.line_races, m.1))
-]
+shown_in : (setting : Setting) (marks : List Pair) (found : FoundInSlot) → IsFoundIn setting marks found → (d : Difference) →
+    Contains (differences_in found) d → IsShownBy setting marks d
+shown_in setting marks found is d has = elim (Contains-append_cases (map Values found.races.items)
+    (map Lines found.line_races.items) d has) [
+      | inl one ↦ (let m = from_map Values found.races.items d one in
+          subst (IsShownBy setting marks) m.2 (found.races.items, is.races, m.1))
+      | inr other ↦ (let m = from_map Lines found.line_races.items d other in
+          subst (IsShownBy setting marks) m.2 (found.line_races.items, is.line_races, m.1))
+    ]
 
 -- where the differences that marks show have their names in one place, they have them in another
-still_named : (setting : Setting) (Here There : Name → Type 0) (marks : List Pair) → ((n : Name) → Here n → There n) → ShowsNamed setting Here marks → ShowsNamed setting There marks
+still_named : (setting : Setting) (Here There : Name → Type 0) (marks : List Pair) → ((n : Name) → Here n → There n) →
+    ShowsNamed setting Here marks → ShowsNamed setting There marks
 still_named setting Here There marks from shows = record {
   races = shows.races;
   line_races = shows.line_races;
@@ -62,25 +90,126 @@ still_named setting Here There marks from shows = record {
   each_line = λ race has. from (record { time = race.time; variable = None }) (shows.each_line race has);
 }
 
+-- what marks show is of their time
+pub shown_time : (setting : Setting) (k : Closing MachineState) (d : Difference) (name : Name) → IsOfItsTime setting k →
+    IsShownBy setting k.marks d →
+    name_of d ≡ Some name → name.time ≡ k.rank
+shown_time setting k (Values race) name times (races, are, has) is =
+    let p = at_contains races race has in
+    let r = are.all.each p.0 race p.1 in
+    let two = r.two in
+    let s = listed_place race.values 0 (omega (arith, two)) in
+    let seen = r.seen 0 s.0 s.1 in
+    let o = are.are.each seen.slot_state seen.among in
+    let named : Name = record { time = race.time; variable = Some race.variable } in
+    ap (λ (n : Name). n.time) (sym (same_Some named name is)) ∙ sym seen.time_is
+    ∙ slot_time setting o.found seen.slot_state k.rank o.of (times o.place o.found o.at)
+shown_time setting k (Lines race) name times (races, are, has) is =
+    let p = at_contains races race has in
+    let r = are.all.each p.0 race p.1 in
+    let two = r.two in
+    let s = listed_place race.sides 0 (omega (arith, two)) in
+    let seen = r.seen 0 s.0 s.1 in
+    let o = are.are.each seen.slot_state seen.among in
+    let named : Name = record { time = race.time; variable = None } in
+    ap (λ (n : Name). n.time) (sym (same_Some named name is)) ∙ sym seen.time_is
+    ∙ slot_time setting o.found seen.slot_state k.rank o.of (times o.place o.found o.at)
+shown_time setting k (Ends list) name times none is = absurd none
+
+-- what a slot gave is named once
+apart_in_slot : (setting : Setting) (marks : List Pair) (found : FoundInSlot) → IsFoundIn setting marks found → AreApartInSlot found
+apart_in_slot setting marks found is = (
+  λ i j a b n lt at at' one other.
+      (let here : Name = record { time = a.time; variable = Some a.variable } in
+      let there : Name = record { time = b.time; variable = Some b.variable } in
+      let same : here ≡ there = same_Some here there (one ∙ sym other) in
+      let times : a.time ≡ b.time = ap (λ (m : Name). m.time) same in
+      let variables : a.variable ≡ b.variable = same_Some a.variable b.variable (ap (λ (m : Name). m.variable) same) in
+      elim (is.races.all.order i j a b lt at at') [
+        | inl before ↦ (let less : a.time < b.time = before in omega (arith, less, times))
+        | inr (also, before) ↦ (let less : a.variable < b.variable = before in omega (arith, less, variables))
+      ]),
+  λ i j a b n lt at at' one other.
+      (let here : Name = record { time = a.time; variable = None } in
+      let there : Name = record { time = b.time; variable = None } in
+      let same : here ≡ there = same_Some here there (one ∙ sym other) in
+      let times : a.time ≡ b.time = ap (λ (m : Name). m.time) same in
+      elim (is.line_races.all.order i j a b lt at at') [
+        | inl before ↦ (let less : a.time < b.time = before in omega (arith, less, times))
+        | inr (also, before) ↦ (let less : 0 < 0 = before in omega (arith, less))
+      ]),
+)
+
+-- and each of it is shown by the marks
+named_by_slot : (setting : Setting) (marks : List Pair) (found : FoundInSlot) → IsFoundIn setting marks found → (name : Name) →
+    IsNamedInSlot found name → (d : Difference) × IsShownBy setting marks d × (name_of d ≡ Some name)
+named_by_slot setting marks found is name (inl one) =
+    (Values one.race, (found.races.items, is.races, contains_at found.races.items one.place one.race one.at), one.is)
+named_by_slot setting marks found is name (inr one) =
+    (Lines one.race, (found.line_races.items, is.line_races, contains_at found.line_races.items one.place one.race one.at), one.is)
+
+by_more : (setting : Setting) (from : ℕ) (closings : List (Closing MachineState)) (c : Closing MachineState) (name : Name) →
+    IsNamedByOne setting from closings name → IsNamedByOne setting from (closings ++ c ∷ []) name
+by_more setting from closings c name by = record {
+  place = by.place;
+  closing = by.closing;
+  at = stands_in_front closings (c ∷ []) by.place by.closing by.at;
+  late = by.late;
+  difference = by.difference;
+  shown = by.shown;
+  is = by.is;
+}
+
+turn_before : (setting : Setting) (closings : List (Closing MachineState)) (c : Closing MachineState) →
+    AreInTurn setting (closings ++ c ∷ []) →
+    AreInTurn setting closings
+turn_before setting closings c turn = record {
+  rise = λ i j a b lt at at'. turn.rise i j a b lt (stands_in_front closings (c ∷ []) i a at) (stands_in_front closings (c ∷ []) j b at');
+  times = λ i a at. turn.times i a (stands_in_front closings (c ∷ []) i a at);
+}
+
+-- no name is of two closings
+not_both : (setting : Setting) (from : ℕ) (closings : List (Closing MachineState)) (c : Closing MachineState)
+    (name : Name) (d : Difference) →
+    AreInTurn setting (closings ++ c ∷ []) → IsNamedByOne setting from closings name → IsShownBy setting c.marks d →
+    name_of d ≡ Some name → ⊥
+not_both setting from closings c name d turn by shown is =
+    let front = stands_in_front closings (c ∷ []) by.place by.closing by.at in
+    let last = stands_last closings c in
+    let lt = turn.rise by.place (length closings) by.closing c (place_within closings by.place by.closing by.at) front last in
+    let old = shown_time setting by.closing by.difference name (turn.times by.place by.closing front) by.shown by.is in
+    let new = shown_time setting c d name (turn.times (length closings) c last) shown is in
+    omega (arith, lt, old, new)
+
 -- the differences of a slot are named where it was taken
-slot_named : (setting : Setting) (marks : List Pair) (found : FoundInSlot) (Here : Name → Type 0) → IsFoundIn setting marks found → ((n : Name) → IsNamedInSlot found n → Here n) → ShowsNamed setting Here marks
+slot_named : (setting : Setting) (marks : List Pair) (found : FoundInSlot) (Here : Name → Type 0) → IsFoundIn setting marks found →
+    ((n : Name) → IsNamedInSlot found n → Here n) → ShowsNamed setting Here marks
 slot_named setting marks found Here is named = record {
   races = found.races.items;
   line_races = found.line_races.items;
   values = is.races;
   lines = is.line_races;
   each = λ race has. (let m = at_contains found.races.items race has in
-      named (record { time = race.time; variable = Some race.variable }) (inl (record { place = m.0; race = race; within = place_within found.races.items m.0 race m.1; at = m.1; is = refl })));
+      named (record { time = race.time; variable = Some race.variable })
+      (inl (record { place = m.0; race = race; within = place_within found.races.items m.0 race m.1; at = m.1; is = refl })));
   each_line = λ race has. (let m = at_contains found.line_races.items race has in
-      named (record { time = race.time; variable = None }) (inr (record { place = m.0; race = race; within = place_within found.line_races.items m.0 race m.1; at = m.1; is = refl })));
+      named (record { time = race.time; variable = None })
+      (inr (record { place = m.0; race = race; within = place_within found.line_races.items m.0 race m.1; at = m.1; is = refl })));
 }
 
-module _ (setting : Setting) (scope : Scope) (closings : List (Closing MachineState)) (c : Closing MachineState) (found : FoundInSlot) (is : IsFoundIn setting c.marks found)
-    (groups new_groups : List Group) (tolds new_tolds : List Told) (ends new_ends : List Pair) (cut new_cut : Bool) (kept : AreGroupsOf setting scope groups tolds ends cut closings)
-    (adds : Adds setting (Contains (differences_in found)) tolds new_tolds) (still : Counts scope.names NoName groups new_groups)
-    (counts : scope.from ≤ c.rank → Counts scope.names (IsNamedInSlot found) groups new_groups)
-    (before : c.rank < scope.from → new_ends ≡ ends) (sums : scope.from ≤ c.rank → SumsUp setting (pairs_of found.ends.items) ends new_ends)
-    (uncut : new_cut ≡ false → (cut ≡ false) × AreUncut setting (pairs_of found.ends.items)) where
+module _ (tracing : Tracing) (scope : Scope) (closings : List (Closing MachineState)) (c : Closing MachineState) (found : FoundInSlot)
+    (is : IsFoundIn tracing.setting c.marks found) (groups new_groups : List Group) (tolds new_tolds : List Told)
+    (ends new_ends : List Pair)
+    (cut new_cut : Bool) (seen new_seen : Option ℕ) (refused new_refused : Bool)
+    (kept : AreGroupsOf tracing scope groups tolds ends cut seen refused closings)
+    (adds : Adds tracing (Contains (differences_in found)) tolds new_tolds) (early_same : c.rank < scope.from → new_groups ≡ groups)
+    (early_tolds : c.rank < scope.from → new_tolds ≡ tolds)
+    (counts : scope.from ≤ c.rank → AreApartInSlot found → Counts scope.names (IsNamedInSlot found) groups new_groups)
+    (before : c.rank < scope.from → new_ends ≡ ends) (sums : scope.from ≤ c.rank →
+    SumsUp tracing.setting (pairs_of found.ends.items) ends new_ends)
+    (uncut : new_cut ≡ false → (cut ≡ false) × AreUncut tracing.setting (pairs_of found.ends.items))
+    (none_seen : length c.marks ≡ 0 → new_seen ≡ seen) (some_seen : 0 < length c.marks → new_seen ≡ Some c.rank)
+    (same_refused : new_refused ≡ refused) where
   abbrev all : List (Closing MachineState)
   all = closings ++ c ∷ []
 
@@ -94,68 +223,153 @@ module _ (setting : Setting) (scope : Scope) (closings : List (Closing MachineSt
     | inr late ↦ (let s = sums late in (s.more, s.is))
   ]
 
-  more_causes : (t : Told) → Contains new_tolds t → IsCaused setting t
+  more_causes : (t : Told) → Contains new_tolds t → IsCaused tracing t
   more_causes t has = elim (Contains-append_cases tolds adds.more t (subst (λ (l : List Told). Contains l t) adds.is has)) [
     | inl old ↦ kept.causes t old
     | inr new ↦ adds.causes t new
   ]
 
-  more_firsts : (t : Told) → Contains new_tolds t → IsOfSome setting all t.first
-  more_firsts t has = elim (Contains-append_cases tolds adds.more t (subst (λ (l : List Told). Contains l t) adds.is has)) [
-    | inl old ↦ some_more setting closings c t.first (kept.firsts t old)
-    | inr new ↦ record { place = length closings; closing = c; at = stands_last closings c; shown = shown_in setting c.marks found is t.first (adds.firsts t new) }
+  more_firsts : (t : Told) → Contains new_tolds t → IsOfSome tracing.setting scope.from all t.first
+  more_firsts t has = elim (cases_lt c.rank scope.from) [
+    | inl early ↦ some_more tracing.setting scope.from closings c t.first
+        (kept.firsts t (subst (λ (l : List Told). Contains l t) (early_tolds early) has))
+    | inr late ↦ elim (Contains-append_cases tolds adds.more t (subst (λ (l : List Told). Contains l t) adds.is has)) [
+      | inl old ↦ some_more tracing.setting scope.from closings c t.first (kept.firsts t old)
+      | inr new ↦ record {
+        place = length closings;
+        closing = c;
+        at = stands_last closings c;
+        late = late;
+        shown = shown_in tracing.setting c.marks found is t.first (adds.firsts t new);
+      }
+    ]
   ]
 
-  -- what is named of each closing, where the groups stand for more
-  more_named : (IsNew : Name → Type 0) (m : StandsForMore scope.names IsNew groups kept.all.rests new_groups) → (scope.from ≤ c.rank → ShowsNamed setting (IsNameInOne new_groups m.after) c.marks) → HaveAllOf setting scope new_groups all
-  more_named IsNew m last = record {
-    rests = m.after;
-    stand = m.stand;
-    shown = each_more closings c (λ d. scope.from ≤ d.rank → ShowsNamed setting (IsNameInOne new_groups m.after) d.marks)
-        (λ i d at late. still_named setting (IsNameInOne groups kept.all.rests) (IsNameInOne new_groups m.after) d.marks (λ n has. (has.0, m.still has.0 n has.1)) (kept.all.shown i d at late)) last;
-  }
+  was_sound : new_refused ≡ false → refused ≡ false
+  was_sound sound = sym same_refused ∙ sound
 
-  more_all : HaveAllOf setting scope new_groups all
+  -- an early slot changes no group
+  all_early : c.rank < scope.from → HaveAllOf tracing.setting scope new_groups new_refused all
+  all_early early = subst (λ (l : List Group). HaveAllOf tracing.setting scope l new_refused all) (sym (early_same early)) (record {
+    rests = kept.all.rests;
+    summaries = kept.all.summaries;
+    shown = each_more closings c (λ d. scope.from ≤ d.rank → ShowsNamed tracing.setting (IsNameInOne groups kept.all.rests) d.marks)
+        kept.all.shown (λ late. absurd (omega (arith, early, late)));
+    only = λ sound name has. by_more tracing.setting scope.from closings c name (kept.all.only (was_sound sound) name has);
+    once = λ sound turn. kept.all.once (was_sound sound) (turn_before tracing.setting closings c turn);
+  })
+
+  -- each difference of a later one is in a group then
+  all_late : scope.from ≤ c.rank → HaveAllOf tracing.setting scope new_groups new_refused all
+  all_late late =
+      let m = counts late (apart_in_slot tracing.setting c.marks found is) kept.all.rests kept.all.summaries in
+      record {
+        rests = m.after;
+        summaries = m.summaries;
+        shown = each_more closings c (λ d. scope.from ≤ d.rank → ShowsNamed tracing.setting (IsNameInOne new_groups m.after) d.marks)
+            (λ i d at le. still_named tracing.setting (IsNameInOne groups kept.all.rests) (IsNameInOne new_groups m.after) d.marks
+            (λ n has. (has.0, m.still has.0 n has.1)) (kept.all.shown i d at le))
+            (λ le. slot_named tracing.setting c.marks found (IsNameInOne new_groups m.after) is m.named);
+        only = λ sound name has. elim (m.only name has) [
+          | inl was ↦ by_more tracing.setting scope.from closings c name (kept.all.only (was_sound sound) name was)
+          | inr new ↦ (let by = named_by_slot tracing.setting c.marks found is name new in
+              record {
+                place = length closings;
+                closing = c;
+                at = stands_last closings c;
+                late = late;
+                difference = by.0;
+                shown = by.1;
+                is = by.2;
+              })
+        ];
+        once = λ sound turn. m.once (λ name new was.
+            (let by = named_by_slot tracing.setting c.marks found is name new in
+            not_both tracing.setting scope.from closings c name by.0 turn (kept.all.only (was_sound sound) name was) by.1 by.2))
+            (kept.all.once (was_sound sound) (turn_before tracing.setting closings c turn));
+      }
+
+  more_all : HaveAllOf tracing.setting scope new_groups new_refused all
   more_all = elim (cases_lt c.rank scope.from) [
-    | inl early ↦ more_named NoName (still kept.all.rests kept.all.stand) (λ late. absurd (omega (arith, early, late)))
-    | inr late ↦
-        let m = counts late kept.all.rests kept.all.stand in
-        more_named (IsNamedInSlot found) m (λ again. slot_named setting c.marks found (IsNameInOne new_groups m.after) is m.named)
+    | inl early ↦ all_early early
+    | inr late ↦ all_late late
   ]
 
-  more_ends : (e : Pair) → Contains new_ends e → IsEndOfSome setting all e
+  more_ends : (e : Pair) → Contains new_ends e → IsEndOfSome tracing.setting scope.from all e
   more_ends e has = elim (cases_lt c.rank scope.from) [
-    | inl early ↦ end_more setting closings c e (kept.ends e (subst (λ (l : List Pair). Contains l e) (before early) has))
+    | inl early ↦ end_more tracing.setting scope.from closings c e
+        (kept.ends e (subst (λ (l : List Pair). Contains l e) (before early) has))
     | inr late ↦
         let s = sums late in
         elim (Contains-append_cases ends s.more e (subst (λ (l : List Pair). Contains l e) s.is has)) [
-          | inl old ↦ end_more setting closings c e (kept.ends e old)
-          | inr new ↦ (let of = is.ends.each e (s.among e new) in record { place = length closings; closing = c; at = stands_last closings c; among = of.0; ended = of.1 })
+          | inl old ↦ end_more tracing.setting scope.from closings c e (kept.ends e old)
+          | inr new ↦ (let of = is.ends.each e (s.among e new) in record {
+            place = length closings;
+            closing = c;
+            at =
+                stands_last closings c;
+            late = late;
+            among = of.0;
+            ended = of.1;
+          })
         ]
   ]
 
-  more_no_end : new_ends ≡ [] → OfEachFrom scope.from all (λ marks. AreEndsOf setting marks [])
-  more_no_end e = each_more closings c (λ d. scope.from ≤ d.rank → AreEndsOf setting d.marks []) (kept.no_end (none_in_front ends in_front.0 (sym in_front.1 ∙ e)))
-      (λ late. subst (AreEndsOf setting c.marks) ((sums late).none e) is.ends)
+  more_no_end : new_ends ≡ [] → OfEachFrom scope.from all (λ marks. AreEndsOf tracing.setting marks [])
+  more_no_end e = each_more closings c (λ d. scope.from ≤ d.rank → AreEndsOf tracing.setting d.marks [])
+      (kept.no_end (none_in_front ends in_front.0 (sym in_front.1 ∙ e)))
+      (λ late. subst (AreEndsOf tracing.setting c.marks) ((sums late).none e) is.ends)
 
-  more_alike : (one : Pair) → new_ends ≡ one ∷ [] → OfEachFrom scope.from all (λ marks. OfEnds setting marks (λ l. AllAlike setting l one))
-  more_alike one e = each_more closings c (λ d. scope.from ≤ d.rank → OfEnds setting d.marks (λ l. AllAlike setting l one))
+  more_alike : (one : Pair) → new_ends ≡ one ∷ [] → OfEachFrom scope.from all
+      (λ marks. OfEnds tracing.setting marks (λ l. AllAlike tracing.setting l one))
+  more_alike one e = each_more closings c (λ d. scope.from ≤ d.rank → OfEnds tracing.setting d.marks (λ l. AllAlike tracing.setting l one))
       (elim (front_of_one ends in_front.0 one (sym in_front.1 ∙ e)) [
         | inl none ↦ (λ i d at late. ([], kept.no_end none i d at late, λ end has. nothing_in end has))
         | inr same ↦ kept.alike one same
       ])
       (λ late. (taken, is.ends, (sums late).alike one e))
 
-  more_unlike : FirstTwoUnlike setting new_ends
+  more_unlike : FirstTwoUnlike tracing.setting new_ends
   more_unlike = elim (cases_lt c.rank scope.from) [
-    | inl early ↦ subst (FirstTwoUnlike setting) (sym (before early)) kept.unlike
+    | inl early ↦ subst (FirstTwoUnlike tracing.setting) (sym (before early)) kept.unlike
     | inr late ↦ (sums late).unlike kept.unlike
   ]
 
-  more_uncut : new_cut ≡ false → OfEach all (λ d. OfEnds setting d.marks (AreUncut setting))
-  more_uncut e = each_more closings c (λ d. OfEnds setting d.marks (AreUncut setting)) (kept.uncut (uncut e).0) (taken, is.ends, (uncut e).1)
+  more_uncut : new_cut ≡ false → OfEach all (λ d. OfEnds tracing.setting d.marks (AreUncut tracing.setting))
+  more_uncut e = each_more closings c (λ d. OfEnds tracing.setting d.marks (AreUncut tracing.setting)) (kept.uncut (uncut e).0)
+      (taken, is.ends, (uncut e).1)
 
-  kept_more : AreGroupsOf setting scope new_groups new_tolds new_ends new_cut all
+  -- of which slot a mark was seen last
+  last_on : (o : Option ℕ) → IsLastSeen o closings → c.marks ≡ [] → IsLastSeen o all
+  last_on None each none = each_more closings c (λ d. d.marks ≡ []) each none
+  last_on (Some rank) last none = record {
+    place = last.place;
+    closing = last.closing;
+    at = stands_in_front closings (c ∷ []) last.place last.closing last.at;
+    rank_is = last.rank_is;
+    some = last.some;
+    none_behind = λ i d lt at. elim (last_or_before closings c i d at) [
+      | inl there ↦ last.none_behind i d lt there
+      | inr here ↦ subst (λ (e : Closing MachineState). e.marks ≡ []) here.1 none
+    ];
+  }
+
+  more_last : IsLastSeen new_seen all
+  more_last = elim (cases_lt 0 (length c.marks)) [
+    | inl some ↦ subst (λ (o : Option ℕ). IsLastSeen o all) (sym (some_seen some)) (record {
+      place = length closings;
+      closing = c;
+      at = stands_last closings c;
+      rank_is = refl;
+      some = some;
+      none_behind = λ i d lt at. absurd (let w = place_within all i d at in let n = length_push closings c in omega (arith, lt, w, n));
+    })
+    | inr few ↦
+        let zero_is : length c.marks ≡ 0 = omega (arith, few) in
+        subst (λ (o : Option ℕ). IsLastSeen o all) (sym (none_seen zero_is)) (last_on seen kept.last_seen (nil_from_length c.marks zero_is))
+  ]
+
+  kept_more : AreGroupsOf tracing scope new_groups new_tolds new_ends new_cut new_seen new_refused all
   kept_more = record {
     causes = more_causes;
     firsts = more_firsts;
@@ -165,76 +379,109 @@ module _ (setting : Setting) (scope : Scope) (closings : List (Closing MachineSt
     alike = more_alike;
     unlike = more_unlike;
     uncut = more_uncut;
+    last_seen = more_last;
   }
 
-pub kept_none : (setting : Setting) (scope : Scope) (groups : List Group) (ends : List Pair) → groups ≡ [] → ends ≡ [] → AreGroupsOf setting scope groups (tolds_of groups) ends false []
-kept_none setting scope groups ends no_group no_end = record {
+pub kept_none : (tracing : Tracing) (scope : Scope) (groups : List Group) (ends : List Pair) → groups ≡ [] → ends ≡ [] →
+    AreGroupsOf tracing scope groups (tolds_of groups) ends false None false []
+kept_none tracing scope groups ends no_group no_end = record {
   causes = λ t has. nothing_in t (subst (λ (l : List Group). Contains (tolds_of l) t) no_group has);
   firsts = λ t has. nothing_in t (subst (λ (l : List Group). Contains (tolds_of l) t) no_group has);
   all = record {
     rests = λ place. [];
-    stand = λ i group at. absurd (let e = ap (λ (l : List Group). slice_get l i) no_group in cc);
+    summaries = λ i group at. absurd (let e = ap (λ (l : List Group). slice_get l i) no_group in cc);
     shown = λ i c at. absurd (cc);
+    only = λ sound name has. absurd (let e = ap (λ (l : List Group). slice_get l has.0) no_group in let f = has.1.at in cc);
+    once = λ sound turn. record {
+      once = λ i j k l name one other. absurd (let e = ap (λ (l : List Group). slice_get l i) no_group in let f = one.at in cc);
+      not_first = λ i group name at. absurd (let e = ap (λ (l : List Group). slice_get l i) no_group in cc);
+    };
   };
   ends = λ end has. nothing_in end (subst (λ (l : List Pair). Contains l end) no_end has);
   no_end = λ e i c at. absurd (cc);
   alike = λ one e i c at. absurd (cc);
   unlike = λ one other at at'. absurd (let e = ap (λ (l : List Pair). slice_get l 0) no_end in cc);
   uncut = λ e i c at. absurd (cc);
+  last_seen = λ i c at. absurd (cc);
 }
 
--- where groups stand for what they stood for, of the same closings
-same_all : (setting : Setting) (scope : Scope) (groups new_groups : List Group) (closings : List (Closing MachineState)) → HaveAllOf setting scope groups closings → Counts scope.names NoName groups new_groups → HaveAllOf setting scope new_groups closings
-same_all setting scope groups new_groups closings all still =
-    let m = still all.rests all.stand in
+-- where groups sum up what they did before, of the same closings, and memory was refused
+same_all : (setting : Setting) (scope : Scope) (groups new_groups : List Group) (refused new_refused : Bool)
+    (closings : List (Closing MachineState)) →
+    HaveAllOf setting scope groups refused closings → CountsStill scope.names groups new_groups → new_refused ≡ true →
+    HaveAllOf setting scope new_groups new_refused closings
+same_all setting scope groups new_groups refused new_refused closings all still gone =
+    let m = still all.rests all.summaries in
     record {
       rests = m.after;
-      stand = m.stand;
-      shown = λ i d at late. still_named setting (IsNameInOne groups all.rests) (IsNameInOne new_groups m.after) d.marks (λ n has. (has.0, m.still has.0 n has.1)) (all.shown i d at late);
+      summaries = m.summaries;
+      shown = λ i d at late. still_named setting (IsNameInOne groups all.rests) (IsNameInOne new_groups m.after) d.marks
+          (λ n has. (has.0, m.still has.0 n has.1)) (all.shown i d at late);
+      only = λ sound. absurd (let e = sym gone ∙ sound in cc);
+      once = λ sound. absurd (let e = sym gone ∙ sound in cc);
     }
 
 -- groups, ends and cuts that are the same, of the same closings
-same_kept : (setting : Setting) (scope : Scope) (groups new_groups : List Group) (tolds new_tolds : List Told) (ends new_ends : List (FoundMark MachineState)) (cut new_cut : Bool) (closings : List (Closing MachineState)) →
-    AreGroupsOf setting scope groups tolds (pairs_of ends) cut closings → Counts scope.names NoName groups new_groups → new_tolds ≡ tolds → new_ends ≡ ends → (new_cut ≡ false → cut ≡ false) →
-    AreGroupsOf setting scope new_groups new_tolds (pairs_of new_ends) new_cut closings
-same_kept setting scope groups new_groups tolds new_tolds ends new_ends cut new_cut closings kept still same same_ends uncut =
-    let K : List Told → List (FoundMark MachineState) → Type 0 = λ l e. AreGroupsOf setting scope new_groups l (pairs_of e) new_cut closings in
-    let now : K tolds ends = record {
+same_kept : (tracing : Tracing) (scope : Scope) (groups new_groups : List Group) (tolds new_tolds : List Told)
+    (ends new_ends : List (FoundMark MachineState)) (cut new_cut : Bool) (seen new_seen : Option ℕ) (refused new_refused : Bool)
+    (closings : List (Closing MachineState)) → AreGroupsOf tracing scope groups tolds (pairs_of ends) cut seen refused closings →
+    CountsStill scope.names groups new_groups → new_tolds ≡ tolds → new_ends ≡ ends → (new_cut ≡ false → cut ≡ false) → new_seen ≡ seen →
+    new_refused ≡ true → AreGroupsOf tracing scope new_groups new_tolds (pairs_of new_ends) new_cut new_seen new_refused closings
+same_kept tracing scope groups new_groups tolds new_tolds ends new_ends cut new_cut seen new_seen refused new_refused
+    closings kept still same
+    same_ends uncut same_seen gone =
+    let K : List Told → List (FoundMark MachineState) → Option ℕ → Type 0 =
+    λ l e o. AreGroupsOf tracing scope new_groups l (pairs_of e) new_cut o new_refused closings in
+    let now : K tolds ends seen = record {
       causes = kept.causes;
       firsts = kept.firsts;
-      all = same_all setting scope groups new_groups closings kept.all still;
+      all = same_all tracing.setting scope groups new_groups refused new_refused closings kept.all still gone;
       ends = kept.ends;
       no_end = kept.no_end;
       alike = kept.alike;
       unlike = kept.unlike;
       uncut = λ e. kept.uncut (uncut e);
+      last_seen = kept.last_seen;
     } in
-    subst (λ (l : List Told). K l new_ends) (sym same) (subst (K tolds) (sym same_ends) now)
+    subst (λ (l : List Told). K l new_ends new_seen) (sym same)
+    (subst (λ (e : List (FoundMark MachineState)). K tolds e new_seen) (sym same_ends) (subst (K tolds ends) (sym same_seen) now))
 
 -- where the same is kept no more was collected
-pub collects_same : (old new : RaceGroups) → StaysSo old new → StaysAs CollectsGroups old new
-collects_same old new same = λ first closings collected.
+pub collects_same : (old new : RaceGroups) → StaysSo old new → new.seen ≡ old.seen → new.refused ≡ true →
+    StaysAs CollectsGroups old new
+collects_same old new same same_seen gone = λ first closings collected.
     record {
-      machine = same.machine ∙ collected.machine;
+      traced = same.traced ∙ collected.traced;
       scope = same.scope ∙ collected.scope;
-      kept = λ before so. same_kept (setting_of first) first.scope old.groups.items new.groups.items (tolds_of old.groups.items) (tolds_of new.groups.items) old.ends.items new.ends.items old.cut_runs new.cut_runs (before ++ closings)
-          (collected.kept before so) (subst (λ (s : Scope). Counts s.names NoName old.groups.items new.groups.items) collected.scope same.counts) same.groups same.ends same.cut;
+      kept = λ before so. same_kept (traced_by first) first.scope old.groups.items new.groups.items (tolds_of old.groups.items)
+          (tolds_of new.groups.items) old.ends.items new.ends.items old.cut_runs new.cut_runs old.seen new.seen old.refused new.refused
+          (before ++ closings) (collected.kept before so)
+          (subst (λ (s : Scope). CountsStill s.names old.groups.items new.groups.items) collected.scope same.still)
+          same.groups same.ends same.cut same_seen gone;
     }
 
 -- one slot more
-pub collects_more : (old new : RaceGroups) (c : Closing MachineState) (found : FoundInSlot) → IsFoundIn (setting_of old) c.marks found → TakesSlot c.rank found old new → CollectsMore CollectsGroups old c new
-collects_more old new c found of takes = λ first closings collected.
-    (let P : Setting → Scope → Type 0 = λ s scope. (before : List (Closing MachineState)) → KeepsGroups s scope first before → KeepsGroups s scope old (before ++ closings) in
-    let so_far : P (setting_of old) old.scope = subst (λ (s : Setting). P s old.scope) (sym collected.machine) (subst (P (setting_of first)) (sym collected.scope) collected.kept) in
-    let Q : Setting → Scope → Type 0 = λ s scope. (before : List (Closing MachineState)) → KeepsGroups s scope first before → KeepsGroups s scope new (before ++ (closings ++ c ∷ [])) in
-    let behind : Q (setting_of old) old.scope = λ before so.
-    subst (KeepsGroups (setting_of old) old.scope new) (append_assoc before closings (c ∷ []))
-    (kept_more (setting_of old) old.scope (before ++ closings) c found of old.groups.items new.groups.items (tolds_of old.groups.items) (tolds_of new.groups.items) (pairs_of old.ends.items) (pairs_of new.ends.items) old.cut_runs new.cut_runs
-    (so_far before so) takes.adds takes.still takes.counts (λ early. ap pairs_of (takes.before early)) takes.ends takes.cut) in
+pub collects_more : (old new : RaceGroups) (c : Closing MachineState) (found : FoundInSlot) → IsFoundIn (setting_of old) c.marks found →
+    TakesSlot c.rank found old new → (length c.marks ≡ 0 → new.seen ≡ old.seen) → (0 < length c.marks → new.seen ≡ Some c.rank) →
+    new.refused ≡ old.refused → CollectsMore CollectsGroups old c new
+collects_more old new c found of takes none_seen some_seen same_refused = λ first closings collected.
+    (let P : Tracing → Scope → Type 0 = λ t scope. (before : List (Closing MachineState)) → KeepsGroups t scope first before →
+    KeepsGroups t scope old (before ++ closings) in
+    let so_far : P (traced_by old) old.scope = subst (λ (t : Tracing). P t old.scope) (sym collected.traced)
+    (subst (P (traced_by first)) (sym collected.scope) collected.kept) in
+    let Q : Tracing → Scope → Type 0 = λ t scope. (before : List (Closing MachineState)) → KeepsGroups t scope first before →
+    KeepsGroups t scope new (before ++ (closings ++ c ∷ [])) in
+    let behind : Q (traced_by old) old.scope = λ before so.
+    subst (KeepsGroups (traced_by old) old.scope new) (append_assoc before closings (c ∷ []))
+    (kept_more (traced_by old) old.scope (before ++ closings) c found of old.groups.items new.groups.items (tolds_of old.groups.items)
+    (tolds_of new.groups.items) (pairs_of old.ends.items) (pairs_of new.ends.items) old.cut_runs new.cut_runs old.seen new.seen
+    old.refused new.refused (so_far before so) takes.adds takes.early (λ early. ap tolds_of (takes.early early)) takes.counts
+    (λ early. ap pairs_of (takes.before early)) takes.ends takes.cut
+    none_seen some_seen same_refused) in
     record {
-      machine = takes.machine ∙ collected.machine;
+      traced = takes.traced ∙ collected.traced;
       scope = takes.scope ∙ collected.scope;
-      kept = subst (λ (s : Setting). Q s first.scope) collected.machine (subst (Q (setting_of old)) collected.scope behind);
+      kept = subst (λ (t : Tracing). Q t first.scope) collected.traced (subst (Q (traced_by old)) collected.scope behind);
     })
 
 pub collects_no_more : {U E : Type 0} (now : RaceGroups) (result : Result U E) → OnErr result (StaysAs CollectsGroups now now)
@@ -243,8 +490,9 @@ collects_no_more now (Err e) = λ first closings collected. collected
 
 -- ---- what is told
 
-pub told_same : (setting : Setting) (kept : RaceGroups) → (kept.groups.items ≡ [] → length kept.ends.items ≤ 1) → AreTold setting kept kept.groups.items
-told_same setting kept few = record {
+pub told_same : (tracing : Tracing) (kept : RaceGroups) → (kept.groups.items ≡ [] → length kept.ends.items ≤ 1) →
+    AreTold tracing kept kept.groups.items
+told_same tracing kept few = record {
   none = λ e. (e, few e);
   whole = inl refl;
   each = λ group has. inl has;
@@ -256,9 +504,11 @@ no_name ends (Values race) tells name is = tells
 no_name ends (Lines race) tells name is = tells
 no_name ends (Ends list) tells name is = absurd cc
 
--- one that tells ends stands for no other difference
-of_ends_stands : (setting : Setting) (ends : List (FoundMark MachineState)) (names : ℕ) (group : Group) → IsGroupOfEnds setting ends group → StandsFor names group []
-of_ends_stands setting ends names group of = record {
+-- one that tells ends sums up no other difference
+of_ends_summary : (tracing : Tracing) (ends : List (FoundMark MachineState)) (names : ℕ) (group : Group) →
+    IsGroupOfEnds tracing ends group →
+    Summarizes names group []
+of_ends_summary tracing ends names group of = record {
   next = of.next ∙ sym (take_all names [] (omega arith));
   more = of.more;
   last = λ front other e. absurd (let n = length_push front other in let f = ap length e in omega (arith, n, f));
@@ -269,59 +519,79 @@ at_first : {A : Type 0} (x y : A) (i : ℕ) → slice_get (x ∷ []) i ≡ Some 
 at_first x y zero at = same_Some x y at
 at_first x y (suc i) at = absurd cc
 
-pub told_of_ends : (setting : Setting) (kept : RaceGroups) (groups : List Group) (group : Group) → 1 < length kept.ends.items → kept.groups.items ≡ [] → groups ≡ kept.groups.items ++ group ∷ [] →
-    IsGroupOfEnds setting kept.ends.items group → AreTold setting kept groups
-told_of_ends setting kept groups group two none is of =
+pub told_of_ends : (tracing : Tracing) (kept : RaceGroups) (groups : List Group) (group : Group) → 1 < length kept.ends.items →
+    kept.groups.items ≡ [] → groups ≡ kept.groups.items ++ group ∷ [] → IsGroupOfEnds tracing kept.ends.items group →
+    AreTold tracing kept groups
+told_of_ends tracing kept groups group two none is of =
     let here : groups ≡ group ∷ [] = is ∙ ap (λ l. l ++ group ∷ []) none in
     record {
       none = λ e. absurd (let f = sym here ∙ e in cc);
       whole = inr (
         none,
         λ i g at. (let same = at_first group g i (ap (λ (l : List Group). slice_get l i) (sym here) ∙ at) in
-            subst (λ (h : Group). StandsFor kept.scope.names h []) same (of_ends_stands setting kept.ends.items kept.scope.names group of)),
+            subst (λ (h : Group). Summarizes kept.scope.names h []) same
+            (of_ends_summary tracing kept.ends.items kept.scope.names group of)),
       );
       each = λ g has. elim (Contains-push_cases [] group g (subst (λ (l : List Group). Contains l g) here has)) [
         | inl nowhere ↦ nothing_in g nowhere
-        | inr same ↦ inr (two, subst (IsGroupOfEnds setting kept.ends.items) same of)
+        | inr same ↦ inr (two, subst (IsGroupOfEnds tracing kept.ends.items) same of)
       ];
     }
 
 -- ---- one slot is taken
 
 -- all that it gave
-pub takes_all : (found : FoundInSlot) (races : List Race) (line_races : List LineRace) (old new : RaceGroups) (mid : List Group) (here there last : Setting) → races ≡ found.races.items → line_races ≡ found.line_races.items → here ≡ setting_of old → there ≡ setting_of old → last ≡ setting_of old → setting_of new ≡ setting_of old → new.scope ≡ old.scope →
-    new.cut_runs ≡ old.cut_runs → Adds here (Contains (map Values races)) (tolds_of old.groups.items) (tolds_of mid) → Counts old.scope.names (IsNamedIn Values races (length races)) old.groups.items mid →
-    Adds there (Contains (map Lines line_races)) (tolds_of mid) (tolds_of new.groups.items) → Counts old.scope.names (IsNamedIn Lines line_races (length line_races)) mid new.groups.items →
+pub takes_all : (found : FoundInSlot) (races : List Race) (line_races : List LineRace) (old new : RaceGroups) (mid : List Group)
+    (here there : Tracing) (last : Setting) → races ≡ found.races.items → line_races ≡ found.line_races.items → here ≡ traced_by old →
+    there ≡ traced_by old → last ≡ setting_of old → traced_by new ≡ traced_by old → new.scope ≡ old.scope →
+    new.cut_runs ≡ old.cut_runs → Adds here (Contains (map Values races)) (tolds_of old.groups.items) (tolds_of mid) →
+    (AreNamedApart Values races → Counts old.scope.names (IsNamedIn Values races (length races)) old.groups.items mid) →
+    Adds there (Contains (map Lines line_races)) (tolds_of mid) (tolds_of new.groups.items) →
+    (AreNamedApart Lines line_races → Counts old.scope.names (IsNamedIn Lines line_races (length line_races)) mid new.groups.items) →
     SumsUp last (pairs_of found.ends.items) (pairs_of old.ends.items) (pairs_of new.ends.items) → TakesAll found old new
-takes_all found races line_races old new mid here there last races_are lines_are here_is there_is last_is machine scope cut one count_one other count_other sums =
+takes_all found races line_races old new mid here there last races_are lines_are here_is there_is last_is traced scope cut one count_one
+    other count_other sums =
     let values = map Values races in
     let lines = map Lines line_races in
     let all_are : values ++ lines ≡ differences_in found = λ i. map Values (races_are i) ++ map Lines (lines_are i) in
-    let s = setting_of old in
-    let first = adds_weaker s (Contains values) (Contains (values ++ lines)) (tolds_of old.groups.items) (tolds_of mid) (λ d has. Contains-append_left values lines d has)
-    (subst (λ (x : Setting). Adds x (Contains values) (tolds_of old.groups.items) (tolds_of mid)) here_is one) in
-    let second = adds_weaker s (Contains lines) (Contains (values ++ lines)) (tolds_of mid) (tolds_of new.groups.items) (λ d has. Contains-append_right values lines d has)
-    (subst (λ (x : Setting). Adds x (Contains lines) (tolds_of mid) (tolds_of new.groups.items)) there_is other) in
+    let t = traced_by old in
+    let first = adds_weaker t (Contains values) (Contains (values ++ lines)) (tolds_of old.groups.items) (tolds_of mid)
+    (λ d has. Contains-append_left values lines d has)
+    (subst (λ (x : Tracing). Adds x (Contains values) (tolds_of old.groups.items) (tolds_of mid)) here_is one) in
+    let second = adds_weaker t (Contains lines) (Contains (values ++ lines)) (tolds_of mid) (tolds_of new.groups.items)
+    (λ d has. Contains-append_right values lines d has)
+    (subst (λ (x : Tracing). Adds x (Contains lines) (tolds_of mid) (tolds_of new.groups.items)) there_is other) in
     record {
-      machine = machine;
+      traced = traced;
       scope = scope;
       cut = cut;
-      adds = subst (λ (l : List Difference). Adds s (Contains l) (tolds_of old.groups.items) (tolds_of new.groups.items)) all_are
-          (adds_on s (Contains (values ++ lines)) (tolds_of old.groups.items) (tolds_of mid) (tolds_of new.groups.items) first second);
-      counts = counts_on old.scope.names (IsNamedIn Values found.races.items (length found.races.items)) (IsNamedIn Lines found.line_races.items (length found.line_races.items)) old.groups.items mid new.groups.items
-          (subst (λ (l : List Race). Counts old.scope.names (IsNamedIn Values l (length l)) old.groups.items mid) races_are count_one)
-          (subst (λ (l : List LineRace). Counts old.scope.names (IsNamedIn Lines l (length l)) mid new.groups.items) lines_are count_other);
+      adds = subst (λ (l : List Difference). Adds t (Contains l) (tolds_of old.groups.items) (tolds_of new.groups.items)) all_are
+          (adds_on t (Contains (values ++ lines)) (tolds_of old.groups.items) (tolds_of mid) (tolds_of new.groups.items) first second);
+      counts = λ apart. counts_on old.scope.names (IsNamedIn Values found.races.items (length found.races.items))
+          (IsNamedIn Lines found.line_races.items (length found.line_races.items)) old.groups.items mid new.groups.items
+          (λ n one other.
+          (let here : Name = record { time = one.race.time; variable = Some one.race.variable } in
+          let there : Name = record { time = other.race.time; variable = None } in
+          let same = ap (λ (m : Name). m.variable) (same_Some here there (one.is ∙ sym other.is)) in
+          cc))
+          (subst (λ (l : List Race). AreNamedApart Values l → Counts old.scope.names (IsNamedIn Values l (length l)) old.groups.items mid)
+          races_are count_one apart.0)
+          (subst (λ (l : List LineRace). AreNamedApart Lines l → Counts old.scope.names (IsNamedIn Lines l (length l)) mid new.groups.items)
+          lines_are count_other apart.1);
       ends = subst (λ (x : Setting). SumsUp x (pairs_of found.ends.items) (pairs_of old.ends.items) (pairs_of new.ends.items)) last_is sums;
     }
 
 -- what an early slot gave is left out
-pub takes_early : (time : ℕ) (found : FoundInSlot) (old new : RaceGroups) → time < old.scope.from → setting_of new ≡ setting_of old → new.scope ≡ old.scope → new.groups.items ≡ old.groups.items →
-    new.ends.items ≡ old.ends.items → (new.cut_runs ≡ false → (old.cut_runs ≡ false) × AreUncut (setting_of old) (pairs_of found.ends.items)) → TakesSlot time found old new
-takes_early time found old new early machine scope same ends cut = record {
-  machine = machine;
+pub takes_early : (time : ℕ) (found : FoundInSlot) (old new : RaceGroups) → time < old.scope.from → traced_by new ≡ traced_by old →
+    new.scope ≡ old.scope → new.groups.items ≡ old.groups.items →
+    new.ends.items ≡ old.ends.items → (new.cut_runs ≡ false → (old.cut_runs ≡ false) × AreUncut (setting_of old)
+    (pairs_of found.ends.items)) → TakesSlot time found old new
+takes_early time found old new early traced scope same ends cut = record {
+  traced = traced;
   scope = scope;
-  adds = adds_none (setting_of old) (Contains (differences_in found)) (tolds_of old.groups.items) (tolds_of new.groups.items) (ap tolds_of same);
-  still = counts_none old.scope.names old.groups.items new.groups.items same;
+  adds = adds_none (traced_by old) (Contains (differences_in found)) (tolds_of old.groups.items)
+      (tolds_of new.groups.items) (ap tolds_of same);
+  early = λ lt. same;
   counts = λ late. absurd (omega (arith, early, late));
   before = λ lt. ends;
   ends = λ late. absurd (omega (arith, early, late));
@@ -329,64 +599,94 @@ takes_early time found old new early machine scope same ends cut = record {
 }
 
 -- what a later one gave is taken; what else the slot changed before stands in `mid`
-pub takes_late : (time : ℕ) (found : FoundInSlot) (old mid new : RaceGroups) → old.scope.from ≤ time → setting_of mid ≡ setting_of old → mid.scope ≡ old.scope → mid.groups.items ≡ old.groups.items →
-    mid.ends.items ≡ old.ends.items → (mid.cut_runs ≡ false → (old.cut_runs ≡ false) × AreUncut (setting_of old) (pairs_of found.ends.items)) → TakesAll found mid new → TakesSlot time found old new
-takes_late time found old mid new late machine scope same ends cut all =
-    let counts = subst (λ (s : Scope). Counts s.names (IsNamedInSlot found) old.groups.items new.groups.items) scope
-    (subst (λ (l : List Group). Counts mid.scope.names (IsNamedInSlot found) l new.groups.items) same all.counts) in
+pub takes_late : (time : ℕ) (found : FoundInSlot) (old mid new : RaceGroups) → old.scope.from ≤ time → traced_by mid ≡ traced_by old →
+    mid.scope ≡ old.scope → mid.groups.items ≡ old.groups.items →
+    mid.ends.items ≡ old.ends.items → (mid.cut_runs ≡ false → (old.cut_runs ≡ false) × AreUncut (setting_of old)
+    (pairs_of found.ends.items)) → TakesAll found mid new → TakesSlot time found old new
+takes_late time found old mid new late traced scope same ends cut all =
+    let counts = subst (λ (s : Scope). AreApartInSlot found → Counts s.names (IsNamedInSlot found) old.groups.items new.groups.items) scope
+    (subst (λ (l : List Group). AreApartInSlot found → Counts mid.scope.names (IsNamedInSlot found) l new.groups.items) same all.counts) in
     record {
-      machine = all.machine ∙ machine;
+      traced = all.traced ∙ traced;
       scope = all.scope ∙ scope;
-      adds = subst (λ (s : Setting). Adds s (Contains (differences_in found)) (tolds_of old.groups.items) (tolds_of new.groups.items)) machine
-          (subst (λ (l : List Group). Adds (setting_of mid) (Contains (differences_in found)) (tolds_of l) (tolds_of new.groups.items)) same all.adds);
-      still = counts_less old.scope.names (IsNamedInSlot found) old.groups.items new.groups.items counts;
+      adds = subst (λ (t : Tracing). Adds t (Contains (differences_in found)) (tolds_of old.groups.items)
+          (tolds_of new.groups.items)) traced
+          (subst (λ (l : List Group). Adds (traced_by mid) (Contains (differences_in found)) (tolds_of l)
+          (tolds_of new.groups.items)) same all.adds);
+      early = λ lt. absurd (omega (arith, lt, late));
       counts = λ le. counts;
       before = λ lt. absurd (omega (arith, lt, late));
-      ends = λ le. subst (λ (s : Setting). SumsUp s (pairs_of found.ends.items) (pairs_of old.ends.items) (pairs_of new.ends.items)) machine
-          (subst (λ (l : List (FoundMark MachineState)). SumsUp (setting_of mid) (pairs_of found.ends.items) (pairs_of l) (pairs_of new.ends.items)) ends all.ends);
+      ends = λ le. subst (λ (t : Tracing). SumsUp t.setting (pairs_of found.ends.items) (pairs_of old.ends.items)
+          (pairs_of new.ends.items)) traced
+          (subst (λ (l : List (FoundMark MachineState)). SumsUp (setting_of mid) (pairs_of found.ends.items) (pairs_of l)
+          (pairs_of new.ends.items)) ends all.ends);
       cut = λ e. cut (sym all.cut ∙ e);
     }
 
+-- what was seen is no part of it
+pub takes_seen : (time : ℕ) (found : FoundInSlot) (old new : RaceGroups) (seen : Option ℕ) → TakesSlot time found old new →
+    TakesSlot time found old (record new { seen = seen })
+takes_seen time found old new seen takes = record {
+  traced = takes.traced;
+  scope = takes.scope;
+  adds = takes.adds;
+  early = takes.early;
+  counts = takes.counts;
+  before = takes.before;
+  ends = takes.ends;
+  cut = takes.cut;
+}
+
 -- ---- it grows
 
-pub grows_by : (setting : Setting) (P : Difference → Type 0) (old new : List Told) → Adds setting P old new → GrowsTo old new
-grows_by setting P old new adds = (adds.more, adds.is)
+pub grows_by : (tracing : Tracing) (P : Difference → Type 0) (old new : List Told) → Adds tracing P old new → GrowsTo old new
+grows_by tracing P old new adds = (adds.more, adds.is)
 
-pub grows_all : (old new : RaceGroups) (mid : List Group) → setting_of new ≡ setting_of old → new.scope ≡ old.scope → new.cut_runs ≡ old.cut_runs →
-    GrowsTo (tolds_of old.groups.items) (tolds_of mid) → GrowsTo (tolds_of mid) (tolds_of new.groups.items) → Counts old.scope.names NoName old.groups.items mid → Counts old.scope.names NoName mid new.groups.items →
+pub grows_all : (old new : RaceGroups) (mid : List Group) → traced_by new ≡ traced_by old → new.scope ≡ old.scope →
+    new.cut_runs ≡ old.cut_runs →
+    GrowsTo (tolds_of old.groups.items) (tolds_of mid) → GrowsTo (tolds_of mid) (tolds_of new.groups.items) →
+    CountsStill old.scope.names old.groups.items mid →
+    CountsStill old.scope.names mid new.groups.items →
     GrowsTo old.ends.items new.ends.items → GrowsBehind old new
-grows_all old new mid machine scope cut one other count_one count_other ends = record {
-  machine = machine;
+grows_all old new mid traced scope cut one other count_one count_other ends = record {
+  traced = traced;
   scope = scope;
-  counts = counts_still old.scope.names old.groups.items mid new.groups.items count_one count_other;
+  still = still_on old.scope.names old.groups.items mid new.groups.items count_one count_other;
   groups = grows_on (tolds_of old.groups.items) (tolds_of mid) (tolds_of new.groups.items) one other;
   ends = ends;
   cut = λ e. sym cut ∙ e;
 }
 
 -- where what else the slot changed before stands in `mid`
-pub grows_late : (old mid new : RaceGroups) → setting_of mid ≡ setting_of old → mid.scope ≡ old.scope → mid.groups.items ≡ old.groups.items → mid.ends.items ≡ old.ends.items →
+pub grows_late : (old mid new : RaceGroups) → traced_by mid ≡ traced_by old → mid.scope ≡ old.scope → mid.groups.items ≡ old.groups.items →
+    mid.ends.items ≡ old.ends.items →
     (mid.cut_runs ≡ false → old.cut_runs ≡ false) → GrowsBehind mid new → GrowsBehind old new
-grows_late old mid new machine scope same ends cut grows = record {
-  machine = grows.machine ∙ machine;
+grows_late old mid new traced scope same ends cut grows = record {
+  traced = grows.traced ∙ traced;
   scope = grows.scope ∙ scope;
-  counts = subst (λ (s : Scope). Counts s.names NoName old.groups.items new.groups.items) scope (subst (λ (l : List Group). Counts mid.scope.names NoName l new.groups.items) same grows.counts);
+  still = subst (λ (s : Scope). CountsStill s.names old.groups.items new.groups.items) scope
+      (subst (λ (l : List Group). CountsStill mid.scope.names l new.groups.items) same grows.still);
   groups = subst (λ (l : List Group). GrowsTo (tolds_of l) (tolds_of new.groups.items)) same grows.groups;
   ends = subst (λ (l : List (FoundMark MachineState)). GrowsTo l new.ends.items) ends grows.ends;
   cut = λ e. cut (grows.cut e);
 }
 
 -- what grew is cut back
-pub back_again : (old mid new : RaceGroups) (g e : ℕ) → g ≡ length old.groups.items → e ≡ length old.ends.items → GrowsBehind old mid → setting_of new ≡ setting_of mid → new.scope ≡ mid.scope →
+pub back_again : (old mid new : RaceGroups) (g e : ℕ) → g ≡ length old.groups.items → e ≡ length old.ends.items → GrowsBehind old mid →
+    traced_by new ≡ traced_by mid → new.scope ≡ mid.scope →
     new.groups.items ≡ take g mid.groups.items → new.ends.items ≡ take e mid.ends.items → new.cut_runs ≡ mid.cut_runs → StaysSo old new
-back_again old mid new g e g_is e_is grows machine scope groups ends cut =
+back_again old mid new g e g_is e_is grows traced scope groups ends cut =
     let len : length (tolds_of old.groups.items) ≡ length old.groups.items = length-map old.groups.items told in
     record {
-      machine = machine ∙ grows.machine;
+      traced = traced ∙ grows.traced;
       scope = scope ∙ grows.scope;
-      counts = subst (Counts old.scope.names NoName old.groups.items) (sym (groups ∙ ap (λ (n : ℕ). take n mid.groups.items) g_is)) (take_counts old.scope.names NoName old.groups.items mid.groups.items grows.counts);
-      groups = ap tolds_of (groups ∙ ap (λ (n : ℕ). take n mid.groups.items) g_is) ∙ sym (take-map told (length old.groups.items) mid.groups.items) ∙ ap (take (length old.groups.items)) grows.groups.1
-          ∙ ap (λ (n : ℕ). take n (tolds_of old.groups.items ++ grows.groups.0)) (sym len) ∙ take-append_seam (tolds_of old.groups.items) grows.groups.0;
-      ends = ends ∙ ap (λ (n : ℕ). take n mid.ends.items) e_is ∙ ap (take (length old.ends.items)) grows.ends.1 ∙ take-append_seam old.ends.items grows.ends.0;
+      still = subst (CountsStill old.scope.names old.groups.items) (sym (groups ∙ ap (λ (n : ℕ). take n mid.groups.items) g_is))
+          (take_still old.scope.names old.groups.items mid.groups.items grows.still);
+      groups = ap tolds_of (groups ∙ ap (λ (n : ℕ). take n mid.groups.items) g_is)
+          ∙ sym (take-map told (length old.groups.items) mid.groups.items) ∙ ap (take (length old.groups.items)) grows.groups.1
+          ∙ ap (λ (n : ℕ). take n (tolds_of old.groups.items ++ grows.groups.0)) (sym len)
+          ∙ take-append_seam (tolds_of old.groups.items) grows.groups.0;
+      ends = ends ∙ ap (λ (n : ℕ). take n mid.ends.items) e_is ∙ ap (take (length old.ends.items)) grows.ends.1
+          ∙ take-append_seam old.ends.items grows.ends.0;
       cut = λ none. grows.cut (sym cut ∙ none);
     }

@@ -1,5 +1,6 @@
 -- The logs of the sides of a difference.
-use Rattle.std.proofs.Common.{◌≡◌, ◌≢◌, ℕ, ◌+◌, ◌<◌, ◌≤◌, List, [], length, map, slice_get, None, Some, sym, ap, ◌∙◌, subst, inl, inr, arith}
+use Rattle.std.proofs.Common.{◌≡◌, ◌≢◌, ℕ, ◌+◌, ◌<◌, ◌≤◌, List, [], length, map, slice_get, None, Some, sym, ap, ◌∙◌, subst, inl, inr}
+use Rattle.std.proofs.Common.{arith}
 use Rattle.std.specs.Prelude.{option_map}
 use Rattle.std.proofs.lemmas.Bool.{cases_lt}
 use Rattle.std.proofs.lemmas.Option.{same_Some, slice_get-map}
@@ -13,13 +14,15 @@ use Rattle.race_groups.specs.Found.{IsLogOf, logs_of}
 use Rattle.race_groups.specs.Inner.{AreDefault, IsDefault, IsDeparted, IsLogOfEnds}
 
 -- the log of a side that is there
-pub side_at : {A : Type 0} (f : A → List (ℕ × ℕ)) (sides : List A) (i : ℕ) (side : A) → slice_get sides i ≡ Some side → slice_get (map f sides) i ≡ Some (f side)
+pub side_at : {A : Type 0} (f : A → List (ℕ × ℕ)) (sides : List A) (i : ℕ) (side : A) → slice_get sides i ≡ Some side →
+    slice_get (map f sides) i ≡ Some (f side)
 side_at f sides i side at = slice_get-map f sides i ∙ ap (option_map f) at
 
 pub no_side : {A : Type 0} (f : A → List (ℕ × ℕ)) (sides : List A) (i : ℕ) → slice_get sides i ≡ None → IsDefault (map f sides) i
 no_side f sides i none log at = absurd (let e = sym at ∙ slice_get-map f sides i ∙ ap (option_map f) none in cc)
 
-pub default_side : {A : Type 0} (f : A → List (ℕ × ℕ)) (sides : List A) (i : ℕ) (side : A) → slice_get sides i ≡ Some side → f side ≡ [] → IsDefault (map f sides) i
+pub default_side : {A : Type 0} (f : A → List (ℕ × ℕ)) (sides : List A) (i : ℕ) (side : A) → slice_get sides i ≡ Some side → f side ≡ [] →
+    IsDefault (map f sides) i
 default_side f sides i side at none log is = same_Some log (f side) (sym is ∙ side_at f sides i side at) ∙ none
 
 -- a side's log that names a departure is one of the difference
@@ -27,7 +30,8 @@ pub departed_log : (d : Difference) (i : ℕ) (log : List (ℕ × ℕ)) → IsDe
 departed_log d i log is = inl (contains_at (logs_of d) i log is.0, is.1)
 
 -- where no side's does, none is
-pub no_departed_log : (d : Difference) (count : ℕ) (log : List (ℕ × ℕ)) → length (logs_of d) ≤ count → AreDefault (logs_of d) count → log ≡ [] → IsLogOf d log
+pub no_departed_log : (d : Difference) (count : ℕ) (log : List (ℕ × ℕ)) → length (logs_of d) ≤ count → AreDefault (logs_of d) count →
+    log ≡ [] → IsLogOf d log
 no_departed_log d count log whole none is = inr (
   is,
   λ other has.
@@ -47,14 +51,19 @@ one_more logs count before here side lt = elim (cases_lt side count) [
 
 -- ---- ends
 
-pub ends_log : (ends : List (FoundMark MachineState)) (i : ℕ) (found : FoundMark MachineState) (log : List (ℕ × ℕ)) → slice_get ends i ≡ Some found → found.log ≢ [] → log ≡ found.log → IsLogOfEnds (pairs_of ends) log
+pub ends_log : (ends : List (FoundMark MachineState)) (i : ℕ) (found : FoundMark MachineState) (log : List (ℕ × ℕ)) →
+    slice_get ends i ≡ Some found → found.log ≢ [] → log ≡ found.log → IsLogOfEnds (pairs_of ends) log
 ends_log ends i found log at some is =
     let pair : MachineState × List (ℕ × ℕ) = (found.state, found.log) in
-    let there : slice_get (pairs_of ends) i ≡ Some pair = slice_get-map (λ (f : FoundMark MachineState). (f.state, f.log)) ends i ∙ ap (option_map (λ (f : FoundMark MachineState). (f.state, f.log))) at in
+    let there : slice_get (pairs_of ends) i ≡ Some pair = slice_get-map (λ (f : FoundMark MachineState). (f.state, f.log)) ends i
+    ∙ ap (option_map (λ (f : FoundMark MachineState). (f.state, f.log))) at in
     let logs = map (λ (e : MachineState × List (ℕ × ℕ)). e.1) (pairs_of ends) in
-    subst (IsLogOfEnds (pairs_of ends)) (sym is) (inl (contains_at logs i found.log (side_at (λ (e : MachineState × List (ℕ × ℕ)). e.1) (pairs_of ends) i pair there), some))
+    subst (IsLogOfEnds (pairs_of ends)) (sym is)
+    (inl (contains_at logs i found.log (side_at (λ (e : MachineState × List (ℕ × ℕ)). e.1) (pairs_of ends) i pair there), some))
 
-pub no_ends_log : (ends : List (FoundMark MachineState)) (n : ℕ) (log : List (ℕ × ℕ)) → length ends ≤ n → ((k : ℕ) (found : FoundMark MachineState) → k < n → slice_get ends k ≡ Some found → found.log ≡ []) → log ≡ [] → IsLogOfEnds (pairs_of ends) log
+pub no_ends_log : (ends : List (FoundMark MachineState)) (n : ℕ) (log : List (ℕ × ℕ)) → length ends ≤ n →
+    ((k : ℕ) (found : FoundMark MachineState) → k < n → slice_get ends k ≡ Some found → found.log ≡ []) → log ≡ [] →
+    IsLogOfEnds (pairs_of ends) log
 no_ends_log ends n log whole none is =
     let logs = map (λ (e : MachineState × List (ℕ × ℕ)). e.1) (pairs_of ends) in
     inr (
@@ -67,7 +76,8 @@ no_ends_log ends n log whole none is =
           sym m.2 ∙ ap (λ (e : MachineState × List (ℕ × ℕ)). e.1) (sym f.2) ∙ none p.0 f.0 (omega (arith, whole, lt)) f.1),
     )
 
-pub one_more_end : (ends : List (FoundMark MachineState)) (i : ℕ) (item : FoundMark MachineState) → slice_get ends i ≡ Some item → ((k : ℕ) (found : FoundMark MachineState) → k < i → slice_get ends k ≡ Some found → found.log ≡ []) → item.log ≡ [] →
+pub one_more_end : (ends : List (FoundMark MachineState)) (i : ℕ) (item : FoundMark MachineState) → slice_get ends i ≡ Some item →
+    ((k : ℕ) (found : FoundMark MachineState) → k < i → slice_get ends k ≡ Some found → found.log ≡ []) → item.log ≡ [] →
     (k : ℕ) (found : FoundMark MachineState) → k < i + 1 → slice_get ends k ≡ Some found → found.log ≡ []
 one_more_end ends i item at before none k found lt at' = elim (cases_lt k i) [
   | inl there ↦ before k found there at'

@@ -2,7 +2,8 @@
 use Rattle.std.specs.Prelude.{Decides, option_map}
 use Rattle.std.specs.Bool.{MatchBool}
 use Rattle.std.proofs.lemmas.Bool.Decides.{Decides-like}
-use Rattle.std.proofs.Common.{◌≡◌, ◌&&◌, Bool, true, false, Option, ℕ, ◌<◌, ◌≤◌, List, [], ◌∷◌, ◌++◌, length, drop, slice_get, Some, refl, sym, ap, ◌∙◌, subst, inl, inr, append-nil, append_assoc, arith}
+use Rattle.std.proofs.Common.{◌≡◌, ◌&&◌, Bool, true, false, Option, ℕ, ◌<◌, ◌≤◌, List, [], ◌∷◌, ◌++◌, length, drop, slice_get, Some, refl}
+use Rattle.std.proofs.Common.{sym, ap, ◌∙◌, subst, inl, inr, append-nil, append_assoc, arith}
 use Rattle.std.specs.List.{Contains}
 use Rattle.std.proofs.lemmas.List.{map-append}
 use Rattle.std.proofs.lemmas.List.Elements.{Contains-append_cases, Contains-append_left, Contains-append_right, Contains-push_cases}
@@ -34,7 +35,8 @@ sums_none setting old = record {
 }
 
 -- one after another
-pub sums_on : (setting : Setting) (ends others old mid new : List Pair) → SumsUp setting ends old mid → SumsUp setting others mid new → SumsUp setting (ends ++ others) old new
+pub sums_on : (setting : Setting) (ends others old mid new : List Pair) → SumsUp setting ends old mid → SumsUp setting others mid new →
+    SumsUp setting (ends ++ others) old new
 sums_on setting ends others old mid new a b = record {
   more = a.more ++ b.more;
   is = b.is ∙ ap (λ l. l ++ b.more) a.is ∙ append_assoc old a.more b.more;
@@ -69,19 +71,27 @@ pub record SumsSoFar (setting : Setting) (all left old kept : List (FoundMark Ma
   pub grows : GrowsTo old kept
 
 pub sums_start : (setting : Setting) (all left kept : List (FoundMark MachineState)) → left ≡ all → SumsSoFar setting all left kept kept
-sums_start setting all left kept is = record { looked_at = []; whole = is; sums = sums_none setting (pairs_of kept); grows = grows_none kept }
+sums_start setting all left kept is = record {
+  looked_at = [];
+  whole = is;
+  sums = sums_none setting (pairs_of kept);
+  grows = grows_none kept;
+}
 
-pub sums_next : (setting : Setting) (all left rest old mid new : List (FoundMark MachineState)) (found : FoundMark MachineState) → SumsSoFar setting all left old mid → left ≡ found ∷ rest →
+pub sums_next : (setting : Setting) (all left rest old mid new : List (FoundMark MachineState)) (found : FoundMark MachineState) →
+    SumsSoFar setting all left old mid → left ≡ found ∷ rest →
     SumsUp setting (pairs_of (found ∷ [])) (pairs_of mid) (pairs_of new) → GrowsTo mid new → SumsSoFar setting all rest old new
 sums_next setting all left rest old mid new found so_far first one grows = record {
   looked_at = so_far.looked_at ++ found ∷ [];
   whole = append_assoc so_far.looked_at (found ∷ []) rest ∙ ap (λ l. so_far.looked_at ++ l) (sym first) ∙ so_far.whole;
-  sums = subst (λ (l : List Pair). SumsUp setting l (pairs_of old) (pairs_of new)) (sym (map-append (λ (f : FoundMark MachineState). (f.state, f.log)) so_far.looked_at (found ∷ [])))
+  sums = subst (λ (l : List Pair). SumsUp setting l (pairs_of old) (pairs_of new))
+      (sym (map-append (λ (f : FoundMark MachineState). (f.state, f.log)) so_far.looked_at (found ∷ [])))
       (sums_on setting (pairs_of so_far.looked_at) (pairs_of (found ∷ [])) (pairs_of old) (pairs_of mid) (pairs_of new) so_far.sums one);
   grows = grows_on old mid new so_far.grows grows;
 }
 
-pub sums_done : (setting : Setting) (all left old kept : List (FoundMark MachineState)) → SumsSoFar setting all left old kept → left ≡ [] → SumsUp setting (pairs_of all) (pairs_of old) (pairs_of kept)
+pub sums_done : (setting : Setting) (all left old kept : List (FoundMark MachineState)) → SumsSoFar setting all left old kept → left ≡ [] →
+    SumsUp setting (pairs_of all) (pairs_of old) (pairs_of kept)
 sums_done setting all left old kept so_far none =
     let e : so_far.looked_at ≡ all = sym (append-nil so_far.looked_at) ∙ ap (λ l. so_far.looked_at ++ l) (sym none) ∙ so_far.whole in
     subst (λ (l : List (FoundMark MachineState)). SumsUp setting (pairs_of l) (pairs_of old) (pairs_of kept)) e so_far.sums
@@ -119,7 +129,8 @@ module _ (setting : Setting) (found : FoundMark MachineState) where
   }
 
   -- it is alike the one that is kept
-  pub sums_like : (old : List (FoundMark MachineState)) (one : FoundMark MachineState) → length old ≡ 1 → slice_get old 0 ≡ Some one → AreAlike setting one.state found.state → SumsUp setting (pair ∷ []) (pairs_of old) (pairs_of old)
+  pub sums_like : (old : List (FoundMark MachineState)) (one : FoundMark MachineState) → length old ≡ 1 → slice_get old 0 ≡ Some one →
+      AreAlike setting one.state found.state → SumsUp setting (pair ∷ []) (pairs_of old) (pairs_of old)
   sums_like [] one few at like = absurd (cc)
   sums_like (x ∷ y ∷ xs) one few at like = absurd (omega (arith, few))
   sums_like (x ∷ []) one few at like =
@@ -129,15 +140,18 @@ module _ (setting : Setting) (found : FoundMark MachineState) where
         is = refl;
         among = λ end has. nothing_in end has;
         none = λ e. absurd (cc);
-        alike = λ k e end has. (let same : k ≡ (x.state, x.log) = sym (same_Some (x.state, x.log) k (ap (λ (l : List Pair). slice_get l 0) e)) in
+        alike = λ k e end has.
+            (let same : k ≡ (x.state, x.log) = sym (same_Some (x.state, x.log) k (ap (λ (l : List Pair). slice_get l 0) e)) in
             let here : pair ≡ end = alone pair end has in
             subst (λ (p : Pair). AreAlike setting p.0 k.0) here (subst (λ (p : Pair). AreAlike setting found.state p.0) (sym same)
-            (subst (λ (f : FoundMark MachineState). AreAlike setting found.state f.state) (sym is) (turned setting one.state found.state like))));
+            (subst (λ (f : FoundMark MachineState). AreAlike setting found.state f.state) (sym is)
+            (turned setting one.state found.state like))));
         unlike = λ un. un;
       }
 
   -- it is the first
-  pub sums_first : ForOne setting → (old new : List (FoundMark MachineState)) → old ≡ [] → new ≡ old ++ found ∷ [] → SumsUp setting (pair ∷ []) (pairs_of old) (pairs_of new)
+  pub sums_first : ForOne setting → (old new : List (FoundMark MachineState)) → old ≡ [] → new ≡ old ++ found ∷ [] →
+      SumsUp setting (pair ∷ []) (pairs_of old) (pairs_of new)
   sums_first one_only old new none is =
       let new_is : pairs_of new ≡ pair ∷ [] = ap pairs_of (is ∙ ap (λ (l : List (FoundMark MachineState)). l ++ found ∷ []) none) in
       let old_is : pairs_of old ≡ [] = ap pairs_of none in
@@ -149,12 +163,14 @@ module _ (setting : Setting) (found : FoundMark MachineState) where
         alike = λ k e end has.
             (let same : pair ≡ k = same_Some pair k (ap (λ (l : List Pair). slice_get l 0) (sym new_is ∙ e)) in
             let here : pair ≡ end = alone pair end has in
-            subst (λ (p : Pair). AreAlike setting p.0 k.0) here (subst (λ (p : Pair). AreAlike setting found.state p.0) same (λ t u st su. ap shape_of (one_only found.state t u st su))));
+            subst (λ (p : Pair). AreAlike setting p.0 k.0) here (subst (λ (p : Pair). AreAlike setting found.state p.0) same
+            (λ t u st su. ap shape_of (one_only found.state t u st su))));
         unlike = λ un k l at at'. absurd (let f = ap (λ (l : List Pair). slice_get l 1) new_is in cc);
       }
 
   -- it is the second, and unlike the first
-  pub sums_second : (old new : List (FoundMark MachineState)) (one : FoundMark MachineState) → length old ≡ 1 → slice_get old 0 ≡ Some one → AreUnlike setting one.state found.state → new ≡ old ++ found ∷ [] →
+  pub sums_second : (old new : List (FoundMark MachineState)) (one : FoundMark MachineState) → length old ≡ 1 → slice_get old 0 ≡ Some one →
+      AreUnlike setting one.state found.state → new ≡ old ++ found ∷ [] →
       SumsUp setting (pair ∷ []) (pairs_of old) (pairs_of new)
   sums_second [] new one few at un is = absurd (cc)
   sums_second (x ∷ y ∷ xs) new one few at un is = absurd (omega (arith, few))
@@ -170,13 +186,15 @@ module _ (setting : Setting) (found : FoundMark MachineState) where
         unlike = λ before k l at_k at_l.
             (let a : (x.state, x.log) ≡ k = same_Some (x.state, x.log) k (ap (λ (l : List Pair). slice_get l 0) (sym new_is) ∙ at_k) in
             let b : pair ≡ l = same_Some pair l (ap (λ (l : List Pair). slice_get l 1) (sym new_is) ∙ at_l) in
-            let un_x : AreUnlike setting x.state found.state = subst (λ (f : FoundMark MachineState). AreUnlike setting f.state found.state) (sym first) un in
+            let un_x : AreUnlike setting x.state found.state = subst (λ (f : FoundMark MachineState). AreUnlike setting f.state found.state)
+            (sym first) un in
             subst (λ (p : Pair). AreUnlike setting k.0 p.0) b (subst (λ (p : Pair). AreUnlike setting p.0 found.state) a un_x));
       }
 
 -- ---- cuts
 
-pub all_uncut : (setting : Setting) (ends : List (FoundMark MachineState)) (n : ℕ) → length ends ≤ n → ((k : ℕ) (found : FoundMark MachineState) → k < n → slice_get ends k ≡ Some found → IsUncut setting found.state) →
+pub all_uncut : (setting : Setting) (ends : List (FoundMark MachineState)) (n : ℕ) → length ends ≤ n →
+    ((k : ℕ) (found : FoundMark MachineState) → k < n → slice_get ends k ≡ Some found → IsUncut setting found.state) →
     AreUncut setting (pairs_of ends)
 all_uncut setting ends n whole each = λ end has.
     (let m = from_map (λ (f : FoundMark MachineState). (f.state, f.log)) ends end has in
@@ -187,7 +205,8 @@ all_uncut setting ends n whole each = λ end has.
 -- ---- what tells two states apart
 
 -- of two that are there, what is read of them tells
-pub some_tells : {A B : Type 0} (f : A → B) (b : Bool) (o p : Option A) (x y : A) → o ≡ Some x → p ≡ Some y → Decides b (f x ≡ f y) → Decides b (option_map f o ≡ option_map f p)
+pub some_tells : {A B : Type 0} (f : A → B) (b : Bool) (o p : Option A) (x y : A) → o ≡ Some x → p ≡ Some y → Decides b (f x ≡ f y) →
+    Decides b (option_map f o ≡ option_map f p)
 some_tells f b o p x y is is' d =
     let here : option_map f o ≡ Some (f x) = ap (option_map f) is in
     let there : option_map f p ≡ Some (f y) = ap (option_map f) is' in
@@ -197,18 +216,24 @@ some_tells f b o p x y is is' d =
 abbrev pub Reads : {V : Type 0} → Setting → MachineState → (State → V) → V → Type 0
 Reads setting s read value = (t : State) → Stands setting s t → value ≡ read t
 
-module _ (setting : Setting) (s r : MachineState) (end end' : Option End) (values values' : List Vector) (printed printed' : Option (List (List ℕ)))
-    (of_end : Reads setting s end_in end) (of_end' : Reads setting r end_in end') (of_values : Reads setting s (λ t. t.values) values) (of_values' : Reads setting r (λ t. t.values) values')
+module _ (setting : Setting) (s r : MachineState) (end end' : Option End) (values values' : List Vector)
+    (printed printed' : Option (List (List ℕ)))
+    (of_end : Reads setting s end_in end) (of_end' : Reads setting r end_in end') (of_values : Reads setting s (λ t. t.values) values)
+    (of_values' : Reads setting r (λ t. t.values) values')
     (of_printed : Reads setting s (λ t. t.printed) printed) (of_printed' : Reads setting r (λ t. t.printed) printed') where
-  pub told_alike : (a b c : Bool) → Decides a (end ≡ end') → Decides b (values ≡ values') → Decides c (printed ≡ printed') → MatchBool (a && (b && c)) (AreAlike setting s r) (AreUnlike setting s r)
+  pub told_alike : (a b c : Bool) → Decides a (end ≡ end') → Decides b (values ≡ values') → Decides c (printed ≡ printed') →
+      MatchBool (a && (b && c)) (AreAlike setting s r) (AreUnlike setting s r)
   told_alike true true true a b c = λ t u st su.
       (let e : end_in t ≡ end_in u = sym (of_end t st) ∙ a.0 refl ∙ of_end' u su in
       let v : t.values ≡ u.values = sym (of_values t st) ∙ b.0 refl ∙ of_values' u su in
       let p : t.printed ≡ u.printed = sym (of_printed t st) ∙ c.0 refl ∙ of_printed' u su in
       λ i. record { end = e i; values = v i; printed = p i })
-  told_alike false b c one two three = λ t u st su same. absurd (let e = one.1 (of_end t st ∙ ap (λ (x : Shape). x.end) same ∙ sym (of_end' u su)) in cc)
-  told_alike true false c one two three = λ t u st su same. absurd (let e = two.1 (of_values t st ∙ ap (λ (x : Shape). x.values) same ∙ sym (of_values' u su)) in cc)
-  told_alike true true false one two three = λ t u st su same. absurd (let e = three.1 (of_printed t st ∙ ap (λ (x : Shape). x.printed) same ∙ sym (of_printed' u su)) in cc)
+  told_alike false b c one two three = λ t u st su same. absurd (let e = one.1 (of_end t st ∙ ap (λ (x : Shape). x.end) same
+      ∙ sym (of_end' u su)) in cc)
+  told_alike true false c one two three = λ t u st su same. absurd (let e = two.1 (of_values t st ∙ ap (λ (x : Shape). x.values) same
+      ∙ sym (of_values' u su)) in cc)
+  told_alike true true false one two three = λ t u st su same. absurd (let e = three.1 (of_printed t st ∙ ap (λ (x : Shape). x.printed) same
+      ∙ sym (of_printed' u su)) in cc)
 
 pub grows_same : {A : Type 0} (old new : List A) → new ≡ old → GrowsTo old new
 grows_same old new is = ([], is ∙ sym (append-nil old))

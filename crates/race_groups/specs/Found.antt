@@ -1,9 +1,11 @@
 -- *product rule*: What a search for races tells, by causes (IEEE 1364-2005, 11.3, 11.4; crates/race_groups/README.md): differences that are
 -- some, causes that are theirs, and where nothing is told, that there is nothing from one time on, up to another or for good.
-use Rattle.std.specs.Prelude.{◌≡◌, ◌≢◌, ⊤, false, ℕ, ◌≤◌, ◌⊎◌, List, [], ◌∷◌, ◌++◌, length, map, take, slice_get, min, Option, Some, None, IfSome}
+use Rattle.std.specs.Prelude.{◌≡◌, ◌≢◌, ⊤, Bool, false, true, ℕ, ◌≤◌, ◌⊎◌, List, [], ◌∷◌, ◌++◌, length, map, take, slice_get, min, Option}
+use Rattle.std.specs.Prelude.{Some, None, IfNone, IfSome}
 use Rattle.std.specs.List.{Contains}
 use Rattle.sched_core.specs.declared.end.Cause.TheVariants.{Limit}
 use Rattle.sched_core.specs.Replay.{EndsAfter}
+use Rattle.sched_core.specs.Rules.{IsRun}
 use Rattle.statebook.specs.declared.limits.Limits.{Limits}
 use Rattle.explore.specs.Ranked.{pairs_of}
 use Rattle.explore.specs.declared.ranked_findings.RankedStatus.TheVariants.{Exhausted}
@@ -14,7 +16,7 @@ use Rattle.vmachine.specs.Machines.{Stands}
 use Rattle.racebook.specs.Races.{IsRace, TwoRunsDiffer}
 use Rattle.racebook.specs.LineRaces.{IsLineRace, TwoRunsPrint}
 use Rattle.racebook.specs.InTime.{EachEnd, IsClosed, IsEndOfRun}
-use Rattle.cause.specs.Causes.{IsCause}
+use Rattle.cause.specs.Causes.{HasNoCause, IsCause}
 use Rattle.race_groups.specs.declared.group.Difference.{Difference}
 use Rattle.race_groups.specs.declared.group.Difference.TheVariants.{Values, Lines, Ends}
 use Rattle.race_groups.specs.declared.group.Group.{Group}
@@ -47,7 +49,8 @@ pub record TwoEndsDiffer (setting : Setting) (ends : List (MachineState × List 
 abbrev pub IsDifference : Setting → Limits → Difference → Type 0
 IsDifference setting limits (Values race) = IsRace setting limits race
 IsDifference setting limits (Lines race) = IsLineRace setting limits race
-IsDifference setting limits (Ends ends) = EachEnd (IsEndOfRun setting limits) (pairs_of ends.items) × TwoEndsDiffer setting (pairs_of ends.items)
+IsDifference setting limits (Ends ends) = EachEnd (IsEndOfRun setting limits) (pairs_of ends.items)
+    × TwoEndsDiffer setting (pairs_of ends.items)
 
 -- the fact holds of each group
 abbrev pub EachGroup : (Group → Type 0) → List Group → Type 0
@@ -56,6 +59,10 @@ EachGroup P groups = (i : ℕ) (group : Group) → slice_get groups i ≡ Some g
 -- its cause, where it has one, is that of its log
 abbrev pub HasItsCause : Setting → Group → Type 0
 HasItsCause setting group = IfSome group.cause (IsCause setting group.log)
+
+-- and where it has none, its log has none, if the slot ends within the steps that are allowed
+abbrev pub LacksOnlyNoCause : Setting → Limits → Group → Type 0
+LacksOnlyNoCause setting limits group = IfNone group.cause (HasNoCause setting group.log limits.steps)
 
 abbrev pub HasFirstDifference : Setting → Limits → Group → Type 0
 HasFirstDifference setting limits group = IsDifference setting limits group.first
@@ -74,11 +81,16 @@ IsLogOf difference log = (Contains (logs_of difference) log × (log ≢ []))
 abbrev pub HasLogOfFirst : Group → Type 0
 HasLogOfFirst group = IsLogOf group.first group.log
 
--- a difference in a slot is of a time that was closed
-abbrev pub IsOfClosed : Option ℕ → Difference → Type 0
-IsOfClosed closed (Values race) = IsClosed closed race.time
-IsOfClosed closed (Lines race) = IsClosed closed race.time
-IsOfClosed closed (Ends ends) = ⊤
+-- a time from this one on, which was closed
+abbrev pub IsClosedFrom : ℕ → Option ℕ → ℕ → Type 0
+IsClosedFrom from closed time = (from ≤ time) × IsClosed closed time
+
+-- the difference is of such a time; of ends, each is
+abbrev pub IsInTime : Setting → ℕ → Option ℕ → Difference → Type 0
+IsInTime setting from closed (Values race) = IsClosedFrom from closed race.time
+IsInTime setting from closed (Lines race) = IsClosedFrom from closed race.time
+IsInTime setting from closed (Ends ends) =
+    EachEnd (λ end. (t : State) → Stands setting end.0 t → IsClosedFrom from closed t.queue.time) (pairs_of ends.items)
 
 -- ---- what a group counts
 
@@ -88,19 +100,19 @@ name_of (Values race) = Some (record { time = race.time; variable = Some race.va
 name_of (Lines race) = Some (record { time = race.time; variable = None })
 name_of (Ends ends) = None
 
--- Beside its first difference the group stands for these, in the order in which they were met: of their names it keeps the first as far
--- as it may, and of all their number and the time of the last.
-pub record StandsFor (names : ℕ) (group : Group) (rest : List Name) : Type 0 where
+-- Beside its first difference the group sums up these, in the order in which they were met: of their names it keeps the first as far as
+-- it may, and of all their number and the time of the last.
+pub record Summarizes (names : ℕ) (group : Group) (rest : List Name) : Type 0 where
   pub next : group.next.items ≡ take names rest
   pub more : group.more ≡ min (length rest) 18446744073709551615
   pub last : (before : List Name) (name : Name) → rest ≡ before ++ name ∷ [] → group.last ≡ name.time
   pub alone : (name : Name) → rest ≡ [] → name_of group.first ≡ Some name → group.last ≡ name.time
 
--- each stands for those of its place
-abbrev pub AllStandFor : ℕ → List Group → (ℕ → List Name) → Type 0
-AllStandFor names groups rests = (i : ℕ) (group : Group) → slice_get groups i ≡ Some group → StandsFor names group (rests i)
+-- each sums up those of its place
+abbrev pub AllSummarize : ℕ → List Group → (ℕ → List Name) → Type 0
+AllSummarize names groups rests = (i : ℕ) (group : Group) → slice_get groups i ≡ Some group → Summarizes names group (rests i)
 
--- the group at the place has the difference of this name: it is its first, or one of those for which it stands
+-- the group at the place has the difference of this name: it is its first, or one of those that it sums up
 pub record IsNameIn (groups : List Group) (rests : ℕ → List Name) (place : ℕ) (name : Name) : Type 0 where
   pub group : Group
   pub at : slice_get groups place ≡ Some group
@@ -110,15 +122,39 @@ pub record IsNameIn (groups : List Group) (rests : ℕ → List Name) (place : �
 abbrev pub IsNameInOne : List Group → (ℕ → List Name) → Name → Type 0
 IsNameInOne groups rests name = (place : ℕ) × IsNameIn groups rests place name
 
+-- two runs of at most so many departures differ at this time, in this variable or, where it is of none, in the lines that the slot printed
+abbrev pub TwoRunsDifferIn : Setting → ℕ → ℕ → Option ℕ → Type 0
+TwoRunsDifferIn setting depart time None = TwoRunsPrint setting depart time
+TwoRunsDifferIn setting depart time (Some variable) = TwoRunsDiffer setting depart time variable
+
+-- the name stands at place k of what the group at place i sums up
+pub record IsNamedAt (groups : List Group) (rests : ℕ → List Name) (i k : ℕ) (name : Name) : Type 0 where
+  pub group : Group
+  pub at : slice_get groups i ≡ Some group
+  pub named : slice_get (rests i) k ≡ Some name
+
+-- no difference is summed up twice, nor by the group that it is the first of
+pub record AreNamedOnce (groups : List Group) (rests : ℕ → List Name) : Type 0 where
+  pub once : (i j k l : ℕ) (name : Name) → IsNamedAt groups rests i k name → IsNamedAt groups rests j l name → (i ≡ j) × (k ≡ l)
+  pub not_first : (i : ℕ) (group : Group) (name : Name) → slice_get groups i ≡ Some group → name_of group.first ≡ Some name →
+      Contains (rests i) name → ⊥
+
+-- what groups sum up are differences at these times, and none twice
+pub record NoneIsMadeUp (setting : Setting) (depart : ℕ) (groups : List Group) (rests : ℕ → List Name) (Within : ℕ → Type 0) : Type 0 where
+  pub differ : (i k : ℕ) (name : Name) → IsNamedAt groups rests i k name → Within name.time
+      × TwoRunsDifferIn setting depart name.time name.variable
+  pub named_once : AreNamedOnce groups rests
+
 -- Wherever two runs of at most so many departures differ at these times, in a variable at the end of a slot or in the lines that a slot
--- printed, a group has the difference.
-pub record AllAreCounted (setting : Setting) (depart names : ℕ) (groups : List Group) (Within : ℕ → Type 0) : Type 0 where
+-- printed, a group has the difference. If memory wasn't refused meanwhile, it has no others.
+pub record AllAreCounted (setting : Setting) (depart names : ℕ) (groups : List Group) (refused : Bool) (Within : ℕ → Type 0) : Type 0 where
   pub rests : ℕ → List Name
-  pub stand : AllStandFor names groups rests
+  pub summaries : AllSummarize names groups rests
   pub values : (time variable : ℕ) → Within time → TwoRunsDiffer setting depart time variable →
       IsNameInOne groups rests (record { time = time; variable = Some variable })
   pub lines : (time : ℕ) → Within time → TwoRunsPrint setting depart time →
       IsNameInOne groups rests (record { time = time; variable = None })
+  pub none_made_up : refused ≡ false → NoneIsMadeUp setting depart groups rests Within
 
 -- ---- where nothing is told
 
@@ -141,23 +177,37 @@ NoneIsCut setting depart Within = (log : List (ℕ × ℕ)) (steps : ℕ) → le
 
 -- from the scope's time up to the time that was closed every difference is counted
 abbrev pub TellsOfAll : Setting → Limits → Scope → Races → Type 0
-TellsOfAll setting limits scope races = IfSome races.search.closed
-    (λ top. AllAreCounted setting limits.depart scope.names races.groups.items (λ time. (scope.from ≤ time) × (time ≤ top)))
+TellsOfAll setting limits scope races = AllAreCounted setting limits.depart scope.names races.groups.items races.refused
+    (IsClosedFrom scope.from races.search.closed)
 
 -- and every difference from the scope's time on, where the status says so
 abbrev pub TellsOfAllThroughout : Setting → Limits → Scope → Races → Type 0
 TellsOfAllThroughout setting limits scope races = races.search.status ≡ Exhausted →
-    AllAreCounted setting limits.depart scope.names races.groups.items (λ time. scope.from ≤ time)
+    AllAreCounted setting limits.depart scope.names races.groups.items races.refused (λ time. scope.from ≤ time)
 
--- the first difference of each group is of a time that was closed
-abbrev pub TellsOfClosed : Races → Type 0
-TellsOfClosed races = EachGroup (λ group. IsOfClosed races.search.closed group.first) races.groups.items
+-- the first difference of each group is of a time from the scope's on, which was closed
+abbrev pub FirstsAreInTime : Setting → Scope → Races → Type 0
+FirstsAreInTime setting scope races = EachGroup (λ group. IsInTime setting scope.from races.search.closed group.first) races.groups.items
 
 -- where the status says so, each run of at most so many departures that ends does so by the time that was closed
 abbrev pub ClosesAllEnds : Setting → Limits → Races → Type 0
 ClosesAllEnds setting limits races = races.search.status ≡ Exhausted →
     (log : List (ℕ × ℕ)) (steps : ℕ) → length log ≤ limits.depart → EndsAfter (rules_of setting) log steps →
     IsClosed races.search.closed (state_after setting log steps).queue.time
+
+-- within the limits a run comes to the end of a slot of this time, or ends then
+pub record IsTimeOfRun (setting : Setting) (limits : Limits) (time : ℕ) : Type 0 where
+  pub log : List (ℕ × ℕ)
+  pub steps : ℕ
+  pub run : IsRun (rules_of setting) log steps
+  pub mark : (rules_of setting).mark (state_after setting log steps) ≡ true
+  pub time_is : (state_after setting log steps).queue.time ≡ time
+  pub within : steps ≤ limits.steps
+  pub short : length log ≤ limits.depart
+
+-- the time that was closed is one of these
+abbrev pub ClosesTimeOfRun : Setting → Limits → Races → Type 0
+ClosesTimeOfRun setting limits races = IfSome races.search.closed (IsTimeOfRun setting limits)
 
 -- where there is no group, none differ from the scope's time up to the time that was closed
 abbrev pub TellsOfNone : Setting → Limits → Scope → Races → Type 0

@@ -1,5 +1,6 @@
 -- *internal*: Words for the contracts of calls within: what is kept of closed slots, group by group.
-use Rattle.std.specs.Prelude.{◌≡◌, ◌≢◌, Bool, false, ℕ, ◌+◌, ◌<◌, ◌≤◌, ◌⊎◌, List, [], ◌∷◌, ◌++◌, length, map, slice_get, min, Option, Some, None, IfSome}
+use Rattle.std.specs.Prelude.{◌≡◌, ◌≢◌, Bool, false, ℕ, ◌+◌, ◌<◌, ◌≤◌, ◌⊎◌, List, [], ◌∷◌, ◌++◌, length, map, slice_get, min, Option, Some}
+use Rattle.std.specs.Prelude.{None, IfNone, IfSome}
 use Rattle.std.specs.List.{Contains}
 use Rattle.std.proofs.Common.{append-nil, refl, subst, sym}
 use Rattle.sched_core.specs.declared.end.End.{End}
@@ -14,10 +15,11 @@ use Rattle.vmachine.specs.Machines.{Stands}
 use Rattle.vmachine.specs.Reads.{end_in}
 use Rattle.racebook.specs.Races.{Race}
 use Rattle.racebook.specs.LineRaces.{LineRace}
-use Rattle.racebook.specs.Inner.{AreEndsOf, AreLineRacesOf, AreRacesOf, HasEnded}
+use Rattle.racebook.specs.Inner.{AreEndsOf, AreInTurn, AreLineRacesOf, AreRacesOf, HasEnded}
 use Rattle.racebook.specs.declared.slots.FoundInSlot.{FoundInSlot}
-use Rattle.cause.specs.Causes.{IsCause}
+use Rattle.cause.specs.Causes.{HasNoCause, IsCause}
 use Rattle.cause.specs.declared.cause.Cause.{Cause}
+use Rattle.race_groups.specs.declared.causes.Causes.{Causes}
 use Rattle.race_groups.specs.declared.causes.Placed.{Placed}
 use Rattle.race_groups.specs.declared.causes.Placed.TheVariants.{With, Apart}
 use Rattle.race_groups.specs.declared.collected.RaceGroups.{RaceGroups}
@@ -26,7 +28,7 @@ use Rattle.race_groups.specs.declared.group.Difference.TheVariants.{Values, Line
 use Rattle.race_groups.specs.declared.group.Group.{Group}
 use Rattle.race_groups.specs.declared.group.Name.{Name}
 use Rattle.race_groups.specs.declared.group.Scope.{Scope}
-use Rattle.race_groups.specs.Found.{AllStandFor, IsLogOf, IsNameIn, IsNameInOne, name_of}
+use Rattle.race_groups.specs.Found.{AllSummarize, AreNamedOnce, IsLogOf, IsNameIn, IsNameInOne, name_of}
 
 -- ---- groups
 
@@ -42,20 +44,32 @@ told group = record { cause = group.cause; log = group.log; first = group.first 
 abbrev pub tolds_of : List Group → List Told
 tolds_of groups = map told groups
 
--- its cause, where it has one, is that of its log, and this is one of its first difference
-abbrev pub IsCaused : Setting → Told → Type 0
-IsCaused setting t = IfSome t.cause (IsCause setting t.log) × IsLogOf t.first t.log
+-- in which runs logs are traced to their causes, and how many steps a slot may take there
+pub record Tracing : Type 0 where
+  pub setting : Setting
+  pub steps : ℕ
+
+abbrev pub tracing_of : Causes → Tracing
+tracing_of causes = record { setting = causes.checkpoints; steps = causes.steps }
+
+-- what was found is the cause of the log: one, or none within the steps
+abbrev pub IsTraced : Tracing → List (ℕ × ℕ) → Option Cause → Type 0
+IsTraced tracing log cause = IfSome cause (IsCause tracing.setting log) × IfNone cause (HasNoCause tracing.setting log tracing.steps)
+
+-- its cause is that of its log, and this is one of its first difference
+abbrev pub IsCaused : Tracing → Told → Type 0
+IsCaused tracing t = IsTraced tracing t.log t.cause × IsLogOf t.first t.log
 
 -- a log belongs to the group at a place, or to none, with its cause
-abbrev pub IsPlaced : Setting → ℕ → List (ℕ × ℕ) → Placed → Type 0
-IsPlaced setting count log (With place) = place < count
-IsPlaced setting count log (Apart cause) = IfSome cause (IsCause setting log)
+abbrev pub IsPlaced : Tracing → ℕ → List (ℕ × ℕ) → Placed → Type 0
+IsPlaced tracing count log (With place) = place < count
+IsPlaced tracing count log (Apart cause) = IsTraced tracing log cause
 
 -- groups stand behind those that there were, of such differences, each with its cause
-pub record Adds (setting : Setting) (P : Difference → Type 0) (old new : List Told) : Type 0 where
+pub record Adds (tracing : Tracing) (P : Difference → Type 0) (old new : List Told) : Type 0 where
   pub more : List Told
   pub is : new ≡ old ++ more
-  pub causes : (t : Told) → Contains more t → IsCaused setting t
+  pub causes : (t : Told) → Contains more t → IsCaused tracing t
   pub firsts : (t : Told) → Contains more t → P t.first
 
 -- ---- logs
@@ -88,19 +102,43 @@ pub record IsUntouched (old new : Group) : Type 0 where
   pub more : new.more ≡ old.more
   pub last : new.last ≡ old.last
 
--- the groups stood for these, and stand for them and more: also for those that are new
-pub record StandsForMore (names : ℕ) (IsNew : Name → Type 0) (old : List Group) (before : ℕ → List Name) (new : List Group) : Type 0 where
+-- the groups summed up these, and sum up them still, maybe more
+pub record SummarizesStill (names : ℕ) (old : List Group) (before : ℕ → List Name) (new : List Group) : Type 0 where
   pub after : ℕ → List Name
-  pub stand : AllStandFor names new after
+  pub summaries : AllSummarize names new after
+  pub still : (place : ℕ) (name : Name) → IsNameIn old before place name → IsNameIn new after place name
+
+-- so it is, whatever they summed up
+abbrev pub CountsStill : ℕ → List Group → List Group → Type 0
+CountsStill names old new = (before : ℕ → List Name) → AllSummarize names old before → SummarizesStill names old before new
+
+-- they have those that are new, too, and no others; each once, if none of them was there
+pub record SummarizesMore (names : ℕ) (IsNew : Name → Type 0) (old : List Group) (before : ℕ → List Name) (new : List Group) : Type 0 where
+  pub after : ℕ → List Name
+  pub summaries : AllSummarize names new after
   pub still : (place : ℕ) (name : Name) → IsNameIn old before place name → IsNameIn new after place name
   pub named : (name : Name) → IsNew name → IsNameInOne new after name
+  pub only : (name : Name) → IsNameInOne new after name → IsNameInOne old before name ⊎ IsNew name
+  pub once : ((name : Name) → IsNew name → IsNameInOne old before name → ⊥) → AreNamedOnce old before → AreNamedOnce new after
 
--- so it is, whatever they stood for
+-- so it is, whatever they summed up
 abbrev pub Counts : ℕ → (Name → Type 0) → List Group → List Group → Type 0
-Counts names IsNew old new = (before : ℕ → List Name) → AllStandFor names old before → StandsForMore names IsNew old before new
+Counts names IsNew old new = (before : ℕ → List Name) → AllSummarize names old before → SummarizesMore names IsNew old before new
 
 abbrev pub NoName : Name → Type 0
 NoName name = ⊥
+
+-- a group stands last that begins with the difference, and sums up no other
+pub record IsOpened (difference : Difference) (group : Group) (old new : List Group) : Type 0 where
+  pub is : new ≡ old ++ group ∷ []
+  pub first : group.first ≡ difference
+  pub next : group.next.items ≡ []
+  pub more : group.more ≡ 0
+  pub last : (name : Name) → name_of difference ≡ Some name → group.last ≡ name.time
+
+-- there is such a group, or there is none more
+abbrev pub Widens : Difference → List Group → List Group → Type 0
+Widens difference old new = (new ≡ old) ⊎ ((group : Group) × IsOpened difference group old new)
 
 -- the difference has this name
 abbrev pub HasName : Difference → Name → Type 0
@@ -114,6 +152,15 @@ pub record IsNamedIn {R : Type 0} (difference : R → Difference) (races : List 
   pub at : slice_get races place ≡ Some race
   pub is : name_of (difference race) ≡ Some name
 
+-- no two have one name
+abbrev pub AreNamedApart : {R : Type 0} → (R → Difference) → List R → Type 0
+AreNamedApart {R} difference races = (i j : ℕ) (a b : R) (name : Name) → i < j → slice_get races i ≡ Some a → slice_get races j ≡ Some b →
+    name_of (difference a) ≡ Some name → name_of (difference b) ≡ Some name → ⊥
+
+-- so it is of what a slot gave
+abbrev pub AreApartInSlot : FoundInSlot → Type 0
+AreApartInSlot found = AreNamedApart Values found.races.items × AreNamedApart Lines found.line_races.items
+
 -- a slot gave a difference of this name
 abbrev pub IsNamedInSlot : FoundInSlot → Name → Type 0
 IsNamedInSlot found name = IsNamedIn Values found.races.items (length found.races.items) name
@@ -121,6 +168,9 @@ IsNamedInSlot found name = IsNamedIn Values found.races.items (length found.race
 
 abbrev pub setting_of : RaceGroups → Setting
 setting_of kept = kept.causes.checkpoints
+
+abbrev pub traced_by : RaceGroups → Tracing
+traced_by kept = tracing_of kept.causes
 
 -- ---- ends
 
@@ -175,39 +225,39 @@ differences_in found = map Values found.races.items ++ map Lines found.line_race
 
 -- all that a slot gave was taken
 pub record TakesAll (found : FoundInSlot) (old new : RaceGroups) : Type 0 where
-  pub machine : setting_of new ≡ setting_of old
+  pub traced : traced_by new ≡ traced_by old
   pub scope : new.scope ≡ old.scope
   pub cut : new.cut_runs ≡ old.cut_runs
-  pub adds : Adds (setting_of old) (Contains (differences_in found)) (tolds_of old.groups.items) (tolds_of new.groups.items)
-  pub counts : Counts old.scope.names (IsNamedInSlot found) old.groups.items new.groups.items
+  pub adds : Adds (traced_by old) (Contains (differences_in found)) (tolds_of old.groups.items) (tolds_of new.groups.items)
+  pub counts : AreApartInSlot found → Counts old.scope.names (IsNamedInSlot found) old.groups.items new.groups.items
   pub ends : SumsUp (setting_of old) (pairs_of found.ends.items) (pairs_of old.ends.items) (pairs_of new.ends.items)
 
 -- what a slot gave was taken: from the scope's time on
 pub record TakesSlot (time : ℕ) (found : FoundInSlot) (old new : RaceGroups) : Type 0 where
-  pub machine : setting_of new ≡ setting_of old
+  pub traced : traced_by new ≡ traced_by old
   pub scope : new.scope ≡ old.scope
-  pub adds : Adds (setting_of old) (Contains (differences_in found)) (tolds_of old.groups.items) (tolds_of new.groups.items)
-  pub still : Counts old.scope.names NoName old.groups.items new.groups.items
-  pub counts : old.scope.from ≤ time → Counts old.scope.names (IsNamedInSlot found) old.groups.items new.groups.items
+  pub adds : Adds (traced_by old) (Contains (differences_in found)) (tolds_of old.groups.items) (tolds_of new.groups.items)
+  pub early : time < old.scope.from → new.groups.items ≡ old.groups.items
+  pub counts : old.scope.from ≤ time → AreApartInSlot found → Counts old.scope.names (IsNamedInSlot found) old.groups.items new.groups.items
   pub before : time < old.scope.from → new.ends.items ≡ old.ends.items
   pub ends : old.scope.from ≤ time → SumsUp (setting_of old) (pairs_of found.ends.items) (pairs_of old.ends.items) (pairs_of new.ends.items)
   pub cut : new.cut_runs ≡ false → (old.cut_runs ≡ false) × AreUncut (setting_of old) (pairs_of found.ends.items)
 
 -- what is new stands behind what there was
 pub record GrowsBehind (old new : RaceGroups) : Type 0 where
-  pub machine : setting_of new ≡ setting_of old
+  pub traced : traced_by new ≡ traced_by old
   pub scope : new.scope ≡ old.scope
   pub groups : GrowsTo (tolds_of old.groups.items) (tolds_of new.groups.items)
-  pub counts : Counts old.scope.names NoName old.groups.items new.groups.items
+  pub still : CountsStill old.scope.names old.groups.items new.groups.items
   pub ends : GrowsTo old.ends.items new.ends.items
   pub cut : new.cut_runs ≡ false → old.cut_runs ≡ false
 
 -- no more is kept than was
 pub record StaysSo (old new : RaceGroups) : Type 0 where
-  pub machine : setting_of new ≡ setting_of old
+  pub traced : traced_by new ≡ traced_by old
   pub scope : new.scope ≡ old.scope
   pub groups : tolds_of new.groups.items ≡ tolds_of old.groups.items
-  pub counts : Counts old.scope.names NoName old.groups.items new.groups.items
+  pub still : CountsStill old.scope.names old.groups.items new.groups.items
   pub ends : new.ends.items ≡ old.ends.items
   pub cut : new.cut_runs ≡ false → old.cut_runs ≡ false
 
@@ -219,16 +269,19 @@ IsShownBy setting marks (Values race) = (races : List Race) × AreRacesOf settin
 IsShownBy setting marks (Lines race) = (races : List LineRace) × AreLineRacesOf setting marks races × Contains races race
 IsShownBy setting marks (Ends ends) = ⊥
 
-pub record IsOfSome (setting : Setting) (closings : List (Closing MachineState)) (difference : Difference) : Type 0 where
+pub record IsOfSome (setting : Setting) (from : ℕ) (closings : List (Closing MachineState)) (difference : Difference) : Type 0 where
   pub place : ℕ
   pub closing : Closing MachineState
   pub at : slice_get closings place ≡ Some closing
+  pub late : from ≤ closing.rank
   pub shown : IsShownBy setting closing.marks difference
 
-pub record IsEndOfSome (setting : Setting) (closings : List (Closing MachineState)) (end : MachineState × List (ℕ × ℕ)) : Type 0 where
+pub record IsEndOfSome (setting : Setting) (from : ℕ) (closings : List (Closing MachineState))
+    (end : MachineState × List (ℕ × ℕ)) : Type 0 where
   pub place : ℕ
   pub closing : Closing MachineState
   pub at : slice_get closings place ≡ Some closing
+  pub late : from ≤ closing.rank
   pub among : Contains closing.marks end
   pub ended : HasEnded setting end.0
 
@@ -249,41 +302,70 @@ OfEnds setting marks P = (ends : List (MachineState × List (ℕ × ℕ))) × Ar
 abbrev pub OfEachFrom : ℕ → List (Closing MachineState) → (List (MachineState × List (ℕ × ℕ)) → Type 0) → Type 0
 OfEachFrom from closings P = OfEach closings (λ c. from ≤ c.rank → P c.marks)
 
--- from this time on each difference that the marks of a closing show is in a group
-pub record HaveAllOf (setting : Setting) (scope : Scope) (groups : List Group) (closings : List (Closing MachineState)) : Type 0 where
+-- the marks of a closing from this time on show a difference of the name
+pub record IsNamedByOne (setting : Setting) (from : ℕ) (closings : List (Closing MachineState)) (name : Name) : Type 0 where
+  pub place : ℕ
+  pub closing : Closing MachineState
+  pub at : slice_get closings place ≡ Some closing
+  pub late : from ≤ closing.rank
+  pub difference : Difference
+  pub shown : IsShownBy setting closing.marks difference
+  pub is : name_of difference ≡ Some name
+
+-- from this time on each difference that the marks of a closing show is in a group; if memory wasn't refused, no other is, and none twice
+pub record HaveAllOf (setting : Setting) (scope : Scope) (groups : List Group) (refused : Bool)
+    (closings : List (Closing MachineState)) : Type 0 where
   pub rests : ℕ → List Name
-  pub stand : AllStandFor scope.names groups rests
+  pub summaries : AllSummarize scope.names groups rests
   pub shown : OfEachFrom scope.from closings (ShowsNamed setting (IsNameInOne groups rests))
+  pub only : refused ≡ false → (name : Name) → IsNameInOne groups rests name → IsNamedByOne setting scope.from closings name
+  pub once : refused ≡ false → AreInTurn setting closings → AreNamedOnce groups rests
+
+-- a closing of this rank has marks, and none behind it has any; where there is none, none at all has
+pub record IsLastWithMarks (closings : List (Closing MachineState)) (rank : ℕ) : Type 0 where
+  pub place : ℕ
+  pub closing : Closing MachineState
+  pub at : slice_get closings place ≡ Some closing
+  pub rank_is : closing.rank ≡ rank
+  pub some : 0 < length closing.marks
+  pub none_behind : (i : ℕ) (c : Closing MachineState) → place < i → slice_get closings i ≡ Some c → c.marks ≡ []
+
+abbrev pub IsLastSeen : Option ℕ → List (Closing MachineState) → Type 0
+IsLastSeen None closings = OfEach closings (λ c. c.marks ≡ [])
+IsLastSeen (Some rank) closings = IsLastWithMarks closings rank
 
 -- what is kept of closings
-pub record AreGroupsOf (setting : Setting) (scope : Scope) (groups : List Group) (tolds : List Told)
-    (kept : List (MachineState × List (ℕ × ℕ))) (cut : Bool) (closings : List (Closing MachineState)) : Type 0 where
-  pub causes : (t : Told) → Contains tolds t → IsCaused setting t
-  pub firsts : (t : Told) → Contains tolds t → IsOfSome setting closings t.first
-  pub all : HaveAllOf setting scope groups closings
-  pub ends : (end : MachineState × List (ℕ × ℕ)) → Contains kept end → IsEndOfSome setting closings end
-  pub no_end : kept ≡ [] → OfEachFrom scope.from closings (λ marks. AreEndsOf setting marks [])
+pub record AreGroupsOf (tracing : Tracing) (scope : Scope) (groups : List Group) (tolds : List Told)
+    (kept : List (MachineState × List (ℕ × ℕ))) (cut : Bool) (seen : Option ℕ) (refused : Bool)
+    (closings : List (Closing MachineState)) : Type 0 where
+  pub causes : (t : Told) → Contains tolds t → IsCaused tracing t
+  pub firsts : (t : Told) → Contains tolds t → IsOfSome tracing.setting scope.from closings t.first
+  pub all : HaveAllOf tracing.setting scope groups refused closings
+  pub ends : (end : MachineState × List (ℕ × ℕ)) → Contains kept end → IsEndOfSome tracing.setting scope.from closings end
+  pub no_end : kept ≡ [] → OfEachFrom scope.from closings (λ marks. AreEndsOf tracing.setting marks [])
   pub alike : (one : MachineState × List (ℕ × ℕ)) → kept ≡ one ∷ [] →
-      OfEachFrom scope.from closings (λ marks. OfEnds setting marks (λ ends. AllAlike setting ends one))
-  pub unlike : FirstTwoUnlike setting kept
-  pub uncut : cut ≡ false → OfEach closings (λ c. OfEnds setting c.marks (AreUncut setting))
+      OfEachFrom scope.from closings (λ marks. OfEnds tracing.setting marks (λ ends. AllAlike tracing.setting ends one))
+  pub unlike : FirstTwoUnlike tracing.setting kept
+  pub uncut : cut ≡ false → OfEach closings (λ c. OfEnds tracing.setting c.marks (AreUncut tracing.setting))
+  pub last_seen : IsLastSeen seen closings
 
-abbrev pub KeepsGroups : Setting → Scope → RaceGroups → List (Closing MachineState) → Type 0
-KeepsGroups setting scope kept closings =
-    AreGroupsOf setting scope kept.groups.items (tolds_of kept.groups.items) (pairs_of kept.ends.items) kept.cut_runs closings
+abbrev pub KeepsGroups : Tracing → Scope → RaceGroups → List (Closing MachineState) → Type 0
+KeepsGroups tracing scope kept closings =
+    AreGroupsOf tracing scope kept.groups.items (tolds_of kept.groups.items)
+    (pairs_of kept.ends.items) kept.cut_runs kept.seen kept.refused closings
 
 -- what collecting these closings makes of groups that kept what there was before
 pub record CollectsGroups (first : RaceGroups) (closings : List (Closing MachineState)) (now : RaceGroups) : Type 0 where
-  pub machine : setting_of now ≡ setting_of first
+  pub traced : traced_by now ≡ traced_by first
   pub scope : now.scope ≡ first.scope
-  pub kept : (before : List (Closing MachineState)) → KeepsGroups (setting_of first) first.scope first before →
-      KeepsGroups (setting_of first) first.scope now (before ++ closings)
+  pub kept : (before : List (Closing MachineState)) → KeepsGroups (traced_by first) first.scope first before →
+      KeepsGroups (traced_by first) first.scope now (before ++ closings)
 
 pub collects_nothing : (kept : RaceGroups) → CollectsGroups kept [] kept
 collects_nothing kept = record {
-  machine = refl;
+  traced = refl;
   scope = refl;
-  kept = λ before so. subst (KeepsGroups (setting_of kept) kept.scope kept) (sym (append-nil before)) so;
+  kept = λ before so. subst (KeepsGroups (traced_by kept) kept.scope kept) (sym (append-nil before)) so;
 }
 
 -- ---- what is told
@@ -300,15 +382,15 @@ TellsEnds ends (Lines race) = ⊥
 TellsEnds ends (Ends list) = list.items ≡ ends
 
 -- the group tells them, with their cause
-pub record IsGroupOfEnds (setting : Setting) (ends : List (FoundMark MachineState)) (group : Group) : Type 0 where
-  pub caused : IsCaused setting (told group)
+pub record IsGroupOfEnds (tracing : Tracing) (ends : List (FoundMark MachineState)) (group : Group) : Type 0 where
+  pub caused : IsCaused tracing (told group)
   pub next : group.next.items ≡ []
   pub more : group.more ≡ 0
   pub tells : TellsEnds ends group.first
 
 -- the groups that were kept, or, where there is none and two ends aren't alike, a group of these
-pub record AreTold (setting : Setting) (kept : RaceGroups) (groups : List Group) : Type 0 where
+pub record AreTold (tracing : Tracing) (kept : RaceGroups) (groups : List Group) : Type 0 where
   pub none : groups ≡ [] → (kept.groups.items ≡ []) × (length kept.ends.items ≤ 1)
-  pub whole : (groups ≡ kept.groups.items) ⊎ ((kept.groups.items ≡ []) × AllStandFor kept.scope.names groups (λ place. []))
+  pub whole : (groups ≡ kept.groups.items) ⊎ ((kept.groups.items ≡ []) × AllSummarize kept.scope.names groups (λ place. []))
   pub each : (group : Group) → Contains groups group →
-      Contains kept.groups.items group ⊎ ((1 < length kept.ends.items) × IsGroupOfEnds setting kept.ends.items group)
+      Contains kept.groups.items group ⊎ ((1 < length kept.ends.items) × IsGroupOfEnds tracing kept.ends.items group)

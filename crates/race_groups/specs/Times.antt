@@ -13,7 +13,8 @@ use Rattle.race_groups.specs.declared.group.Difference.TheVariants.{Values, Line
 -- a run that ends in the first of these states ends at this time
 abbrev pub IsTimeOfEnds : Setting → List (FoundMark MachineState) → ℕ → Type 0
 IsTimeOfEnds setting ends time =
-    (found : FoundMark MachineState) (t : State) (end : End) → slice_get ends 0 ≡ Some found → Stands setting found.state t → end_in t ≡ Some end →
+    (found : FoundMark MachineState) (t : State) (end : End) → slice_get ends 0 ≡ Some found →
+    Stands setting found.state t → end_in t ≡ Some end →
     time ≡ end.time
 
 -- that of its slot

@@ -1,7 +1,7 @@
 // Which group a log belongs to, by its cause.
 
 ghost use Rattle.std.specs.Prelude.{◌≡◌, ◌<◌, length, IfOk, IfSome};
-ghost use Rattle.race_groups.specs.Inner.{IsPlaced};
+ghost use Rattle.race_groups.specs.Inner.{IsPlaced, tracing_of};
 
 use crate::group::Group;
 use basis::NoMemory;
@@ -16,7 +16,7 @@ use vmachine::Machine;
 pub(crate) struct Causes<'m> {
     pub(crate) alloc: Global,
     pub(crate) checkpoints: Checkpoints<'m>,
-    steps: u32,
+    pub(crate) steps: u32,
     known: BTreeMap<Vec<Member>, usize>,
 }
 
@@ -52,7 +52,8 @@ fn group_with(groups: &[Group], cause: &Option<Cause>) -> Option<usize>
 impl<'m> Causes<'m> {
     /// None yet. A slot that doesn't end before so many steps has none.
     pub(crate) fn new(alloc: Global, machine: &'m Machine, steps: u32) -> Causes<'m>
-        ensures { result.checkpoints ≡ machine.now }
+        ensures machine { result.checkpoints ≡ machine.now }
+        ensures steps { result.steps ≡ steps }
     {
         Causes {
             alloc,
@@ -71,8 +72,8 @@ impl<'m> Causes<'m> {
 
     /// Where the log belongs among these groups.
     pub(crate) fn place(&mut self, groups: &[Group], log: &Log) -> Result<Placed, NoMemory>
-        ensures machine { self.new.checkpoints ≡ self.old.checkpoints }
-        ensures placed { IfOk result (IsPlaced self.old.checkpoints (length groups.now) log.now) }
+        ensures traced { tracing_of self.new ≡ tracing_of self.old }
+        ensures placed { IfOk result (IsPlaced (tracing_of self.old) (length groups.now) log.now) }
     {
         let key = Vec::from_slice(self.alloc, log.members())?;
         if let Some(place) = self.known.get(&key).copied() {

@@ -1,7 +1,7 @@
 // The groups of closed slots.
 
-ghost use Rattle.std.specs.Prelude.{◌≡◌, [], false, take, OnErr, OnOk};
-ghost use Rattle.race_groups.specs.Inner.{GrowsBehind, KeepsGroups, TakesAll, TakesSlot, setting_of};
+ghost use Rattle.std.specs.Prelude.{◌≡◌, ◌<◌, [], false, take, true, None, OnErr, OnOk, Some};
+ghost use Rattle.race_groups.specs.Inner.{GrowsBehind, KeepsGroups, TakesAll, TakesSlot, traced_by};
 
 use crate::causes::Causes;
 use crate::ends::{put_ends, some_is_cut};
@@ -15,7 +15,7 @@ use std::alloc::Global;
 use vmachine::{Machine, MachineState};
 
 /// What is kept of closed slots: the groups of their differences, at most two of the states in which runs end, that aren't alike,
-/// and whether a run was cut by the time limit.
+/// whether a run was cut by the time limit, the time of the last slot of which a mark was seen, and whether memory was refused meanwhile.
 #[derive(Drop)]
 pub(crate) struct RaceGroups<'m> {
     pub(crate) causes: Causes<'m>,
@@ -24,6 +24,8 @@ pub(crate) struct RaceGroups<'m> {
     pub(crate) ends: Vec<FoundMark<MachineState>>,
     pub(crate) ignored: u64,
     pub(crate) cut_runs: bool,
+    pub(crate) seen: Option<u64>,
+    pub(crate) refused: bool,
 }
 
 // How many differences a slot gave.
@@ -38,6 +40,14 @@ fn either(one: bool, other: bool) -> bool
     one || other
 }
 
+// The time of the last slot of which a mark was seen, once one more was closed, with so many marks.
+fn seen_by(seen: Option<u64>, time: u64, marks: usize) -> Option<u64>
+    ensures none { marks ≡ 0 → result ≡ seen }
+    ensures some { 0 < marks → result ≡ Some time }
+{
+    if marks == 0 { seen } else { Some(time) }
+}
+
 impl<'m> RaceGroups<'m> {
     /// None yet.
     pub(crate) fn new(
@@ -46,9 +56,9 @@ impl<'m> RaceGroups<'m> {
         limits: &Limits,
         scope: &Scope,
     ) -> RaceGroups<'m>
-        ensures machine { setting_of result ≡ machine.now }
+        ensures traced { traced_by result ≡ record { setting = machine.now; steps = limits.now.steps } }
         ensures scope { result.scope ≡ scope.now }
-        ensures none { KeepsGroups machine.now scope.now result [] }
+        ensures none { KeepsGroups (record { setting = machine.now; steps = limits.now.steps }) scope.now result [] }
     {
         RaceGroups {
             causes: Causes::new(alloc, machine, limits.steps),
@@ -57,6 +67,8 @@ impl<'m> RaceGroups<'m> {
             ends: Vec::new(alloc),
             ignored: 0,
             cut_runs: false,
+            seen: None,
+            refused: false,
         }
     }
 
@@ -64,6 +76,8 @@ impl<'m> RaceGroups<'m> {
     fn put_found(&mut self, found: FoundInSlot) -> Result<(), NoMemory>
         ensures ok { OnOk result (TakesAll found self.old self.new) }
         ensures grows { GrowsBehind self.old self.new }
+        ensures seen { self.new.seen ≡ self.old.seen }
+        ensures refused { self.new.refused ≡ self.old.refused }
     {
         let FoundInSlot {
             races,
@@ -84,6 +98,8 @@ impl<'m> RaceGroups<'m> {
     fn put_slot(&mut self, time: u64, found: FoundInSlot) -> Result<(), NoMemory>
         ensures ok { OnOk result (TakesSlot time found self.old self.new) }
         ensures grows { GrowsBehind self.old self.new }
+        ensures seen { self.new.seen ≡ self.old.seen }
+        ensures refused { self.new.refused ≡ self.old.refused }
     {
         let is_cut = some_is_cut(self.causes.machine(), &found.ends);
         self.cut_runs = either(self.cut_runs, is_cut);
@@ -94,20 +110,24 @@ impl<'m> RaceGroups<'m> {
         self.put_found(found)
     }
 
-    // No more than so many groups and ends.
+    // No more than so many groups and ends, as memory was refused.
     fn forget_behind(&mut self, groups: usize, ends: usize)
-        ensures machine { setting_of self.new ≡ setting_of self.old }
+        ensures traced { traced_by self.new ≡ traced_by self.old }
         ensures scope { self.new.scope ≡ self.old.scope }
         ensures groups { self.new.groups.items ≡ take groups self.old.groups.items }
         ensures ends { self.new.ends.items ≡ take ends self.old.ends.items }
         ensures cut { self.new.cut_runs ≡ self.old.cut_runs }
+        ensures seen { self.new.seen ≡ self.old.seen }
+        ensures refused { self.new.refused ≡ true }
     {
         self.groups.truncate(groups);
         self.ends.truncate(ends);
+        self.refused = true;
     }
 }
 
-/// After want of memory no group and no end of the slot stays; a group that stood before may count differences of it.
+/// After want of memory no group and no end of the slot stays. But a group that stood before may count differences of it, and that a run
+/// was cut in it is still told.
 impl<'m> Collector<MachineState> for RaceGroups<'m> {
     ghost use Rattle.explore.specs.Ranked.{CollectsMore, StaysAs, closing_of};
     ghost use Rattle.race_groups.specs.Inner.{CollectsGroups, collects_nothing};
@@ -118,11 +138,15 @@ impl<'m> Collector<MachineState> for RaceGroups<'m> {
         ensures ok { OnOk result (CollectsMore CollectsGroups self.old (closing_of closed) self.new) }
         ensures err { OnErr result (StaysAs CollectsGroups self.old self.new) }
     {
+        let marks = closed.marks.len();
         let found = found_in(self.causes.alloc, self.causes.machine(), closed.marks)?;
         let groups = self.groups.len();
         let ends = self.ends.len();
         match self.put_slot(closed.rank, found) {
-            Ok(()) => Ok(()),
+            Ok(()) => {
+                self.seen = seen_by(self.seen, closed.rank, marks);
+                Ok(())
+            }
             Err(refused) => {
                 self.forget_behind(groups, ends);
                 Err(refused)

@@ -1,11 +1,10 @@
 // Differences are put into groups.
 
-ghost use Rattle.std.specs.Prelude.{◌≡◌, ◌<◌, ℕ, IfOk, IfSome, OnOk, false, length, map, true};
+ghost use Rattle.std.specs.Prelude.{◌≡◌, ◌<◌, ℕ, IfOk, OnOk, false, length, map, true};
 ghost use Rattle.std.specs.List.{Contains};
-ghost use Rattle.vmodel.specs.Run.{Setting};
-ghost use Rattle.cause.specs.Causes.{IsCause};
 ghost use Rattle.race_groups.specs.Found.{IsLogOf, logs_of};
-ghost use Rattle.race_groups.specs.Inner.{Adds, Counts, HasName, IsDefault, IsNamedIn, NoName, tolds_of};
+ghost use Rattle.race_groups.specs.Inner.{Adds, AreNamedApart, Counts, CountsStill, HasName, IsDefault, IsNamedIn, IsTraced, Tracing};
+ghost use Rattle.race_groups.specs.Inner.{Widens, tolds_of, tracing_of};
 
 use crate::causes::{Causes, Placed};
 use crate::group::{Group, Name};
@@ -20,7 +19,7 @@ use std::alloc::Global;
 fn follow(groups: &mut Vec<Group>, place: usize, name: Name, names: usize) -> Result<(), NoMemory>
     requires { place < length groups.old.items }
     ensures told { tolds_of groups.new.items ≡ tolds_of groups.old.items }
-    ensures still { Counts names NoName groups.old.items groups.new.items }
+    ensures still { CountsStill names groups.old.items groups.new.items }
     ensures counts { OnOk result (Counts names (λ n. name ≡ n) groups.old.items groups.new.items) }
 {
     let group = &mut groups[place];
@@ -28,7 +27,7 @@ fn follow(groups: &mut Vec<Group>, place: usize, name: Name, names: usize) -> Re
 }
 
 // A group of its own.
-#[tactic(auto, using(crate::proofs::AddsLemmas::adds_none, crate::proofs::AddsLemmas::adds_group, crate::proofs::CountLemmas::counts_none))]
+#[tactic(auto, using(crate::proofs::AddsLemmas::adds_none, crate::proofs::AddsLemmas::adds_group, crate::proofs::CountLemmas::still_none))]
 fn open<R: SlotRace>(
     alloc: Global,
     groups: &mut Vec<Group>,
@@ -36,11 +35,12 @@ fn open<R: SlotRace>(
     log: &Log,
     race: &R,
 ) -> Result<(), NoMemory>
-    ensures adds { (setting : Setting) → IfSome cause (IsCause setting log.now) →
-        IsLogOf (R.difference race.now) log.now → Adds setting (λ d. d ≡ R.difference race.now) (tolds_of groups.old.items) (tolds_of groups.new.items) }
-    ensures still { (names : ℕ) → Counts names NoName groups.old.items groups.new.items }
+    ensures adds { (tracing : Tracing) → IsTraced tracing log.now cause → IsLogOf (R.difference race.now) log.now →
+        Adds tracing (λ d. d ≡ R.difference race.now) (tolds_of groups.old.items) (tolds_of groups.new.items) }
+    ensures still { (names : ℕ) → CountsStill names groups.old.items groups.new.items }
     ensures counts { OnOk result ((names : ℕ) → Counts names (HasName (R.difference race.now))
         groups.old.items groups.new.items) }
+    ensures widens { OnOk result (Widens (R.difference race.now) groups.old.items groups.new.items) }
 {
     let name = race.name();
     groups.push(Group {
@@ -55,7 +55,7 @@ fn open<R: SlotRace>(
 }
 
 // The difference, by the log of one side. Where the group isn't new, it is counted there only if it wasn't yet.
-#[tactic(auto, using(crate::proofs::AddsLemmas::adds_none, crate::proofs::CountLemmas::counts_none))]
+#[tactic(auto, using(crate::proofs::AddsLemmas::adds_none, crate::proofs::CountLemmas::still_none))]
 fn put_side<R: SlotRace>(
     causes: &mut Causes<'_>,
     groups: &mut Vec<Group>,
@@ -65,12 +65,13 @@ fn put_side<R: SlotRace>(
     counted: bool,
 ) -> Result<(), NoMemory>
     requires log { IsLogOf (R.difference race.now) log.now }
-    ensures machine { causes.new.checkpoints ≡ causes.old.checkpoints }
-    ensures adds { Adds causes.old.checkpoints (λ d. d ≡ R.difference race.now)
+    ensures traced { tracing_of causes.new ≡ tracing_of causes.old }
+    ensures adds { Adds (tracing_of causes.old) (λ d. d ≡ R.difference race.now)
         (tolds_of groups.old.items) (tolds_of groups.new.items) }
-    ensures still { Counts names NoName groups.old.items groups.new.items }
+    ensures still { CountsStill names groups.old.items groups.new.items }
     ensures counts { OnOk result (counted ≡ false → Counts names (HasName (R.difference race.now))
         groups.old.items groups.new.items) }
+    ensures widens { OnOk result (counted ≡ true → Widens (R.difference race.now) groups.old.items groups.new.items) }
 {
     match causes.place(groups, log)? {
         Placed::With(place) => {
@@ -84,7 +85,7 @@ fn put_side<R: SlotRace>(
 }
 
 // The same, if the side has departures. Answers whether it is counted.
-#[tactic(auto, using(crate::proofs::AddsLemmas::adds_none, crate::proofs::CountLemmas::counts_none))]
+#[tactic(auto, using(crate::proofs::AddsLemmas::adds_none, crate::proofs::CountLemmas::still_none))]
 fn put_departed<R: SlotRace>(
     causes: &mut Causes<'_>,
     groups: &mut Vec<Group>,
@@ -93,14 +94,15 @@ fn put_departed<R: SlotRace>(
     side: usize,
     counted: bool,
 ) -> Result<bool, NoMemory>
-    ensures machine { causes.new.checkpoints ≡ causes.old.checkpoints }
-    ensures adds { Adds causes.old.checkpoints (λ d. d ≡ R.difference race.now)
+    ensures traced { tracing_of causes.new ≡ tracing_of causes.old }
+    ensures adds { Adds (tracing_of causes.old) (λ d. d ≡ R.difference race.now)
         (tolds_of groups.old.items) (tolds_of groups.new.items) }
-    ensures still { Counts names NoName groups.old.items groups.new.items }
+    ensures still { CountsStill names groups.old.items groups.new.items }
     ensures counts { IfOk result (λ is. is ≡ true → counted ≡ false → Counts names (HasName (R.difference race.now))
         groups.old.items groups.new.items) }
-    ensures default { IfOk result (λ is. is ≡ false →
-        (counted ≡ false) × IsDefault (logs_of (R.difference race.now)) side) }
+    ensures widens { IfOk result (λ is. counted ≡ true → Widens (R.difference race.now) groups.old.items groups.new.items) }
+    ensures default { IfOk result (λ is. is ≡ false → (counted ≡ false)
+        × IsDefault (logs_of (R.difference race.now)) side × (groups.new.items ≡ groups.old.items)) }
 {
     match race.departed(side) {
         None => Ok(counted),
@@ -118,10 +120,10 @@ fn put<R: SlotRace>(
     names: usize,
     race: &R,
 ) -> Result<(), NoMemory>
-    ensures machine { causes.new.checkpoints ≡ causes.old.checkpoints }
-    ensures adds { Adds causes.old.checkpoints (λ d. d ≡ R.difference race.now)
+    ensures traced { tracing_of causes.new ≡ tracing_of causes.old }
+    ensures adds { Adds (tracing_of causes.old) (λ d. d ≡ R.difference race.now)
         (tolds_of groups.old.items) (tolds_of groups.new.items) }
-    ensures still { Counts names NoName groups.old.items groups.new.items }
+    ensures still { CountsStill names groups.old.items groups.new.items }
     ensures counts { OnOk result (Counts names (HasName (R.difference race.now))
         groups.old.items groups.new.items) }
 {
@@ -143,12 +145,12 @@ pub(crate) fn put_all<R: SlotRace>(
     names: usize,
     races: &[R],
 ) -> Result<(), NoMemory>
-    ensures machine { causes.new.checkpoints ≡ causes.old.checkpoints }
-    ensures adds { Adds causes.old.checkpoints (Contains (map R.difference races.now))
+    ensures traced { tracing_of causes.new ≡ tracing_of causes.old }
+    ensures adds { Adds (tracing_of causes.old) (Contains (map R.difference races.now))
         (tolds_of groups.old.items) (tolds_of groups.new.items) }
-    ensures still { Counts names NoName groups.old.items groups.new.items }
-    ensures counts { OnOk result (Counts names (IsNamedIn R.difference races.now (length races.now))
-        groups.old.items groups.new.items) }
+    ensures still { CountsStill names groups.old.items groups.new.items }
+    ensures counts { OnOk result (AreNamedApart R.difference races.now →
+        Counts names (IsNamedIn R.difference races.now (length races.now)) groups.old.items groups.new.items) }
 {
     for race in races {
         put(causes, groups, names, race)?;

@@ -4,7 +4,9 @@ ghost use Rattle.std.specs.Prelude.{◌≡◌, IfOk, IfErr};
 ghost use Rattle.explore.specs.Ranked.{TellsOfEntries, TellsOfSteps, TellsOfStop};
 ghost use Rattle.vmachine.specs.Machines.{machine_rules};
 ghost use Rattle.vsrc.specs.Source.{file_bytes};
-ghost use Rattle.race_groups.specs.Found.{ClosesAllEnds, EachGroup, HasFirstDifference, HasItsCause, HasLogOfFirst, TellsOfAll, TellsOfAllThroughout, TellsOfClosed, TellsOfCuts, TellsOfCutsThroughout, TellsOfNone, TellsOfNoneThroughout};
+ghost use Rattle.race_groups.specs.Found.{ClosesAllEnds, ClosesTimeOfRun, EachGroup, FirstsAreInTime, HasFirstDifference, HasItsCause};
+ghost use Rattle.race_groups.specs.Found.{HasLogOfFirst, LacksOnlyNoCause, TellsOfAll, TellsOfAllThroughout, TellsOfCuts};
+ghost use Rattle.race_groups.specs.Found.{TellsOfCutsThroughout, TellsOfNone, TellsOfNoneThroughout};
 ghost use Rattle.vrace.specs.Request.{request_of};
 ghost use Rattle.vrace.specs.Explores.{IsSearched};
 ghost use Rattle.vrace.specs.Refusals.{IsDesignFault};
@@ -31,9 +33,10 @@ pub struct FoundRaces {
 /// the default order; and tells what two of them differ in, each difference under the two statements that are to blame (docs/RACES.md).
 ///
 /// Each difference told is one, and each cause is that of its log. Wherever two such runs differ from the time `scope.from` on, up to the
-/// time `races.search.closed`, a group counts the difference; where the search is exhausted, at every time. So where none is told, none
-/// differ. Where it isn't said that a run was cut by the time limit, so none was, up to that time. `Cut(Entries)` is said only where
-/// there are so many entries, `Cut(Steps)` only where a run takes more steps.
+/// time `races.search.closed`, a group counts the difference; where the search is exhausted, at every time. If memory wasn't refused
+/// meanwhile, groups count nothing else, and nothing twice. Where none is told, none differ. Where it isn't said that a run was cut by
+/// the time limit, so none was, up to that time. `Cut(Entries)` is said only where there are so many entries, `Cut(Steps)` only where a
+/// run takes more steps.
 ///
 /// Refusals, in the order in which they are looked for: E904 where the files together are longer than 16,777,216 bytes; E110 to
 /// E114, E101, E102, E2xx and E3xx where their text has no design; E901.
@@ -47,6 +50,8 @@ pub fn find_races_in<B: Budget>(
     ensures searched { IfOk result (λ found.
         IsSearched (file_bytes files.now) (request_of options.now) found.machine) }
     ensures cause { IfOk result (λ found. EachGroup (HasItsCause found.machine) found.races.groups.items) }
+    ensures no_cause { IfOk result (λ found.
+        EachGroup (LacksOnlyNoCause found.machine options.now.limits) found.races.groups.items) }
     ensures first { IfOk result (λ found.
         EachGroup (HasFirstDifference found.machine options.now.limits) found.races.groups.items) }
     ensures log { IfOk result (λ found. EachGroup HasLogOfFirst found.races.groups.items) }
@@ -55,10 +60,11 @@ pub fn find_races_in<B: Budget>(
         TellsOfAllThroughout found.machine options.now.limits scope.now found.races) }
     ensures none { IfOk result (λ found.
         TellsOfNone found.machine options.now.limits scope.now found.races) }
-    ensures exhausted { IfOk result (λ found.
+    ensures none_exhausted { IfOk result (λ found.
         TellsOfNoneThroughout found.machine options.now.limits scope.now found.races) }
-    ensures of_closed { IfOk result (λ found. TellsOfClosed found.races) }
+    ensures in_time { IfOk result (λ found. FirstsAreInTime found.machine scope.now found.races) }
     ensures closed { IfOk result (λ found. ClosesAllEnds found.machine options.now.limits found.races) }
+    ensures closed_time { IfOk result (λ found. ClosesTimeOfRun found.machine options.now.limits found.races) }
     ensures cuts { IfOk result (λ found. TellsOfCuts found.machine options.now.limits found.races) }
     ensures cuts_exhausted { IfOk result (λ found.
         TellsOfCutsThroughout found.machine options.now.limits found.races) }

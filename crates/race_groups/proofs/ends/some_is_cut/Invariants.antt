@@ -5,4 +5,5 @@ use Rattle.race_groups.specs.Inner.{IsUncut}
 use Rattle.race_groups.proofs.ends.some_is_cut.Given as goal
 
 abbrev pub invariant-loop-found : goal.invariant-loop-found
-invariant-loop-found l = (k : ℕ) (found : FoundMark MachineState) → k < l.found-index → slice_get l.ends k ≡ Some found → IsUncut l.machine found.state
+invariant-loop-found l = (k : ℕ) (found : FoundMark MachineState) → k < l.found-index → slice_get l.ends k ≡ Some found →
+    IsUncut l.machine found.state

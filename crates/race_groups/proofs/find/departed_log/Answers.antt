@@ -25,4 +25,5 @@ loop-found-preserved c =
     (sym c.members.ensures.list ∙ empty_from_test c.members.result.now (sym c.if-not-is_empty.ensures))
 
 pub returns : goal.returns
-returns c = no_ends_log c.args.ends.now c.loop-found.found-index c.new.result (omega (arith, c.loop-found-test.false)) c.loop-found.invariant c.new.ensures
+returns c = no_ends_log c.args.ends.now c.loop-found.found-index c.new.result
+    (omega (arith, c.loop-found-test.false)) c.loop-found.invariant c.new.ensures

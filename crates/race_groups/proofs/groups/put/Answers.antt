@@ -1,48 +1,56 @@
-use Rattle.std.proofs.Common.{◌≡◌, Some, refl, ◌∙◌, arith}
+use Rattle.std.proofs.Common.{◌≡◌, List, Some, refl, subst, ◌∙◌, arith}
 use Rattle.std.proofs.lemmas.Result.{on_ok_weaker}
 use Rattle.race_groups.specs.Found.{logs_of, name_of}
-use Rattle.race_groups.specs.Inner.{tolds_of}
+use Rattle.race_groups.specs.declared.group.Group.{Group}
+use Rattle.race_groups.specs.Inner.{Counts, tolds_of, tracing_of}
 use Rattle.race_groups.proofs.AddsLemmas.{adds_none, adds_then}
-use Rattle.race_groups.proofs.CountLemmas.{counts_behind, counts_none, counts_still, side_more}
+use Rattle.race_groups.proofs.CountLemmas.{side_more, still_none, still_on}
 use Rattle.race_groups.proofs.SideLemmas.{no_departed_log, none_looked_at, one_more}
 use Rattle.race_groups.proofs.groups.put.Goals as goal
 
 pub put_side-requires : goal.put_side-requires
 put_side-requires g c = record {
-  log = no_departed_log (g.R.SlotRace.difference c.args.race.now) c.loop-side.side c.new-none.result (omega (arith, c.loop-side-test.false, c.sides-side-end.ensures)) (c.loop-side.invariant.4 c.if-counted.false) c.new-none.ensures;
+  log = no_departed_log (g.R.SlotRace.difference c.args.race.now) c.loop-side.side c.new-none.result
+      (omega (arith, c.loop-side-test.false, c.sides-side-end.ensures)) (c.loop-side.invariant.4 c.if-counted.false) c.new-none.ensures;
 }
 
 pub loop-side-init : goal.loop-side-init
 loop-side-init g c =
     let groups = c.args.groups.now.items in (
       refl,
-      adds_none c.args.causes.now.checkpoints (λ d. d ≡ g.R.SlotRace.difference c.args.race.now) (tolds_of groups) (tolds_of groups) refl,
-      counts_none c.args.names groups groups refl,
+      adds_none (tracing_of c.args.causes.now) (λ d. d ≡ g.R.SlotRace.difference c.args.race.now) (tolds_of groups) (tolds_of groups) refl,
+      still_none c.args.names groups groups refl,
       λ e. absurd (cc),
       λ e. none_looked_at (logs_of (g.R.SlotRace.difference c.args.race.now)) 0 refl,
+      λ e. refl,
     )
 
 pub returns-in_err-counted-clause-adds : goal.returns-in_err-counted-clause-adds
 returns-in_err-counted-clause-adds g c =
-    adds_then c.args.causes.now.checkpoints c.loop-side.causes.checkpoints (λ d. d ≡ g.R.SlotRace.difference c.args.race.now) (tolds_of c.args.groups.now.items) (tolds_of c.loop-side.groups.items)
+    adds_then (tracing_of c.args.causes.now) (tracing_of c.loop-side.causes) (λ d. d ≡ g.R.SlotRace.difference c.args.race.now)
+    (tolds_of c.args.groups.now.items) (tolds_of c.loop-side.groups.items)
     (tolds_of c.put_departed.new.groups.items) c.loop-side.invariant.0 c.loop-side.invariant.1 c.put_departed.ensures.adds
 
 pub returns-in_err-counted-clause-still : goal.returns-in_err-counted-clause-still
 returns-in_err-counted-clause-still g c =
-    counts_still c.args.names c.args.groups.now.items c.loop-side.groups.items c.put_departed.new.groups.items c.loop-side.invariant.2 c.put_departed.ensures.still
+    still_on c.args.names c.args.groups.now.items c.loop-side.groups.items c.put_departed.new.groups.items c.loop-side.invariant.2
+    c.put_departed.ensures.still
 
 pub loop-side-preserved : goal.loop-side-preserved
 loop-side-preserved g c =
     let groups = c.args.groups.now.items in
     let mid = c.loop-side.groups.items in
     let new = c.put_departed.new.groups.items in (
-      c.put_departed.ensures.machine ∙ c.loop-side.invariant.0,
-      adds_then c.args.causes.now.checkpoints c.loop-side.causes.checkpoints (λ d. d ≡ g.R.SlotRace.difference c.args.race.now) (tolds_of groups) (tolds_of mid)
+      c.put_departed.ensures.traced ∙ c.loop-side.invariant.0,
+      adds_then (tracing_of c.args.causes.now) (tracing_of c.loop-side.causes) (λ d. d ≡ g.R.SlotRace.difference c.args.race.now)
+          (tolds_of groups) (tolds_of mid)
           (tolds_of new) c.loop-side.invariant.0 c.loop-side.invariant.1 c.put_departed.ensures.adds,
-      counts_still c.args.names groups mid new c.loop-side.invariant.2 c.put_departed.ensures.still,
-      side_more c.args.names (λ n. name_of (g.R.SlotRace.difference c.args.race.now) ≡ Some n) groups mid new c.loop-side.counted c.in_ok-counted.counted
-          c.loop-side.invariant.3 c.loop-side.invariant.2 c.put_departed.ensures.still c.in_ok-counted.ensures.counts,
-      λ e. (let was = c.in_ok-counted.ensures.default e in one_more (logs_of (g.R.SlotRace.difference c.args.race.now)) c.loop-side.side (c.loop-side.invariant.4 was.0) was.1),
+      still_on c.args.names groups mid new c.loop-side.invariant.2 c.put_departed.ensures.still,
+      λ e. side_more c.args.names (g.R.SlotRace.difference c.args.race.now) groups mid new c.loop-side.counted c.loop-side.invariant.3
+          c.loop-side.invariant.5 c.in_ok-counted.ensures.widens (c.in_ok-counted.ensures.counts e),
+      λ e. (let was = c.in_ok-counted.ensures.default e in
+          one_more (logs_of (g.R.SlotRace.difference c.args.race.now)) c.loop-side.side (c.loop-side.invariant.4 was.0) was.1),
+      λ e. (let was = c.in_ok-counted.ensures.default e in was.2 ∙ c.loop-side.invariant.5 was.0),
     )
 
 pub returns-then-counted-clause-counts : goal.returns-then-counted-clause-counts
@@ -50,13 +58,16 @@ returns-then-counted-clause-counts g c = c.loop-side.invariant.3 c.if-counted.tr
 
 pub returns-clause-adds : goal.returns-clause-adds
 returns-clause-adds g c =
-    adds_then c.args.causes.now.checkpoints c.loop-side.causes.checkpoints (λ d. d ≡ g.R.SlotRace.difference c.args.race.now) (tolds_of c.args.groups.now.items) (tolds_of c.loop-side.groups.items)
+    adds_then (tracing_of c.args.causes.now) (tracing_of c.loop-side.causes) (λ d. d ≡ g.R.SlotRace.difference c.args.race.now)
+    (tolds_of c.args.groups.now.items) (tolds_of c.loop-side.groups.items)
     (tolds_of c.put_side.new.groups.items) c.loop-side.invariant.0 c.loop-side.invariant.1 c.put_side.ensures.adds
 
 pub returns-clause-still : goal.returns-clause-still
-returns-clause-still g c = counts_still c.args.names c.args.groups.now.items c.loop-side.groups.items c.put_side.new.groups.items c.loop-side.invariant.2 c.put_side.ensures.still
+returns-clause-still g c = still_on c.args.names c.args.groups.now.items c.loop-side.groups.items c.put_side.new.groups.items
+    c.loop-side.invariant.2 c.put_side.ensures.still
 
 pub returns-clause-counts : goal.returns-clause-counts
 returns-clause-counts g c =
-    on_ok_weaker c.put_side.result (λ so. counts_behind c.args.names (λ n. name_of (g.R.SlotRace.difference c.args.race.now) ≡ Some n) c.args.groups.now.items c.loop-side.groups.items c.put_side.new.groups.items
-    c.loop-side.invariant.2 (so refl)) c.put_side.ensures.counts
+    on_ok_weaker c.put_side.result
+    (λ so. subst (λ (l : List Group). Counts c.args.names (λ n. name_of (g.R.SlotRace.difference c.args.race.now) ≡ Some n) l
+    c.put_side.new.groups.items) (c.loop-side.invariant.5 c.if-counted.false) (so refl)) c.put_side.ensures.counts

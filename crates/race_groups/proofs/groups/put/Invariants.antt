@@ -1,11 +1,12 @@
 use Rattle.std.proofs.Common.{◌≡◌, true, false, Some}
 use Rattle.race_groups.specs.Found.{logs_of, name_of}
-use Rattle.race_groups.specs.Inner.{Adds, AreDefault, Counts, NoName, tolds_of}
+use Rattle.race_groups.specs.Inner.{Adds, AreDefault, Counts, CountsStill, tolds_of, tracing_of}
 use Rattle.race_groups.proofs.groups.put.Given as goal
 
 abbrev pub invariant-loop-side : goal.invariant-loop-side
-invariant-loop-side g l = (l.causes.checkpoints ≡ l.fn.causes.checkpoints)
-    × Adds l.fn.causes.checkpoints (λ d. d ≡ g.R.SlotRace.difference l.race) (tolds_of l.fn.groups.items) (tolds_of l.groups.items)
-    × Counts l.names NoName l.fn.groups.items l.groups.items
+invariant-loop-side g l = (tracing_of l.causes ≡ tracing_of l.fn.causes)
+    × Adds (tracing_of l.fn.causes) (λ d. d ≡ g.R.SlotRace.difference l.race) (tolds_of l.fn.groups.items) (tolds_of l.groups.items)
+    × CountsStill l.names l.fn.groups.items l.groups.items
     × (l.counted ≡ true → Counts l.names (λ n. name_of (g.R.SlotRace.difference l.race) ≡ Some n) l.fn.groups.items l.groups.items)
     × (l.counted ≡ false → AreDefault (logs_of (g.R.SlotRace.difference l.race)) l.side)
+    × (l.counted ≡ false → l.groups.items ≡ l.fn.groups.items)

@@ -1,17 +1,19 @@
 use Rattle.std.proofs.Common.{length, map, refl, ◌∙◌, arith}
 use Rattle.std.specs.List.{Contains}
 use Rattle.std.proofs.lemmas.Option.{slice_get_read}
-use Rattle.race_groups.specs.Inner.{IsNamedIn, tolds_of}
+use Rattle.race_groups.specs.Inner.{tolds_of, tracing_of}
 use Rattle.race_groups.proofs.AddsLemmas.{adds_none, adds_race}
-use Rattle.race_groups.proofs.CountLemmas.{all_races, counts_less, counts_still, no_race_yet, race_more}
+use Rattle.race_groups.proofs.CountLemmas.{all_races, no_race_yet, race_more, still_none, still_on}
 use Rattle.race_groups.proofs.groups.put_all.Goals as goal
 
 pub loop-race-init : goal.loop-race-init
 loop-race-init g c =
     let groups = c.args.groups.now.items in (
       refl,
-      adds_none c.args.causes.now.checkpoints (Contains (map g.R.SlotRace.difference c.args.races.now)) (tolds_of groups) (tolds_of groups) refl,
-      no_race_yet c.args.names g.R.SlotRace.difference c.args.races.now 0 groups refl,
+      adds_none (tracing_of c.args.causes.now) (Contains (map g.R.SlotRace.difference c.args.races.now)) (tolds_of groups)
+          (tolds_of groups) refl,
+      λ apart. no_race_yet c.args.names g.R.SlotRace.difference c.args.races.now 0 groups refl,
+      still_none c.args.names groups groups refl,
     )
 
 pub returns-in_err-put-clause-adds : goal.returns-in_err-put-clause-adds
@@ -19,13 +21,15 @@ returns-in_err-put-clause-adds g c =
     let races = c.args.races.now in
     let i = c.loop-race.race-index in
     let race = c.race-item.result in
-    adds_race c.args.causes.now.checkpoints c.loop-race.causes.checkpoints g.R.SlotRace.difference races i race (tolds_of c.args.groups.now.items) (tolds_of c.loop-race.groups.items) (tolds_of c.put.new.groups.items)
-    c.loop-race.invariant.0 (slice_get_read races (length races) i race refl c.loop-race-test.true c.race-item.is) c.loop-race.invariant.1 c.put.ensures.adds
+    adds_race (tracing_of c.args.causes.now) (tracing_of c.loop-race.causes) g.R.SlotRace.difference races i race
+    (tolds_of c.args.groups.now.items) (tolds_of c.loop-race.groups.items) (tolds_of c.put.new.groups.items)
+    c.loop-race.invariant.0 (slice_get_read races (length races) i race refl c.loop-race-test.true c.race-item.is)
+    c.loop-race.invariant.1 c.put.ensures.adds
 
 pub returns-in_err-put-clause-still : goal.returns-in_err-put-clause-still
 returns-in_err-put-clause-still g c =
-    counts_still c.args.names c.args.groups.now.items c.loop-race.groups.items c.put.new.groups.items
-    (counts_less c.args.names (IsNamedIn g.R.SlotRace.difference c.args.races.now c.loop-race.race-index) c.args.groups.now.items c.loop-race.groups.items c.loop-race.invariant.2) c.put.ensures.still
+    still_on c.args.names c.args.groups.now.items c.loop-race.groups.items c.put.new.groups.items
+    c.loop-race.invariant.3 c.put.ensures.still
 
 pub loop-race-preserved : goal.loop-race-preserved
 loop-race-preserved g c =
@@ -33,16 +37,21 @@ loop-race-preserved g c =
     let i = c.loop-race.race-index in
     let race = c.race-item.result in
     let at = slice_get_read races (length races) i race refl c.loop-race-test.true c.race-item.is in (
-      c.put.ensures.machine ∙ c.loop-race.invariant.0,
-      adds_race c.args.causes.now.checkpoints c.loop-race.causes.checkpoints g.R.SlotRace.difference races i race (tolds_of c.args.groups.now.items) (tolds_of c.loop-race.groups.items) (tolds_of c.put.new.groups.items)
+      c.put.ensures.traced ∙ c.loop-race.invariant.0,
+      adds_race (tracing_of c.args.causes.now) (tracing_of c.loop-race.causes) g.R.SlotRace.difference races i race
+          (tolds_of c.args.groups.now.items) (tolds_of c.loop-race.groups.items) (tolds_of c.put.new.groups.items)
           c.loop-race.invariant.0 at c.loop-race.invariant.1 c.put.ensures.adds,
-      race_more c.args.names g.R.SlotRace.difference races i race c.args.groups.now.items c.loop-race.groups.items c.put.new.groups.items at c.loop-race.invariant.2 c.in_ok-put.ensures.counts,
+      λ apart. race_more c.args.names g.R.SlotRace.difference races i race c.args.groups.now.items c.loop-race.groups.items
+          c.put.new.groups.items at
+          apart (c.loop-race.invariant.2 apart) c.in_ok-put.ensures.counts,
+      still_on c.args.names c.args.groups.now.items c.loop-race.groups.items c.put.new.groups.items
+          c.loop-race.invariant.3 c.put.ensures.still,
     )
 
 pub returns-clause-still : goal.returns-clause-still
-returns-clause-still g c =
-    counts_less c.args.names (IsNamedIn g.R.SlotRace.difference c.args.races.now c.loop-race.race-index) c.args.groups.now.items c.loop-race.groups.items c.loop-race.invariant.2
+returns-clause-still g c = c.loop-race.invariant.3
 
 pub returns-clause-counts : goal.returns-clause-counts
-returns-clause-counts g c =
-    all_races c.args.names g.R.SlotRace.difference c.args.races.now c.loop-race.race-index c.args.groups.now.items c.loop-race.groups.items (omega (arith, c.loop-race-test.false)) c.loop-race.invariant.2
+returns-clause-counts g c = λ apart.
+    all_races c.args.names g.R.SlotRace.difference c.args.races.now c.loop-race.race-index c.args.groups.now.items c.loop-race.groups.items
+    (omega (arith, c.loop-race-test.false)) (c.loop-race.invariant.2 apart)

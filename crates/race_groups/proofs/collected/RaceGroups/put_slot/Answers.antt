@@ -5,7 +5,7 @@ use Rattle.explore.specs.declared.rank_marks.FoundMark.{FoundMark}
 use Rattle.vmachine.specs.declared.machine_state.MachineState.{MachineState}
 use Rattle.vmodel.specs.Run.{Setting}
 use Rattle.race_groups.specs.Inner.{AreUncut, tolds_of}
-use Rattle.race_groups.proofs.CountLemmas.{counts_none}
+use Rattle.race_groups.proofs.CountLemmas.{still_none}
 use Rattle.race_groups.proofs.KeptLemmas.{takes_early, takes_late}
 use Rattle.race_groups.proofs.SumLemmas.{grows_none}
 use Rattle.race_groups.proofs.collected.RaceGroups.put_slot.Goals as goal
@@ -14,7 +14,8 @@ pub returns-clause-ok : goal.returns-clause-ok
 returns-clause-ok c =
     let old = c.args.self.now in
     on_ok_weaker c.put_found.result
-    (λ all. takes_late c.args.time c.args.found old (record old { cut_runs = c.either-self.result }) c.put_found.new.self c.if-time-self.false refl refl refl refl
+    (λ all. takes_late c.args.time c.args.found old (record old { cut_runs = c.either-self.result }) c.put_found.new.self
+    c.if-time-self.false refl refl refl refl
     (λ none. (let e = c.either-self.ensures none in (
       e.0,
       subst (λ (l : List (FoundMark MachineState)). AreUncut old.causes.checkpoints (pairs_of l)) c.deref.ensures.value
@@ -36,10 +37,10 @@ pub returns-then-time-self-clause-grows : goal.returns-then-time-self-clause-gro
 returns-then-time-self-clause-grows c =
     let old = c.args.self.now in
     record {
-      machine = refl;
+      traced = refl;
       scope = refl;
       groups = grows_none (tolds_of old.groups.items);
-      counts = counts_none old.scope.names old.groups.items old.groups.items refl;
+      still = still_none old.scope.names old.groups.items old.groups.items refl;
       ends = grows_none old.ends.items;
       cut = λ none. (c.either-self.ensures none).0;
     }
