@@ -7,3 +7,4 @@ pub mod Causes
 pub mod Numbered
 pub mod Checkpoints
 pub mod Inner
+pub mod Stands
