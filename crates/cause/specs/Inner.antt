@@ -1,11 +1,17 @@
 -- *internal*: Words for the contracts of parts within.
-use Rattle.std.specs.Prelude.{List, [], ◌∷◌, ◌++◌}
+use Rattle.std.specs.Prelude.{Bool, false, List, [], ◌∷◌, ◌++◌, Option, Some, None}
+use Rattle.cause.specs.Visits.{same_visit}
 use Rattle.vdesign.specs.declared.expression.Node.{Node}
 use Rattle.vdesign.specs.declared.expression.Node.TheVariants as node
 use Rattle.cause.specs.declared.thing.Thing.{Thing}
 use Rattle.cause.specs.declared.thing.Thing.TheVariants.{Variable}
 use Rattle.cause.specs.declared.visit.Visit.{Visit}
 use Rattle.cause.specs.declared.slot.Slot.{Slot}
+
+-- a visit of another run, if it is one, is the same
+abbrev pub is_same_as : Visit → Option Visit → Bool
+is_same_as v None = false
+is_same_as v (Some w) = same_visit v w
 
 -- the visits of a whole slot
 abbrev pub whole : Slot → List Visit

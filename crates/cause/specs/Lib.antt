@@ -8,3 +8,5 @@ pub mod Numbered
 pub mod Checkpoints
 pub mod Inner
 pub mod Stands
+pub mod Latest
+pub mod Known

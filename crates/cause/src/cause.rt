@@ -103,7 +103,7 @@ fn cause_in(
 {
     let ours: &[Visit] = &run.visits;
     let theirs: &[Visit] = &parent.visits;
-    match first_swap(ours, theirs) {
+    match first_swap(alloc, ours, theirs)? {
         None => Ok(None),
         Some(swap) => {
             let one = &ours[swap.in_run];
