@@ -106,18 +106,33 @@ class Watched(Run):
         return footprint(action, self.counts)
 
 
+class Slot(dict):
+    """The visits of a slot from a step on, by who makes them and how many of his there were; and all of the slot, in a list."""
+
+    def __init__(self):
+        super().__init__()
+        self.whole = []
+
+
+def whole_slot(visits, start):
+    """Those of a run's visits that are of the slot of a step."""
+    begin = max((visit.step + 1 for visit in visits[:start] if visit.who == ADVANCE), default=0)
+    end = next((visit.step for visit in visits[start:] if visit.who == ADVANCE), len(visits))
+    return visits[begin:end]
+
+
 def slot_visits(made, grain, log, start, until, holding):
-    """The visits of the run under the log, from a step on, to the end of its slot, by who makes them and how many of his there were."""
+    """The visits of the slot of a step, in the run under the log."""
     run, named, count = Watched(made, grain == "process", until, holding), dict(log), 0
     while run.choices() and not (count > start and run.visits[-1].who == ADVANCE):
         run.take_number(named.get(count, 0))
         count += 1
-    found, counts = {}, {}
-    for visit in run.visits[start:]:
-        if visit.who == ADVANCE:
-            break
-        number = counts[visit.who] = counts.get(visit.who, -1) + 1
-        found[(visit.who, number)] = visit
+    found, counts = Slot(), {}
+    found.whole = whole_slot(run.visits, start)
+    for visit in found.whole:
+        if visit.step >= start:
+            number = counts[visit.who] = counts.get(visit.who, -1) + 1
+            found[(visit.who, number)] = visit
     return found
 
 
@@ -129,10 +144,10 @@ def shared(one, other):
     return one.writes & (other.reads | other.writes) | other.writes & one.reads
 
 
-def behind(visit, visits):
-    """Where a visit is a connection, the last visit before it that wrote what it reads, and so on."""
+def behind(visit, slot):
+    """Where a visit is a connection, the last visit of the slot before it that wrote what it reads, and so on."""
     while visit.is_connection:
-        before = [one for one in visits.values() if one.step < visit.step and one.writes & visit.reads]
+        before = [one for one in slot.whole if one.step < visit.step and one.writes & visit.reads]
         if not before:
             break
         visit = max(before, key=lambda one: one.step)

@@ -145,6 +145,31 @@ no_visits setting log s (suc n) le =
     (next setting.design (state_after setting log n) (choice_at log n)).effect (seen_after setting log s n) (omega (arith, le))
     ∙ no_visits setting log s n (omega (arith, le))
 
+-- what else is seen is the same from whatever step on visits are
+rest_next : (design : Design) (s t n : ℕ) (state : State) (c : Option Choice) (effect : Effect) (one other : Seen) → one.posted ≡ other.posted →
+    one.updates ≡ other.updates → ((seen_next design s n state c effect one).posted ≡ (seen_next design t n state c effect other).posted)
+    × ((seen_next design s n state c effect one).updates ≡ (seen_next design t n state c effect other).updates)
+rest_next design s t n state None effect one other posts counts = (posts, counts)
+rest_next design s t n state (Some c) effect one other posts counts =
+    (ap (λ (posted : List Posted). posted ++ posted_by state.queue.time (acting_place state c) effect.posted) posts, ap (updates_after c) counts)
+
+rest_same : (setting : Setting) (log : List (ℕ × ℕ)) (s t n : ℕ) → ((seen_after setting log s n).posted ≡ (seen_after setting log t n).posted)
+    × ((seen_after setting log s n).updates ≡ (seen_after setting log t n).updates)
+rest_same setting log s t zero = (refl, refl)
+rest_same setting log s t (suc n) =
+    let before = rest_same setting log s t n in
+    rest_next setting.design s t n (state_after setting log n) (choice_of setting log n) (next setting.design (state_after setting log n) (choice_at log n)).effect
+    (seen_after setting log s n) (seen_after setting log t n) before.0 before.1
+
+-- without its visits it is what is seen where they are looked for later
+pub keeps_none : (setting : Setting) (log : List (ℕ × ℕ)) (s t n time : ℕ) (kept : Seen) → Keeps time kept (seen_after setting log s n) → n ≤ t →
+    Keeps time (record kept { visits = [] }) (seen_after setting log t n)
+keeps_none setting log s t n time kept keeps le = record {
+  due = λ u later. keeps.due u later ∙ ap (due_at u) (rest_same setting log s t n).0;
+  updates = keeps.updates ∙ (rest_same setting log s t n).1;
+  visits = sym (no_visits setting log t n le);
+}
+
 -- what is seen after a step, by where it is taken
 abbrev seen_at : Setting → ℕ → ℕ → State → ℕ → Seen → Seen
 seen_at setting s n state index seen = seen_next setting.design s n state (slice_get (choices state) index) (next setting.design state index).effect seen
@@ -168,6 +193,7 @@ opened_is setting state seen at none = record {
   state = at ∙ sym (opening_is setting);
   seen = keeps_all state.queue.time seen nothing_seen none;
   few = subst (λ (s : Seen). s.updates ≤ 0) (sym none) (le_refl 0);
+  begins = λ k e. absurd (omega (arith, e));
 }
 
 pub copied_is : (setting : Setting) (checkpoint : Checkpoint) (state : State) (seen : Seen) → IsCheckpoint setting checkpoint → state ≡ checkpoint.state →
@@ -180,6 +206,7 @@ copied_is setting checkpoint state seen is same copied =
       state = is.state;
       seen = record { due = is.seen.due; updates = is.seen.updates; visits = sym (no_visits setting [] n n (omega arith)) };
       few = is.few;
+      begins = is.begins;
     } in
     subst (λ (t : State). P t seen) (sym same) (subst (P checkpoint.state) (sym copied) old)
 

@@ -1,11 +1,15 @@
 -- A run and its parent, up to the step that the last member names.
-use Rattle.std.proofs.Common.{◌≡◌, ℕ, zero, suc, ◌-◌, ◌==◌, ◌<◌, ◌≤◌, Bool, false, if◌then◌else◌, List, [], ◌∷◌, length, take, Option, Some, None, slice_get, refl, sym, ap, ◌∙◌, arith}
+use Rattle.std.proofs.Common.{◌≡◌, ℕ, zero, suc, ◌-◌, ◌==◌, ◌<◌, ◌≤◌, Bool, false, if◌then◌else◌, List, [], ◌∷◌, length, take, Option, Some, None, slice_get, refl, sym, ap, subst, ◌∙◌, arith, Result, IfOk, IfSome}
 use Rattle.std.proofs.lemmas.Bool.Decides.{nat_tests}
-use Rattle.std.proofs.lemmas.Option.{same_Some, slice_get_within}
+use Rattle.std.proofs.lemmas.Option.{IfSome_then, same_Some, slice_get_within}
+use Rattle.std.proofs.lemmas.Result.{IfOk-weaker}
 use Rattle.sched_core.specs.Rules.{choice_at}
 use Rattle.vmodel.specs.State.{State}
 use Rattle.vmodel.specs.Run.{Setting, rules_of, state_after}
-use Rattle.cause.specs.Causes.{parent_of, step_named, last_step}
+use Rattle.vdesign.specs.declared.action.Action.{Action}
+use Rattle.cause.specs.declared.cause.Cause.{Cause}
+use Rattle.cause.specs.declared.slot.Slot.{Slot}
+use Rattle.cause.specs.Causes.{AreEarlier, AreVisits, IsCause, IsCauseIn, parent_of, step_named, last_step}
 
 no_choice : (log : List (ℕ × ℕ)) (k : ℕ) → length log ≡ 0 → choice_at log k ≡ 0
 no_choice [] k e = refl
@@ -40,3 +44,44 @@ pub same_before : (setting : Setting) (log : List (ℕ × ℕ)) (s : ℕ) → la
 same_before setting log s e =
     let (last, found, is) = named (slice_get log (length log - 1)) s e in
     same_to setting log last found s (omega (arith, is))
+
+-- ---- what is told of both slots
+
+abbrev are_seen : Setting → List (ℕ × ℕ) → ℕ → Slot → Type 0
+are_seen setting log s slot = AreEarlier setting log s slot.earlier.items × AreVisits setting log s slot.visits.items
+
+abbrev is_told : List Action → ℕ → Slot → Slot → Cause → Type 0
+is_told actions step run parent = IsCauseIn actions step run.earlier.items run.visits.items parent.earlier.items parent.visits.items
+
+pub is_cause : (setting : Setting) (log parent_log : List (ℕ × ℕ)) (step : ℕ) (actions : List Action) (run parent : Slot) (cause : Cause) →
+    last_step log ≡ Some step → parent_log ≡ parent_of log → actions ≡ setting.design.actions → are_seen setting log step run →
+    are_seen setting parent_log step parent → is_told actions step run parent cause → IsCause setting log cause
+is_cause setting log parent_log step actions run parent cause named_so parent_is actions_are ours theirs told =
+    let same : cause.step ≡ step = ap (λ (c : Cause). c.step) told.told in
+    let there : are_seen setting (parent_of log) step parent = subst (λ (l : List (ℕ × ℕ)). are_seen setting l step parent) parent_is theirs in
+    let is : last_step log ≡ Some cause.step = named_so ∙ ap Some (sym same) in
+    let here : are_seen setting log cause.step run = subst (λ (s : ℕ). are_seen setting log s run) (sym same) ours in
+    let other : are_seen setting (parent_of log) cause.step parent = subst (λ (s : ℕ). are_seen setting (parent_of log) s parent) (sym same) there in
+    record {
+      named = is;
+      same = same_before setting log cause.step is;
+      run_earlier = run.earlier.items;
+      before_run = here.0;
+      run = run.visits.items;
+      of_run = here.1;
+      parent_earlier = parent.earlier.items;
+      before_parent = other.0;
+      parent = parent.visits.items;
+      of_parent = other.1;
+      is = subst (λ (list : List Action). is_told list cause.step run parent cause) actions_are
+          (subst (λ (s : ℕ). is_told actions s run parent cause) (sym same) told);
+    }
+
+pub caused : {E : Type 0} (setting : Setting) (log parent_log : List (ℕ × ℕ)) (step : ℕ) (actions : List Action) (run parent : Slot)
+    (result : Result (Option Cause) E) → last_step log ≡ Some step → parent_log ≡ parent_of log → actions ≡ setting.design.actions →
+    are_seen setting log step run → are_seen setting parent_log step parent → IfOk result (λ told. IfSome told (is_told actions step run parent)) →
+    IfOk result (λ told. IfSome told (IsCause setting log))
+caused setting log parent_log step actions run parent result named_so parent_is actions_are ours theirs told =
+    IfOk-weaker result (λ told. IfSome told (is_told actions step run parent)) (λ told. IfSome told (IsCause setting log))
+    (λ found some. IfSome_then found some (λ cause is.
+    is_cause setting log parent_log step actions run parent cause named_so parent_is actions_are ours theirs is)) told

@@ -1,13 +1,12 @@
 -- The visits of a slot, step by step.
-use Rattle.std.proofs.Common.{◌≡◌, ℕ, nat_lt, not, if◌then◌else◌, suc, ◌+◌, ◌-◌, ◌<◌, ◌≤◌, List, Option, Some, None, slice_get, length, Bool, true, false, inl, inr, refl, sym, ap, subst, ◌∙◌, le_refl, add-one, arith, take, [], ◌∷◌, zero}
+use Rattle.std.proofs.Common.{◌≡◌, ℕ, suc, ◌+◌, ◌-◌, ◌<◌, ◌≤◌, List, Option, Some, None, IfSome, IfNone, slice_get, length, Bool, true, false, inl, inr, refl, sym, ap, subst, ◌∙◌, le_refl, add-one, arith, take, [], ◌∷◌, zero}
 use Rattle.std.proofs.lemmas.Bool.{cases_lt}
-use Rattle.std.proofs.lemmas.Bool.Decides.{nat_tests}
 use Rattle.std.proofs.lemmas.Option.{slice_get_within}
 use Rattle.basis.proofs.Bools.{clash}
 use Rattle.sched_core.specs.Logs.{IsLogFrom}
 use Rattle.sched_core.specs.Rules.{IsRun, choice_at, stands}
 use Rattle.sched_core.specs.Replay.{IsNextChoice}
-use Rattle.sched_core.proofs.RunLemmas.{default_at_none, left_next, run_more}
+use Rattle.sched_core.proofs.RunLemmas.{choice_below, default_at_none, left_next, run_more}
 use Rattle.vmodel.specs.declared.choice.Choice.{Choice}
 use Rattle.vmodel.specs.State.{State}
 use Rattle.vmodel.specs.Choices.{choices}
@@ -17,11 +16,19 @@ use Rattle.vmodel.specs.RunProgress.{width_is, after_is}
 use Rattle.vmachine.specs.Inner.{IsAt}
 use Rattle.vmodel.specs.declared.effect.Effect.{Effect}
 use Rattle.cause.specs.Checkpoints.{Keeps, IsCheckpoint}
-use Rattle.cause.proofs.CheckpointLemmas.{keeps_on, keeps_then, left_from, rises, run_before, seen_before, state_before}
+use Rattle.cause.proofs.CheckpointLemmas.{keeps_none, keeps_on, keeps_then, left_from, rises, run_before, seen_before, state_before}
 use Rattle.cause.specs.declared.visit.Visit.{Visit}
-use Rattle.cause.specs.Visits.{Seen, seen_by, seen_next, seen_after, choice_of, is_in_slot, IsSlot}
-use Rattle.cause.specs.Causes.{AreVisits, HasNoSlot, parent_of}
-use Rattle.cause.specs.Inner.{ends_there}
+use Rattle.cause.specs.declared.checkpoint.Checkpoint.{Checkpoint}
+use Rattle.cause.specs.Visits.{Seen, seen_by, seen_next, seen_after, choice_of, is_in_slot, IsBegin, IsSlot}
+use Rattle.cause.specs.Causes.{AreEarlier, AreVisits, HasNoSlot, parent_of}
+use Rattle.cause.specs.Stands.{IsSeenSo, StandsBefore}
+
+-- what a clause says of what was found
+pub where_some : {A : Type 0} (P : A → Type 0) {found : Option A} {x : A} → found ≡ Some x → IfSome found P → P x
+where_some P e says = subst (λ o. IfSome o P) e says
+
+pub where_none : {A : Type 0} (P : Type 0) {found : Option A} → found ≡ None → IfNone found P → P
+where_none P e says = subst (λ o. IfNone o P) e says
 
 -- a slot ends once
 pub one_end : (setting : Setting) (log : List (ℕ × ℕ)) (s n m : ℕ) → IsSlot setting log s n → IsSlot setting log s m → n ≡ m
@@ -43,34 +50,6 @@ log_front low (suc k) (m ∷ log) h = (h.0, h.1, h.2, h.3, log_front (m.0 + 1) k
 
 pub parent_is_log : (members parent : List (ℕ × ℕ)) → parent ≡ parent_of members → IsLogFrom 0 members → IsLogFrom 0 parent
 parent_is_log members parent is lawful = subst (IsLogFrom 0) (sym is) (log_front 0 (length members - 1) members lawful)
-
--- after n steps the run stands here, and this was seen of it
-pub record IsSeenSo (setting : Setting) (log : List (ℕ × ℕ)) (steps from : ℕ) (rest : List (ℕ × ℕ)) (n : ℕ) (state : State) (seen : Seen) : Type 0 where
-  pub here : IsAt setting log rest steps n state
-  pub is : Keeps state.queue.time seen (seen_after setting log from n)
-  pub few : seen.updates ≤ n
-  pub within : (k : ℕ) → from ≤ k → k < n → is_in_slot (choice_of setting log k) ≡ true
-
--- what `ends_there` says
-goes_in : (early in_it : Bool) → (if early then false else not in_it) ≡ false → early ≡ false → in_it ≡ true
-goes_in true true goes late = refl
-goes_in true false goes late = sym late
-goes_in false true goes late = refl
-goes_in false false goes late = sym goes
-
-ends_late : (early in_it : Bool) → (if early then false else not in_it) ≡ true → early ≡ false
-ends_late true in_it ends = sym ends
-ends_late false in_it ends = refl
-
-ends_out : (early in_it : Bool) → (if early then false else not in_it) ≡ true → in_it ≡ false
-ends_out true true ends = sym ends
-ends_out true false ends = refl
-ends_out false true ends = sym ends
-ends_out false false ends = refl
-
--- where the slot doesn't end before a step from s on, that is one of it
-in_slot : (s n : ℕ) (choice : Option Choice) → ends_there s n choice ≡ false → s ≤ n → is_in_slot choice ≡ true
-in_slot s n choice goes le = let late : nat_lt n s ≡ false = grind (arith, nat_tests, le) in goes_in (nat_lt n s) (is_in_slot choice) goes late
 
 some_within : {A : Type 0} (xs : List A) (i : ℕ) → i < length xs → slice_get xs i ≡ None → ⊥
 some_within [] i lt e = absurd (omega (arith, lt))
@@ -113,30 +92,15 @@ module _ (setting : Setting) (log : List (ℕ × ℕ)) (steps from : ℕ) where
           ∙ ap (λ (s : State). slice_get (choices s) (choice_at log n)) so.here.at
 
       -- the slot has ended
-      pub told : (visits : List Visit) (choice : Option Choice) → choice ≡ slice_get (choices state) index → ends_there from n choice ≡ true →
+      pub told : (visits : List Visit) (choice : Option Choice) → from ≤ n → choice ≡ slice_get (choices state) index → is_in_slot choice ≡ false →
           visits ≡ seen.visits → AreVisits setting log from visits
-      told visits choice found ends is = (
+      told visits choice after found ends is = (
         n,
-        record {
-          run = so.here.run;
-          after = (let late : nat_lt n from ≡ false = ends_late (nat_lt n from) (is_in_slot choice) ends in grind (arith, nat_tests, late));
-          within = so.within;
-          ends = ap is_in_slot (sym (found ∙ choice_is)) ∙ ends_out (nat_lt n from) (is_in_slot choice) ends;
-        },
+        record { run = so.here.run; after = after; within = so.within; ends = ap is_in_slot (sym (found ∙ choice_is)) ∙ ends },
         is ∙ so.is.visits,
       )
 
-      -- the run has ended before the step
-      pub none_there : slice_get (choices state) index ≡ None → ends_there from n None ≡ false → HasNoSlot setting log from steps
-      none_there none goes m lt slot = elim (cases_lt n from) [
-        | inl before ↦ some_within (choices (state_after setting log n)) (choice_at log n)
-            (let after : from ≤ m = slot.after in
-            omega (arith, slot.run n (omega (arith, before, after)), width_is setting (state_after setting log n)))
-            (sym choice_is ∙ none)
-        | inr ge ↦ clash false (in_slot from n None goes ge) refl
-      ]
-
-      slot_on : (choice : Choice) → Some choice ≡ slice_get (choices state) index → ends_there from n (Some choice) ≡ false →
+      slot_on : (choice : Choice) → Some choice ≡ slice_get (choices state) index → (from ≤ n → is_in_slot (Some choice) ≡ true) →
           (k : ℕ) → from ≤ k → k < n + 1 → is_in_slot (choice_of setting log k) ≡ true
       slot_on choice found goes k le lt =
           elim (cases_lt k n) [
@@ -144,7 +108,7 @@ module _ (setting : Setting) (log : List (ℕ × ℕ)) (steps from : ℕ) where
             | inr ge ↦ (let same : k ≡ n = omega (arith, ge, lt) in
                 ap (λ (m : ℕ). is_in_slot (choice_of setting log m)) same
                 ∙ ap is_in_slot (sym (found ∙ choice_is))
-                ∙ in_slot from n (Some choice) goes (omega (arith, le, same)))
+                ∙ goes (omega (arith, le, same)))
           ]
 
       -- a step more
@@ -169,38 +133,166 @@ module _ (setting : Setting) (log : List (ℕ × ℕ)) (steps from : ℕ) where
             (next setting.design (state_after setting log n) (choice_at log n)).effect (seen_after setting log from n)) (found ∙ choice_is)
             ∙ ap (seen_after setting log from) (sym (add-one n))
 
-        pub seen_on : n < steps → IsLogFrom (n + 1) later → ends_there from n (Some choice) ≡ false → after ≡ (next setting.design state index).state →
+        pub keeps_there : after ≡ (next setting.design state index).state →
+            Keeps after.queue.time new (seen_by setting.design from n state choice (next setting.design state index).effect seen) →
+            Keeps after.queue.time new (seen_after setting log from (n + 1))
+        keeps_there is sees =
+            let effect : Effect = (next setting.design state index).effect in
+            let later_on : state.queue.time ≤ after.queue.time = rises setting log n state after run_on so.here.at (at_on is) in
+            subst (Keeps after.queue.time new) sees_on
+            (keeps_then after.queue.time new (seen_by setting.design from n state choice effect seen)
+            (seen_by setting.design from n state choice effect (seen_after setting log from n)) sees
+            (keeps_on setting.design from n state choice effect seen (seen_after setting log from n) after.queue.time so.is later_on))
+
+        pub is_at_on : n < steps → IsLogFrom (n + 1) later → after ≡ (next setting.design state index).state → IsAt setting log later steps (n + 1) after
+        is_at_on lt lawful is = record {
+          within = omega (arith, lt);
+          left = left_next log rest later n index so.here.left taken lawful;
+          run = run_on;
+          at = at_on is;
+        }
+
+        pub seen_on : n < steps → IsLogFrom (n + 1) later → (from ≤ n → is_in_slot (Some choice) ≡ true) → after ≡ (next setting.design state index).state →
             Keeps after.queue.time new (seen_by setting.design from n state choice (next setting.design state index).effect seen) → new.updates ≤ n + 1 →
             IsSeenSo setting log steps from later (n + 1) after new
         seen_on lt lawful goes is sees few =
-            let effect : Effect = (next setting.design state index).effect in
-            let there : after ≡ state_after setting log (n + 1) = at_on is in
-            let later_on : state.queue.time ≤ after.queue.time = rises setting log n state after run_on so.here.at there in
-            let keeps : Keeps after.queue.time new (seen_by setting.design from n state choice effect (seen_after setting log from n)) =
-            keeps_then after.queue.time new (seen_by setting.design from n state choice effect seen)
-            (seen_by setting.design from n state choice effect (seen_after setting log from n)) sees
-            (keeps_on setting.design from n state choice effect seen (seen_after setting log from n) after.queue.time so.is later_on) in
-            record {
-              here = record {
-                within = omega (arith, lt);
-                left = left_next log rest later n index so.here.left taken lawful;
-                run = run_on;
-                at = there;
-              };
-              is = subst (Keeps after.queue.time new) sees_on keeps;
-              few = few;
-              within = slot_on choice found goes;
-            }
+            record { here = is_at_on lt lawful is; is = keeps_there is sees; few = few; within = slot_on choice found goes }
 
--- where the default run stands before a step is a checkpoint
+-- ---- the visits of the slot before the step
+
+-- a checkpoint begins a slot
+pub begins : (setting : Setting) (log : List (ℕ × ℕ)) (checkpoint : Checkpoint) → IsCheckpoint setting checkpoint → IsLogFrom checkpoint.step log →
+    IsBegin setting log checkpoint.step checkpoint.step
+begins setting log checkpoint is lawful = record {
+  before = le_refl checkpoint.step;
+  within = λ k after lt. absurd (omega (arith, after, lt));
+  begins = λ k e.
+      (let lt : k < checkpoint.step = omega (arith, e) in
+      ap (λ (s : State). is_in_slot (slice_get (choices s) (choice_at log k))) (state_before setting log checkpoint.step lawful k (omega (arith, lt)))
+      ∙ ap (λ (i : ℕ). is_in_slot (slice_get (choices (state_after setting [] k)) i)) (choice_below checkpoint.step k log lt lawful)
+      ∙ is.begins k e);
+}
+
+-- where the run has ended before a step, that has no slot
+pub ended : (setting : Setting) (log rest later : List (ℕ × ℕ)) (from begin n index : ℕ) (state : State) (seen : Seen) →
+    IsSeenSo setting log from begin rest n state seen → IsNextChoice rest n index later → n < from → slice_get (choices state) index ≡ None →
+    (steps : ℕ) → HasNoSlot setting log from steps
+ended setting log rest later from begin n index state seen so taken before none steps m lt slot =
+    some_within (choices (state_after setting log n)) (choice_at log n)
+    (let after : from ≤ m = slot.after in
+    omega (arith, slot.run n (omega (arith, before, after)), width_is setting (state_after setting log n)))
+    (sym (choice_is setting log from begin rest n state seen so index later taken) ∙ none)
+
+module _ (setting : Setting) (log rest later : List (ℕ × ℕ)) (from begin n index : ℕ) (state after : State) (seen new : Seen)
+    (begun_so : IsBegin setting log n begin) (so : IsSeenSo setting log from begin rest n state seen) (taken : IsNextChoice rest n index later)
+    (choice : Choice) (found : Some choice ≡ slice_get (choices state) index) where
+  choice_here : is_in_slot (choice_of setting log n) ≡ is_in_slot (Some choice)
+  choice_here = ap is_in_slot (sym (found ∙ choice_is setting log from begin rest n state seen so index later taken))
+
+  same_begin : is_in_slot (Some choice) ≡ true → IsBegin setting log (n + 1) begin
+  same_begin goes = record {
+    before = omega (arith, begun_so.before);
+    within = λ k le lt. elim (cases_lt k n) [
+      | inl below ↦ begun_so.within k le below
+      | inr ge ↦ (let same : k ≡ n = omega (arith, ge, lt) in ap (λ (m : ℕ). is_in_slot (choice_of setting log m)) same ∙ choice_here ∙ goes)
+    ];
+    begins = begun_so.begins;
+  }
+
+  new_begin : is_in_slot (Some choice) ≡ false → IsBegin setting log (n + 1) (n + 1)
+  new_begin ends = record {
+    before = le_refl (n + 1);
+    within = λ k le lt. absurd (omega (arith, le, lt));
+    begins = λ k e.
+        (let same : k ≡ n = omega (arith, e) in ap (λ (m : ℕ). is_in_slot (choice_of setting log m)) same ∙ choice_here ∙ ends);
+  }
+
+  -- a step more
+  module _ (before : n < from) (lawful : IsLogFrom (n + 1) later) (is : after ≡ (next setting.design state index).state)
+      (sees : Keeps after.queue.time new (seen_by setting.design begin n state choice (next setting.design state index).effect seen))
+      (few : new.updates ≤ n + 1) where
+    goes_so : is_in_slot (Some choice) ≡ true → IsSeenSo setting log from begin later (n + 1) after new
+    goes_so goes = record {
+      here = is_at_on setting log from begin rest n state seen so index later taken choice after new found before lawful is;
+      is = keeps_there setting log from begin rest n state seen so index later taken choice after new found is sees;
+      few = few;
+      within = (same_begin goes).within;
+    }
+
+    ends_so : IsSeenSo setting log from (n + 1) later (n + 1) after (record new { visits = [] })
+    ends_so = record {
+      here = is_at_on setting log from begin rest n state seen so index later taken choice after new found before lawful is;
+      is = keeps_none setting log begin (n + 1) (n + 1) after.queue.time new
+          (keeps_there setting log from begin rest n state seen so index later taken choice after new found is sees) (le_refl (n + 1));
+      few = few;
+      within = λ k le lt. absurd (omega (arith, le, lt));
+    }
+
+    pub begin_on : (b : ℕ) (kept : Seen) → (is_in_slot (Some choice) ≡ true → (b ≡ begin) × (kept ≡ new)) →
+        (is_in_slot (Some choice) ≡ false → (b ≡ n + 1) × (kept ≡ record new { visits = [] })) → IsBegin setting log (n + 1) b
+    begin_on b kept on off = by_case (is_in_slot (Some choice)) refl
+      where
+        by_case : (test : Bool) → is_in_slot (Some choice) ≡ test → IsBegin setting log (n + 1) b
+        by_case true e = subst (IsBegin setting log (n + 1)) (sym (on e).0) (same_begin e)
+        by_case false e = subst (IsBegin setting log (n + 1)) (sym (off e).0) (new_begin e)
+
+    pub so_on : (b : ℕ) (kept : Seen) → (is_in_slot (Some choice) ≡ true → (b ≡ begin) × (kept ≡ new)) →
+        (is_in_slot (Some choice) ≡ false → (b ≡ n + 1) × (kept ≡ record new { visits = [] })) → IsSeenSo setting log from b later (n + 1) after kept
+    so_on b kept on off = by_case (is_in_slot (Some choice)) refl
+      where
+        P : ℕ → Seen → Type 0
+        P c s = IsSeenSo setting log from c later (n + 1) after s
+
+        by_case : (test : Bool) → is_in_slot (Some choice) ≡ test → P b kept
+        by_case true e = subst (λ (c : ℕ). P c kept) (sym (on e).0) (subst (P begin) (sym (on e).1) (goes_so e))
+        by_case false e = subst (λ (c : ℕ). P c kept) (sym (off e).0) (subst (P (n + 1)) (sym (off e).1) ends_so)
+
+pub stands_there : (setting : Setting) (log rest : List (ℕ × ℕ)) (from n begin : ℕ) (state : State) (seen : Seen) → IsBegin setting log n begin →
+    IsSeenSo setting log from begin rest n state seen → from ≤ n → StandsBefore setting log from rest state seen
+stands_there setting log rest from n begin state seen begun_so so le =
+    let same : n ≡ from = omega (arith, le, so.here.within) in
+    record {
+      b = begin;
+      begin = subst (λ (m : ℕ). IsBegin setting log m begin) same begun_so;
+      so = subst (λ (m : ℕ). IsSeenSo setting log from begin rest m state seen) same so;
+    }
+
+-- from the step on
+pub stands_so : (setting : Setting) (log rest : List (ℕ × ℕ)) (steps from : ℕ) (state : State) (seen kept : Seen) → StandsBefore setting log from rest state seen →
+    kept ≡ record seen { visits = [] } → from ≤ steps → IsSeenSo setting log steps from rest from state kept
+stands_so setting log rest steps from state seen kept before is le =
+    let none : IsSeenSo setting log steps from rest from state (record seen { visits = [] }) = record {
+      here = record { within = le; left = before.so.here.left; run = before.so.here.run; at = before.so.here.at };
+      is = keeps_none setting log before.b from from state.queue.time seen before.so.is (le_refl from);
+      few = before.so.few;
+      within = λ k after lt. absurd (omega (arith, after, lt));
+    } in
+    subst (IsSeenSo setting log steps from rest from state) (sym is) none
+
+pub are_earlier : (setting : Setting) (log rest : List (ℕ × ℕ)) (from : ℕ) (state : State) (seen : Seen) (visits : List Visit) →
+    StandsBefore setting log from rest state seen → visits ≡ seen.visits → AreEarlier setting log from visits
+are_earlier setting log rest from state seen visits before is = (before.b, before.begin, is ∙ before.so.is.visits)
+
+-- where the default run stands before the first step of a slot is a checkpoint
 pub checkpoint_there : (setting : Setting) (steps from n : ℕ) (state : State) (seen : Seen) → IsSeenSo setting [] steps from [] n state seen → n ≤ from →
-    IsCheckpoint setting (record { step = n; state = state; seen = seen })
-checkpoint_there setting steps from n state seen so le = record {
+    ((k : ℕ) → suc k ≡ n → is_in_slot (choice_of setting [] k) ≡ false) → IsCheckpoint setting (record { step = n; state = state; seen = seen })
+checkpoint_there setting steps from n state seen so le begin = record {
   run = so.here.run;
   state = so.here.at;
   seen = subst (Keeps state.queue.time seen) (seen_before setting [] n from n tt n (le_refl n) le (le_refl n)) so.is;
   few = so.few;
+  begins = begin;
 }
+
+-- behind a step that ends its slot another begins
+pub begins_behind : (setting : Setting) (steps from n : ℕ) (state : State) (seen : Seen) (choice : Choice) → IsSeenSo setting [] steps from [] n state seen →
+    Some choice ≡ slice_get (choices state) 0 → is_in_slot (Some choice) ≡ false → (k : ℕ) → suc k ≡ n + 1 →
+    is_in_slot (choice_of setting [] k) ≡ false
+begins_behind setting steps from n state seen choice so found ends k e =
+    let same : k ≡ n = omega (arith, e) in
+    ap (λ (m : ℕ). is_in_slot (choice_of setting [] m)) same
+    ∙ ap is_in_slot (sym (found ∙ choice_is setting [] steps from [] n state seen so 0 [] (default_at_none n [] refl)))
+    ∙ ends
 
 -- the default run goes on by a step
 pub goes_on : (setting : Setting) (to n : ℕ) (state after : State) (seen new : Seen) (choice : Choice) → IsSeenSo setting [] to to [] n state seen → n < to →
@@ -208,6 +300,5 @@ pub goes_on : (setting : Setting) (to n : ℕ) (state after : State) (seen new :
     Keeps after.queue.time new (seen_by setting.design to n state choice (next setting.design state 0).effect seen) → new.updates ≤ n + 1 →
     IsSeenSo setting [] to to [] (n + 1) after new
 goes_on setting to n state after seen new choice so lt found is sees few =
-    let early : nat_lt n to ≡ true = grind (arith, nat_tests, lt) in
-    let goes : ends_there to n (Some choice) ≡ false = ap (λ (test : Bool). if test then false else not (is_in_slot (Some choice))) early in
+    let goes : to ≤ n → is_in_slot (Some choice) ≡ true = λ le. absurd (omega (arith, lt, le)) in
     seen_on setting [] to to [] n state seen so 0 [] (default_at_none n [] refl) choice after new found lt tt goes is sees few

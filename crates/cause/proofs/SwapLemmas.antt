@@ -1,10 +1,9 @@
 -- The search for the first swap.
-use Rattle.std.proofs.Common.{◌≡◌, ℕ, ◌+◌, ◌<◌, ◌≤◌, List, length, Option, Some, None, slice_get, true, false, inl, inr, refl, ap, ◌∙◌, arith, zero, suc, Bool, ◌&&◌, not, take, [], ◌∷◌}
+use Rattle.std.proofs.Common.{◌≡◌, ℕ, ◌+◌, ◌<◌, ◌≤◌, List, length, Option, Some, None, slice_get, true, false, inl, inr, refl, ap, ◌∙◌, arith, zero, suc, take, [], ◌∷◌}
 use Rattle.std.proofs.lemmas.Bool.{cases_lt}
 use Rattle.std.proofs.lemmas.Option.{slice_get_past, same_Some}
-use Rattle.basis.proofs.Bools.{clash, or_first, or_second, and_false}
+use Rattle.basis.proofs.Bools.{clash, or_first, or_second}
 use Rattle.cause.specs.declared.visit.Visit.{Visit}
-use Rattle.cause.specs.Footprints.{touch}
 use Rattle.cause.specs.Visits.{same_visit}
 use Rattle.cause.specs.Swaps.{is_swap, is_swap_of, IsFirstSwap, HasNoSwap, has_come}
 
@@ -69,23 +68,6 @@ come_by v (u ∷ us) zero (suc n) w e same lt =
     or_first (same_visit v u) (has_come v (take n us)) (ap (same_visit v) (same_Some u w e) ∙ same)
 come_by v (u ∷ us) (suc place) (suc n) w e same lt =
     or_second (same_visit v u) (has_come v (take n us)) (come_by v us place n w e same (omega (arith, lt)))
-
-come_no : (run parent : List Visit) (i l : ℕ) (v : Visit) (found : Option Visit) → has_come v (take (l + 1) parent) ≡ true →
-    is_swap_of run parent i l (Some v) found ≡ false
-come_no run parent i l v None come = refl
-come_no run parent i l v (Some w) come =
-    let others : Bool = touch v.footprint w.footprint && not (has_come w (take (i + 1) run)) in
-    ap (λ (b : Bool). others && not b) come ∙ and_false others
-
-pub behind_place : (run parent : List Visit) (i place : ℕ) (v : Visit) → slice_get run i ≡ Some v →
-    ((n : ℕ) → place < length parent → place < n → has_come v (take n parent) ≡ true) → (l : ℕ) → place ≤ l → is_swap run parent i l ≡ false
-behind_place run parent i place v e come l le =
-    elim (cases_lt l (length parent)) [
-      | inl lt ↦
-          ap (λ (found : Option Visit). is_swap_of run parent i l found (slice_get parent l)) e
-          ∙ come_no run parent i l v (slice_get parent l) (come (l + 1) (omega (arith, le, lt)) (omega (arith, le)))
-      | inr ge ↦ past_parent run parent i l ge
-    ]
 
 pub no_visit : (run parent : List Visit) (i l : ℕ) → slice_get run i ≡ None → is_swap run parent i l ≡ false
 no_visit run parent i l e = ap (λ (found : Option Visit). is_swap_of run parent i l found (slice_get parent l)) e

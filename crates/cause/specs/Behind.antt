@@ -1,6 +1,7 @@
 -- *product rule*: The statement behind a port connection or an `assign` (IEEE 1364-2005, 6.1, 12.3.9.2; crates/cause/README.md): the visit
--- whose writing made it go on.
-use Rattle.std.specs.Prelude.{ℕ, zero, suc, Bool, true, false, if◌then◌else◌, List, length, Option, Some, None, slice_get}
+-- whose writing made it go on. The way back to it is a chain of visits of one slot, each the last before the next one that wrote what that
+-- reads. It ends at the first that is neither, or that reads what no visit of the slot wrote before it.
+use Rattle.std.specs.Prelude.{◌≡◌, ℕ, zero, suc, Bool, true, false, if◌then◌else◌, List, length, Option, Some, None, slice_get}
 use Rattle.vdesign.specs.declared.action.Action.{Action}
 use Rattle.vdesign.specs.declared.action.Action.TheVariants.{ContinuousAssign}
 use Rattle.cause.specs.declared.thing.Thing.{Thing}
@@ -43,6 +44,10 @@ abbrev pub place_or : ℕ → Option Visit → ℕ
 place_or place None = place
 place_or place (Some v) = v.place
 
--- the place of the statement behind visit i, which is v
+-- the way back from a visit has ended: it is neither a port connection nor an `assign`, or no visit before it wrote what it reads
+abbrev pub IsEnd : List Action → List Visit → ℕ → Type 0
+IsEnd actions visits i = source_of actions visits i ≡ None
+
+-- the place of the statement behind visit i, which is v; as the way goes back to earlier visits, it has ended after as many as there are
 abbrev pub statement_behind : List Action → List Visit → ℕ → Visit → ℕ
 statement_behind actions visits i v = place_or v.place (slice_get visits (behind actions visits (length visits) i))

@@ -1,10 +1,10 @@
 -- *product rule*: Which two statements race (crates/cause/README.md): the first swap of a run and its parent, in the slot of the last step that
 -- the log names. Both stand in the same state before that step.
-use Rattle.std.specs.Prelude.{◌≡◌, ℕ, ◌-◌, ◌<◌, if◌then◌else◌, List, [], ◌∷◌, length, take, Option, Some, None, slice_get}
+use Rattle.std.specs.Prelude.{◌≡◌, ℕ, ◌+◌, ◌-◌, ◌<◌, if◌then◌else◌, List, [], ◌∷◌, ◌++◌, length, take, Option, Some, None, slice_get}
 use Rattle.vdesign.specs.declared.action.Action.{Action}
 use Rattle.vmodel.specs.Run.{Setting, state_after}
 use Rattle.cause.specs.Footprints.{shared}
-use Rattle.cause.specs.Visits.{same_visit, visits_to, IsSlot}
+use Rattle.cause.specs.Visits.{same_visit, visits_to, IsBegin, IsSlot}
 use Rattle.cause.specs.Behind.{statement_behind}
 use Rattle.cause.specs.Swaps.{IsFirstSwap, HasNoSwap}
 use Rattle.cause.specs.declared.visit.Visit.{Visit}
@@ -23,7 +23,11 @@ step_named (Some member) = Some member.0
 abbrev pub last_step : List (ℕ × ℕ) → Option ℕ
 last_step log = step_named (slice_get log (length log - 1))
 
--- the visits of the whole slot of step s
+-- the visits of the slot of step s that come before that step
+abbrev pub AreEarlier : Setting → List (ℕ × ℕ) → ℕ → List Visit → Type 0
+AreEarlier setting log s visits = (b : ℕ) × IsBegin setting log s b × (visits ≡ visits_to setting log b s)
+
+-- the visits of the slot of step s from that step on
 abbrev pub AreVisits : Setting → List (ℕ × ℕ) → ℕ → List Visit → Type 0
 AreVisits setting log s visits = (n : ℕ) × IsSlot setting log s n × (visits ≡ visits_to setting log s n)
 
@@ -32,27 +36,28 @@ abbrev pub step_in : Visit → List Visit → Option ℕ
 step_in v [] = None
 step_in v (w ∷ visits) = if same_visit v w then Some w.step else step_in v visits
 
--- what is told of visit i of one of both runs, which is v
-abbrev pub told_of : List Action → List Visit → List Visit → List Visit → ℕ → Visit → Blamed
-told_of actions run parent own i v = record {
+-- what is told of visit i of one of both runs, its own, which is v; the statement behind it by the visits of the whole slot, those before
+-- the step and its own
+abbrev pub told_of : List Action → List Visit → List Visit → List Visit → List Visit → ℕ → Visit → Blamed
+told_of actions run parent earlier own i v = record {
   actor = v.actor;
   place = v.place;
-  statement = statement_behind actions own i v;
+  statement = statement_behind actions (earlier ++ own) (length earlier + i) v;
   in_run = step_in v run;
   in_parent = step_in v parent;
 }
 
 -- what is told of visit i of the run, which is v, and of visit j of the parent, which is w
-abbrev pub cause_by : List Action → ℕ → List Visit → List Visit → ℕ → ℕ → Visit → Visit → Cause
-cause_by actions step run parent i j v w = record {
+abbrev pub cause_by : List Action → ℕ → List Visit → List Visit → List Visit → List Visit → ℕ → ℕ → Visit → Visit → Cause
+cause_by actions step run_earlier run parent_earlier parent i j v w = record {
   step = step;
-  first = told_of actions run parent run i v;
-  second = told_of actions run parent parent j w;
+  first = told_of actions run parent run_earlier run i v;
+  second = told_of actions run parent parent_earlier parent j w;
   things = shared v.footprint w.footprint;
 }
 
--- it tells the first swap of these visits
-pub record IsCauseIn (actions : List Action) (step : ℕ) (run parent : List Visit) (cause : Cause) : Type 0 where
+-- it tells the first swap of the visits of both runs from the step on, before which these come
+pub record IsCauseIn (actions : List Action) (step : ℕ) (run_earlier run parent_earlier parent : List Visit) (cause : Cause) : Type 0 where
   pub i : ℕ
   pub j : ℕ
   pub is : IsFirstSwap run parent i j
@@ -60,17 +65,21 @@ pub record IsCauseIn (actions : List Action) (step : ℕ) (run parent : List Vis
   pub at_i : slice_get run i ≡ Some v
   pub w : Visit
   pub at_j : slice_get parent j ≡ Some w
-  pub told : cause ≡ cause_by actions step run parent i j v w
+  pub told : cause ≡ cause_by actions step run_earlier run parent_earlier parent i j v w
 
 -- the cause of what the run under the log has, and its parent hasn't
 pub record IsCause (setting : Setting) (log : List (ℕ × ℕ)) (cause : Cause) : Type 0 where
   pub named : last_step log ≡ Some cause.step
   pub same : state_after setting log cause.step ≡ state_after setting (parent_of log) cause.step
+  pub run_earlier : List Visit
+  pub before_run : AreEarlier setting log cause.step run_earlier
   pub run : List Visit
   pub of_run : AreVisits setting log cause.step run
+  pub parent_earlier : List Visit
+  pub before_parent : AreEarlier setting (parent_of log) cause.step parent_earlier
   pub parent : List Visit
   pub of_parent : AreVisits setting (parent_of log) cause.step parent
-  pub is : IsCauseIn setting.design.actions cause.step run parent cause
+  pub is : IsCauseIn setting.design.actions cause.step run_earlier run parent_earlier parent cause
 
 -- the slot doesn't end before so many steps
 abbrev pub HasNoSlot : Setting → List (ℕ × ℕ) → ℕ → ℕ → Type 0

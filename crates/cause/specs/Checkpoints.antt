@@ -1,8 +1,8 @@
 -- *internal*: States of the default run, from which runs under logs are gone through.
-use Rattle.std.specs.Prelude.{◌≡◌, ℕ, ◌+◌, ◌≤◌, nat_lt, if◌then◌else◌, List, [], ◌∷◌}
+use Rattle.std.specs.Prelude.{◌≡◌, ℕ, suc, ◌+◌, ◌≤◌, nat_lt, false, if◌then◌else◌, List, [], ◌∷◌}
 use Rattle.sched_core.specs.Rules.{IsRun}
 use Rattle.vmodel.specs.Run.{Setting, rules_of, state_after}
-use Rattle.cause.specs.Visits.{Seen, due_at, seen_after}
+use Rattle.cause.specs.Visits.{Seen, due_at, seen_after, choice_of, is_in_slot}
 use Rattle.cause.specs.declared.checkpoint.Checkpoint.{Checkpoint}
 use Rattle.cause.specs.declared.visit.Posted.{Posted}
 
@@ -17,13 +17,14 @@ pub record Keeps (time : ℕ) (kept seen : Seen) : Type 0 where
   pub updates : kept.updates ≡ seen.updates
   pub visits : kept.visits ≡ seen.visits
 
--- a checkpoint: the state in which the default run, which is the run under the empty log, stands before a step, and what is kept of what
--- was seen of it up to there
+-- a checkpoint: the state in which the default run, which is the run under the empty log, stands before the first step of a slot, and what
+-- is kept of what was seen of it up to there
 pub record IsCheckpoint (setting : Setting) (checkpoint : Checkpoint) : Type 0 where
   pub run : IsRun (rules_of setting) [] checkpoint.step
   pub state : checkpoint.state ≡ state_after setting [] checkpoint.step
   pub seen : Keeps checkpoint.state.queue.time checkpoint.seen (seen_after setting [] checkpoint.step checkpoint.step)
   pub few : checkpoint.seen.updates ≤ checkpoint.step
+  pub begins : (k : ℕ) → suc k ≡ checkpoint.step → is_in_slot (choice_of setting [] k) ≡ false
 
 abbrev pub AreCheckpoints : Setting → List Checkpoint → Type 0
 AreCheckpoints setting [] = Unit {0}

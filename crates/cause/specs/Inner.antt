@@ -1,11 +1,21 @@
 -- *internal*: Words for the contracts of parts within.
-use Rattle.std.specs.Prelude.{ℕ, nat_lt, Bool, false, not, if◌then◌else◌, List, [], ◌∷◌, ◌++◌, Option}
-use Rattle.vmodel.specs.declared.choice.Choice.{Choice}
-use Rattle.cause.specs.Visits.{is_in_slot}
+use Rattle.std.specs.Prelude.{Bool, false, List, [], ◌∷◌, ◌++◌, Option, Some, None}
+use Rattle.cause.specs.Visits.{same_visit}
 use Rattle.vdesign.specs.declared.expression.Node.{Node}
 use Rattle.vdesign.specs.declared.expression.Node.TheVariants as node
 use Rattle.cause.specs.declared.thing.Thing.{Thing}
 use Rattle.cause.specs.declared.thing.Thing.TheVariants.{Variable}
+use Rattle.cause.specs.declared.visit.Visit.{Visit}
+use Rattle.cause.specs.declared.slot.Slot.{Slot}
+
+-- a visit of another run, if it is one, is the same
+abbrev pub is_same_as : Visit → Option Visit → Bool
+is_same_as v None = false
+is_same_as v (Some w) = same_visit v w
+
+-- the visits of a whole slot
+abbrev pub whole : Slot → List Visit
+whole slot = slot.earlier.items ++ slot.visits.items
 
 -- what a node of an expression names by itself
 abbrev pub named_by : Node → List Thing
@@ -25,7 +35,3 @@ named_by (node.Repeated count) = []
 abbrev pub named_by_all : List Node → List Thing
 named_by_all [] = []
 named_by_all (node ∷ nodes) = named_by node ++ named_by_all nodes
-
--- the slot of step s has ended before step n, which is of this choice, if it is one
-abbrev pub ends_there : ℕ → ℕ → Option Choice → Bool
-ends_there s n choice = if nat_lt n s then false else not (is_in_slot choice)

@@ -7,3 +7,6 @@ pub mod Causes
 pub mod Numbered
 pub mod Checkpoints
 pub mod Inner
+pub mod Stands
+pub mod Latest
+pub mod Known

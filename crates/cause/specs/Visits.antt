@@ -145,6 +145,13 @@ is_in_slot (Some (Run p)) = true
 is_in_slot (Some Update) = true
 is_in_slot (Some Advance) = false
 
+-- of the run under the log, step b is the first of the slot of step s: none between them is an advance, and the one before it is, if there
+-- is one
+pub record IsBegin (setting : Setting) (log : List (ℕ × ℕ)) (s b : ℕ) : Type 0 where
+  pub before : b ≤ s
+  pub within : (k : ℕ) → b ≤ k → k < s → is_in_slot (choice_of setting log k) ≡ true
+  pub begins : (k : ℕ) → suc k ≡ b → is_in_slot (choice_of setting log k) ≡ false
+
 -- of the run under the log, the slot of step s ends before step n
 pub record IsSlot (setting : Setting) (log : List (ℕ × ℕ)) (s n : ℕ) : Type 0 where
   pub run : IsRun (rules_of setting) log n

@@ -1,13 +1,13 @@
 // The cause of what a run has and its parent hasn't.
 
-ghost use Rattle.std.specs.Prelude.{◌≡◌, IfOk, IfSome, IfNone, slice_get, Some};
+ghost use Rattle.std.specs.Prelude.{◌≡◌, ◌<◌, length, IfOk, IfSome, IfNone, slice_get, Some};
 ghost use Rattle.sched_core.specs.Logs.{IsLogFrom};
 ghost use Rattle.cause.specs.Causes as spec;
 ghost use Rattle.cause.specs.Swaps.{HasNoSwap};
 
 use crate::behind::statement_behind;
 use crate::checkpoints::Checkpoints;
-use crate::slot::{first_step, visits_of_slot};
+use crate::slot::{Slot, first_step, visits_of_slot};
 use crate::swap::first_swap;
 use crate::thing::{Things, shared};
 use crate::visit::{Actor, Visit, is_same_visit};
@@ -68,16 +68,17 @@ fn step_in(visit: &Visit, visits: &[Visit]) -> Option<u32>
     None
 }
 
-// What is told of visit i of one of both runs, which is this one.
+// What is told of visit i of one of both runs' slots, which is this one.
 fn told_of(
     actions: &[Action],
     run: &[Visit],
     parent: &[Visit],
-    own: &[Visit],
+    own: &Slot,
     i: usize,
     visit: &Visit,
 ) -> Blamed
-    ensures { result ≡ spec.told_of actions.now run.now parent.now own.now i visit.now }
+    requires { i < length own.now.visits.items }
+    ensures { result ≡ spec.told_of actions.now run.now parent.now own.now.earlier.items own.now.visits.items i visit.now }
 {
     Blamed {
         actor: visit.actor,
@@ -93,21 +94,24 @@ fn cause_in(
     alloc: Global,
     actions: &[Action],
     step: u32,
-    run: &[Visit],
-    parent: &[Visit],
+    run: &Slot,
+    parent: &Slot,
 ) -> Result<Option<Cause>, NoMemory>
-    ensures some { IfOk result (λ told. IfSome told (spec.IsCauseIn actions.now step run.now parent.now)) }
-    ensures none { IfOk result (λ told. IfNone told (HasNoSwap run.now parent.now)) }
+    ensures some { IfOk result (λ told. IfSome told
+        (spec.IsCauseIn actions.now step run.now.earlier.items run.now.visits.items parent.now.earlier.items parent.now.visits.items)) }
+    ensures none { IfOk result (λ told. IfNone told (HasNoSwap run.now.visits.items parent.now.visits.items)) }
 {
-    match first_swap(run, parent) {
+    let ours: &[Visit] = &run.visits;
+    let theirs: &[Visit] = &parent.visits;
+    match first_swap(alloc, ours, theirs)? {
         None => Ok(None),
         Some(swap) => {
-            let one = &run[swap.in_run];
-            let other = &parent[swap.in_parent];
+            let one = &ours[swap.in_run];
+            let other = &theirs[swap.in_parent];
             Ok(Some(Cause {
                 step,
-                first: told_of(actions, run, parent, run, swap.in_run, one),
-                second: told_of(actions, run, parent, parent, swap.in_parent, other),
+                first: told_of(actions, ours, theirs, run, swap.in_run, one),
+                second: told_of(actions, ours, theirs, parent, swap.in_parent, other),
                 things: shared(alloc, &one.footprint, &other.footprint)?,
             }))
         }

@@ -10,8 +10,8 @@ use std::alloc::Global;
 use vmachine::Machine;
 use vmodel::State;
 
-/// The state in which the default run, the run under the empty log, stands before a step, and what is kept of what was seen of it up to
-/// there.
+/// The state in which the default run, the run under the empty log, stands before the first step of a slot, and what is kept of what was
+/// seen of it up to there.
 #[derive(Drop)]
 pub(crate) struct Checkpoint {
     pub(crate) step: u32,

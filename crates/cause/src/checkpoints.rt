@@ -1,8 +1,9 @@
 // Checkpoints of the default run, as far as it was gone through.
 
-ghost use Rattle.std.specs.Prelude.{◌≡◌, ◌≤◌, IfOk, IfSome};
+ghost use Rattle.std.specs.Prelude.{◌≡◌, ◌≤◌, false, Some, IfOk, IfSome};
 ghost use Rattle.vmodel.specs.Run.{Setting};
 ghost use Rattle.cause.specs.Checkpoints.{IsCheckpoint};
+ghost use Rattle.cause.specs.Visits.{is_in_slot};
 ghost use Rattle.cause.specs.Checkpoints as spec;
 
 use crate::checkpoint::Checkpoint;
@@ -177,7 +178,8 @@ impl<'m> Checkpoints<'m> {
         state: &State,
         seen: &Seen,
     ) -> Result<(), NoMemory>
-        requires { IsCheckpoint self.old (record { step = step; state = state.now; seen = seen.now }) }
+        requires { is_in_slot (Some choice) ≡ false →
+            IsCheckpoint self.old (record { step = step; state = state.now; seen = seen.now }) }
         ensures { self.new ≡ self.old }
     {
         match choice {

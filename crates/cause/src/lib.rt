@@ -8,6 +8,8 @@ mod cause;
 mod checkpoint;
 mod checkpoints;
 mod footprint;
+mod index;
+mod latest;
 mod slot;
 mod step;
 mod swap;

@@ -1,40 +1,31 @@
 // The visits of the slot of a step, as a run under a log makes them.
 
-ghost use Rattle.std.specs.Prelude.{◌≡◌, ◌≤◌, IfOk, IfSome, IfNone};
+ghost use Rattle.std.specs.Prelude.{◌≡◌, ◌≤◌, ℕ, [], true, false, Some, IfOk, IfSome, IfNone};
 ghost use Rattle.sched_core.specs.Logs.{IsLogFrom};
-ghost use Rattle.cause.specs.Causes.{AreVisits, HasNoSlot};
-ghost use Rattle.cause.specs.Inner.{ends_there};
+ghost use Rattle.cause.specs.Causes.{AreEarlier, AreVisits, HasNoSlot};
+ghost use Rattle.cause.specs.Stands.{StandsBefore};
 ghost use Rattle.cause.specs.Visits as spec;
 
 use crate::checkpoint::Checkpoint;
 use crate::checkpoints::Checkpoints;
 use crate::step::take;
-use crate::visit::Visit;
+use crate::visit::{Seen, Visit};
 use basis::NoMemory;
 use sched_core::{Member, next_choice};
 use std::alloc::Global;
 use vmodel::choice::Choice;
 
-// Whether a step goes on with the slot.
-fn is_in_slot(choice: Option<Choice>) -> bool
-    ensures { result ≡ spec.is_in_slot choice }
+// The choice of a step, if it goes on with the slot.
+fn going_on(choice: Option<Choice>) -> Option<Choice>
+    ensures some { IfSome result (λ found. (choice ≡ Some found) × (spec.is_in_slot (Some found) ≡ true)) }
+    ensures none { IfNone result (spec.is_in_slot choice ≡ false) }
 {
     match choice {
-        None => false,
-        Some(Choice::Run(_)) => true,
-        Some(Choice::Update) => true,
-        Some(Choice::Advance) => false,
+        None => None,
+        Some(Choice::Run(process)) => Some(Choice::Run(process)),
+        Some(Choice::Update) => Some(Choice::Update),
+        Some(Choice::Advance) => None,
     }
-}
-
-// Whether the slot of step `from` ends before this step.
-fn ends_before(from: u32, step: u32, choice: Option<Choice>) -> bool
-    ensures { result ≡ ends_there from step choice }
-{
-    if step < from {
-        return false;
-    }
-    !is_in_slot(choice)
 }
 
 /// The step of the first member, if it comes before this one.
@@ -49,6 +40,70 @@ pub(crate) fn first_step(members: &[Member], step: u32) -> u32
     }
 }
 
+/// The visits of the slot of a step: those that come before that step, and those from it on.
+#[derive(Drop)]
+pub(crate) struct Slot {
+    pub(crate) earlier: Vec<Visit>,
+    pub(crate) visits: Vec<Visit>,
+}
+
+// The first step of the slot of the next step, behind a step of a choice; where another slot begins the visits are forgotten.
+fn begin_after(alloc: Global, choice: Choice, begin: u32, next: u32, seen: &mut Seen) -> u32
+    ensures goes { spec.is_in_slot (Some choice) ≡ true → (result ≡ begin) × (seen.new ≡ seen.old) }
+    ensures ends { spec.is_in_slot (Some choice) ≡ false → (result ≡ next) × (seen.new ≡ record seen.old { visits = [] }) }
+{
+    match choice {
+        Choice::Run(_) => begin,
+        Choice::Update => begin,
+        Choice::Advance => {
+            seen.forget_visits(alloc);
+            next
+        }
+    }
+}
+
+// Where the run under the log of these members stands before step `from`, with the visits of its slot up to there, and what is left of the
+// log; none where there is no such run.
+fn before_step<'a>(
+    alloc: Global,
+    checkpoints: &Checkpoints<'_>,
+    members: &'a [Member],
+    from: u32,
+) -> Result<Option<(Checkpoint, &'a [Member])>, NoMemory>
+    requires { IsLogFrom 0 members.now }
+    ensures some { IfOk result (λ told. IfSome told (λ found.
+        StandsBefore checkpoints.now members.now from found.1.now found.0.state found.0.seen)) }
+    ensures none { IfOk result (λ told. IfNone told ((steps : ℕ) → HasNoSlot checkpoints.now members.now from steps)) }
+{
+    let design = checkpoints.machine().design();
+    let Checkpoint {
+        step: first,
+        mut state,
+        mut seen,
+    } = checkpoints.last_before(alloc, first_step(members, from))?;
+    let mut rest = members;
+    let mut begin = first;
+    for step in first..from {
+        let (index, later) = next_choice(rest, step);
+        let Some(choice) = state.choice(index) else {
+            return Ok(None);
+        };
+        take(
+            alloc, design, &mut state, &mut seen, begin, step, index, choice,
+        )?;
+        begin = begin_after(alloc, choice, begin, step + 1, &mut seen);
+        rest = later;
+    }
+    Ok(Some((
+        Checkpoint {
+            step: from,
+            state,
+            seen,
+        },
+        rest,
+    )))
+}
+
 /// The visits of the slot of step `from` in the run under the log of these members; none where the slot doesn't end before `steps` steps,
 /// or where there is no such run.
 pub(crate) fn visits_of_slot(
@@ -57,29 +112,29 @@ pub(crate) fn visits_of_slot(
     members: &[Member],
     from: u32,
     steps: u32,
-) -> Result<Option<Vec<Visit>>, NoMemory>
+) -> Result<Option<Slot>, NoMemory>
     requires { IsLogFrom 0 members.now }
-    ensures some { IfOk result (λ told. IfSome told (λ visits. AreVisits checkpoints.now members.now from visits.items)) }
+    ensures earlier { IfOk result (λ told. IfSome told (λ slot. AreEarlier checkpoints.now members.now from slot.earlier.items)) }
+    ensures visits { IfOk result (λ told. IfSome told (λ slot. AreVisits checkpoints.now members.now from slot.visits.items)) }
     ensures none { IfOk result (λ told. IfNone told (HasNoSlot checkpoints.now members.now from steps)) }
 {
     if from >= steps {
         return Ok(None);
     }
     let design = checkpoints.machine().design();
-    let Checkpoint {
-        step: first,
-        mut state,
-        mut seen,
-    } = checkpoints.last_before(alloc, first_step(members, from))?;
-    let mut rest = members;
-    for step in first..steps {
+    let Some((there, left)) = before_step(alloc, checkpoints, members, from)? else {
+        return Ok(None);
+    };
+    let mut state = there.state;
+    let (earlier, mut seen) = there.seen.apart(alloc);
+    let mut rest = left;
+    for step in from..steps {
         let (index, later) = next_choice(rest, step);
-        let choice = state.choice(index);
-        if ends_before(from, step, choice) {
-            return Ok(Some(seen.into_visits()));
-        }
-        let Some(choice) = choice else {
-            return Ok(None);
+        let Some(choice) = going_on(state.choice(index)) else {
+            return Ok(Some(Slot {
+                earlier,
+                visits: seen.into_visits(),
+            }));
         };
         take(
             alloc, design, &mut state, &mut seen, from, step, index, choice,

@@ -350,6 +350,33 @@ impl Seen {
         Ok(())
     }
 
+    /// Of the visits none stays.
+    pub(crate) fn forget_visits(&mut self, alloc: Global)
+        ensures { self.new ≡ record self.old { visits = [] } }
+    {
+        self.visits = Vec::new(alloc);
+    }
+
+    /// The visits, and the rest.
+    pub(crate) fn apart(self, alloc: Global) -> (Vec<Visit>, Seen)
+        ensures visits { result.0.items ≡ self.visits }
+        ensures rest { result.1 ≡ record self { visits = [] } }
+    {
+        let Seen {
+            posted,
+            updates,
+            visits,
+        } = self;
+        (
+            visits,
+            Seen {
+                posted,
+                updates,
+                visits: Vec::new(alloc),
+            },
+        )
+    }
+
     /// The visits.
     pub(crate) fn into_visits(self) -> Vec<Visit>
         ensures { result.items ≡ self.visits }

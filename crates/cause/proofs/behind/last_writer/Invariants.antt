@@ -1,9 +1,10 @@
 use Rattle.std.proofs.Common.{◌≡◌}
 use Rattle.cause.specs.Behind.{last_writer}
+use Rattle.cause.specs.Inner.{whole}
 use Rattle.cause.proofs.behind.last_writer.Given as goal
 
 abbrev pub invariant-loop-k : goal.invariant-loop-k
-invariant-loop-k l = last_writer l.things l.visits l.k ≡ last_writer l.things l.visits l.n
+invariant-loop-k l = last_writer l.things (whole l.slot) l.k ≡ last_writer l.things (whole l.slot) l.n
 
 abbrev pub decreases-loop-k : goal.decreases-loop-k
 decreases-loop-k l = l.k

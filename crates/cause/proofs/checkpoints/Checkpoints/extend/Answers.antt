@@ -4,7 +4,8 @@ use Rattle.vmodel.specs.Step.{next}
 use Rattle.vmodel.specs.Run.{Setting}
 use Rattle.cause.specs.Checkpoints.{Keeps, IsCheckpoint}
 use Rattle.cause.specs.Visits.{seen_by}
-use Rattle.cause.proofs.SlotLemmas.{IsSeenSo, begun, checkpoint_there, goes_on}
+use Rattle.cause.specs.Stands.{IsSeenSo}
+use Rattle.cause.proofs.SlotLemmas.{begins_behind, begun, checkpoint_there, goes_on}
 use Rattle.cause.proofs.checkpoints.Checkpoints.extend.Goals as goal
 
 pub loop-step-init : goal.loop-step-init
@@ -16,7 +17,7 @@ loop-step-init c =
     }
 
 pub put_if_begun-requires : goal.put_if_begun-requires
-put_if_begun-requires c =
+put_if_begun-requires c = λ ends.
     let so = c.loop-step in
     let setting = c.args.self.now in
     let choice = c.in-Some.choice in
@@ -28,7 +29,8 @@ put_if_begun-requires c =
     (subst (λ (d : Design). Keeps c.take.new.state.queue.time c.take.new.seen (seen_by d c.args.to so.step so.state choice (next d so.state 0).effect so.seen)) design_is c.in_ok-take.ensures.seen)
     c.in_ok-take.ensures.few in
     subst (λ (s : Setting). IsCheckpoint s (record { step = so.step + 1; state = c.take.new.state; seen = c.take.new.seen })) (sym so.invariant.same)
-    (checkpoint_there setting c.args.to c.args.to (so.step + 1) c.take.new.state c.take.new.seen on (omega (arith, c.loop-step-test.true)))
+    (checkpoint_there setting c.args.to c.args.to (so.step + 1) c.take.new.state c.take.new.seen on (omega (arith, c.loop-step-test.true))
+    (begins_behind setting c.args.to c.args.to so.step so.state so.seen choice so.invariant.there (sym c.in-Some.is ∙ c.choice.ensures.exact) ends))
 
 pub loop-step-preserved : goal.loop-step-preserved
 loop-step-preserved c =

@@ -1,5 +1,5 @@
 use Rattle.std.proofs.Common.{◌≡◌, []}
-use Rattle.cause.proofs.SlotLemmas.{IsSeenSo}
+use Rattle.cause.specs.Stands.{IsSeenSo}
 use Rattle.cause.proofs.checkpoints.Checkpoints.extend.Given as goal
 
 abbrev pub invariant-loop-step : goal.invariant-loop-step

@@ -1,0 +1,17 @@
+-- *internal*: What is known of visits before their swaps are looked for.
+use Rattle.std.specs.Prelude.{◌≡◌, ◌⊎◌, ℕ, ◌≤◌, true, List, Some, None, slice_get}
+use Rattle.cause.specs.declared.visit.Visit.{Visit}
+use Rattle.cause.specs.declared.latest.Latest.{Latest}
+use Rattle.cause.specs.declared.swap.Known.{Known}
+use Rattle.cause.specs.Latest.{latest_of}
+
+-- at this place stands visit k of the run, and nothing that it touches was put behind it
+pub record IsPast (run : List Visit) (latest : Latest) (k place : ℕ) : Type 0 where
+  pub here : k ≡ place
+  pub v : Visit
+  pub at : slice_get run k ≡ Some v
+  pub past : latest_of latest v.footprint ≤ k
+
+-- it is known that visit i of the run is of no swap
+abbrev pub IsKnown : List Visit → Known → ℕ → Type 0
+IsKnown run known i = (slice_get run i ≡ None) ⊎ ((slice_get known.clear.items i ≡ Some true) ⊎ IsPast run known.latest i i)
