@@ -1,9 +1,11 @@
 -- Bounds by what visits touch: a visit is of no swap where nothing that it touches comes behind it in the run.
-use Rattle.std.proofs.Common.{◌≡◌, ◌⊎◌, ℕ, zero, suc, ◌+◌, ◌<◌, ◌≤◌, ◌==◌, ◌&&◌, ◌||◌, not, nat_lt, if◌then◌else◌, Bool, true, false, List, [], ◌∷◌, ◌++◌, length, take, Option, Some, None, slice_get, slice_set, inl, inr, refl, sym, ap, subst, ◌∙◌, le_refl, arith}
+use Rattle.std.proofs.Common.{◌≡◌, ◌⊎◌, ℕ, zero, suc, ◌+◌, ◌<◌, ◌≤◌, ◌==◌, ◌&&◌, ◌||◌, not, nat_lt, if◌then◌else◌, Bool, true, false}
+use Rattle.std.proofs.Common.{List, [], ◌∷◌, ◌++◌, length, take, Option, Some, None, slice_get, slice_set, inl, inr, refl, sym, ap}
+use Rattle.std.proofs.Common.{subst, ◌∙◌, le_refl, arith}
 use Rattle.std.proofs.lemmas.Bool.{cases_lt, eqb-true}
 use Rattle.std.proofs.lemmas.Bool.Decides.{nat_tests}
 use Rattle.std.proofs.lemmas.Option.{same_Some, slice_get_within}
-use Rattle.basis.proofs.Bools.{clash, or_first, or_second}
+use Rattle.basis.proofs.Bools.{and_both, and_left, and_right, clash, or_first, or_second}
 use Rattle.cause.specs.declared.thing.Thing.{Thing}
 use Rattle.cause.specs.declared.thing.Thing.TheVariants.{Variable, Event}
 use Rattle.cause.specs.declared.footprint.Footprint.{Footprint}
@@ -163,21 +165,12 @@ same_actor_back (Process p) (UpdateOf q) e = absurd cc
 same_actor_back (UpdateOf p) (Process q) e = absurd cc
 same_actor_back (UpdateOf p) (UpdateOf q) e = grind (arith, nat_tests, e)
 
-both_of : (a b : Bool) → (a && b) ≡ true → (a ≡ true) × (b ≡ true)
-both_of true true e = (refl, refl)
-both_of true false e = absurd cc
-both_of false b e = absurd cc
-
-both_are : (a b : Bool) → a ≡ true → b ≡ true → (a && b) ≡ true
-both_are true true e d = refl
-both_are true false e d = absurd cc
-both_are false b e d = absurd cc
-
 same_back : (v w : Visit) → same_visit v w ≡ true → same_visit w v ≡ true
 same_back v w e =
-    let (actors, numbers) = both_of (same_actor v.actor w.actor) (v.number == w.number) e in
+    let actors = and_left (same_actor v.actor w.actor) (v.number == w.number) e in
+    let numbers = and_right (same_actor v.actor w.actor) (v.number == w.number) e in
     let back : (w.number == v.number) ≡ true = grind (arith, nat_tests, numbers) in
-    both_are (same_actor w.actor v.actor) (w.number == v.number) (same_actor_back v.actor w.actor actors) back
+    and_both (same_actor w.actor v.actor) (w.number == v.number) (same_actor_back v.actor w.actor actors) back
 
 come_found : (v : Visit) (visits : List Visit) (place n : ℕ) (found : Option Visit) → slice_get visits place ≡ found → is_same_as v found ≡ true → place < n →
     has_come v (take n visits) ≡ true
