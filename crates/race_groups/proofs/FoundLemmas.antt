@@ -11,6 +11,7 @@ use Rattle.std.proofs.lemmas.Cmp.{tied_itself}
 use Rattle.sched_core.specs.Bags.{bag_cmp}
 use Rattle.sched_core.specs.BagLaws.{bags_total}
 use Rattle.basis.proofs.Lists.{at_contains, listed_place, place_within}
+use Rattle.basis.specs.declared.memory.NoMemory.{NoMemory}
 use Rattle.sched_core.specs.Replay.{EndsAfter}
 use Rattle.sched_core.specs.Rules.{IsRun, stands}
 use Rattle.statebook.specs.declared.limits.Limits.{Limits}
@@ -89,7 +90,7 @@ record IsIn (setting : Setting) (closings : List (Closing MachineState)) (log : 
 module _ (setting : Setting) (alike : Alike setting) (all : AllStand setting) (there : RunThere setting) (here : RunHere setting)
     (mark_alike : MarkAlike setting) (wide : HasVariables setting) (ranked : RankIsTime setting)
     (limits : Limits) (scope : Scope) (groups : List Group) (tolds : List Told) (ends : List (FoundMark MachineState)) (cut : Bool)
-    (seen : Option ℕ) (refused : Bool) (findings : RankedFindings)
+    (seen : Option ℕ) (refused : Option NoMemory) (findings : RankedFindings)
     (hands : HandsOn (machine_rules setting) limits (rank_of setting)
     (AreGroupsOf (tracing_in setting limits) scope groups tolds (pairs_of ends) cut seen refused) findings) where
   abbrev from : ℕ
@@ -289,7 +290,7 @@ module _ (setting : Setting) (alike : Alike setting) (all : AllStand setting) (t
   }
 
   -- what is summed up is no more than that
-  none_made_up : (Within : ℕ → Type 0) → ((time : ℕ) → IsClosedFrom from seen time → Within time) → refused ≡ false →
+  none_made_up : (Within : ℕ → Type 0) → ((time : ℕ) → IsClosedFrom from seen time → Within time) → refused ≡ None →
       NoneIsMadeUp setting limits.depart groups hands.collected.all.rests Within
   none_made_up Within whole sound = record {
     differ = λ i k name is.
@@ -617,7 +618,7 @@ handed_so setting limits scope first now findings is same none hands =
 
 -- all that is told
 pub record IsTold (setting : Setting) (limits : Limits) (scope : Scope) (groups : List Group) (cut : Bool) (seen : Option ℕ)
-    (refused : Bool) (findings : RankedFindings) : Type 0 where
+    (refused : Option NoMemory) (findings : RankedFindings) : Type 0 where
   pub cause : EachGroup (HasItsCause setting) groups
   pub no_cause : EachGroup (LacksOnlyNoCause setting limits) groups
   pub first : EachGroup (HasFirstDifference setting limits) groups

@@ -1,5 +1,5 @@
 -- What is kept of closed slots, once one more was closed.
-use Rattle.std.proofs.Common.{◌≡◌, ℕ, zero, suc, ◌<◌, ◌≤◌, Bool, false, true, List, [], ◌∷◌, ◌++◌, length, map, slice_get, take, None}
+use Rattle.std.proofs.Common.{◌≡◌, ◌≢◌, ℕ, zero, suc, ◌<◌, ◌≤◌, Bool, false, List, [], ◌∷◌, ◌++◌, length, map, slice_get, take, None}
 use Rattle.std.proofs.Common.{Option, Some, Result, Ok, Err, OnErr, refl, sym, ap, ◌∙◌, subst, inl, inr, append-nil, append_assoc, arith}
 use Rattle.std.specs.List.{Contains}
 use Rattle.std.proofs.lemmas.Bool.{cases_lt}
@@ -8,6 +8,7 @@ use Rattle.std.proofs.lemmas.List.{length-map, length_push, nil_from_length, tak
 use Rattle.std.proofs.lemmas.Option.{same_Some}
 use Rattle.std.proofs.Math.Seq.{take-append_seam}
 use Rattle.basis.proofs.Lists.{at_contains, last_or_before, listed_place, place_within, stands_in_front, stands_last}
+use Rattle.basis.specs.declared.memory.NoMemory.{NoMemory}
 use Rattle.explore.specs.Ranked.{Closing, CollectsMore, OfEach, StaysAs, pairs_of}
 use Rattle.explore.specs.declared.rank_marks.FoundMark.{FoundMark}
 use Rattle.vmodel.specs.Run.{Setting}
@@ -91,7 +92,7 @@ still_named setting Here There marks from shows = record {
 }
 
 -- what marks show is of their time
-pub shown_time : (setting : Setting) (k : Closing MachineState) (d : Difference) (name : Name) → IsOfItsTime setting k →
+shown_time : (setting : Setting) (k : Closing MachineState) (d : Difference) (name : Name) → IsOfItsTime setting k →
     IsShownBy setting k.marks d →
     name_of d ≡ Some name → name.time ≡ k.rank
 shown_time setting k (Values race) name times (races, are, has) is =
@@ -200,7 +201,7 @@ slot_named setting marks found Here is named = record {
 module _ (tracing : Tracing) (scope : Scope) (closings : List (Closing MachineState)) (c : Closing MachineState) (found : FoundInSlot)
     (is : IsFoundIn tracing.setting c.marks found) (groups new_groups : List Group) (tolds new_tolds : List Told)
     (ends new_ends : List Pair)
-    (cut new_cut : Bool) (seen new_seen : Option ℕ) (refused new_refused : Bool)
+    (cut new_cut : Bool) (seen new_seen : Option ℕ) (refused new_refused : Option NoMemory)
     (kept : AreGroupsOf tracing scope groups tolds ends cut seen refused closings)
     (adds : Adds tracing (Contains (differences_in found)) tolds new_tolds) (early_same : c.rank < scope.from → new_groups ≡ groups)
     (early_tolds : c.rank < scope.from → new_tolds ≡ tolds)
@@ -245,7 +246,7 @@ module _ (tracing : Tracing) (scope : Scope) (closings : List (Closing MachineSt
     ]
   ]
 
-  was_sound : new_refused ≡ false → refused ≡ false
+  was_sound : new_refused ≡ None → refused ≡ None
   was_sound sound = sym same_refused ∙ sound
 
   -- an early slot changes no group
@@ -383,7 +384,7 @@ module _ (tracing : Tracing) (scope : Scope) (closings : List (Closing MachineSt
   }
 
 pub kept_none : (tracing : Tracing) (scope : Scope) (groups : List Group) (ends : List Pair) → groups ≡ [] → ends ≡ [] →
-    AreGroupsOf tracing scope groups (tolds_of groups) ends false None false []
+    AreGroupsOf tracing scope groups (tolds_of groups) ends false None None []
 kept_none tracing scope groups ends no_group no_end = record {
   causes = λ t has. nothing_in t (subst (λ (l : List Group). Contains (tolds_of l) t) no_group has);
   firsts = λ t has. nothing_in t (subst (λ (l : List Group). Contains (tolds_of l) t) no_group has);
@@ -406,9 +407,9 @@ kept_none tracing scope groups ends no_group no_end = record {
 }
 
 -- where groups sum up what they did before, of the same closings, and memory was refused
-same_all : (setting : Setting) (scope : Scope) (groups new_groups : List Group) (refused new_refused : Bool)
+same_all : (setting : Setting) (scope : Scope) (groups new_groups : List Group) (refused new_refused : Option NoMemory)
     (closings : List (Closing MachineState)) →
-    HaveAllOf setting scope groups refused closings → CountsStill scope.names groups new_groups → new_refused ≡ true →
+    HaveAllOf setting scope groups refused closings → CountsStill scope.names groups new_groups → new_refused ≢ None →
     HaveAllOf setting scope new_groups new_refused closings
 same_all setting scope groups new_groups refused new_refused closings all still gone =
     let m = still all.rests all.summaries in
@@ -417,16 +418,16 @@ same_all setting scope groups new_groups refused new_refused closings all still 
       summaries = m.summaries;
       shown = λ i d at late. still_named setting (IsNameInOne groups all.rests) (IsNameInOne new_groups m.after) d.marks
           (λ n has. (has.0, m.still has.0 n has.1)) (all.shown i d at late);
-      only = λ sound. absurd (let e = sym gone ∙ sound in cc);
-      once = λ sound. absurd (let e = sym gone ∙ sound in cc);
+      only = λ sound. absurd (gone sound);
+      once = λ sound. absurd (gone sound);
     }
 
 -- groups, ends and cuts that are the same, of the same closings
 same_kept : (tracing : Tracing) (scope : Scope) (groups new_groups : List Group) (tolds new_tolds : List Told)
-    (ends new_ends : List (FoundMark MachineState)) (cut new_cut : Bool) (seen new_seen : Option ℕ) (refused new_refused : Bool)
+    (ends new_ends : List (FoundMark MachineState)) (cut new_cut : Bool) (seen new_seen : Option ℕ) (refused new_refused : Option NoMemory)
     (closings : List (Closing MachineState)) → AreGroupsOf tracing scope groups tolds (pairs_of ends) cut seen refused closings →
     CountsStill scope.names groups new_groups → new_tolds ≡ tolds → new_ends ≡ ends → (new_cut ≡ false → cut ≡ false) → new_seen ≡ seen →
-    new_refused ≡ true → AreGroupsOf tracing scope new_groups new_tolds (pairs_of new_ends) new_cut new_seen new_refused closings
+    new_refused ≢ None → AreGroupsOf tracing scope new_groups new_tolds (pairs_of new_ends) new_cut new_seen new_refused closings
 same_kept tracing scope groups new_groups tolds new_tolds ends new_ends cut new_cut seen new_seen refused new_refused
     closings kept still same
     same_ends uncut same_seen gone =
@@ -447,7 +448,7 @@ same_kept tracing scope groups new_groups tolds new_tolds ends new_ends cut new_
     (subst (λ (e : List (FoundMark MachineState)). K tolds e new_seen) (sym same_ends) (subst (K tolds ends) (sym same_seen) now))
 
 -- where the same is kept no more was collected
-pub collects_same : (old new : RaceGroups) → StaysSo old new → new.seen ≡ old.seen → new.refused ≡ true →
+pub collects_same : (old new : RaceGroups) → StaysSo old new → new.seen ≡ old.seen → new.refused ≢ None →
     StaysAs CollectsGroups old new
 collects_same old new same same_seen gone = λ first closings collected.
     record {

@@ -1,8 +1,9 @@
 -- *product rule*: What a search for races tells, by causes (IEEE 1364-2005, 11.3, 11.4; crates/race_groups/README.md): differences that are
 -- some, causes that are theirs, and where nothing is told, that there is nothing from one time on, up to another or for good.
-use Rattle.std.specs.Prelude.{◌≡◌, ◌≢◌, ⊤, Bool, false, true, ℕ, ◌≤◌, ◌⊎◌, List, [], ◌∷◌, ◌++◌, length, map, take, slice_get, min, Option}
+use Rattle.std.specs.Prelude.{◌≡◌, ◌≢◌, ⊤, false, true, ℕ, ◌≤◌, ◌⊎◌, List, [], ◌∷◌, ◌++◌, length, map, take, slice_get, min, Option}
 use Rattle.std.specs.Prelude.{Some, None, IfNone, IfSome}
 use Rattle.std.specs.List.{Contains}
+use Rattle.basis.specs.declared.memory.NoMemory.{NoMemory}
 use Rattle.sched_core.specs.declared.end.Cause.TheVariants.{Limit}
 use Rattle.sched_core.specs.Replay.{EndsAfter}
 use Rattle.sched_core.specs.Rules.{IsRun}
@@ -147,14 +148,15 @@ pub record NoneIsMadeUp (setting : Setting) (depart : ℕ) (groups : List Group)
 
 -- Wherever two runs of at most so many departures differ at these times, in a variable at the end of a slot or in the lines that a slot
 -- printed, a group has the difference. If memory wasn't refused meanwhile, it has no others.
-pub record AllAreCounted (setting : Setting) (depart names : ℕ) (groups : List Group) (refused : Bool) (Within : ℕ → Type 0) : Type 0 where
+pub record AllAreCounted (setting : Setting) (depart names : ℕ) (groups : List Group) (refused : Option NoMemory)
+    (Within : ℕ → Type 0) : Type 0 where
   pub rests : ℕ → List Name
   pub summaries : AllSummarize names groups rests
   pub values : (time variable : ℕ) → Within time → TwoRunsDiffer setting depart time variable →
       IsNameInOne groups rests (record { time = time; variable = Some variable })
   pub lines : (time : ℕ) → Within time → TwoRunsPrint setting depart time →
       IsNameInOne groups rests (record { time = time; variable = None })
-  pub none_made_up : refused ≡ false → NoneIsMadeUp setting depart groups rests Within
+  pub none_made_up : refused ≡ None → NoneIsMadeUp setting depart groups rests Within
 
 -- ---- where nothing is told
 

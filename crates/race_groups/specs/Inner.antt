@@ -3,6 +3,7 @@ use Rattle.std.specs.Prelude.{◌≡◌, ◌≢◌, Bool, false, ℕ, ◌+◌, �
 use Rattle.std.specs.Prelude.{None, IfNone, IfSome}
 use Rattle.std.specs.List.{Contains}
 use Rattle.std.proofs.Common.{append-nil, refl, subst, sym}
+use Rattle.basis.specs.declared.memory.NoMemory.{NoMemory}
 use Rattle.sched_core.specs.declared.end.End.{End}
 use Rattle.sched_core.specs.declared.end.Cause.TheVariants.{Limit}
 use Rattle.explore.specs.Ranked.{Closing, OfEach, pairs_of}
@@ -313,13 +314,13 @@ pub record IsNamedByOne (setting : Setting) (from : ℕ) (closings : List (Closi
   pub is : name_of difference ≡ Some name
 
 -- from this time on each difference that the marks of a closing show is in a group; if memory wasn't refused, no other is, and none twice
-pub record HaveAllOf (setting : Setting) (scope : Scope) (groups : List Group) (refused : Bool)
+pub record HaveAllOf (setting : Setting) (scope : Scope) (groups : List Group) (refused : Option NoMemory)
     (closings : List (Closing MachineState)) : Type 0 where
   pub rests : ℕ → List Name
   pub summaries : AllSummarize scope.names groups rests
   pub shown : OfEachFrom scope.from closings (ShowsNamed setting (IsNameInOne groups rests))
-  pub only : refused ≡ false → (name : Name) → IsNameInOne groups rests name → IsNamedByOne setting scope.from closings name
-  pub once : refused ≡ false → AreInTurn setting closings → AreNamedOnce groups rests
+  pub only : refused ≡ None → (name : Name) → IsNameInOne groups rests name → IsNamedByOne setting scope.from closings name
+  pub once : refused ≡ None → AreInTurn setting closings → AreNamedOnce groups rests
 
 -- a closing of this rank has marks, and none behind it has any; where there is none, none at all has
 pub record IsLastWithMarks (closings : List (Closing MachineState)) (rank : ℕ) : Type 0 where
@@ -336,7 +337,7 @@ IsLastSeen (Some rank) closings = IsLastWithMarks closings rank
 
 -- what is kept of closings
 pub record AreGroupsOf (tracing : Tracing) (scope : Scope) (groups : List Group) (tolds : List Told)
-    (kept : List (MachineState × List (ℕ × ℕ))) (cut : Bool) (seen : Option ℕ) (refused : Bool)
+    (kept : List (MachineState × List (ℕ × ℕ))) (cut : Bool) (seen : Option ℕ) (refused : Option NoMemory)
     (closings : List (Closing MachineState)) : Type 0 where
   pub causes : (t : Told) → Contains tolds t → IsCaused tracing t
   pub firsts : (t : Told) → Contains tolds t → IsOfSome tracing.setting scope.from closings t.first

@@ -1,6 +1,6 @@
 // The groups of closed slots.
 
-ghost use Rattle.std.specs.Prelude.{◌≡◌, ◌<◌, [], false, take, true, None, OnErr, OnOk, Some};
+ghost use Rattle.std.specs.Prelude.{◌≡◌, ◌<◌, [], false, take, None, OnErr, OnOk, Some};
 ghost use Rattle.race_groups.specs.Inner.{GrowsBehind, KeepsGroups, TakesAll, TakesSlot, traced_by};
 
 use crate::causes::Causes;
@@ -15,7 +15,8 @@ use std::alloc::Global;
 use vmachine::{Machine, MachineState};
 
 /// What is kept of closed slots: the groups of their differences, at most two of the states in which runs end, that aren't alike,
-/// whether a run was cut by the time limit, the time of the last slot of which a mark was seen, and whether memory was refused meanwhile.
+/// whether a run was cut by the time limit, the time of the last slot of which a mark was seen, and the want of memory that was met
+/// meanwhile.
 #[derive(Drop)]
 pub(crate) struct RaceGroups<'m> {
     pub(crate) causes: Causes<'m>,
@@ -25,7 +26,7 @@ pub(crate) struct RaceGroups<'m> {
     pub(crate) ignored: u64,
     pub(crate) cut_runs: bool,
     pub(crate) seen: Option<u64>,
-    pub(crate) refused: bool,
+    pub(crate) refused: Option<NoMemory>,
 }
 
 // How many differences a slot gave.
@@ -68,7 +69,7 @@ impl<'m> RaceGroups<'m> {
             ignored: 0,
             cut_runs: false,
             seen: None,
-            refused: false,
+            refused: None,
         }
     }
 
@@ -111,18 +112,18 @@ impl<'m> RaceGroups<'m> {
     }
 
     // No more than so many groups and ends, as memory was refused.
-    fn forget_behind(&mut self, groups: usize, ends: usize)
+    fn forget_behind(&mut self, groups: usize, ends: usize, refused: NoMemory)
         ensures traced { traced_by self.new ≡ traced_by self.old }
         ensures scope { self.new.scope ≡ self.old.scope }
         ensures groups { self.new.groups.items ≡ take groups self.old.groups.items }
         ensures ends { self.new.ends.items ≡ take ends self.old.ends.items }
         ensures cut { self.new.cut_runs ≡ self.old.cut_runs }
         ensures seen { self.new.seen ≡ self.old.seen }
-        ensures refused { self.new.refused ≡ true }
+        ensures refused { self.new.refused ≡ Some refused }
     {
         self.groups.truncate(groups);
         self.ends.truncate(ends);
-        self.refused = true;
+        self.refused = Some(refused);
     }
 }
 
@@ -148,7 +149,7 @@ impl<'m> Collector<MachineState> for RaceGroups<'m> {
                 Ok(())
             }
             Err(refused) => {
-                self.forget_behind(groups, ends);
+                self.forget_behind(groups, ends, refused);
                 Err(refused)
             }
         }

@@ -65,9 +65,9 @@ pub struct Races {
     pub ignored: u64,
     /// Whether a run ended by the time limit.
     pub cut_runs: bool,
-    /// Whether memory was refused while the differences of a slot were put into groups: these may count some of that slot then, which
-    /// isn't closed.
-    pub refused: bool,
+    /// The want of memory, if it was met while the differences of a slot were put into groups: these may count some of that slot then,
+    /// which isn't closed.
+    pub refused: Option<NoMemory>,
     pub search: RankedFindings,
 }
 

@@ -1,4 +1,4 @@
-use Rattle.std.proofs.Common.{◌≡◌, arith, length, subst, ◌∙◌}
+use Rattle.std.proofs.Common.{◌≡◌, arith, length, subst, sym, ◌∙◌}
 use Rattle.std.proofs.lemmas.List.{length-map}
 use Rattle.explore.specs.Ranked.{pairs_of}
 use Rattle.explore.specs.declared.rank_marks.FoundMark.{FoundMark}
@@ -32,4 +32,4 @@ returns-in-Err-clause-err c =
     (back_again old c.put_slot.new.self c.forget_behind.new.self c.len-groups.result c.len-ends.result
     (omega (arith, c.len-groups.ensures, old.groups.ok.0)) (omega (arith, c.len-ends.ensures, old.ends.ok.0))
     c.put_slot.ensures.grows forgot.traced forgot.scope forgot.groups forgot.ends forgot.cut)
-    (forgot.seen ∙ c.put_slot.ensures.seen) forgot.refused
+    (forgot.seen ∙ c.put_slot.ensures.seen) (λ none. (let e = sym forgot.refused ∙ none in cc))
