@@ -6,6 +6,7 @@ pub(crate) enum Construct {
     Attribute,
     BlockDeclaration,
     BlockName,
+    ChargedNet,
     Defparam,
     DelayRange,
     Directive,
@@ -18,6 +19,8 @@ pub(crate) enum Construct {
     Force,
     Fork,
     Format,
+    FormatPath,
+    FormatText,
     Function,
     Gate,
     Generate,
@@ -45,6 +48,8 @@ pub(crate) enum Construct {
     Power,
     Primitive,
     ProceduralAssign,
+    Pull,
+    PulledNet,
     RadixDisplay,
     Random,
     ReadMemory,
@@ -55,10 +60,12 @@ pub(crate) enum Construct {
     SystemTask,
     SystemVerilog,
     Task,
+    ThreeState,
     Time,
     Vectored,
     WideNumber,
     WideVector,
+    WiredNet,
     Write,
 }
 
@@ -70,7 +77,7 @@ pub(crate) struct Row {
     pub(crate) instead: &'static str,
 }
 
-const ROWS: [Row; 57] = [
+const ROWS: [Row; 64] = [
     Row {
         construct: Construct::Attribute,
         names_word: false,
@@ -111,13 +118,15 @@ const ROWS: [Row; 57] = [
         construct: Construct::Disable,
         names_word: false,
         what: "`disable`",
-        instead: "test a variable in the loop: `while (!done && i < n)`",
+        instead: "in a loop test a variable: `while (!done && i < n)`. In place of a delay that it cuts short write `@(late or \
+            stop)`, and let a process of its own do `#1000 -> late;`",
     },
     Row {
         construct: Construct::DumpPath,
         names_word: false,
         what: "a path of `$dumpvars` to a variable, or to nothing",
-        instead: "write a path of instances from the top's name on, as `$dumpvars(0, tb.u)`",
+        instead: "write a path of instances from the top's name on, as `$dumpvars(0, tb.u)`; a variable is dumped with its \
+            instance",
     },
     Row {
         construct: Construct::EscapedName,
@@ -129,31 +138,36 @@ const ROWS: [Row; 57] = [
         construct: Construct::EventInAssignment,
         names_word: false,
         what: "an event inside an assignment",
-        instead: "read the value first: `t = b; @(e) a = t;`",
+        instead: "for `a = @(e) b;` write `t = b; @(e) a = t;`. As `a <= @(e) b;` goes on at once, write `t = b; -> go;` there, \
+            and a process `always @(go) @(e) a <= t;`",
     },
     Row {
         construct: Construct::EventTerm,
         names_word: false,
         what: "waiting for anything but a name",
-        instead: "give it a name: `wire p = a[0];` and `@(posedge p)`",
+        instead: "give it a name: `wire p = a[0];` and `@(posedge p)`. The net follows a step after `a`: a process that has just \
+            written `a` and then waits is woken by its own write",
     },
     Row {
         construct: Construct::FileTask,
         names_word: false,
         what: "system tasks of files",
-        instead: "print by `$display`, and keep what `vrace replay --lines` writes; assign what a file would hold in an `initial`",
+        instead: "print by `$display` or `$strobe`, and keep what `vrace replay --lines` writes; assign what a file would hold \
+            in an `initial`",
     },
     Row {
         construct: Construct::Force,
         names_word: false,
         what: "`force`, `release` and `deassign`",
-        instead: "choose the value where it is driven: `assign p = test ? 1 : q;`",
+        instead: "choose the value where a net is driven: `assign p = test ? 1 : q;`. For a variable do so at each assignment: \
+            it then changes at the next one, not at once",
     },
     Row {
         construct: Construct::Fork,
         names_word: false,
         what: "`fork` and `join`",
-        instead: "write an `initial` for each branch, started by a named event: `@(go)`",
+        instead: "write a process for each branch, `always @(go) begin ..; d1 = 1; end`, and here `d1 = 0; d2 = 0; -> go; wait \
+            (d1 && d2);`. At time 0 they may not wait yet: there write an `initial` for each",
     },
     Row {
         construct: Construct::Format,
@@ -162,16 +176,32 @@ const ROWS: [Row; 57] = [
         instead: "write `%b`, `%h`, `%d`, `%0d`, `%t`, `%0t` or `%%`, without another width",
     },
     Row {
+        construct: Construct::FormatText,
+        names_word: true,
+        what: "the format",
+        instead: "write the letters into the string itself: a `$display` for each text, chosen by `if` or `case`; `%h` shows the \
+            codes of letters",
+    },
+    Row {
+        construct: Construct::FormatPath,
+        names_word: true,
+        what: "the format",
+        instead: "write the path into the string, as `tb.u`; where a module has several instances, give each a number by a \
+            parameter, and print that",
+    },
+    Row {
         construct: Construct::Function,
         names_word: false,
         what: "functions",
-        instead: "write the expression itself, or `wire f = ..;` for a value of variables",
+        instead: "write the expression where it is called, or its statements before that. `wire f = ..;` follows its operands a \
+            step later: where the process that reads it has just written one, or was woken by one, write the expression \
+            out",
     },
     Row {
         construct: Construct::Gate,
         names_word: false,
         what: "gates and switches",
-        instead: "write an `assign` with the operator: `assign w = a & b;`",
+        instead: "write an `assign` with the operator, `assign w = a & b;`; for `buf` `a | 1'b0`, which is x where `a` is z",
     },
     Row {
         construct: Construct::Generate,
@@ -183,31 +213,34 @@ const ROWS: [Row; 57] = [
         construct: Construct::HierarchicalName,
         names_word: false,
         what: "hierarchical names",
-        instead: "bring the value out by a port",
+        instead: "to read it or wait for it, bring it out by an output, which follows a step later. To write it or trigger it, \
+            toggle an input, and let a process of its own module do so: `always @(t) ..`",
     },
     Row {
         construct: Construct::Include,
         names_word: false,
         what: "``include`",
-        instead: "name the files on the command line, in their order",
+        instead: "name the files on the command line, in their order; of one that belongs inside a module put the lines there",
     },
     Row {
         construct: Construct::IndexedPart,
         names_word: false,
         what: "indexed part-selects, `+:` and `-:`",
-        instead: "shift it down: `(v >> i) & 4'hf`, or write the bounds as constants",
+        instead: "write its bits: `{v[i+3], v[i+2], v[i+1], v[i]}`. A shift, `(v >> i) & 4'hf`, has as many bits as `v`, and 0 \
+            where `v` has no bit",
     },
     Row {
         construct: Construct::IndexedTarget,
         names_word: false,
         what: "indexed part-selects, `+:` and `-:`, that are written",
-        instead: "write its bits in a loop: `for (k = 0; k < 8; k = k + 1) v[8*i + k] = b[k];`",
+        instead: "write its bits in a loop, with a `k` of that process: `for (k = 0; k < 8; k = k + 1) v[8*i + k] = b[k];`",
     },
     Row {
         construct: Construct::Inout,
         names_word: false,
         what: "`inout`",
-        instead: "write an input and an output",
+        instead: "write an input and an output, and join the drivers outside in one `assign`: `assign bus = oe1 ? o1 : oe2 ? o2 \
+            : 1'bz;`",
     },
     Row {
         construct: Construct::InstanceArray,
@@ -225,31 +258,56 @@ const ROWS: [Row; 57] = [
         construct: Construct::Memory,
         names_word: false,
         what: "memories and other arrays",
-        instead: "write a variable for each element and a `case` on the index, or one vector of at most 64 bits and a shift",
+        instead: "write a variable for each element and a `case` on the index, whose `default` reads x; or one vector of at most \
+            64 bits, read and written bit by bit in a loop: `b[k] = m[8*i + k];`",
     },
     Row {
         construct: Construct::MissingArgument,
         names_word: false,
         what: "arguments left out, and empty parentheses",
-        instead: "write each argument; `$time` and `$display` stand without parentheses where they have none",
+        instead: "write each argument; one that is left out prints a blank: `\" \"`. `$time` and `$display` stand without \
+            parentheses where they have none",
     },
     Row {
         construct: Construct::MonitorSwitch,
         names_word: false,
         what: "`$monitoron` and `$monitoroff`",
-        instead: "print by `$display` or `$strobe` where it is wanted",
+        instead: "switch a print of your own: `always @* if (on) $strobe(\"%b\", a);`, which prints twice where `a` changes \
+            twice in a slot",
     },
     Row {
         construct: Construct::NetDelay,
         names_word: false,
         what: "delays of nets and of `assign`",
-        instead: "write a process: `always @(q) p <= #5 q;` with a `reg p`",
+        instead: "write a process: `reg p; always begin p <= #5 q; @(q); end`. It passes on pulses that are shorter than the \
+            delay, which a net would hold back",
     },
     Row {
         construct: Construct::NetKind,
         names_word: false,
         what: "nets that aren't `wire`",
-        instead: "write `wire`; for `supply0` and `supply1` `wire p = 0;` and `wire p = 1;`",
+        instead: "write `wire`; for `supply0` and `supply1` `localparam p = 1'b0;` and `localparam p = 1'b1;`, as a net would be \
+            x until it is first driven",
+    },
+    Row {
+        construct: Construct::ChargedNet,
+        names_word: false,
+        what: "`trireg`",
+        instead: "write a variable that keeps its value: `reg p; always begin if (en) p = a; @(en or a); end`",
+    },
+    Row {
+        construct: Construct::PulledNet,
+        names_word: false,
+        what: "`tri0` and `tri1`",
+        instead: "write `wire`, and the pull in place of z in its one driver: `assign w = en ? a : 1'b1;`. Where that can't be, \
+            read `wire p = w === 1'bz ? 1'b1 : w;`, which follows a step later",
+    },
+    Row {
+        construct: Construct::WiredNet,
+        names_word: false,
+        what: "`wand`, `wor`, `triand` and `trior`",
+        instead: "join the drivers in one `assign`: `a & b` for `wand` and `triand`, `a | b` for `wor` and `trior`; for a driver \
+            that may be z write `en ? a : 1'b1`, of an `or` `1'b0`",
     },
     Row {
         construct: Construct::NetTypeDirective,
@@ -267,7 +325,7 @@ const ROWS: [Row; 57] = [
         construct: Construct::OctalEscape,
         names_word: false,
         what: "octal escapes in strings",
-        instead: "write the letter itself, or print the number by a format",
+        instead: "write the letter itself; what can't be written so has to be left out",
     },
     Row {
         construct: Construct::OldPorts,
@@ -279,7 +337,8 @@ const ROWS: [Row; 57] = [
         construct: Construct::PartialAssign,
         names_word: false,
         what: "an `assign` to anything but a name",
-        instead: "assign the whole net: `assign v = {p, q};`",
+        instead: "assign the whole net: `assign v = {p, q};`. For `assign {c, s} = a + b;` assign one net, `wire [8:0] t = a + \
+            b;`, and read `t[8]` and `t[7:0]`",
     },
     Row {
         construct: Construct::Plusargs,
@@ -303,7 +362,7 @@ const ROWS: [Row; 57] = [
         construct: Construct::PortValue,
         names_word: false,
         what: "a port with a value, or of `integer`",
-        instead: "write `output reg [31:0] q` and `initial q = ..;` in the body",
+        instead: "write `output reg q` and `initial q = ..;` in the body; for `integer` write `reg signed [31:0]`",
     },
     Row {
         construct: Construct::Power,
@@ -315,25 +374,35 @@ const ROWS: [Row; 57] = [
         construct: Construct::Primitive,
         names_word: false,
         what: "user-defined primitives, `specify` blocks, configurations and libraries",
-        instead: "write a module with `assign`s or an `always`; leave `specify` blocks out",
+        instead: "write a module with `assign`s or an `always`, a `localparam` for a `specparam`, `module` for `macromodule`. \
+            Without a `specify` block its delays are gone: write them into the assignments",
+    },
+    Row {
+        construct: Construct::Pull,
+        names_word: false,
+        what: "`pullup` and `pulldown`",
+        instead: "write the pull in place of z in the net's one driver: `assign w = en ? a : 1'b1;`. Where that can't be, read \
+            `wire p = w === 1'bz ? 1'b1 : w;`, which follows a step later",
     },
     Row {
         construct: Construct::ProceduralAssign,
         names_word: false,
         what: "`assign` as a statement",
-        instead: "write an assignment, or an `assign` in the module",
+        instead: "it holds the variable until `deassign`: test its condition at each assignment, `if (clear) q <= 0; else q <= \
+            d;`, and wait for it, too: `@(posedge clk or posedge clear)`",
     },
     Row {
         construct: Construct::RadixDisplay,
         names_word: false,
         what: "print tasks with a radix of their own",
-        instead: "write the format: `$display(\"%h\", v)`",
+        instead: "write a format for each value: `$display(\"%h\", v)`",
     },
     Row {
         construct: Construct::Random,
         names_word: false,
         what: "`$random` and its like",
-        instead: "compute the values: `seed = seed * 1103515245 + 12345;`",
+        instead: "compute the values, in each process with a `reg [31:0] seed` of its own: `seed = seed * 1103515245 + 12345;`, \
+            and use `seed >> 16`, as the low bits repeat",
     },
     Row {
         construct: Construct::ReadMemory,
@@ -345,25 +414,28 @@ const ROWS: [Row; 57] = [
         construct: Construct::Real,
         names_word: false,
         what: "real numbers",
-        instead: "count in the precision: with a timescale of 1ps/1ps, `#1500` in place of `#1.5` of 1ns/1ps",
+        instead: "count in the precision: with a timescale of 1ps/1ps, `#1500` in place of `#1.5` of 1ns/1ps; all other delays \
+            are then in ps, too, and so is `$time`",
     },
     Row {
         construct: Construct::SelectOfSelect,
         names_word: false,
         what: "a select of anything but a name",
-        instead: "give the value a name: `wire [7:0] w = {a, b};` and `w[0]`",
+        instead: "assign it to a variable just before, `t = {a, b};`, and read `t[0]`. Outside of processes `wire [7:0] w = {a, \
+            b};` serves, too; a process that has just written `a` reads the old `w`",
     },
     Row {
         construct: Construct::Strength,
         names_word: false,
         what: "strengths",
-        instead: "leave them out: a net has one driver here",
+        instead: "leave them out: a net has one driver here; for `highz0` and `highz1` write z in place of that value: `assign w \
+            = a ? 1'bz : 1'b0;`",
     },
     Row {
         construct: Construct::StringValue,
         names_word: false,
         what: "strings as values",
-        instead: "write the letters as a number: `8'h41`; a string is an argument of a print task",
+        instead: "give each text a number, or write its letters as one: `8'h41`; a string is an argument of a print task",
     },
     Row {
         construct: Construct::SystemTask,
@@ -381,7 +453,15 @@ const ROWS: [Row; 57] = [
         construct: Construct::Task,
         names_word: false,
         what: "tasks",
-        instead: "write the statements where they are called, or an `always @(go)` that `-> go` starts",
+        instead: "write the statements where it is called; or a process `always @(go) begin ..; done = 1; end`, called by `done \
+            = 0; -> go; wait (done);`, which hears no call at time 0 before it waits, nor while it runs",
+    },
+    Row {
+        construct: Construct::ThreeState,
+        names_word: false,
+        what: "gates and switches that give z",
+        instead: "write an `assign` that chooses, `assign w = en ? a : 1'bz;`, with all drivers of the net in one: `en1 ? a : \
+            en2 ? b : 1'bz`. For `tran`, which goes both ways, nothing serves",
     },
     Row {
         construct: Construct::Time,
@@ -405,7 +485,7 @@ const ROWS: [Row; 57] = [
         construct: Construct::WideVector,
         names_word: false,
         what: "vectors of more than 64 bits",
-        instead: "split it: `reg [63:0] low; reg [63:0] high;`",
+        instead: "split it: `reg [63:0] low; reg [63:0] high;`; in place of letters keep a number for each text",
     },
     Row {
         construct: Construct::Write,

@@ -79,7 +79,10 @@ fn by_item(words: Words<'_>, walk: Walk) -> Option<Construct> {
     if !walk.starts {
         return None;
     }
-    if is_one_of(word, &SWITCHES) || is(word, "or") {
+    if is_one_of(word, &SWITCHES) {
+        return Some(Construct::ThreeState);
+    }
+    if is(word, "or") {
         return Some(Construct::Gate);
     }
     if is_one_of(word, &GENERATING) && !walk.generates && !is_one_of(before, &GENERATED) {

@@ -4,7 +4,7 @@ use crate::construct::{Construct, row_of};
 use crate::formats::{bad_format, letters_of};
 use crate::walk::{Level, Walk};
 use crate::words::{Words, is};
-use crate::{declarations, expressions, keywords, statements};
+use crate::{declarations, expressions, formats, keywords, statements};
 use basis::NoMemory;
 use std::alloc::Global;
 use vlex::{TokenKind, Tokens};
@@ -113,7 +113,7 @@ fn keep_formats<'a>(all: &mut Vec<Found<'a>>, words: Words<'a>) -> Result<(), No
         let Some((format, behind)) = bad_format(rest) else {
             return Ok(());
         };
-        keep(all, found_at(words, Construct::Format, format))?;
+        keep(all, found_at(words, formats::construct_of(format), format))?;
         rest = behind;
     }
     Ok(())
@@ -186,7 +186,7 @@ pub(crate) fn format_near<'a>(tokens: &'a Tokens<'a>, from: usize) -> Option<Fou
         }
         if words.is(TokenKind::Text) {
             if let Some((format, _)) = bad_format(letters_of(words.word())) {
-                return Some(found_at(words, Construct::Format, format));
+                return Some(found_at(words, formats::construct_of(format), format));
             }
         }
     }

@@ -1,5 +1,7 @@
 // Formats of printed lines that the profile leaves out (docs/LANGUAGE.md, "Printed lines").
 
+use crate::construct::Construct;
+
 // How many letters the format behind a percent sign has, if it is one of the profile.
 fn format_len(after: &[u8]) -> Option<usize> {
     let first = after.first()?;
@@ -42,6 +44,15 @@ pub(crate) fn bad_format(letters: &[u8]) -> Option<(&[u8], &[u8])> {
         rest = after.get(len..)?;
     }
     None
+}
+
+/// The construct that a format is which the profile leaves out.
+pub(crate) fn construct_of(format: &[u8]) -> Construct {
+    match format.last() {
+        Some(b'm') | Some(b'M') => Construct::FormatPath,
+        Some(b's') | Some(b'S') | Some(b'c') | Some(b'C') => Construct::FormatText,
+        _ => Construct::Format,
+    }
 }
 
 /// The letters of a string, without its quotes.

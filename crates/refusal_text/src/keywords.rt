@@ -10,7 +10,7 @@ struct Keywords {
     construct: Construct,
 }
 
-const KEYWORDS: [Keywords; 21] = [
+const KEYWORDS: [Keywords; 26] = [
     Keywords {
         words: &["fork"],
         construct: Construct::Fork,
@@ -40,22 +40,38 @@ const KEYWORDS: [Keywords; 21] = [
         construct: Construct::Time,
     },
     Keywords {
-        words: &[
-            "tri", "tri0", "tri1", "triand", "trior", "trireg", "uwire", "wand", "wor", "supply0",
-            "supply1",
-        ],
+        words: &["tri", "uwire", "supply0", "supply1"],
         construct: Construct::NetKind,
+    },
+    Keywords {
+        words: &["tri0", "tri1"],
+        construct: Construct::PulledNet,
+    },
+    Keywords {
+        words: &["wand", "wor", "triand", "trior"],
+        construct: Construct::WiredNet,
+    },
+    Keywords {
+        words: &["trireg"],
+        construct: Construct::ChargedNet,
     },
     Keywords {
         words: &["force", "release", "deassign"],
         construct: Construct::Force,
     },
     Keywords {
-        words: &[
-            "and", "nand", "nor", "xor", "xnor", "not", "buf", "bufif0", "bufif1", "notif0",
-            "notif1", "nmos", "pmos", "cmos", "pullup", "pulldown",
-        ],
+        words: &["and", "nand", "nor", "xor", "xnor", "not", "buf"],
         construct: Construct::Gate,
+    },
+    Keywords {
+        words: &[
+            "bufif0", "bufif1", "notif0", "notif1", "nmos", "pmos", "cmos",
+        ],
+        construct: Construct::ThreeState,
+    },
+    Keywords {
+        words: &["pullup", "pulldown"],
+        construct: Construct::Pull,
     },
     Keywords {
         words: &["defparam"],

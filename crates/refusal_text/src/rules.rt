@@ -19,7 +19,8 @@ const RULES: [Rule; 20] = [
         number: 102,
         names_word: false,
         what: "a bad character, number or escape",
-        instead: "write digits of the base, and a blank before a letter; escaped names, blanks inside a number and octal escapes aren't in the profile",
+        instead: "write digits of the base, and a blank before a letter; escaped names, blanks inside a number and octal escapes \
+            aren't in the profile",
     },
     Rule {
         number: 110,
@@ -49,7 +50,7 @@ const RULES: [Rule; 20] = [
         number: 114,
         names_word: false,
         what: "a second timescale differs from the first",
-        instead: "write one timescale for the whole text",
+        instead: "write one timescale for the whole text, and all delays in its unit",
     },
     Rule {
         number: 201,
@@ -67,7 +68,8 @@ const RULES: [Rule; 20] = [
         number: 203,
         names_word: true,
         what: "stands deeper than 64 statements and expressions",
-        instead: "take `begin` and `end` away where one statement stands between them, split the process, or group a long sum by parentheses",
+        instead: "take `begin` and `end` away where one statement stands between them, or group a long sum by parentheses; a long \
+            chain of `else if` becomes a `case`",
     },
     Rule {
         number: 301,
@@ -91,7 +93,7 @@ const RULES: [Rule; 20] = [
         number: 304,
         names_word: true,
         what: "has a second driver",
-        instead: "put both into one `assign`, or write to two nets",
+        instead: "give each driver a net of its own, and join them in one `assign`: `assign w = en1 ? a : en2 ? b : 1'bz;`",
     },
     Rule {
         number: 305,
@@ -121,7 +123,8 @@ const RULES: [Rule; 20] = [
         number: 309,
         names_word: true,
         what: "is one process, variable or instance too many",
-        instead: "split the testbench, or put several `initial`s into one; docs/LANGUAGE.md, Limits, has what counts how much",
+        instead: "split the testbench, or put `initial`s whose order doesn't matter into one; docs/LANGUAGE.md, Limits, has what \
+            counts how much",
     },
     Rule {
         number: 310,

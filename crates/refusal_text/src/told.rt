@@ -53,7 +53,7 @@ fn is_first_argument(tokens: &Tokens<'_>, at: usize) -> bool {
 fn construct_of<'a>(tokens: &'a Tokens<'a>, at: usize, number: u16) -> Option<Found<'a>> {
     match number {
         201 | 202 => construct_near(tokens, at),
-        301 => only(construct_at(tokens, at), Construct::Gate),
+        301 => only(construct_at(tokens, at), Construct::ThreeState),
         306 => only(construct_at(tokens, at), Construct::WideVector),
         303 | 310 if is_dump_path(tokens, at) => Some(found_at(
             Words::new(tokens, at),
