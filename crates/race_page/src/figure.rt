@@ -98,8 +98,19 @@ impl<'a> Figure<'a> {
         put_text(page, class, spot, digits.format(time).as_bytes())
     }
 
+    // What the numbers over the columns are.
+    fn put_axis(&self, page: &mut Vec<u8>) -> Result<(), NoMemory> {
+        let spot = Spot {
+            x: 4,
+            y: 18,
+            width: self.left.saturating_sub(8),
+        };
+        put_text(page, "axis", spot, b"slot at")
+    }
+
     // The times over the columns.
     fn put_times(&self, page: &mut Vec<u8>, height: u64) -> Result<(), NoMemory> {
+        self.put_axis(page)?;
         for (column, time) in self.runs.columns.iter().enumerate() {
             self.put_time(page, column, *time, height)?;
         }

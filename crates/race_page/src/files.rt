@@ -34,6 +34,11 @@ impl<'a> Files<'a> {
         Ok(Files { sources, starts })
     }
 
+    /// The files as they were searched.
+    pub(crate) fn sources(&self) -> &'a Sources<'a> {
+        self.sources
+    }
+
     /// Where the statement of the action begins, if that is known.
     pub(crate) fn place(&self, action: usize) -> Option<Place> {
         self.sources.place(action)

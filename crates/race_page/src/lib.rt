@@ -9,6 +9,7 @@ mod html;
 mod lane;
 mod listing;
 mod page;
+mod printed;
 mod shape;
 mod signals;
 mod source;

@@ -4,13 +4,14 @@ use crate::figure::put_variable;
 use crate::files::Files;
 use crate::html::{put, put_cut, put_escaped, put_number};
 use basis::NoMemory;
-use race_text::put_value;
+use race_text::{port_of, put_port, put_value};
 use run_pair::{Change, Row, Runs, Seen, Steps};
 use sched_core::{LogHead, write_named_log};
 use std::alloc::Global;
 use vbits::Vec4;
 use vdesign::design::Variable;
 use vmachine::Machine;
+use vsrc::Place;
 
 // How many bytes of a statement are shown.
 const SOURCE: usize = 60;
@@ -35,6 +36,25 @@ fn own_name(path: &[u8]) -> &[u8] {
         }
     }
     path
+}
+
+/// The time of the slot in which the runs part, if that has an end.
+pub(crate) fn slot_of(runs: &Runs) -> Option<u64> {
+    match runs.parent.steps.time {
+        Some(time) => Some(time),
+        None => runs.departed.steps.time,
+    }
+}
+
+// The slot of this time; without one the run.
+fn put_slot(page: &mut Vec<u8>, time: Option<u64>) -> Result<(), NoMemory> {
+    match time {
+        None => put(page, "the run"),
+        Some(time) => {
+            put(page, "the slot at ")?;
+            put_number(page, time)
+        }
+    }
 }
 
 // So many steps that aren't listed.
@@ -97,6 +117,18 @@ impl<'a> Subject<'a> {
         put(page, " more")
     }
 
+    // What the statement of the action says; of a port connection which port of which instance it is: `.d(q) of u1`.
+    fn put_source(&self, page: &mut Vec<u8>, action: usize, place: Place) -> Result<(), NoMemory> {
+        match port_of(self.machine.design(), self.files.sources(), action) {
+            None => put_cut(page, self.files.source(place), SOURCE),
+            Some(port) => {
+                let mut text = Vec::new(self.alloc);
+                put_port(&mut text, port)?;
+                put_cut(page, &text, SOURCE)
+            }
+        }
+    }
+
     // Where the statement of the action stands, and what it says.
     fn put_statement(&self, page: &mut Vec<u8>, action: Option<usize>) -> Result<(), NoMemory> {
         let Some(action) = action else {
@@ -110,7 +142,7 @@ impl<'a> Subject<'a> {
         put(page, ":")?;
         put_number(page, place.line as u64)?;
         put(page, "</td><td>")?;
-        put_cut(page, self.files.source(place), SOURCE)?;
+        self.put_source(page, action, place)?;
         put(page, "</td>")
     }
 
@@ -139,7 +171,7 @@ impl<'a> Subject<'a> {
         for row in &steps.rows {
             self.put_row(page, row)?;
         }
-        put_gap(page, steps.rest)
+        Ok(())
     }
 
     // The log of the run, as `--log` takes it.
@@ -175,8 +207,10 @@ impl<'a> Subject<'a> {
     pub(crate) fn put_listing(&self, page: &mut Vec<u8>, runs: &Runs) -> Result<(), NoMemory> {
         put(
             page,
-            "<h3>The steps from where the runs part to the end of the slot</h3>\n",
+            "<h3>The steps from where the runs part to the end of ",
         )?;
+        put_slot(page, slot_of(runs))?;
+        put(page, "</h3>\n")?;
         put(page, "<div class=\"runs\">\n")?;
         self.put_run(page, "default", &runs.parent)?;
         self.put_run(page, "departed", &runs.departed)?;

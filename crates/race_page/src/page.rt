@@ -3,7 +3,8 @@
 use crate::figure::put_figure;
 use crate::files::Files;
 use crate::html::{put, put_escaped, put_number};
-use crate::listing::Subject;
+use crate::listing::{Subject, slot_of};
+use crate::printed::put_printed;
 use crate::signals::signals_of;
 use crate::source::put_sources;
 use crate::style::{END, HEAD};
@@ -23,6 +24,11 @@ pub struct Page {
     races: u64,
     steps: u32,
 }
+
+// What the shapes of the waveforms mean.
+const LEGEND: &str =
+    "<p>In the waveforms each column is the end of a slot, not to scale; the shaded one is the slot in which both runs differ \
+    first, and what differs is marked. A line is one bit, a box a vector, a dashed box has bits that are x or z.</p>\n";
 
 // What stands before the line feed at this place, and what after it.
 fn cut_at(text: &[u8], at: usize) -> (&[u8], &[u8]) {
@@ -103,7 +109,8 @@ fn put_unit(page: &mut Vec<u8>, findings: &Findings<'_>) -> Result<(), NoMemory>
     put(
         page,
         ". <em>departed</em> is the run in the other order, <em>default</em> the one that it departs from.</p>\n",
-    )
+    )?;
+    put(page, LEGEND)
 }
 
 // The heading of a race, as the first line of what is told of it, and the other lines.
@@ -129,9 +136,10 @@ fn put_runs(
     let signals = signals_of(alloc, group, runs, variables.len())?;
     put(page, "<h3>The waveforms round the slot at ")?;
     put_number(page, runs.time)?;
-    put(page, "</h3>\n")?;
+    put(page, ", in which the runs differ first</h3>\n")?;
     put_figure(alloc, page, runs, variables, &signals)?;
     put_table(alloc, page, runs, variables, &signals.shown)?;
+    put_printed(page, &group.first, runs)?;
     let subject = Subject {
         alloc,
         machine: findings.machine,
@@ -179,10 +187,10 @@ impl Page {
         put_number(&mut self.text, self.races)?;
         put(&mut self.text, "\">\n")?;
         put_words(&mut self.text, words)?;
-        if let Some(cause) = &group.cause {
-            put_sources(&mut self.text, files, cause)?;
-        }
         let runs = self.runs_of(findings, group)?;
+        if let Some(cause) = &group.cause {
+            put_sources(self.alloc, &mut self.text, files, cause, slot_of(&runs))?;
+        }
         put_runs(self.alloc, &mut self.text, findings, files, group, &runs)?;
         put(
             &mut self.text,

@@ -3,7 +3,8 @@
 use crate::files::Files;
 use crate::html::{put, put_cut, put_escaped, put_number};
 use basis::NoMemory;
-use cause::Cause;
+use cause::{Blamed, Cause};
+use std::alloc::Global;
 use vsrc::Place;
 
 // How many lines before and after a statement are shown.
@@ -12,41 +13,61 @@ const ROUND: usize = 2;
 // How many bytes of a line are shown before a statement, and from it on.
 const LINE: usize = 160;
 
-// Lines of a file, and the places of one or two statements in them.
-#[derive(Clone, Copy)]
+// Lines of a file, and the places of the statements in them.
+#[derive(Drop)]
 struct Block {
     file: usize,
     first: usize,
     last: usize,
-    one: Place,
-    other: Place,
+    places: Vec<Place>,
 }
 
-// The lines round both places.
-fn block_of(one: Place, other: Place) -> Block {
-    Block {
-        file: one.file,
-        first: one.line.min(other.line).saturating_sub(ROUND).max(1),
-        last: one.line.max(other.line).saturating_add(ROUND),
-        one,
-        other,
+// The earlier of two columns, as far as they are there.
+fn earlier(one: Option<usize>, column: usize) -> Option<usize> {
+    match one {
+        None => Some(column),
+        Some(first) => Some(first.min(column)),
     }
 }
 
-// Whether both stand in one block: in one file, with at most so many lines between them that both are shown in any case.
-fn are_near(one: Place, other: Place) -> bool {
-    one.file == other.file && one.line.abs_diff(other.line) <= 2 * ROUND + 1
-}
-
 impl Block {
+    // The lines round a place.
+    fn new(alloc: Global, place: Place) -> Result<Block, NoMemory> {
+        let mut places = Vec::new(alloc);
+        places.push(place)?;
+        Ok(Block {
+            file: place.file,
+            first: place.line.saturating_sub(ROUND).max(1),
+            last: place.line.saturating_add(ROUND),
+            places,
+        })
+    }
+
+    // Whether the lines round the place touch these.
+    fn is_near(&self, place: Place) -> bool {
+        let reach = ROUND + 1;
+        place.file == self.file
+            && place.line.saturating_add(reach) >= self.first
+            && place.line <= self.last.saturating_add(reach)
+    }
+
+    // With the lines round one place more.
+    fn add(&mut self, place: Place) -> Result<(), NoMemory> {
+        self.first = self.first.min(place.line.saturating_sub(ROUND).max(1));
+        self.last = self.last.max(place.line.saturating_add(ROUND));
+        self.places.push(place)?;
+        Ok(())
+    }
+
     // The column in which the first statement of the line begins; none where none does.
     fn column(&self, line: usize) -> Option<usize> {
-        match (self.one.line == line, self.other.line == line) {
-            (true, true) => Some(self.one.column.min(self.other.column)),
-            (true, false) => Some(self.one.column),
-            (false, true) => Some(self.other.column),
-            (false, false) => None,
+        let mut column = None;
+        for place in &self.places {
+            if place.line == line {
+                column = earlier(column, place.column);
+            }
         }
+        column
     }
 }
 
@@ -91,38 +112,79 @@ fn put_line(
 }
 
 // The lines of a block, under the name of the file.
-fn put_block(page: &mut Vec<u8>, files: &Files<'_>, block: Block) -> Result<(), NoMemory> {
+fn put_block(page: &mut Vec<u8>, files: &Files<'_>, block: &Block) -> Result<(), NoMemory> {
     put(page, "<p class=\"file\">")?;
     put_escaped(page, files.name(block.file).as_bytes())?;
     put(page, "</p>\n<pre class=\"source\" tabindex=\"0\">")?;
     for line in block.first..block.last.saturating_add(1) {
-        put_line(page, files, &block, line)?;
+        put_line(page, files, block, line)?;
     }
     put(page, "</pre>\n")
 }
 
-// The lines round a place, if that is known.
-fn put_place(page: &mut Vec<u8>, files: &Files<'_>, place: Option<Place>) -> Result<(), NoMemory> {
-    match place {
+// The place, with those that it is near to, or in a block of its own.
+fn put_into(alloc: Global, blocks: &mut Vec<Block>, place: Place) -> Result<(), NoMemory> {
+    for block in blocks.iter_mut() {
+        if block.is_near(place) {
+            return block.add(place);
+        }
+    }
+    blocks.push(Block::new(alloc, place)?)?;
+    Ok(())
+}
+
+// The place of the action, if that is known.
+fn put_action(
+    alloc: Global,
+    blocks: &mut Vec<Block>,
+    files: &Files<'_>,
+    action: usize,
+) -> Result<(), NoMemory> {
+    match files.place(action) {
         None => Ok(()),
-        Some(place) => put_block(page, files, block_of(place, place)),
+        Some(place) => put_into(alloc, blocks, place),
     }
 }
 
-/// Both statements of the cause in their files, in the order of the parent's run; where they stand close together, in one block.
+// The statement, and where it drives a port connection or an `assign`, that one.
+fn put_blamed(
+    alloc: Global,
+    blocks: &mut Vec<Block>,
+    files: &Files<'_>,
+    blamed: &Blamed,
+) -> Result<(), NoMemory> {
+    put_action(alloc, blocks, files, blamed.statement)?;
+    if blamed.place == blamed.statement {
+        return Ok(());
+    }
+    put_action(alloc, blocks, files, blamed.place)
+}
+
+// In which slot the statements race.
+fn put_heading(page: &mut Vec<u8>, slot: Option<u64>) -> Result<(), NoMemory> {
+    put(page, "<h3>The two statements")?;
+    if let Some(time) = slot {
+        put(page, ", in the slot at ")?;
+        put_number(page, time)?;
+    }
+    put(page, "</h3>\n")
+}
+
+/// Both statements of the cause in their files, in the order of the parent's run, each with the port connection or the `assign` that it
+/// drives and that races; what stands close together is one block. They race in the slot of this time, if it is known.
 pub(crate) fn put_sources(
+    alloc: Global,
     page: &mut Vec<u8>,
     files: &Files<'_>,
     cause: &Cause,
+    slot: Option<u64>,
 ) -> Result<(), NoMemory> {
-    let one = files.place(cause.second.statement);
-    let other = files.place(cause.first.statement);
-    put(page, "<h3>The two statements</h3>\n")?;
-    if let (Some(one), Some(other)) = (one, other) {
-        if are_near(one, other) {
-            return put_block(page, files, block_of(one, other));
-        }
+    let mut blocks = Vec::new(alloc);
+    put_blamed(alloc, &mut blocks, files, &cause.second)?;
+    put_blamed(alloc, &mut blocks, files, &cause.first)?;
+    put_heading(page, slot)?;
+    for block in &blocks {
+        put_block(page, files, block)?;
     }
-    put_place(page, files, one)?;
-    put_place(page, files, other)
+    Ok(())
 }

@@ -37,7 +37,7 @@ th[scope=col], .gap { color: var(--weak); font-weight: normal; }
 .runs { display: grid; gap: 1.5em; grid-template-columns: repeat(auto-fit, minmax(min(100%, 34em), 1fr)); }
 svg { display: block; }
 svg text { fill: var(--front); font: 12px ui-monospace, monospace; }
-svg .run, svg .time { fill: var(--weak); }
+svg .run, svg .time, svg .axis { fill: var(--weak); }
 svg .now { fill: var(--front); font-weight: bold; }
 svg .odd { font-weight: bold; text-decoration: underline; }
 svg .slot { fill: var(--slot); }

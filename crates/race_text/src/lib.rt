@@ -26,6 +26,7 @@ mod waiver_file;
 mod waivers;
 mod whole;
 
+pub use connection::{port_of, put_port};
 pub use place::Sources;
 pub use summary::{Findings, NAMED, Told};
 pub use tops::{Format, Tops};

@@ -123,6 +123,9 @@ fn put_found(text: &mut Vec<u8>, findings: &Findings<'_>) -> Result<(), NoMemory
     Ok(())
 }
 
+// That a run was too long.
+const STEPS: &[u8] = b"as a run takes more steps than --steps (a clock without end needs --until)";
+
 // What cut the search.
 fn put_reason(
     text: &mut Vec<u8>,
@@ -130,9 +133,9 @@ fn put_reason(
     stopped_by: &'static [u8],
 ) -> Result<(), NoMemory> {
     let words: &[u8] = match reason {
-        RankedReason::Memory(_) => b"for want of memory",
+        RankedReason::Memory(_) => b"for want of memory (a clock without end needs --until)",
         RankedReason::Entries => b"by the number of its states",
-        RankedReason::Steps => b"as a run takes more steps than --steps",
+        RankedReason::Steps => STEPS,
         RankedReason::Stopped => {
             text.extend_from_slice(b"by ")?;
             stopped_by

@@ -1,22 +1,33 @@
 // What the profile leaves out, in words, and what serves in its place (docs/LANGUAGE.md, "What is left out").
 
-/// A construct of Verilog that the profile leaves out.
+use crate::system_verilog_rows;
+
+/// A construct of Verilog or of SystemVerilog that the profile leaves out.
 #[derive(Clone, Copy, Debug, PartialEq, Eq)]
 pub(crate) enum Construct {
+    AlwaysComb,
+    AlwaysFf,
+    Assertion,
     Attribute,
     BlockDeclaration,
     BlockName,
+    Cast,
     ChargedNet,
+    Class,
     Defparam,
     DelayRange,
     Directive,
-    DumpPath,
     Disable,
+    DoWhile,
+    DumpPath,
     EscapedName,
     EventInAssignment,
     EventTerm,
     FileTask,
+    Fill,
+    Final,
     Force,
+    Foreach,
     Fork,
     Format,
     FormatPath,
@@ -25,11 +36,19 @@ pub(crate) enum Construct {
     Gate,
     Generate,
     HierarchicalName,
+    Iff,
     Include,
+    Increment,
     IndexedPart,
     IndexedTarget,
     Inout,
+    Inside,
     InstanceArray,
+    Interface,
+    JoinedAssignment,
+    Jump,
+    LaterTrigger,
+    Logic,
     MacroArguments,
     Memory,
     MissingArgument,
@@ -37,10 +56,14 @@ pub(crate) enum Construct {
     NetDelay,
     NetKind,
     NetTypeDirective,
+    NewType,
     NumberBlank,
     OctalEscape,
     OldPorts,
+    OutputPart,
+    Package,
     PartialAssign,
+    Pattern,
     Plusargs,
     PortExpression,
     PortGap,
@@ -48,21 +71,30 @@ pub(crate) enum Construct {
     Power,
     Primitive,
     ProceduralAssign,
+    Program,
+    Property,
     Pull,
     PulledNet,
     RadixDisplay,
     Random,
+    Range,
     ReadMemory,
     Real,
     SelectOfSelect,
+    ShortConnection,
     Strength,
+    StringType,
     StringValue,
     SystemTask,
-    SystemVerilog,
     Task,
     ThreeState,
     Time,
+    TimeLiteral,
+    TimeUnit,
+    TwoValued,
+    Unique,
     Vectored,
+    WaitFork,
     WideNumber,
     WideVector,
     WiredNet,
@@ -71,13 +103,13 @@ pub(crate) enum Construct {
 
 /// A construct, what it is called, whether its word is told behind that, and what to write in its place.
 pub(crate) struct Row {
-    construct: Construct,
+    pub(crate) construct: Construct,
     pub(crate) names_word: bool,
     pub(crate) what: &'static str,
     pub(crate) instead: &'static str,
 }
 
-const ROWS: [Row; 64] = [
+const ROWS: [Row; 65] = [
     Row {
         construct: Construct::Attribute,
         names_word: false,
@@ -334,6 +366,13 @@ const ROWS: [Row; 64] = [
         instead: "declare them in its head: `module m(input a, output reg [3:0] b);`",
     },
     Row {
+        construct: Construct::OutputPart,
+        names_word: false,
+        what: "an output on anything but a name",
+        instead: "connect it to a net of its own, `.p(t)`, and put that into the whole, `assign v = {t, u};`, which follows a \
+            step later",
+    },
+    Row {
         construct: Construct::PartialAssign,
         names_word: false,
         what: "an `assign` to anything but a name",
@@ -401,8 +440,14 @@ const ROWS: [Row; 64] = [
         construct: Construct::Random,
         names_word: false,
         what: "`$random` and its like",
-        instead: "compute the values, in each process with a `reg [31:0] seed` of its own: `seed = seed * 1103515245 + 12345;`, \
-            and use `seed >> 16`, as the low bits repeat",
+        instead: "compute the values, in each process with a `reg [31:0] seed` of its own that begins at a number: `seed = seed * \
+            1103515245 + 12345;`, and use `seed >> 16`, as the low bits repeat",
+    },
+    Row {
+        construct: Construct::Range,
+        names_word: false,
+        what: "a vector of more than 64 bits, or a bound that isn't from 0 to 65,535",
+        instead: "split it: `reg [63:0] low; reg [63:0] high;`; in place of letters keep a number for each text",
     },
     Row {
         construct: Construct::ReadMemory,
@@ -442,12 +487,6 @@ const ROWS: [Row; 64] = [
         names_word: true,
         what: "the system task or function",
         instead: "leave it out, or compute its value; docs/LANGUAGE.md lists those that there are, under \"Words\"",
-    },
-    Row {
-        construct: Construct::SystemVerilog,
-        names_word: false,
-        what: "SystemVerilog",
-        instead: "write `reg` or `wire` for `logic`, `always @*` for `always_comb`, `a = a + 1` for `a++`",
     },
     Row {
         construct: Construct::Task,
@@ -497,5 +536,10 @@ const ROWS: [Row; 64] = [
 
 /// What the construct is called, and what serves in its place.
 pub(crate) fn row_of(construct: Construct) -> Option<&'static Row> {
-    ROWS.iter().find(|row| row.construct == construct)
+    match ROWS.iter().find(|row| row.construct == construct) {
+        Some(row) => Some(row),
+        None => system_verilog_rows::ROWS
+            .iter()
+            .find(|row| row.construct == construct),
+    }
 }

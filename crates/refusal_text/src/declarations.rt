@@ -1,7 +1,7 @@
 // Constructs of declarations, of items and of heads of modules, told by their words.
 
 use crate::construct::Construct;
-use crate::walk::{ALWAYS, Group, Level, NETS, Opening, Walk, is_type};
+use crate::walk::{Group, Level, NETS, Opening, Walk};
 use crate::words::{Words, is, is_one_of};
 
 // With these a declaration begins, beside those that a keyword tells.
@@ -17,49 +17,6 @@ const GENERATED: [&str; 3] = [")", "else", ":"];
 const SWITCHES: [&str; 9] = [
     "tran", "tranif0", "tranif1", "rtran", "rtranif0", "rtranif1", "rnmos", "rpmos", "rcmos",
 ];
-
-// Between modules these begin what SystemVerilog alone has.
-const UNITS: [&str; 6] = [
-    "package",
-    "interface",
-    "class",
-    "program",
-    "typedef",
-    "import",
-];
-
-const KINDS: [&str; 8] = [
-    "enum", "struct", "union", "logic", "bit", "int", "byte", "reg",
-];
-
-const BODIES: [&str; 5] = ["{", "packed", "logic", "bit", "int"];
-
-const CHOICES: [&str; 4] = ["case", "casez", "casex", "if"];
-
-// Whether the word begins a definition of a type, or its likes.
-fn is_definition(words: Words<'_>) -> bool {
-    let next = words.after(1);
-    match words.word() {
-        word if is(word, "typedef") => is_one_of(next, &KINDS),
-        word if is(word, "enum") || is(word, "struct") => {
-            is_one_of(next, &BODIES) && !is(words.before(1), "typedef")
-        }
-        word if is(word, "import") => is(words.after(2), ":"),
-        word if is(word, "unique") || is(word, "priority") => is_one_of(next, &CHOICES),
-        _ => false,
-    }
-}
-
-// Whether the word begins what SystemVerilog alone has.
-fn is_of_system_verilog(words: Words<'_>, walk: Walk) -> bool {
-    if walk.level == Level::Outside {
-        return is_one_of(words.word(), &UNITS);
-    }
-    if is_one_of(words.word(), &ALWAYS) {
-        return walk.starts;
-    }
-    is_type(words) || is_definition(words)
-}
 
 // Whether the word is the first name of a module's ports, without a direction.
 fn is_old_port(words: Words<'_>, walk: Walk) -> bool {
@@ -94,9 +51,6 @@ fn by_item(words: Words<'_>, walk: Walk) -> Option<Construct> {
 /// The construct of a declaration, an item or a port that this word begins.
 pub(crate) fn by_name(words: Words<'_>, walk: Walk) -> Option<Construct> {
     let word = words.word();
-    if is_of_system_verilog(words, walk) {
-        return Some(Construct::SystemVerilog);
-    }
     if is_one_of(word, &DECLARATIONS) && walk.is_in_block() {
         return Some(Construct::BlockDeclaration);
     }

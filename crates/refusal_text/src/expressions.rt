@@ -4,10 +4,7 @@ use crate::construct::Construct;
 use crate::walk::{Group, Level, Opening, TYPES, Walk};
 use crate::words::{Words, is, is_one_of};
 
-// Operators that SystemVerilog joins to `=`.
-const JOINED: [&str; 11] = ["+", "-", "*", "/", "%", "&", "|", "^", "<<", ">>", "<<<"];
-
-// Whether the word stands in statements.
+/// Whether the word stands in statements.
 pub(crate) fn is_in_statements(walk: Walk) -> bool {
     walk.level == Level::Statement || walk.level == Level::Routine
 }
@@ -70,7 +67,12 @@ fn by_point(words: Words<'_>, walk: Walk) -> Option<Construct> {
         return Some(Construct::Real);
     }
     if is(before, "(") || is(before, ",") {
-        return by_first_point(words, walk);
+        let is_port = walk.level == Level::Head;
+        return if is_port {
+            Some(Construct::PortExpression)
+        } else {
+            None
+        };
     }
     if !(words.is_name_before(1) || is(before, "]")) || !words.is_name_after(1) || goes_on(words) {
         return None;
@@ -79,18 +81,6 @@ fn by_point(words: Words<'_>, walk: Walk) -> Option<Construct> {
         return None;
     }
     Some(Construct::HierarchicalName)
-}
-
-// The construct of a point that begins a connection, or a port.
-fn by_first_point(words: Words<'_>, walk: Walk) -> Option<Construct> {
-    if walk.level == Level::Head {
-        return Some(Construct::PortExpression);
-    }
-    let is_short = is(words.after(2), ",") || is(words.after(2), ")");
-    if walk.opening == Opening::Instance && (is(words.after(1), "*") || is_short) {
-        return Some(Construct::SystemVerilog);
-    }
-    None
 }
 
 // The construct of `(`: parentheses with nothing inside, or a call of a function.
@@ -102,18 +92,6 @@ fn by_parenthesis(words: Words<'_>, walk: Walk) -> Option<Construct> {
     let follows = is(words.before(2), ".") || is(words.before(2), "#");
     if words.is_name_before(1) && !follows && is_in_expression(walk) {
         return Some(Construct::Function);
-    }
-    None
-}
-
-// The construct of an operator: SystemVerilog's `a++`, `a += b`.
-fn by_operator(words: Words<'_>, walk: Walk) -> Option<Construct> {
-    let (sign, next) = (words.word(), words.after(1));
-    let is_sign = is(sign, "+") || is(sign, "-");
-    let is_step = next == sign && (is(words.after(2), ";") || is(words.after(2), ")"));
-    let is_joined = is_one_of(sign, &JOINED) && is(next, "=");
-    if is_in_statements(walk) && ((is_sign && is_step) || is_joined) {
-        return Some(Construct::SystemVerilog);
     }
     None
 }
@@ -155,7 +133,7 @@ pub(crate) fn by_symbol(words: Words<'_>, walk: Walk) -> Option<Construct> {
         word if is(word, ";") && is(words.before(1), "$monitor") => {
             Some(Construct::MissingArgument)
         }
-        _ => by_operator(words, walk),
+        _ => None,
     }
 }
 
@@ -175,33 +153,6 @@ pub(crate) fn by_name(words: Words<'_>) -> Option<Construct> {
         return Some(Construct::Real);
     }
     None
-}
-
-// The number that digits write, or the greatest.
-fn number_of(digits: &[u8]) -> u64 {
-    let mut number = 0u64;
-    for digit in digits {
-        if digit.is_ascii_digit() {
-            let unit = u64::from(digit.saturating_sub(b'0'));
-            number = number.saturating_mul(10).saturating_add(unit);
-        }
-    }
-    number
-}
-
-/// The construct of a decimal number without size: the range of a vector of more than 64 bits.
-pub(crate) fn by_plain_number(words: Words<'_>) -> Option<Construct> {
-    let owner = words.before(2);
-    let is_range = is(words.before(1), "[") && is(words.after(1), ":") && is(words.after(3), "]");
-    let selects = words.is_name_before(2) || is_one_of(owner, &["]", ")", "}"]);
-    if !is_range || selects || !words.is_plain_after(2) {
-        return None;
-    }
-    let (left, right) = (number_of(words.word()), number_of(words.after(2)));
-    if left.abs_diff(right) < 64 {
-        return None;
-    }
-    Some(Construct::WideVector)
 }
 
 /// The construct of a number with a base: a blank behind its size.

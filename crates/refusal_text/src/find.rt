@@ -1,10 +1,12 @@
 // Which constructs that the profile leaves out a text has, and where.
 
 use crate::construct::{Construct, row_of};
+use crate::declared::declared_of;
 use crate::formats::{bad_format, letters_of};
+use crate::modules::begins_instances;
 use crate::walk::{Level, Walk};
 use crate::words::{Words, is};
-use crate::{declarations, expressions, formats, keywords, statements};
+use crate::{bounds, declarations, expressions, formats, keywords, statements, system_verilog};
 use basis::NoMemory;
 use std::alloc::Global;
 use vlex::{TokenKind, Tokens};
@@ -27,13 +29,16 @@ pub(crate) struct Found<'a> {
 }
 
 // How many words before the one that is refused a construct may begin.
-const NEAR: usize = 3;
+const NEAR: usize = 4;
 
 // How many words of a task are looked at for a format.
 const FAR: usize = 256;
 
 // The construct that a symbol tells.
 fn by_symbol(words: Words<'_>, walk: Walk) -> Option<Construct> {
+    if let Some(construct) = system_verilog::by_symbol(words, walk) {
+        return Some(construct);
+    }
     if let Some(construct) = expressions::by_symbol(words, walk) {
         return Some(construct);
     }
@@ -45,6 +50,9 @@ fn by_symbol(words: Words<'_>, walk: Walk) -> Option<Construct> {
 
 // The construct that a name or a keyword tells by where it stands.
 fn by_name(words: Words<'_>, walk: Walk) -> Option<Construct> {
+    if let Some(construct) = system_verilog::by_name(words, walk) {
+        return Some(construct);
+    }
     if let Some(construct) = declarations::by_name(words, walk) {
         return Some(construct);
     }
@@ -65,7 +73,7 @@ pub(crate) fn construct_of(words: Words<'_>, walk: Walk) -> Option<Construct> {
     match words.kind()? {
         TokenKind::Symbol => by_symbol(words, walk),
         TokenKind::Name => by_name(words, walk),
-        TokenKind::Plain => expressions::by_plain_number(words),
+        TokenKind::Plain => bounds::by_plain_number(words),
         TokenKind::Based => expressions::by_based_number(words),
         TokenKind::Text => expressions::by_string(words, walk),
         TokenKind::System => None,
@@ -129,14 +137,23 @@ pub(crate) fn constructs<'a>(
     alloc: Global,
     tokens: &'a Tokens<'a>,
 ) -> Result<Vec<Found<'a>>, NoMemory> {
+    let declared = declared_of(alloc, tokens)?;
     let mut all = Vec::new(alloc);
     let mut walk = Walk::new();
+    let mut module: &[u8] = &[];
     for at in 0..tokens.len() {
         let words = Words::new(tokens, at);
-        if let Some(construct) = construct_of(words, walk) {
+        let construct = match construct_of(words, walk) {
+            Some(construct) => Some(construct),
+            None => declared.construct_of(words, walk, module),
+        };
+        if let Some(construct) = construct {
             keep(&mut all, found_at(words, construct, words.word()))?;
         } else if is_format(words, walk) {
             keep_formats(&mut all, words)?;
+        }
+        if begins_instances(words, walk) {
+            module = words.word();
         }
         walk = walk.after(words);
     }

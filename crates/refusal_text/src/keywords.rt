@@ -10,11 +10,7 @@ struct Keywords {
     construct: Construct,
 }
 
-const KEYWORDS: [Keywords; 26] = [
-    Keywords {
-        words: &["fork"],
-        construct: Construct::Fork,
-    },
+const KEYWORDS: [Keywords; 25] = [
     Keywords {
         words: &["disable"],
         construct: Construct::Disable,
@@ -124,6 +120,18 @@ const KEYWORDS: [Keywords; 26] = [
             "$fwrite",
             "$fstrobe",
             "$fmonitor",
+            "$fdisplayb",
+            "$fdisplayo",
+            "$fdisplayh",
+            "$fwriteb",
+            "$fwriteo",
+            "$fwriteh",
+            "$fstrobeb",
+            "$fstrobeo",
+            "$fstrobeh",
+            "$fmonitorb",
+            "$fmonitoro",
+            "$fmonitorh",
             "$fflush",
             "$fgetc",
             "$fgets",

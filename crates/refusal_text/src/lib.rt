@@ -3,8 +3,10 @@
 // the number and the place are pinned by clauses (docs/FAULTS.md); the words are compared by tests/refusals.
 #![tactic(auto)]
 
+mod bounds;
 mod construct;
 mod declarations;
+mod declared;
 mod expressions;
 mod find;
 mod formats;
@@ -17,6 +19,8 @@ mod modules;
 mod numbers;
 mod rules;
 mod statements;
+mod system_verilog;
+mod system_verilog_rows;
 mod told;
 mod tops;
 mod walk;

@@ -26,8 +26,8 @@ pub(crate) fn are_named(all: &[Named<'_>], name: &[u8]) -> bool {
     all.iter().any(|one| one.name == name)
 }
 
-// Whether the word begins instances of a module.
-fn begins_instances(words: Words<'_>, walk: Walk) -> bool {
+/// Whether the word begins instances of a module.
+pub(crate) fn begins_instances(words: Words<'_>, walk: Walk) -> bool {
     walk.level == Level::Items
         && walk.starts
         && walk.after(words).opening == Opening::Instance

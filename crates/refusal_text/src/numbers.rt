@@ -81,13 +81,25 @@ fn number(what: What, len: usize) -> Flaw {
     numbered(what, len, len)
 }
 
-// What stands behind an apostrophe that no base follows: a value of SystemVerilog, if there is no size.
+// What is told of a cast, in which an operator takes the place of the apostrophe: its type is no call.
+fn cast() -> Flaw {
+    Flaw {
+        what: What::LeftOut(Construct::Cast),
+        word: 1,
+        len: 1,
+        first: b'+',
+        other: b' ',
+    }
+}
+
+// What stands behind an apostrophe that no base follows: SystemVerilog has casts there, and without a size values.
 fn without_base(size: usize, behind: &[u8], whole: usize) -> Flaw {
-    let what = What::LeftOut(Construct::SystemVerilog);
     match behind.first() {
-        Some(b'{') | Some(b'(') if size == 0 => number(what, 1),
+        Some(b'(') if size == 0 => cast(),
+        Some(b'(') => number(What::LeftOut(Construct::Cast), whole),
+        Some(b'{') if size == 0 => number(What::LeftOut(Construct::Pattern), 1),
         Some(b'0') | Some(b'1') | Some(b'x') | Some(b'X') | Some(b'z') | Some(b'Z') if size == 0 =>
-            { number(what, 2) }
+            { number(What::LeftOut(Construct::Fill), 2) }
         _ => number(What::Broken(102), whole),
     }
 }

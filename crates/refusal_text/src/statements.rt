@@ -2,22 +2,18 @@
 
 use crate::construct::Construct;
 use crate::expressions::is_in_statements;
+use crate::system_verilog::{self, is_unit};
 use crate::walk::{ALWAYS, Group, Opening, Walk};
 use crate::words::{Words, is, is_one_of};
 
 // Behind these a statement begins.
-const FRONTS: [&str; 13] = [
-    "begin", "end", "else", ";", "initial", "always", "forever", "fork", "join", ")", "endcase",
-    "default", "endtask",
+const FRONTS: [&str; 14] = [
+    "begin", "end", "else", ";", "initial", "always", "final", "forever", "fork", "join", ")",
+    "endcase", "default", "endtask",
 ];
 
-// Statements of SystemVerilog that look like calls of tasks.
-const NEW_STATEMENTS: [&str; 7] = [
-    "foreach", "break", "continue", "return", "do", "assert", "assume",
-];
-
-// Whether a statement begins at the word so many places earlier.
-fn begins_statement(words: Words<'_>, fewer: usize) -> bool {
+/// Whether a statement begins at the word so many places earlier.
+pub(crate) fn begins_statement(words: Words<'_>, fewer: usize) -> bool {
     let front = words.before(fewer.saturating_add(1));
     let second = words.before(fewer.saturating_add(2));
     let third = words.before(fewer.saturating_add(3));
@@ -40,13 +36,14 @@ fn by_call(words: Words<'_>, walk: Walk) -> Option<Construct> {
     if !stands_alone || walk.opening != Opening::Other || !words.is_name_before(1) {
         return None;
     }
-    if !begins_statement(words, 1) || is_one_of(words.before(1), &ALWAYS) {
+    let is_other = is_one_of(words.before(1), &ALWAYS) || is_unit(words.previous());
+    if !begins_statement(words, 1) || is_other {
         return None;
     }
-    if is_one_of(words.before(1), &NEW_STATEMENTS) {
-        return Some(Construct::SystemVerilog);
+    match system_verilog::by_call(words.before(1)) {
+        Some(construct) => Some(construct),
+        None => Some(Construct::Task),
     }
-    Some(Construct::Task)
 }
 
 // The construct of `:`: the name of a block, or a value of three.
@@ -97,6 +94,9 @@ pub(crate) fn by_symbol(words: Words<'_>, walk: Walk) -> Option<Construct> {
 /// The construct that a keyword tells by where it stands.
 pub(crate) fn by_name(words: Words<'_>, walk: Walk) -> Option<Construct> {
     let (word, before) = (words.word(), words.before(1));
+    if is(word, "fork") && !is_one_of(before, &["wait", "disable"]) {
+        return Some(Construct::Fork);
+    }
     if is(word, "assign") && is_in_statements(walk) {
         return Some(Construct::ProceduralAssign);
     }

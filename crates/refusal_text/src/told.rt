@@ -1,5 +1,6 @@
 // A refusal in words.
 
+use crate::bounds::opens_range;
 use crate::construct::Construct;
 use crate::find::{
     Found, What, construct_at, construct_near, constructs, format_near, found_at, is_same,
@@ -37,6 +38,31 @@ fn only(found: Option<Found<'_>>, construct: Construct) -> Option<Found<'_>> {
     }
 }
 
+// What was found, if it is what is taken for an instance of a module that isn't there.
+fn only_instance(found: Option<Found<'_>>) -> Option<Found<'_>> {
+    match found {
+        Some(found) if found.what == What::LeftOut(Construct::Assertion) => Some(found),
+        other => only(other, Construct::ThreeState),
+    }
+}
+
+// A vector of too many bits, or the range whose first word this is.
+fn range_at<'a>(tokens: &'a Tokens<'a>, at: usize) -> Option<Found<'a>> {
+    if let Some(found) = only(construct_at(tokens, at), Construct::WideVector) {
+        return Some(found);
+    }
+    let words = Words::new(tokens, at);
+    if opens_range(words) {
+        return Some(found_at(words, Construct::Range, words.word()));
+    }
+    None
+}
+
+// Whether the word names an instance that is connected by names: what is told at it is an output on anything but a name.
+fn is_connected_by_names(words: Words<'_>) -> bool {
+    is(words.after(1), "(") && is(words.after(2), ".")
+}
+
 // Whether the word is the number of levels of `$dumpvars`, where what is wrong with its paths is told.
 fn is_dump_path(tokens: &Tokens<'_>, at: usize) -> bool {
     let words = Words::new(tokens, at);
@@ -53,8 +79,12 @@ fn is_first_argument(tokens: &Tokens<'_>, at: usize) -> bool {
 fn construct_of<'a>(tokens: &'a Tokens<'a>, at: usize, number: u16) -> Option<Found<'a>> {
     match number {
         201 | 202 => construct_near(tokens, at),
-        301 => only(construct_at(tokens, at), Construct::ThreeState),
-        306 => only(construct_at(tokens, at), Construct::WideVector),
+        301 => only_instance(construct_at(tokens, at)),
+        305 if is_connected_by_names(Words::new(tokens, at)) => {
+            let words = Words::new(tokens, at);
+            Some(found_at(words, Construct::OutputPart, words.word()))
+        }
+        306 => range_at(tokens, at),
         303 | 310 if is_dump_path(tokens, at) => Some(found_at(
             Words::new(tokens, at),
             Construct::DumpPath,

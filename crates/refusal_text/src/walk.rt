@@ -61,6 +61,8 @@ pub(crate) struct Walk {
     /// Whether this is inside `generate`, or an attribute.
     pub(crate) generates: bool,
     pub(crate) attribute: bool,
+    /// Whether what is passed over stands in a module.
+    within: bool,
     // the blocks of the statement that are open
     depth: usize,
 }
@@ -76,11 +78,17 @@ pub(crate) const TYPES: [&str; 7] = [
     "logic", "bit", "int", "byte", "shortint", "longint", "string",
 ];
 
+/// Those that have no x and no z.
+pub(crate) const TWO_VALUED: [&str; 5] = ["bit", "int", "byte", "shortint", "longint"];
+
 /// With these processes of SystemVerilog begin.
 pub(crate) const ALWAYS: [&str; 3] = ["always_comb", "always_ff", "always_latch"];
 
 /// The tasks that print.
 pub(crate) const PRINTS: [&str; 3] = ["$display", "$strobe", "$monitor"];
+
+// Names of tasks that print, here or elsewhere, as they are and behind an `f`; a letter for the radix may follow.
+const PRINT_NAMES: [&str; 4] = ["display", "write", "strobe", "monitor"];
 
 // Behind these, parentheses have a statement after them.
 const CONDITIONS: [&str; 8] = [
@@ -130,9 +138,59 @@ const ITEMS: [&str; 7] = [
 // Behind these items an item begins.
 const ITEM_ENDS: [&str; 5] = ["end", "else", "endcase", "endgenerate", "generate"];
 
-const PASSED: [&str; 3] = ["primitive", "config", "table"];
+const PASSED: [&str; 7] = [
+    "primitive",
+    "config",
+    "table",
+    "package",
+    "interface",
+    "program",
+    "class",
+];
 
-const PASSED_ENDS: [&str; 3] = ["endprimitive", "endconfig", "endtable"];
+// These are passed over among items.
+const PASSED_ITEMS: [&str; 5] = ["class", "property", "sequence", "clocking", "covergroup"];
+
+// Behind the name of one of these.
+const PASSED_HEADS: [&str; 4] = [";", "@", "#", "extends"];
+
+const PASSED_ENDS: [&str; 12] = [
+    "endprimitive",
+    "endconfig",
+    "endtable",
+    "endpackage",
+    "endinterface",
+    "endprogram",
+    "endclass",
+    "endspecify",
+    "endproperty",
+    "endsequence",
+    "endclocking",
+    "endgroup",
+];
+
+// Before these `final` begins a process.
+const FINAL_STATEMENTS: [&str; 6] = ["begin", "if", "for", "case", "repeat", "while"];
+
+// Whether a letter for the radix, or nothing, stands behind the name.
+fn is_name_with_radix(word: &[u8], name: &str) -> bool {
+    match word.strip_prefix(name.as_bytes()) {
+        None => false,
+        Some(rest) => rest.is_empty() || is_one_of(rest, &["b", "o", "h"]),
+    }
+}
+
+// Whether the word is a task that prints, here or elsewhere.
+fn is_print(word: &[u8]) -> bool {
+    let Some(name) = word.strip_prefix(b"$") else {
+        return false;
+    };
+    let name = match name.strip_prefix(b"f") {
+        None => name,
+        Some(rest) => rest,
+    };
+    PRINT_NAMES.iter().any(|one| is_name_with_radix(name, *one))
+}
 
 // What the brackets that this word opens stand behind.
 fn group_of(words: Words<'_>) -> Group {
@@ -145,7 +203,7 @@ fn group_of(words: Words<'_>) -> Group {
         word if is(word, "@") => Group::Event,
         word if is(word, "$dumpvars") => Group::Dump,
         word if is_one_of(word, &CONDITIONS) => Group::Condition,
-        word if is_one_of(word, &PRINTS) => Group::Print,
+        word if is_print(word) => Group::Print,
         word if word.starts_with(b"$") => Group::System,
         _ => Group::Plain,
     }
@@ -175,6 +233,24 @@ pub(crate) fn is_type(words: Words<'_>) -> bool {
         && (declares || sized || is(next, "signed") || is(next, "unsigned"))
 }
 
+/// Whether the word begins the final statements of SystemVerilog.
+pub(crate) fn is_final(words: Words<'_>) -> bool {
+    let next = words.after(1);
+    is(words.word(), "final") && (next.starts_with(b"$") || is_one_of(next, &FINAL_STATEMENTS))
+}
+
+/// Whether the word begins an item of SystemVerilog that has rules of its own.
+pub(crate) fn passes_over(words: Words<'_>) -> bool {
+    is_one_of(words.word(), &PASSED_ITEMS)
+        && words.is_name_after(1)
+        && is_one_of(words.after(2), &PASSED_HEADS)
+}
+
+// Whether the colon is one of two, as in the path of a name in a package.
+fn is_of_path(words: Words<'_>) -> bool {
+    is(words.after(1), ":") || is(words.before(1), ":")
+}
+
 impl Walk {
     /// Where a text begins.
     pub(crate) fn new() -> Walk {
@@ -190,6 +266,7 @@ impl Walk {
             chosen: 0,
             generates: false,
             attribute: false,
+            within: false,
             depth: 0,
         }
     }
@@ -248,13 +325,20 @@ impl Walk {
 
     // In what is passed over.
     fn passed(&self, word: &[u8]) -> Walk {
-        if is(word, "endspecify") {
+        if !is_one_of(word, &PASSED_ENDS) {
+            return *self;
+        }
+        if self.within {
             return self.at(Level::Items);
         }
-        if is_one_of(word, &PASSED_ENDS) {
-            return Walk::new();
-        }
-        *self
+        Walk::new()
+    }
+
+    // Where what is passed over begins in a module.
+    fn passing(&self) -> Walk {
+        let mut next = self.at(Level::Passed);
+        next.within = true;
+        next
     }
 
     /// Whether the word begins an attribute.
@@ -328,7 +412,7 @@ impl Walk {
         if (is(word, ",") || is(word, "or")) && self.open == 1 {
             next.told = false;
         } else if is(word, ":") || self.group == Group::Event {
-            next.told = self.told || words.is(TokenKind::Symbol);
+            next.told = self.told || words.is(TokenKind::Symbol) || is(word, "iff");
         }
         if self.open == 1 && self.group == Group::Delay {
             next.chosen = self.chosen_after(word);
@@ -368,8 +452,10 @@ impl Walk {
             word if is(word, "initial") || is(word, "always") || is_one_of(word, &ALWAYS) => {
                 next.at(Level::Statement)
             }
+            _ if is_final(words) => next.at(Level::Statement),
+            _ if passes_over(words) => next.passing(),
             word if is(word, "function") || is(word, "task") => next.at(Level::RoutineHead),
-            word if is(word, "specify") => next.at(Level::Passed),
+            word if is(word, "specify") => next.passing(),
             word if is(word, "generate") || is(word, "endgenerate") => {
                 next.generates = is(word, "generate");
                 next
@@ -440,7 +526,7 @@ impl Walk {
             word if is_one_of(word, &BLOCK_ENDS) => {
                 self.at_depth(self.depth.saturating_sub(1)).ended(words)
             }
-            word if is(word, ":") && self.chosen == 0 => self.at(self.level),
+            word if is(word, ":") && self.chosen == 0 && !is_of_path(words) => self.at(self.level),
             word if is(word, "else") => self.at(self.level),
             word if is_one_of(word, &VARIABLES) || is_type(words) => {
                 let mut next = self.at(self.level);

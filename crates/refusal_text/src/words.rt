@@ -58,6 +58,16 @@ impl<'a> Words<'a> {
         Words::new(self.tokens, self.at.saturating_add(1))
     }
 
+    /// The text, looked at from the word before.
+    pub(crate) fn previous(&self) -> Words<'a> {
+        Words::new(self.tokens, self.at.saturating_sub(1))
+    }
+
+    /// The text, looked at from the word so many places later.
+    pub(crate) fn later(&self, more: usize) -> Words<'a> {
+        Words::new(self.tokens, self.at.saturating_add(more))
+    }
+
     /// The word so many places later.
     pub(crate) fn after(&self, more: usize) -> &'a [u8] {
         word_at(self.tokens, self.at.saturating_add(more))

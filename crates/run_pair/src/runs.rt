@@ -51,16 +51,42 @@ pub struct Marked {
     pub other: Option<u32>,
 }
 
-// The steps that are looked at: from the one on at which the run under the log parts from its parent.
-fn looked_at(log: &Log, marked: Marked) -> Looked {
-    Looked {
-        from: match log.members().last() {
-            None => 0,
-            Some(member) => member.0,
-        },
+// The step at which the run under the log parts from its parent.
+fn parting(log: &Log) -> u32 {
+    match log.members().last() {
+        None => 0,
+        Some(member) => member.0,
+    }
+}
+
+// How many steps the run under the log takes to the end of the slot of this one.
+fn slot_end(machine: &Machine, log: &Log, from: u32, steps: u32) -> Result<u32, NoMemory> {
+    let mut walk = Walk::new(machine, log, steps)?;
+    for _ in 0..=steps {
+        if walk.step() > from && walk.mark().is_some() {
+            return Ok(walk.step());
+        }
+        if !walk.go_on()? {
+            return Ok(walk.step());
+        }
+    }
+    Ok(walk.step())
+}
+
+// The steps of the run under the log that are looked at: from this one on to the end of its slot.
+fn looked_at(
+    machine: &Machine,
+    log: &Log,
+    from: u32,
+    marked: Marked,
+    steps: u32,
+) -> Result<Looked, NoMemory> {
+    Ok(Looked {
+        from,
+        to: slot_end(machine, log, from, steps)?,
         one: marked.one,
         other: marked.other,
-    }
+    })
 }
 
 // The time at which the run under the log ends.
@@ -95,7 +121,7 @@ fn follow(
     for _ in 0..=steps {
         if let Some(time) = walk.mark() {
             waves.see(alloc, &walk, time)?;
-            listed.end_slot(&walk);
+            listed.end_slot(&walk, time);
         }
         if waves.is_whole() {
             return Ok(());
@@ -144,9 +170,9 @@ impl Runs {
             Some(time) => time,
             None => first_end(machine, log, &first, steps)?,
         };
-        let looked = looked_at(log, in_parent);
+        let looked = looked_at(machine, &first, parting(log), in_parent, steps)?;
         let parent = seen_of(alloc, machine, first, looked, time, steps)?;
-        let looked = looked_at(log, in_run);
+        let looked = looked_at(machine, log, parting(log), in_run, steps)?;
         let departed = seen_of(alloc, machine, log.copy()?, looked, time, steps)?;
         let columns = columns_of(alloc, &parent.waves, &departed.waves)?;
         Ok(Runs {

@@ -5,8 +5,10 @@ use basis::NoMemory;
 use std::alloc::Global;
 use vbits::Vec4;
 
-// How many steps are listed; besides, those that race are.
-const MOST: usize = 24;
+// How many of the first steps are listed, and how many of the last ones; besides, those that race are.
+const FIRST: usize = 24;
+
+const LAST: u32 = 8;
 
 // How many of the variables that a step changes are named.
 const CHANGES: usize = 3;
@@ -31,27 +33,33 @@ pub struct Row {
     pub more: u64,
 }
 
-/// Which steps are looked at: from this one on, and among them those that race.
+/// Which steps are looked at: from this one on and before the other one, and among them those that race.
 #[derive(Clone, Copy)]
 pub struct Looked {
     pub from: u32,
+    pub to: u32,
     pub one: Option<u32>,
     pub other: Option<u32>,
 }
 
-/// Steps that are listed, in order, and how many come behind them.
+/// Steps that are listed, in order, and the time of their slot, if it has an end.
 #[derive(Drop)]
 pub struct Steps {
     pub rows: Vec<Row>,
-    pub rest: u64,
+    pub time: Option<u64>,
     looked: Looked,
-    closed: bool,
+    gap: u64,
 }
 
 impl Looked {
     // Whether the step is one of the two that race.
     fn races(&self, step: u32) -> bool {
         self.one == Some(step) || self.other == Some(step)
+    }
+
+    // Whether the step is one of the last ones.
+    fn is_late(&self, step: u32) -> bool {
+        step.saturating_add(LAST) >= self.to
     }
 }
 
@@ -89,23 +97,23 @@ impl Steps {
     pub(crate) fn new(alloc: Global, looked: Looked) -> Steps {
         Steps {
             rows: Vec::new(alloc),
-            rest: 0,
+            time: None,
             looked,
-            closed: false,
+            gap: 0,
         }
     }
 
-    /// Here a slot ends: if it was that of the first of these steps, no more of them come.
-    pub(crate) fn end_slot(&mut self, walk: &Walk<'_>) {
-        if walk.step() > self.looked.from {
-            self.closed = true;
+    /// Here the slot of this time ends: if it was that of the first of these steps, no more of them come.
+    pub(crate) fn end_slot(&mut self, walk: &Walk<'_>, time: u64) {
+        if walk.step() > self.looked.from && self.time.is_none() {
+            self.time = Some(time);
         }
     }
 
     // The row of the next step, of which it isn't known yet what it changes.
     fn row_of(&self, alloc: Global, walk: &Walk<'_>) -> Row {
         Row {
-            gap: self.rest,
+            gap: self.gap,
             number: walk.step(),
             action: walk.action(),
             races: self.looked.races(walk.step()),
@@ -123,7 +131,7 @@ impl Steps {
         }
         row.see_all(&before, walk.values())?;
         self.rows.push(row)?;
-        self.rest = 0;
+        self.gap = 0;
         Ok(true)
     }
 
@@ -131,7 +139,7 @@ impl Steps {
     fn count(&mut self, walk: &mut Walk<'_>) -> Result<bool, NoMemory> {
         let taken = walk.go_on()?;
         if taken {
-            self.rest = self.rest.saturating_add(1);
+            self.gap = self.gap.saturating_add(1);
         }
         Ok(taken)
     }
@@ -139,10 +147,10 @@ impl Steps {
     /// Takes the next step, if there is one; lists it where it is looked at.
     pub(crate) fn go_on(&mut self, alloc: Global, walk: &mut Walk<'_>) -> Result<bool, NoMemory> {
         let step = walk.step();
-        if self.closed || step < self.looked.from {
+        if self.time.is_some() || step < self.looked.from {
             return walk.go_on();
         }
-        if self.rows.len() < MOST || self.looked.races(step) {
+        if self.rows.len() < FIRST || self.looked.is_late(step) || self.looked.races(step) {
             self.list(alloc, walk)
         } else {
             self.count(walk)

@@ -51,7 +51,7 @@ const EXPLANATIONS: [Explanation; 33] = [
         number: 114,
         meaning: "a second timescale differs from the first",
         example: "`timescale 1ns/1ns and then `timescale 1ns/1ps",
-        advice: "write one timescale for the whole text",
+        advice: "write one timescale for the whole text, and all delays in its unit",
     },
     Explanation {
         number: 201,
@@ -69,7 +69,7 @@ const EXPLANATIONS: [Explanation; 33] = [
         number: 203,
         meaning: "statements and expressions nest deeper than 64: with more levels this word could follow",
         example: "begin 64 times round a statement; a sum of 64 operands in an assignment",
-        advice: "take begin and end away where one statement stands between them, split the process, or group a long sum by parentheses",
+        advice: "take begin and end away where one statement stands between them, write a long chain of else if as a case, or group a long sum by parentheses",
     },
     Explanation {
         number: 301,
@@ -93,7 +93,7 @@ const EXPLANATIONS: [Explanation; 33] = [
         number: 304,
         meaning: "a net with two drivers: two assigns, two outputs of instances, or an assign to an input that is connected outside",
         example: "assign p = q; assign p = 0;",
-        advice: "put both into one assign, or write to two nets",
+        advice: "give each driver a net of its own, and join them in one assign",
     },
     Explanation {
         number: 305,

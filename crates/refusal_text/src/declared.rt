@@ -1,0 +1,136 @@
+// What a text declares, as far as it tells what is left out: its modules, and their outputs.
+
+use crate::construct::Construct;
+use crate::modules::{Named, are_named, modules_of};
+use crate::walk::{Group, Level, Opening, Walk};
+use crate::words::{Words, is, is_one_of};
+use basis::NoMemory;
+use std::alloc::Global;
+use vlex::Tokens;
+
+// How many outputs are kept: a design has no more ports.
+const MOST: usize = 1_024;
+
+// An output of a module, by both names.
+#[derive(Clone, Copy)]
+struct Output<'a> {
+    module: &'a [u8],
+    port: &'a [u8],
+}
+
+/// The modules of a text, and their outputs.
+#[derive(Drop)]
+pub(crate) struct Declared<'a> {
+    modules: Vec<Named<'a>>,
+    outputs: Vec<Output<'a>>,
+}
+
+// The module whose head is read, and whether its ports are outputs.
+#[derive(Clone, Copy)]
+struct Head<'a> {
+    module: &'a [u8],
+    is_output: bool,
+}
+
+// Whether the word stands among the ports of a module's head.
+fn is_in_ports(walk: Walk) -> bool {
+    walk.level == Level::Head && walk.group == Group::Plain && walk.open == 1
+}
+
+// Whether the word is the name of a port.
+fn is_port(words: Words<'_>, walk: Walk) -> bool {
+    is_in_ports(walk) && words.is_name_after(0) && is_one_of(words.after(1), &[",", ")", "="])
+}
+
+impl<'a> Head<'a> {
+    // Behind the word.
+    fn after(&self, words: Words<'a>, walk: Walk) -> Head<'a> {
+        let mut next = *self;
+        if is(words.before(1), "module") {
+            next.module = words.word();
+        }
+        if is_in_ports(walk) && is_one_of(words.word(), &["input", "output", "inout"]) {
+            next.is_output = is(words.word(), "output");
+        }
+        next
+    }
+}
+
+// The outputs of the modules of a text.
+fn outputs_of<'a>(alloc: Global, tokens: &'a Tokens<'a>) -> Result<Vec<Output<'a>>, NoMemory> {
+    let mut outputs = Vec::new(alloc);
+    let mut walk = Walk::new();
+    let mut head = Head {
+        module: &[],
+        is_output: false,
+    };
+    for at in 0..tokens.len() {
+        let words = Words::new(tokens, at);
+        head = head.after(words, walk);
+        if head.is_output && is_port(words, walk) && outputs.len() < MOST {
+            outputs.push(Output {
+                module: head.module,
+                port: words.word(),
+            })?;
+        }
+        walk = walk.after(words);
+    }
+    Ok(outputs)
+}
+
+/// What the text declares.
+pub(crate) fn declared_of<'a>(
+    alloc: Global,
+    tokens: &'a Tokens<'a>,
+) -> Result<Declared<'a>, NoMemory> {
+    let all = modules_of(alloc, tokens)?;
+    Ok(Declared {
+        modules: all.modules,
+        outputs: outputs_of(alloc, tokens)?,
+    })
+}
+
+// Whether the word begins a path of `$dumpvars`.
+fn is_path(words: Words<'_>, walk: Walk) -> bool {
+    walk.group == Group::Dump
+        && walk.open == 1
+        && is(words.before(1), ",")
+        && words.is_name_after(0)
+}
+
+// Whether the word begins what a port is connected to by name, and that is more than a name.
+fn is_part(words: Words<'_>, walk: Walk) -> bool {
+    let is_bare = words.is_name_after(0) && is(words.after(1), ")");
+    let is_first = is(words.before(1), "(") && is(words.before(3), ".");
+    walk.level == Level::Items
+        && walk.opening == Opening::Instance
+        && walk.open == 2
+        && is_first
+        && !is_bare
+        && !is(words.word(), ")")
+}
+
+impl<'a> Declared<'a> {
+    // Whether the module has an output of this name.
+    fn has_output(&self, module: &[u8], port: &[u8]) -> bool {
+        self.outputs
+            .iter()
+            .any(|one| one.module == module && one.port == port)
+    }
+
+    /// The construct that the word tells, in an instance of this module, by what is declared.
+    pub(crate) fn construct_of(
+        &self,
+        words: Words<'_>,
+        walk: Walk,
+        module: &[u8],
+    ) -> Option<Construct> {
+        if is_path(words, walk) && !are_named(&self.modules, words.word()) {
+            return Some(Construct::DumpPath);
+        }
+        if is_part(words, walk) && self.has_output(module, words.before(2)) {
+            return Some(Construct::OutputPart);
+        }
+        None
+    }
+}
