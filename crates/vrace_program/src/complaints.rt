@@ -72,6 +72,33 @@ pub fn ask_for_words(words: &[String]) -> bool {
     tell_races(words)
 }
 
+// What is said of a word that `races` doesn't take, as it does so already.
+fn needless_text(word: &str) -> Option<&'static str> {
+    match word {
+        "--hold" => Some("--hold: races holds back already; --taking takes that back\n"),
+        "--lines" => Some(
+            "--lines: races compares printed lines already; --values takes that back\n",
+        ),
+        _ => None,
+    }
+}
+
+/// What is said of the first word that `races` doesn't take as it does so already, if there is one.
+pub fn needless_in(words: &[String]) -> Option<&'static str> {
+    if !tell_races(words) {
+        return None;
+    }
+    for word in words {
+        if word.as_str() == "--" {
+            return None;
+        }
+        if let Some(text) = needless_text(word.as_str()) {
+            return Some(text);
+        }
+    }
+    None
+}
+
 // What stands behind `=` where the word is the option with its value.
 fn joined_value<'a>(word: &'a str, option: &str) -> Option<&'a str> {
     word.strip_prefix(option)?.strip_prefix("=")

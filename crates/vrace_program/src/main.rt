@@ -17,8 +17,8 @@ use byte_sinks::Metered;
 use clap::error::ErrorKind;
 use clap::{ArgMatches, Error};
 use complaints::{
-    TOO_LONG_TOGETHER, ask_for_words, limits_text, unopened_text, unread_text, value_of,
-    waiver_text,
+    TOO_LONG_TOGETHER, ask_for_words, limits_text, needless_in, unopened_text, unread_text,
+    value_of, waiver_text,
 };
 use explanations::{explanation_of, show, show_advice, show_all};
 use meter::{Allowance, Meter};
@@ -590,9 +590,12 @@ fn say_more(rt: &HostRuntime, words: &[String], stop: &Stop) {
     match stop {
         Stop::Helped => {}
         Stop::NoMemory => {}
-        Stop::Unparsed(error) => {
-            let _ = eprint!(rt; "{error}");
-        }
+        Stop::Unparsed(error) => match needless_in(words) {
+            Some(text) => say(rt, text),
+            None => {
+                let _ = eprint!(rt; "{error}");
+            }
+        },
         Stop::Usage(reason) => {
             let _ = eprintln!(rt; "{reason}");
         }
