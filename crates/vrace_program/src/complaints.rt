@@ -223,6 +223,11 @@ pub fn unwritten_text(alloc: Global, name: &str) -> Result<String, NoMemory> {
     Ok(format!(in alloc; "{name}: can't be written; is its folder there?\n")?)
 }
 
+/// What is said of a name at which no file can be written, as something else stands there.
+pub fn no_file_text(alloc: Global, name: &str) -> Result<String, NoMemory> {
+    Ok(format!(in alloc; "{name}: can't be written: it is a folder or a device\n")?)
+}
+
 /// What is said of a file whose text isn't taken.
 pub fn unread_text(alloc: Global, name: &str, fault: Fault) -> Result<String, NoMemory> {
     Ok(match fault {

@@ -475,16 +475,21 @@ fn explore_by<'a, R: Threads + Wait + Sync>(
     explore(rt, threads, &request, &search)
 }
 
+// What is said where a file that is to be written would take the place of a source, or of another.
+const OVER_SOURCE: &str = "a file that is to be written is a file of Verilog";
+
+const ONE_FOR_TWO: &str = "two files that are to be written have one name";
+
 // Tells the races that the words ask for.
 fn races_by<'a>(rt: &HostRuntime, matches: &ArgMatches<'a>) -> Result<ExitCode, Stop> {
     if has_dashed_top(matches) || has_dashed_waivers(matches) {
         return Err(Stop::Usage(DASHED));
     }
     if has_output_over_file(matches) {
-        return Err(Stop::Usage("a file that is to be written is a file of Verilog"));
+        return Err(Stop::Usage(OVER_SOURCE));
     }
     if has_one_output_for_two(matches) {
-        return Err(Stop::Usage("two files that are to be written have one name"));
+        return Err(Stop::Usage(ONE_FOR_TWO));
     }
     let request = race_request_of(rt.alloc(), matches)?;
     let words = race_words_of(rt.alloc(), matches)?;

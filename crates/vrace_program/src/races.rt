@@ -1,11 +1,11 @@
 // The races of files, told to people and to programs.
 
-use crate::complaints::unwritten_text;
+use crate::complaints::{no_file_text, unwritten_text};
 use crate::meter::{Allowance, Meter};
 use crate::refusals::with_words;
 use crate::times::{Bounds, Times};
 use crate::words::{RaceWords, Request, Search, VERSION};
-use crate::{Stop, finish, options_for, read_file, refused_file, texts};
+use crate::{ONE_FOR_TWO, OVER_SOURCE, Stop, finish, options_for, read_file, refused_file, texts};
 use basis::NoMemory;
 use byte_sinks::Metered;
 use race_groups::{Group, Races, Scope};
@@ -17,6 +17,7 @@ use race_text::{
 use run_pair::write_pair;
 use std::alloc::Global;
 use std::io::{BufWriter, Write};
+use std::path::Path;
 use std::process::ExitCode;
 use std::rt::Clock;
 use std::{fs, io};
@@ -389,11 +390,19 @@ fn write_pictures(
     Ok(())
 }
 
-// Whether there is a folder of this name.
-fn is_folder(rt: &HostRuntime, name: &str) -> bool {
+// Whether what stands there is no file, but a folder or a device.
+fn is_no_file(rt: &HostRuntime, name: &str) -> bool {
     match fs::metadata(rt, name) {
-        Ok(found) => found.is_dir(),
+        Ok(found) => !found.is_file(),
         Err(_) => false,
+    }
+}
+
+// The refusal of a name at which there is a folder or a device.
+fn refused_place(alloc: Global, name: &str) -> Stop {
+    match no_file_text(alloc, name) {
+        Ok(words) => refused_file(Fault::Write, words),
+        Err(refused) => Stop::from(refused),
     }
 }
 
@@ -402,19 +411,82 @@ fn try_file(rt: &HostRuntime, name: Option<&str>) -> Result<(), Stop> {
     let Some(name) = name else {
         return Ok(());
     };
+    if is_no_file(rt, name) {
+        return Err(refused_place(rt.alloc(), name));
+    }
     let new = new_name(rt.alloc(), name)?;
-    if is_folder(rt, name) || fs::write(rt, new.as_str(), b"").is_err() {
+    if fs::write(rt, new.as_str(), b"").is_err() {
         return Err(refused_output(rt.alloc(), name));
     }
     let _ = fs::remove_file(rt, new.as_str());
     Ok(())
 }
 
-// Whether each file that is asked for can be written.
-fn try_files(rt: &HostRuntime, words: &RaceWords<'_>) -> Result<(), Stop> {
-    try_file(rt, words.write_waivers)?;
-    try_file(rt, words.html)?;
-    try_file(rt, words.vcd)
+// Whether both names are of one file that is there.
+fn are_one(rt: &HostRuntime, one: &str, other: &str) -> bool {
+    match (
+        Path::new(one).canonicalize(rt),
+        Path::new(other).canonicalize(rt),
+    ) {
+        (Ok(one), Ok(other)) => one.as_path().as_str() == other.as_path().as_str(),
+        _ => false,
+    }
+}
+
+// Whether two files that are to be written would be one: what is written beside the first is then beside the other.
+fn would_be_one(
+    rt: &HostRuntime,
+    one: Option<&str>,
+    other: Option<&str>,
+) -> Result<bool, NoMemory> {
+    let (Some(one), Some(other)) = (one, other) else {
+        return Ok(false);
+    };
+    let new = new_name(rt.alloc(), one)?;
+    let beside = new_name(rt.alloc(), other)?;
+    let _ = fs::write(rt, new.as_str(), b"");
+    let same = are_one(rt, new.as_str(), beside.as_str());
+    let _ = fs::remove_file(rt, new.as_str());
+    Ok(same)
+}
+
+// Refuses a file to be written that is one of those that are read.
+fn keep_sources(rt: &HostRuntime, name: Option<&str>, files: &[&str]) -> Result<(), Stop> {
+    let Some(name) = name else {
+        return Ok(());
+    };
+    for file in files {
+        if are_one(rt, name, file) {
+            return Err(Stop::Usage(OVER_SOURCE));
+        }
+    }
+    Ok(())
+}
+
+// Refuses two files to be written that are one.
+fn keep_apart(rt: &HostRuntime, words: &RaceWords<'_>) -> Result<(), Stop> {
+    let RaceWords {
+        write_waivers,
+        html,
+        vcd,
+        ..
+    } = words;
+    if would_be_one(rt, *html, *vcd)?
+        || would_be_one(rt, *html, *write_waivers)?
+        || would_be_one(rt, *vcd, *write_waivers)?
+    {
+        return Err(Stop::Usage(ONE_FOR_TWO));
+    }
+    Ok(())
+}
+
+// Whether each file that is asked for can be written, and takes the place of no source, nor of another.
+fn try_files(rt: &HostRuntime, words: &RaceWords<'_>, files: &[&str]) -> Result<(), Stop> {
+    for name in [words.write_waivers, words.html, words.vcd] {
+        try_file(rt, name)?;
+        keep_sources(rt, name, files)?;
+    }
+    keep_apart(rt, words)
 }
 
 // Writes what was told, and the file of waivers where one is asked for.
@@ -473,7 +545,7 @@ pub fn tell_races(
 ) -> Result<ExitCode, Stop> {
     options_for(request, search, None, 0)?;
     let times = Times::new(words.until, words.from)?;
-    try_files(rt, words)?;
+    try_files(rt, words, &request.files)?;
     let waivers = waivers_of(rt, words)?;
     let waivers = read(rt.alloc(), &waivers)?;
     let texts = texts(rt, &request.files)?;
