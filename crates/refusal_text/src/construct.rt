@@ -199,7 +199,8 @@ const ROWS: [Row; 65] = [
         names_word: false,
         what: "`fork` and `join`",
         instead: "write a process for each branch, `always @(go) begin ..; d1 = 1; end`, and here `d1 = 0; d2 = 0; -> go; wait \
-            (d1 && d2);`. At time 0 they may not wait yet: there write an `initial` for each",
+            (d1 && d2);`, for `join_any` `wait (d1 || d2)`, for `join_none` nothing. At time 0 they may not wait yet: there write \
+            an `initial` for each, or `#1 -> go`",
     },
     Row {
         construct: Construct::Format,
@@ -258,8 +259,8 @@ const ROWS: [Row; 65] = [
         construct: Construct::IndexedPart,
         names_word: false,
         what: "indexed part-selects, `+:` and `-:`",
-        instead: "write its bits: `{v[i+3], v[i+2], v[i+1], v[i]}`. A shift, `(v >> i) & 4'hf`, has as many bits as `v`, and 0 \
-            where `v` has no bit",
+        instead: "write its bits: `{v[i+3], v[i+2], v[i+1], v[i]}` for `v[i +: 4]`, `{v[i], v[i-1], v[i-2], v[i-3]}` for \
+            `v[i -: 4]`. A shift, `(v >> i) & 4'hf`, has as many bits as `v`, and 0 where `v` has no bit",
     },
     Row {
         construct: Construct::IndexedTarget,
@@ -486,7 +487,8 @@ const ROWS: [Row; 65] = [
         construct: Construct::SystemTask,
         names_word: true,
         what: "the system task or function",
-        instead: "leave it out, or compute its value; docs/LANGUAGE.md lists those that there are, under \"Words\"",
+        instead: "compute its value; where it prints, as `$error`, write `$display`, and for `$fatal` `$finish` after it; what \
+            changes nothing, leave out. docs/LANGUAGE.md lists those that there are, under \"Words\"",
     },
     Row {
         construct: Construct::Task,

@@ -19,8 +19,8 @@ pub(crate) const ROWS: [Row; 29] = [
         construct: Construct::Assertion,
         names_word: false,
         what: "assertions (SystemVerilog, IEEE 1800)",
-        instead: "test it in a process: `always @(posedge clk) if (a) ; else $display(\"..\");`, which reads `a` behind the \
-            edge, where a concurrent assertion reads it before",
+        instead: "for `assert (a) else ..` in a process write `if (a) ; else ..`; for `assert property` a process, `always \
+            @(posedge clk) if (a) ; else $display(\"..\");`, which reads `a` after the edge, where the assertion reads it before",
     },
     Row {
         construct: Construct::Cast,
