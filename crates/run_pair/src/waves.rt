@@ -69,6 +69,14 @@ impl Waves {
         self.ended = true;
     }
 
+    /// The time up to which the run is known; none where it is known to its end.
+    pub(crate) fn known_to(&self) -> Option<u64> {
+        match self.slots.last() {
+            Some(slot) if !self.ended => Some(slot.time),
+            _ => None,
+        }
+    }
+
     // Whether the run has ended before the time.
     fn is_over(&self, time: u64) -> bool {
         match self.slots.last() {
