@@ -13,6 +13,7 @@ use crate::visit::{Seen, Visit};
 use basis::NoMemory;
 use sched_core::{Member, next_choice};
 use std::alloc::Global;
+use vmodel::State;
 use vmodel::choice::Choice;
 
 // The choice of a step, if it goes on with the slot.
@@ -62,17 +63,17 @@ fn begin_after(alloc: Global, choice: Choice, begin: u32, next: u32, seen: &mut 
     }
 }
 
-// Where the run under the log of these members stands before step `from`, with the visits of its slot up to there, and what is left of the
-// log; none where there is no such run.
+// The state of the run under the log of these members before step `from`, what was seen of it, with the visits of its slot up to there, and
+// what is left of the log; none where there is no such run.
 fn before_step<'a>(
     alloc: Global,
     checkpoints: &Checkpoints<'_>,
     members: &'a [Member],
     from: u32,
-) -> Result<Option<(Checkpoint, &'a [Member])>, NoMemory>
+) -> Result<Option<(State, Seen, &'a [Member])>, NoMemory>
     requires { IsLogFrom 0 members.now }
     ensures some { IfOk result (λ told. IfSome told (λ found.
-        StandsBefore checkpoints.now members.now from found.1.now found.0.state found.0.seen)) }
+        StandsBefore checkpoints.now members.now from found.2.now found.0 found.1)) }
     ensures none { IfOk result (λ told. IfNone told ((steps : ℕ) → HasNoSlot checkpoints.now members.now from steps)) }
 {
     let design = checkpoints.machine().design();
@@ -94,14 +95,7 @@ fn before_step<'a>(
         begin = begin_after(alloc, choice, begin, step + 1, &mut seen);
         rest = later;
     }
-    Ok(Some((
-        Checkpoint {
-            step: from,
-            state,
-            seen,
-        },
-        rest,
-    )))
+    Ok(Some((state, seen, rest)))
 }
 
 /// The visits of the slot of step `from` in the run under the log of these members; none where the slot doesn't end before `steps` steps,
@@ -122,11 +116,10 @@ pub(crate) fn visits_of_slot(
         return Ok(None);
     }
     let design = checkpoints.machine().design();
-    let Some((there, left)) = before_step(alloc, checkpoints, members, from)? else {
+    let Some((mut state, kept, left)) = before_step(alloc, checkpoints, members, from)? else {
         return Ok(None);
     };
-    let mut state = there.state;
-    let (earlier, mut seen) = there.seen.apart(alloc);
+    let (earlier, mut seen) = kept.apart(alloc);
     let mut rest = left;
     for step in from..steps {
         let (index, later) = next_choice(rest, step);

@@ -13,7 +13,7 @@ returns-in_default-clause-none c = where_none _ c.in_default.is c.in_ok-there.en
 pub loop-step-init : goal.loop-step-init
 loop-step-init c = record {
   after = le_refl c.args.from;
-  so = stands_so c.args.checkpoints.now c.args.members.now c.in-Some.left.now c.args.steps c.args.from c.in-Some.there.state c.in-Some.there.seen
+  so = stands_so c.args.checkpoints.now c.args.members.now c.in-Some.left.now c.args.steps c.args.from c.in-Some.state c.in-Some.kept
       c.apart-earlier.result.1 (where_some _ c.in-Some.is c.in_ok-there.ensures.some) c.apart-earlier.ensures.rest (omega (arith, c.if-from-steps.false));
 }
 
