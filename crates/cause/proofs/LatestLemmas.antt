@@ -20,7 +20,7 @@ use Rattle.cause.specs.Visits.{same_actor, same_visit}
 use Rattle.cause.specs.Swaps.{is_swap, is_swap_of, has_come}
 use Rattle.cause.specs.Inner.{is_same_as}
 use Rattle.cause.specs.Latest.{number_at, of_thing, greater, greatest, Reaches, latest_of, Covers, AreClear}
-use Rattle.cause.specs.Known.{IsKnown, IsPast}
+use Rattle.cause.specs.Known.{IsClearedAt, IsKnown, IsPast}
 use Rattle.cause.proofs.SwapLemmas.{come_by}
 
 -- ---- numbers of things
@@ -241,7 +241,7 @@ module _ (run parent : List Visit) where
   module _ (n place : ℕ) (w : Visit) (at_n : slice_get parent n ≡ Some w) (there : place < length run → is_same_as w (slice_get run place) ≡ true)
       (within : place ≤ length run) (latest : Latest) (covers : Covers run parent n latest) where
     pub clear_on : (old new : List Bool) → AreClear run parent old →
-        ((k : ℕ) → slice_get new k ≡ Some true → (slice_get old k ≡ Some true) ⊎ IsPast run latest k place) → AreClear run parent new
+        IsClearedAt run latest place old new → AreClear run parent new
     clear_on old new clear set k l e = by_case (set k e)
       where
         by_case : (slice_get old k ≡ Some true) ⊎ IsPast run latest k place → is_swap run parent k l ≡ false

@@ -1,5 +1,5 @@
 -- *internal*: What is known of visits before their swaps are looked for.
-use Rattle.std.specs.Prelude.{◌≡◌, ◌⊎◌, ℕ, ◌≤◌, true, List, Some, None, slice_get}
+use Rattle.std.specs.Prelude.{◌≡◌, ◌⊎◌, ℕ, ◌≤◌, Bool, true, List, Some, None, slice_get}
 use Rattle.cause.specs.declared.visit.Visit.{Visit}
 use Rattle.cause.specs.declared.latest.Latest.{Latest}
 use Rattle.cause.specs.declared.swap.Known.{Known}
@@ -15,3 +15,8 @@ pub record IsPast (run : List Visit) (latest : Latest) (k place : ℕ) : Type 0 
 -- it is known that visit i of the run is of no swap
 abbrev pub IsKnown : List Visit → Known → ℕ → Type 0
 IsKnown run known i = (slice_get run i ≡ None) ⊎ ((slice_get known.clear.items i ≡ Some true) ⊎ IsPast run known.latest i i)
+
+-- more visits than before are said to be of no swap, each of them past at this place
+abbrev pub IsClearedAt : List Visit → Latest → ℕ → List Bool → List Bool → Type 0
+IsClearedAt run latest place old new =
+    (k : ℕ) → slice_get new k ≡ Some true → (slice_get old k ≡ Some true) ⊎ IsPast run latest k place

@@ -3,7 +3,7 @@
 ghost use Rattle.std.specs.Prelude.{◌≡◌, ◌⊎◌, ℕ, ◌+◌, ◌<◌, ◌≤◌, true, false, Some, take, length, slice_get, IfOk, IfSome, IfNone};
 ghost use Rattle.cause.specs.Footprints.{touch as touch_each_other};
 ghost use Rattle.cause.specs.Latest.{AreClear, Covers};
-ghost use Rattle.cause.specs.Known.{IsKnown, IsPast};
+ghost use Rattle.cause.specs.Known.{IsClearedAt, IsKnown, IsPast};
 ghost use Rattle.cause.specs.Swaps as spec;
 
 use crate::footprint::Footprint;
@@ -115,7 +115,7 @@ fn falses(alloc: Global, count: usize) -> Result<Vec<bool>, NoMemory>
 
 // Says of the visit at a place of the run that it is of no swap, where nothing that it touches was put with a place behind its own.
 fn clear_at(clear: &mut Vec<bool>, run: &[Visit], latest: &Latest, place: usize)
-    ensures { (k : ℕ) → slice_get clear.new.items k ≡ Some true → (slice_get clear.old.items k ≡ Some true) ⊎ IsPast run.now latest.now k place }
+    ensures { IsClearedAt run.now latest.now place clear.old.items clear.new.items }
 {
     match run.get(place) {
         None => {}
