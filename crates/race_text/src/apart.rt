@@ -16,6 +16,34 @@ pub struct Apart {
     pub in_lines: bool,
 }
 
+/// Of what two ends differ in, that which is told first: a verdict is mostly a printed line, so lines come before values.
+#[derive(Clone, Copy)]
+pub enum Foremost {
+    End,
+    Lines,
+    Variable(usize),
+}
+
+impl Apart {
+    /// What is told first.
+    pub fn foremost(&self) -> Foremost {
+        match self.variables.first() {
+            _ if self.in_end => Foremost::End,
+            Some(number) if !self.in_lines => Foremost::Variable(*number),
+            _ => Foremost::Lines,
+        }
+    }
+
+    /// The variables that are told behind that.
+    pub fn others(&self) -> &[usize] {
+        match self.foremost() {
+            Foremost::End => &[],
+            Foremost::Lines => self.variables.as_slice(),
+            Foremost::Variable(_) => self.variables.get(1..).unwrap_or(&[]),
+        }
+    }
+}
+
 // Whether two ends are the same.
 fn is_same_end(one: Option<End>, other: Option<End>) -> bool {
     match (one, other) {

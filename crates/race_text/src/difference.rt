@@ -1,5 +1,6 @@
 // What runs differ in, and its sides: what is so in each of them, and the order in which it comes about.
 
+use crate::apart::Foremost;
 use crate::facts::Facts;
 use crate::pieces::{put_cut, put_padded};
 use crate::place::Sources;
@@ -207,20 +208,17 @@ fn put_printed(
     }
 }
 
-// What is so where a run ends in this state: time and cause where they differ, else the value of the first variable of which values do,
-// else the lines.
+// What is so where a run ends in this state: of what is told first.
 fn put_state(
     text: &mut Vec<u8>,
     subject: Subject<'_>,
     state: &MachineState,
 ) -> Result<(), NoMemory> {
     let machine = subject.machine;
-    match &subject.facts.apart {
-        Some(apart) if !apart.in_end => match apart.variables.first() {
-            None => put_printed(text, machine, state),
-            Some(number) => put_value_in(text, machine, state, *number),
-        },
-        _ => put_end(text, machine, machine.end_of(state)),
+    match subject.facts.foremost() {
+        Foremost::End => put_end(text, machine, machine.end_of(state)),
+        Foremost::Lines => put_printed(text, machine, state),
+        Foremost::Variable(number) => put_value_in(text, machine, state, number),
     }
 }
 
@@ -308,16 +306,13 @@ fn put_ends(
     ends: &[FoundMark<MachineState>],
 ) -> Result<(), NoMemory> {
     let machine = subject.machine;
-    let apart = match &subject.facts.apart {
-        Some(apart) if !apart.in_end => apart,
-        _ => {
+    match subject.facts.foremost() {
+        Foremost::End => {
             text.extend_from_slice(b"the run ends by ")?;
             return put_joined(text, rows);
         }
-    };
-    match apart.variables.first() {
-        None => text.extend_from_slice(b"what is printed")?,
-        Some(number) => put_variable(text, machine.design(), *number)?,
+        Foremost::Lines => text.extend_from_slice(b"what is printed")?,
+        Foremost::Variable(number) => put_variable(text, machine.design(), number)?,
     }
     text.extend_from_slice(b" is ")?;
     put_joined(text, rows)?;
@@ -360,9 +355,9 @@ pub fn put_name(text: &mut Vec<u8>, machine: &Machine, name: &Name) -> Result<()
 
 // The variable of which a side has a value.
 fn variable_of(subject: Subject<'_>) -> Option<usize> {
-    match (&subject.group.first, &subject.facts.apart) {
+    match (&subject.group.first, subject.facts.foremost()) {
         (Difference::Values(race), _) => Some(race.variable),
-        (Difference::Ends(_), Some(apart)) if !apart.in_end => apart.variables.first().copied(),
+        (Difference::Ends(_), Foremost::Variable(number)) => Some(number),
         _ => None,
     }
 }
@@ -399,9 +394,9 @@ fn has_dump(design: &Design) -> bool {
 
 // Whether it is printed lines that differ.
 fn differs_in_lines(subject: Subject<'_>) -> bool {
-    match (&subject.group.first, &subject.facts.apart) {
+    match (&subject.group.first, subject.facts.foremost()) {
         (Difference::Lines(_), _) => true,
-        (Difference::Ends(_), Some(apart)) => !apart.in_end && apart.variables.is_empty(),
+        (Difference::Ends(_), Foremost::Lines) => true,
         _ => false,
     }
 }

@@ -1,6 +1,6 @@
 // What is told of a group beside what stands in it.
 
-use crate::apart::{Apart, apart_of};
+use crate::apart::{Apart, Foremost, apart_of};
 use crate::replayed::{last_action, time_before};
 use basis::NoMemory;
 use race_groups::{Difference, Group};
@@ -46,6 +46,14 @@ fn ending_of(
 }
 
 impl Facts {
+    /// Of what its ends differ in, that which is told first.
+    pub fn foremost(&self) -> Foremost {
+        match &self.apart {
+            None => Foremost::End,
+            Some(apart) => apart.foremost(),
+        }
+    }
+
     /// What is told of a group of the machine's runs.
     pub fn new(alloc: Global, machine: &Machine, group: &Group) -> Result<Facts, NoMemory> {
         let apart = ends_apart(alloc, machine, group)?;

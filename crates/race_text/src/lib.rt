@@ -29,6 +29,7 @@ mod whole;
 pub use connection::{port_of, put_port};
 pub use place::Sources;
 pub use summary::{Findings, NAMED, Told};
+pub use time::put_time;
 pub use tops::{Format, Tops};
 pub use value::put_value;
 pub use waived::Waived;

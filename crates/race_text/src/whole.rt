@@ -1,5 +1,6 @@
 // The text of the races of a top module.
 
+use crate::apart::Foremost;
 use crate::command::behind_log;
 use crate::difference::{
     Row, Subject, cause_words, end_in, put_difference, put_name, put_sides, put_variable, rows_of,
@@ -108,19 +109,21 @@ fn put_variables(
     Ok(())
 }
 
-// Which other variables differ where runs end.
+// Which variables differ where runs end, beside what is told first.
 fn put_others(text: &mut Vec<u8>, subject: Subject<'_>, most: usize) -> Result<(), NoMemory> {
     let Some(apart) = &subject.facts.apart else {
         return Ok(());
     };
-    let Some((_, others)) = apart.variables.split_first() else {
-        return Ok(());
-    };
-    if apart.in_end || others.is_empty() {
+    let others = apart.others();
+    if others.is_empty() {
         return Ok(());
     }
+    let word: &[u8] = match apart.foremost() {
+        Foremost::Lines => b"variable",
+        _ => b"more variable",
+    };
     text.extend_from_slice(b"    and ")?;
-    put_count(text, others.len() as u64, b"more variable")?;
+    put_count(text, others.len() as u64, word)?;
     put_variables(text, subject.machine.design(), others, most)?;
     text.push(b'\n')?;
     Ok(())
