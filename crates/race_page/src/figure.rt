@@ -5,11 +5,12 @@ use crate::lane::{HEIGHT, WIDTH, column_at, put_lane};
 use crate::shape::{Spot, put_rectangle, put_text};
 use crate::signals::Signals;
 use basis::NoMemory;
-use itoa::Buffer;
+use race_text::put_time;
 use run_pair::{Runs, Waves};
 use std::alloc::Global;
 use vbits::Vec4;
 use vdesign::design::Variable;
+use vmachine::Machine;
 
 // Where the first signal begins.
 const TOP: u64 = 30;
@@ -29,7 +30,7 @@ const WIDEST: u64 = 320;
 struct Figure<'a> {
     alloc: Global,
     runs: &'a Runs,
-    variables: &'a [Variable],
+    machine: &'a Machine,
     left: u64,
 }
 
@@ -76,7 +77,7 @@ impl<'a> Figure<'a> {
         }
     }
 
-    // A time over its column; the column of the slot that differs first is marked.
+    // A time over its column; the column of the slot that the race is told of is marked.
     fn put_time(
         &self,
         page: &mut Vec<u8>,
@@ -88,14 +89,15 @@ impl<'a> Figure<'a> {
         if is_slot {
             put_rectangle(page, "slot", self.spot(column, 0), height)?;
         }
-        let mut digits = Buffer::new();
+        let mut text = Vec::new(self.alloc);
+        put_time(&mut text, self.machine, time)?;
         let spot = Spot {
             x: column_at(self.left, column).saturating_add(4),
             y: 18,
             width: WIDTH,
         };
         let class = if is_slot { "time now" } else { "time" };
-        put_text(page, class, spot, digits.format(time).as_bytes())
+        put_text(page, class, spot, &text)
     }
 
     // What the numbers over the columns are.
@@ -182,7 +184,7 @@ impl<'a> Figure<'a> {
     // The signals of these numbers, one below the other.
     fn put_signals(&self, page: &mut Vec<u8>, shown: &[usize]) -> Result<(), NoMemory> {
         for (place, number) in shown.iter().enumerate() {
-            if let Some(variable) = self.variables.get(*number) {
+            if let Some(variable) = self.machine.design().variables.get(*number) {
                 let y = TOP.saturating_add(SIGNAL.saturating_mul(place as u64));
                 self.put_signal(page, *number, variable, y)?;
             }
@@ -219,19 +221,19 @@ fn put_left_out(page: &mut Vec<u8>, left_out: u64) -> Result<(), NoMemory> {
     )
 }
 
-/// The waveforms of both runs round the slot in which they differ first.
+/// The waveforms of both runs round the slot that the race is told of.
 pub(crate) fn put_figure(
     alloc: Global,
     page: &mut Vec<u8>,
     runs: &Runs,
-    variables: &[Variable],
+    machine: &Machine,
     signals: &Signals,
 ) -> Result<(), NoMemory> {
-    let left = left_of(variables, &signals.shown);
+    let left = left_of(&machine.design().variables, &signals.shown);
     let figure = Figure {
         alloc,
         runs,
-        variables,
+        machine,
         left,
     };
     let rows = SIGNAL.saturating_mul(signals.shown.len() as u64);

@@ -4,7 +4,8 @@ use crate::figure::put_variable;
 use crate::files::Files;
 use crate::html::{put, put_cut, put_escaped, put_number};
 use basis::NoMemory;
-use race_text::{port_of, put_port, put_value};
+use cause::Cause;
+use race_text::{port_of, put_port, put_time, put_value};
 use run_pair::{Change, Row, Runs, Seen, Steps};
 use sched_core::{LogHead, write_named_log};
 use std::alloc::Global;
@@ -25,6 +26,7 @@ pub(crate) struct Subject<'a> {
     pub(crate) alloc: Global,
     pub(crate) machine: &'a Machine,
     pub(crate) files: &'a Files<'a>,
+    pub(crate) cause: &'a Option<Cause>,
 }
 
 // The name of a file without its folders.
@@ -47,14 +49,25 @@ pub(crate) fn slot_of(runs: &Runs) -> Option<u64> {
 }
 
 // The slot of this time; without one the run.
-fn put_slot(page: &mut Vec<u8>, time: Option<u64>) -> Result<(), NoMemory> {
+fn put_slot(page: &mut Vec<u8>, machine: &Machine, time: Option<u64>) -> Result<(), NoMemory> {
     match time {
         None => put(page, "the run"),
         Some(time) => {
             put(page, "the slot at ")?;
-            put_number(page, time)
+            put_time(page, machine, time)
         }
     }
+}
+
+/// `tb.v:10`
+pub(crate) fn put_line_of(
+    page: &mut Vec<u8>,
+    files: &Files<'_>,
+    place: Place,
+) -> Result<(), NoMemory> {
+    put_escaped(page, own_name(files.name(place.file).as_bytes()))?;
+    put(page, ":")?;
+    put_number(page, place.line as u64)
 }
 
 // So many steps that aren't listed.
@@ -138,12 +151,20 @@ impl<'a> Subject<'a> {
             return put(page, "<td></td><td></td>");
         };
         put(page, "<td class=\"line-of\">")?;
-        put_escaped(page, own_name(self.files.name(place.file).as_bytes()))?;
-        put(page, ":")?;
-        put_number(page, place.line as u64)?;
+        put_line_of(page, self.files, place)?;
         put(page, "</td><td>")?;
         self.put_source(page, action, place)?;
         put(page, "</td>")
+    }
+
+    // Whether the step is of one of the two statements that race. A process that went another way is somewhere else there.
+    fn races(&self, row: &Row) -> bool {
+        match (self.cause, row.action) {
+            (Some(cause), Some(action)) => {
+                row.races && (action == cause.first.place || action == cause.second.place)
+            }
+            _ => row.races,
+        }
     }
 
     // A step; one of the two that race is marked.
@@ -151,7 +172,7 @@ impl<'a> Subject<'a> {
         put_gap(page, row.gap)?;
         put(
             page,
-            if row.races {
+            if self.races(row) {
                 "<tr class=\"races\">"
             } else {
                 "<tr>"
@@ -176,11 +197,7 @@ impl<'a> Subject<'a> {
 
     // The log of the run, as `--log` takes it.
     fn put_log(&self, page: &mut Vec<u8>, seen: &Seen) -> Result<(), NoMemory> {
-        let head = if seen.log.members().is_empty() {
-            LogHead::Plain
-        } else {
-            LogHead::Named(self.machine.grain(), self.machine.departures())
-        };
+        let head = LogHead::Named(self.machine.grain(), self.machine.departures());
         let text = write_named_log(self.alloc, head, &seen.log)?;
         put_escaped(page, &text)
     }
@@ -209,7 +226,7 @@ impl<'a> Subject<'a> {
             page,
             "<h3>The steps from where the runs part to the end of ",
         )?;
-        put_slot(page, slot_of(runs))?;
+        put_slot(page, self.machine, slot_of(runs))?;
         put(page, "</h3>\n")?;
         put(page, "<div class=\"runs\">\n")?;
         self.put_run(page, "default", &runs.parent)?;

@@ -3,16 +3,16 @@
 use crate::figure::put_figure;
 use crate::files::Files;
 use crate::html::{put, put_escaped, put_number};
-use crate::listing::{Subject, slot_of};
+use crate::listing::{Subject, put_line_of, slot_of};
 use crate::printed::put_printed;
 use crate::signals::signals_of;
-use crate::source::put_sources;
+use crate::source::{put_heading, put_sources};
 use crate::style::{END, HEAD};
 use crate::table::put_table;
 use basis::NoMemory;
 use cause::Cause;
 use race_groups::{Difference, Group};
-use race_text::{Findings, groups_texts, summary_text};
+use race_text::{Findings, groups_texts, put_time, summary_text};
 use run_pair::{Marked, Runs};
 use std::alloc::Global;
 
@@ -27,8 +27,8 @@ pub struct Page {
 
 // What the shapes of the waveforms mean.
 const LEGEND: &str =
-    "<p>In the waveforms each column is the end of a slot, not to scale; the shaded one is the slot in which both runs differ \
-    first, and what differs is marked. A line is one bit, a box a vector, a dashed box has bits that are x or z.</p>\n";
+    "<p>In the waveforms each column is the end of a slot, not to scale; the shaded one is the slot that the race is told of, and \
+    what differs is marked. A line is one bit, a box a vector, a dashed box has bits that are x or z.</p>\n";
 
 // What stands before the line feed at this place, and what after it.
 fn cut_at(text: &[u8], at: usize) -> (&[u8], &[u8]) {
@@ -84,34 +84,51 @@ fn put_link(page: &mut Vec<u8>, number: u64, text: &[u8]) -> Result<(), NoMemory
     put(page, "</a>")
 }
 
-// The list of races, the first of which has this number: the first line of what is told of each, as a link.
-fn put_list(page: &mut Vec<u8>, first: u64, words: &[Vec<u8>]) -> Result<(), NoMemory> {
+// `, tb.v:10 and tb.v:12`: the lines of both statements, where they are known.
+fn put_lines(page: &mut Vec<u8>, files: &Files<'_>, group: &Group) -> Result<(), NoMemory> {
+    let Some(cause) = &group.cause else {
+        return Ok(());
+    };
+    let places = (
+        files.place(cause.second.statement),
+        files.place(cause.first.statement),
+    );
+    let (Some(one), Some(other)) = places else {
+        return Ok(());
+    };
+    put(page, ", ")?;
+    put_line_of(page, files, one)?;
+    put(page, " and ")?;
+    put_line_of(page, files, other)
+}
+
+// The list of races, the first of which has this number: the first line of what is told of each, as a link, and the lines of both statements.
+fn put_list(
+    page: &mut Vec<u8>,
+    first: u64,
+    words: &[Vec<u8>],
+    groups: &[Group],
+    files: &Files<'_>,
+) -> Result<(), NoMemory> {
     put(page, "<nav aria-label=\"races\">\n<ul>\n")?;
-    for (place, words) in words.iter().enumerate() {
-        put(page, "<li>")?;
-        put_link(
-            page,
-            first.saturating_add(place as u64),
-            first_line(words).0,
-        )?;
-        put(page, "</li>\n")?;
+    for (place, group) in groups.iter().enumerate() {
+        if let Some(words) = words.get(place) {
+            put(page, "<li>")?;
+            put_link(
+                page,
+                first.saturating_add(place as u64),
+                first_line(words).0,
+            )?;
+            put_lines(page, files, group)?;
+            put(page, "</li>\n")?;
+        }
     }
     put(page, "</ul>\n</nav>\n")
 }
 
-// In which units times are counted.
-fn put_unit(page: &mut Vec<u8>, findings: &Findings<'_>) -> Result<(), NoMemory> {
-    let precision = findings.machine.design().scale.precision;
-    put(page, "<p>Times count units of ")?;
-    put_number(page, u64::from(precision.count.number()))?;
-    put(page, " ")?;
-    put(page, precision.unit.name())?;
-    put(
-        page,
-        ". <em>departed</em> is the run in the other order, <em>default</em> the one that it departs from.</p>\n",
-    )?;
-    put(page, LEGEND)
-}
+// What the names of the runs mean, and the shapes of the waveforms.
+const NAMES: &str =
+    "<p><em>departed</em> is the run in the other order, <em>default</em> the one that it departs from. A time without a unit is in ns.</p>\n";
 
 // The heading of a race, as the first line of what is told of it, and the other lines.
 fn put_words(page: &mut Vec<u8>, words: &[u8]) -> Result<(), NoMemory> {
@@ -132,18 +149,19 @@ fn put_runs(
     group: &Group,
     runs: &Runs,
 ) -> Result<(), NoMemory> {
-    let variables = &findings.machine.design().variables;
-    let signals = signals_of(alloc, group, runs, variables.len())?;
+    let variables = findings.machine.design().variables.len();
+    let signals = signals_of(alloc, group, runs, variables)?;
     put(page, "<h3>The waveforms round the slot at ")?;
-    put_number(page, runs.time)?;
-    put(page, ", in which the runs differ first</h3>\n")?;
-    put_figure(alloc, page, runs, variables, &signals)?;
-    put_table(alloc, page, runs, variables, &signals.shown)?;
-    put_printed(page, &group.first, runs)?;
+    put_time(page, findings.machine, runs.time)?;
+    put(page, "</h3>\n")?;
+    put_figure(alloc, page, runs, findings.machine, &signals)?;
+    put_table(alloc, page, runs, findings.machine, &signals.shown)?;
+    put_printed(page, findings.machine, &group.first, runs)?;
     let subject = Subject {
         alloc,
         machine: findings.machine,
         files,
+        cause: &group.cause,
     };
     subject.put_listing(page, runs)
 }
@@ -189,7 +207,8 @@ impl Page {
         put_words(&mut self.text, words)?;
         let runs = self.runs_of(findings, group)?;
         if let Some(cause) = &group.cause {
-            put_sources(self.alloc, &mut self.text, files, cause, slot_of(&runs))?;
+            put_heading(&mut self.text, findings.machine, slot_of(&runs))?;
+            put_sources(self.alloc, &mut self.text, files, cause)?;
         }
         put_runs(self.alloc, &mut self.text, findings, files, group, &runs)?;
         put(
@@ -199,7 +218,12 @@ impl Page {
     }
 
     // What stands before the races of a top module: its name, how many races there are, what wasn't looked at, and the list.
-    fn put_head(&mut self, findings: &Findings<'_>, words: &[Vec<u8>]) -> Result<(), NoMemory> {
+    fn put_head(
+        &mut self,
+        findings: &Findings<'_>,
+        files: &Files<'_>,
+        words: &[Vec<u8>],
+    ) -> Result<(), NoMemory> {
         put(&mut self.text, "<h1>Races of ")?;
         put_escaped(&mut self.text, &findings.machine.design().top)?;
         put(&mut self.text, "</h1>\n<p>")?;
@@ -208,8 +232,10 @@ impl Page {
         if words.is_empty() {
             return Ok(());
         }
-        put_unit(&mut self.text, findings)?;
-        put_list(&mut self.text, self.races.saturating_add(1), words)
+        put(&mut self.text, NAMES)?;
+        put(&mut self.text, LEGEND)?;
+        let first = self.races.saturating_add(1);
+        put_list(&mut self.text, first, words, &findings.races.groups, files)
     }
 
     /// What was found of a top module: a list of all races, and of each what is told of it in words, both statements in their files, the
@@ -217,7 +243,7 @@ impl Page {
     pub fn tell(&mut self, findings: &Findings<'_>) -> Result<(), NoMemory> {
         let words = groups_texts(self.alloc, findings)?;
         let files = Files::new(self.alloc, findings.sources)?;
-        self.put_head(findings, &words)?;
+        self.put_head(findings, &files, &words)?;
         for (place, group) in findings.races.groups.iter().enumerate() {
             if let Some(words) = words.get(place) {
                 self.put_race(findings, &files, group, words)?;

@@ -1,24 +1,59 @@
 // What both runs print in the slot in which their lines differ.
 
-use crate::html::{put, put_cut, put_number};
+use crate::html::{put, put_cut};
 use basis::NoMemory;
+use explore::FoundMark;
 use race_groups::Difference;
+use race_text::put_time;
 use racebook::LineRace;
 use run_pair::Runs;
 use sched_core::Log;
 use sched_core::bag::Bag;
+use vmachine::{Machine, MachineState};
 
 // How many bytes of a line are shown.
 const LINE: usize = 160;
 
 // The lines that the slot printed in the run under the log, if that is one of the sides.
-fn lines_of<'a>(race: &'a LineRace, log: &Log) -> Option<&'a Bag> {
+fn side_of<'a>(race: &'a LineRace, log: &Log) -> Option<&'a Bag> {
     for side in &race.sides {
         if side.log.members() == log.members() {
             return Some(&side.lines);
         }
     }
     None
+}
+
+// The lines that the last slot printed in the run under the log, if it is one of those that end so.
+fn end_of<'a>(
+    machine: &Machine,
+    ends: &'a [FoundMark<MachineState>],
+    log: &Log,
+) -> Option<&'a Bag> {
+    for found in ends {
+        if found.log.members() == log.members() {
+            return machine.printed(&found.state);
+        }
+    }
+    None
+}
+
+// The lines that the run under the log printed, of a difference of lines or of ends.
+fn lines_of<'a>(machine: &Machine, difference: &'a Difference, log: &Log) -> Option<&'a Bag> {
+    match difference {
+        Difference::Values(_) => None,
+        Difference::Lines(race) => side_of(race, log),
+        Difference::Ends(ends) => end_of(machine, ends, log),
+    }
+}
+
+// Whether the lines are those of the other run.
+fn are_same(one: Option<&Bag>, other: Option<&Bag>) -> bool {
+    match (one, other) {
+        (Some(one), Some(other)) => one == other,
+        (None, None) => true,
+        _ => false,
+    }
 }
 
 // The lines, one below the other.
@@ -36,34 +71,52 @@ fn put_lines(page: &mut Vec<u8>, lines: &Bag) -> Result<(), NoMemory> {
     Ok(())
 }
 
-// What the run under the log printed, in a cell.
-fn put_cell(page: &mut Vec<u8>, race: &LineRace, log: &Log) -> Result<(), NoMemory> {
+// These lines, if they are known, in a cell.
+fn put_cell(page: &mut Vec<u8>, lines: Option<&Bag>) -> Result<(), NoMemory> {
     put(page, "<td>")?;
-    if let Some(lines) = lines_of(race, log) {
+    if let Some(lines) = lines {
         put_lines(page, lines)?;
     }
     put(page, "</td>")
 }
 
-/// Of a difference of lines, what the slot printed in both runs, as a table.
+// In which slot it was printed.
+fn put_slot(
+    page: &mut Vec<u8>,
+    machine: &Machine,
+    difference: &Difference,
+) -> Result<(), NoMemory> {
+    match difference {
+        Difference::Lines(race) => {
+            put(page, "slot at ")?;
+            put_time(page, machine, race.time)
+        }
+        _ => put(page, "last slot"),
+    }
+}
+
+/// Where lines differ in a slot, or in the last one, what it printed in both runs, as a table.
 pub(crate) fn put_printed(
     page: &mut Vec<u8>,
+    machine: &Machine,
     difference: &Difference,
     runs: &Runs,
 ) -> Result<(), NoMemory> {
-    let Difference::Lines(race) = difference else {
+    let by_default = lines_of(machine, difference, &runs.parent.log);
+    let departed = lines_of(machine, difference, &runs.departed.log);
+    if are_same(by_default, departed) {
         return Ok(());
-    };
+    }
     put(
         page,
-        "<div class=\"wide\" tabindex=\"0\"><table>\n<caption>Printed in the slot at ",
+        "<div class=\"wide\" tabindex=\"0\"><table>\n<caption>Printed in the ",
     )?;
-    put_number(page, race.time)?;
+    put_slot(page, machine, difference)?;
     put(
         page,
         "</caption>\n<tr><th scope=\"col\">default</th><th scope=\"col\">departed</th></tr>\n<tr class=\"differs\">",
     )?;
-    put_cell(page, race, &runs.parent.log)?;
-    put_cell(page, race, &runs.departed.log)?;
+    put_cell(page, by_default)?;
+    put_cell(page, departed)?;
     put(page, "</tr>\n</table></div>\n")
 }

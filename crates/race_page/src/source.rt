@@ -4,7 +4,9 @@ use crate::files::Files;
 use crate::html::{put, put_cut, put_escaped, put_number};
 use basis::NoMemory;
 use cause::{Blamed, Cause};
+use race_text::put_time;
 use std::alloc::Global;
+use vmachine::Machine;
 use vsrc::Place;
 
 // How many lines before and after a statement are shown.
@@ -27,6 +29,29 @@ fn earlier(one: Option<usize>, column: usize) -> Option<usize> {
     match one {
         None => Some(column),
         Some(first) => Some(first.min(column)),
+    }
+}
+
+// How many bytes of the line the statement has that begins it: up to the semicolon outside of parentheses, or to a comment.
+fn length_of(text: &[u8]) -> usize {
+    let mut open = 0usize;
+    for (at, byte) in text.iter().enumerate() {
+        match *byte {
+            b'(' => open = open.saturating_add(1),
+            b')' => open = open.saturating_sub(1),
+            b';' if open == 0 => return at.saturating_add(1),
+            b'/' if text.get(at.saturating_add(1)) == Some(&b'/') => return at,
+            _ => {}
+        }
+    }
+    text.len()
+}
+
+// Behind which column the statement ends that begins in this one.
+fn end_of(text: &[u8], column: usize) -> usize {
+    match text.get(column..) {
+        None => text.len(),
+        Some(statement) => column.saturating_add(length_of(statement)),
     }
 }
 
@@ -59,6 +84,17 @@ impl Block {
         Ok(())
     }
 
+    // Behind which column of the line its last statement ends.
+    fn end(&self, line: usize, text: &[u8]) -> usize {
+        let mut end = 0;
+        for place in &self.places {
+            if place.line == line {
+                end = end.max(end_of(text, place.column));
+            }
+        }
+        end
+    }
+
     // The column in which the first statement of the line begins; none where none does.
     fn column(&self, line: usize) -> Option<usize> {
         let mut column = None;
@@ -71,22 +107,26 @@ impl Block {
     }
 }
 
-// The text of a line, marked from this column on.
-fn put_marked(page: &mut Vec<u8>, text: &[u8], column: usize) -> Result<(), NoMemory> {
-    let Some((before, statement)) = text.split_at_checked(column) else {
+// The text of a line, marked from this column on, up to another one.
+fn put_marked(page: &mut Vec<u8>, text: &[u8], column: usize, end: usize) -> Result<(), NoMemory> {
+    let Some((front, behind)) = text.split_at_checked(end) else {
+        return put_cut(page, text, LINE);
+    };
+    let Some((before, statement)) = front.split_at_checked(column) else {
         return put_cut(page, text, LINE);
     };
     put_cut(page, before, LINE)?;
     put(page, "<mark>")?;
-    put_cut(page, statement, LINE)?;
-    put(page, "</mark>")
+    put_cut(page, statement.trim_ascii_end(), LINE)?;
+    put(page, "</mark>")?;
+    put_cut(page, behind, LINE)
 }
 
 // The text of a line.
 fn put_text(page: &mut Vec<u8>, block: &Block, line: usize, text: &[u8]) -> Result<(), NoMemory> {
     match block.column(line) {
         None => put_cut(page, text, LINE),
-        Some(column) => put_marked(page, text, column),
+        Some(column) => put_marked(page, text, column, block.end(line, text)),
     }
 }
 
@@ -160,29 +200,31 @@ fn put_blamed(
     put_action(alloc, blocks, files, blamed.place)
 }
 
-// In which slot the statements race.
-fn put_heading(page: &mut Vec<u8>, slot: Option<u64>) -> Result<(), NoMemory> {
+/// The heading of both statements, with the time of the slot in which they race, if that is known.
+pub(crate) fn put_heading(
+    page: &mut Vec<u8>,
+    machine: &Machine,
+    slot: Option<u64>,
+) -> Result<(), NoMemory> {
     put(page, "<h3>The two statements")?;
     if let Some(time) = slot {
         put(page, ", in the slot at ")?;
-        put_number(page, time)?;
+        put_time(page, machine, time)?;
     }
     put(page, "</h3>\n")
 }
 
 /// Both statements of the cause in their files, in the order of the parent's run, each with the port connection or the `assign` that it
-/// drives and that races; what stands close together is one block. They race in the slot of this time, if it is known.
+/// drives and that races; what stands close together is one block.
 pub(crate) fn put_sources(
     alloc: Global,
     page: &mut Vec<u8>,
     files: &Files<'_>,
     cause: &Cause,
-    slot: Option<u64>,
 ) -> Result<(), NoMemory> {
     let mut blocks = Vec::new(alloc);
     put_blamed(alloc, &mut blocks, files, &cause.second)?;
     put_blamed(alloc, &mut blocks, files, &cause.first)?;
-    put_heading(page, slot)?;
     for block in &blocks {
         put_block(page, files, block)?;
     }

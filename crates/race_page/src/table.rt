@@ -1,11 +1,12 @@
-// The values of both runs at the end of the slot in which they differ first, as a table.
+// The values of both runs at the end of the slot that the race is told of, as a table.
 
-use crate::html::{put, put_escaped, put_number};
+use crate::html::{put, put_escaped};
 use basis::NoMemory;
-use race_text::put_value;
+use race_text::{put_time, put_value};
 use run_pair::{Runs, Waves};
 use std::alloc::Global;
 use vdesign::design::Variable;
+use vmachine::Machine;
 
 // The value of the variable in a run, in a cell; nothing where the run has ended.
 fn put_cell(
@@ -59,20 +60,20 @@ pub(crate) fn put_table(
     alloc: Global,
     page: &mut Vec<u8>,
     runs: &Runs,
-    variables: &[Variable],
+    machine: &Machine,
     shown: &[usize],
 ) -> Result<(), NoMemory> {
     put(
         page,
         "<div class=\"wide\" tabindex=\"0\"><table>\n<caption>At the end of the slot at ",
     )?;
-    put_number(page, runs.time)?;
+    put_time(page, machine, runs.time)?;
     put(
         page,
         "</caption>\n<tr><th scope=\"col\">variable</th><th scope=\"col\">default</th><th scope=\"col\">departed</th></tr>\n",
     )?;
     for number in shown {
-        if let Some(variable) = variables.get(*number) {
+        if let Some(variable) = machine.design().variables.get(*number) {
             put_row(alloc, page, runs, variable, *number)?;
         }
     }
