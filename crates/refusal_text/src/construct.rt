@@ -9,6 +9,7 @@ pub(crate) enum Construct {
     AlwaysFf,
     Assertion,
     Attribute,
+    Bind,
     BlockDeclaration,
     BlockName,
     Cast,
@@ -50,7 +51,9 @@ pub(crate) enum Construct {
     LaterTrigger,
     Logic,
     MacroArguments,
+    Mailbox,
     Memory,
+    Method,
     MissingArgument,
     MonitorSwitch,
     NetDelay,
@@ -75,6 +78,7 @@ pub(crate) enum Construct {
     Property,
     Pull,
     PulledNet,
+    Queue,
     RadixDisplay,
     Random,
     Range,
@@ -487,15 +491,16 @@ const ROWS: [Row; 65] = [
         construct: Construct::SystemTask,
         names_word: true,
         what: "the system task or function",
-        instead: "compute its value; where it prints, as `$error`, write `$display`, and for `$fatal` `$finish` after it; what \
-            changes nothing, leave out. docs/LANGUAGE.md lists those that there are, under \"Words\"",
+        instead: "compute its value: for `$clog2(N)` a `localparam` with the number, for `$isunknown(a)` `(^a === 1'bx)`, for \
+            `$realtime` `$time`, which is rounded. Where it prints, as `$error`, write `$display`, and for `$fatal` `$finish` \
+            after it; what changes nothing, leave out. docs/LANGUAGE.md lists those that there are, under \"Words\"",
     },
     Row {
         construct: Construct::Task,
         names_word: false,
         what: "tasks",
         instead: "write the statements where it is called; or a process `always @(go) begin ..; done = 1; end`, called by `done \
-            = 0; -> go; wait (done);`, which hears no call at time 0 before it waits, nor while it runs",
+            = 0; -> go; wait (done);`, which hears no call while it runs, nor at time 0 before it waits: there write `#1 -> go;`",
     },
     Row {
         construct: Construct::ThreeState,

@@ -89,7 +89,7 @@ fn by_parenthesis(words: Words<'_>, walk: Walk) -> Option<Construct> {
     if before.starts_with(b"$") && is(words.after(1), ")") {
         return Some(Construct::MissingArgument);
     }
-    let follows = is(words.before(2), ".") || is(words.before(2), "#");
+    let follows = is(words.before(2), ".") || is(words.before(2), "#") || is(before, "iff");
     if words.is_name_before(1) && !follows && is_in_expression(walk) {
         return Some(Construct::Function);
     }

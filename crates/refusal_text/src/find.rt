@@ -5,18 +5,19 @@ use crate::declared::declared_of;
 use crate::formats::{bad_format, letters_of};
 use crate::modules::begins_instances;
 use crate::walk::{Level, Walk};
-use crate::words::{Words, is};
+use crate::words::{Words, is, is_one_of};
 use crate::{bounds, declarations, expressions, formats, keywords, statements, system_verilog};
 use basis::NoMemory;
 use std::alloc::Global;
 use vlex::{TokenKind, Tokens};
 use vsrc::Place;
 
-/// What is told of a word: a construct that the profile leaves out, or the number of a fault.
+/// What is told of a word: a construct that the profile leaves out, the number of a fault, or that a module has no such port.
 #[derive(Clone, Copy, Debug, PartialEq, Eq)]
 pub(crate) enum What {
     LeftOut(Construct),
     Broken(u16),
+    NoPort,
 }
 
 /// What is told, the word, where it stands first, and how often it comes later.
@@ -87,7 +88,8 @@ pub(crate) fn is_same(one: &Found<'_>, other: &Found<'_>) -> bool {
             None => false,
             Some(row) => row.names_word,
         },
-        What::Broken(number) => number == 111 || number == 301,
+        What::Broken(number) => number == 111 || number == 301 || number == 303,
+        What::NoPort => true,
     };
     one.what == other.what && (!names_word || one.word == other.word)
 }
@@ -102,6 +104,29 @@ pub(crate) fn keep<'a>(all: &mut Vec<Found<'a>>, found: Found<'a>) -> Result<(),
     }
     all.push(found)?;
     Ok(())
+}
+
+// Constructs that the symbol behind their name tells.
+const CALLS: [Construct; 7] = [
+    Construct::Assertion,
+    Construct::Class,
+    Construct::DoWhile,
+    Construct::Foreach,
+    Construct::Function,
+    Construct::Jump,
+    Construct::Task,
+];
+
+// A construct that this word tells: a call stands where its name does, a real number where it begins.
+fn told_at<'a>(words: Words<'a>, construct: Construct) -> Found<'a> {
+    let is_call = is_one_of(words.word(), &["(", ";"]) && CALLS.contains(&construct);
+    let is_number = construct == Construct::Real && words.is_plain_before(1) && words.adjoins();
+    let place = if is_call || is_number {
+        words.previous()
+    } else {
+        words
+    };
+    found_at(place, construct, words.word())
 }
 
 /// A construct at this word.
@@ -148,7 +173,7 @@ pub(crate) fn constructs<'a>(
             None => declared.construct_of(words, walk, module),
         };
         if let Some(construct) = construct {
-            keep(&mut all, found_at(words, construct, words.word()))?;
+            keep(&mut all, told_at(words, construct))?;
         } else if is_format(words, walk) {
             keep_formats(&mut all, words)?;
         }
@@ -174,7 +199,7 @@ pub(crate) fn construct_near<'a>(tokens: &'a Tokens<'a>, refused: usize) -> Opti
         if at.saturating_add(NEAR) > refused {
             if let Some(construct) = construct_of(words, walk) {
                 if !has_tree(construct) {
-                    near = Some(found_at(words, construct, words.word()));
+                    near = Some(told_at(words, construct));
                 }
             }
         }
@@ -191,7 +216,7 @@ pub(crate) fn construct_at<'a>(tokens: &'a Tokens<'a>, at: usize) -> Option<Foun
     }
     let words = Words::new(tokens, at);
     let construct = construct_of(words, walk)?;
-    Some(found_at(words, construct, words.word()))
+    Some(told_at(words, construct))
 }
 
 /// The first format that the profile leaves out, from this word to the end of its statement.

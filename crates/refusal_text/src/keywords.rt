@@ -1,7 +1,7 @@
 // Constructs that one word tells: keywords, names of system tasks, operators.
 
 use crate::construct::Construct;
-use crate::words::{Words, is_one_of};
+use crate::words::{Words, is, is_one_of};
 use vlex::TokenKind;
 
 // Words, and the construct that each of them begins.
@@ -186,6 +186,9 @@ const SYSTEM_NAMES: [&str; 14] = [
 /// The construct that the word begins, whatever stands round it.
 pub(crate) fn by_keyword(words: Words<'_>) -> Option<Construct> {
     let word = words.word();
+    if is(word, "disable") && is(words.after(1), "iff") {
+        return None;
+    }
     if let Some(row) = KEYWORDS.iter().find(|row| is_one_of(word, row.words)) {
         return Some(row.construct);
     }

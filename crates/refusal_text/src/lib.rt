@@ -23,6 +23,7 @@ mod system_verilog;
 mod system_verilog_rows;
 mod told;
 mod tops;
+mod undeclared;
 mod walk;
 mod words;
 

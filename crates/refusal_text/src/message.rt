@@ -3,7 +3,7 @@
 use crate::construct::{Row, row_of};
 use crate::find::{Found, What};
 use crate::lines::{Files, put_pointed, shown};
-use crate::rules::{Rule, rule_of};
+use crate::rules::{NO_PORT, Rule, rule_of};
 use basis::NoMemory;
 use itoa::Buffer;
 use vsrc::Place;
@@ -137,5 +137,6 @@ pub(crate) fn put_found(
             None => Ok(()),
             Some(rule) => put_rule(text, files, found, rule),
         },
+        What::NoPort => put_rule(text, files, found, &NO_PORT),
     }
 }

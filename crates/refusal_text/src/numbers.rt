@@ -194,6 +194,7 @@ pub(crate) fn flaw_of(rest: &[u8]) -> Flaw {
         Some(b'`') => numbered(What::Broken(102), 0, use_len(rest)),
         Some(b'\'') => by_number(rest),
         Some(letter) if letter.is_ascii_digit() => by_number(rest),
+        Some(b'$') => number(What::LeftOut(Construct::Queue), 1),
         _ => Flaw {
             what: What::Broken(102),
             word: 1,

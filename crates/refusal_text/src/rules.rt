@@ -87,7 +87,8 @@ const RULES: [Rule; 20] = [
         number: 303,
         names_word: true,
         what: "isn't declared here",
-        instead: "declare it in this module; what a constant uses has to stand before it",
+        instead: "declare it in this module, a net as `wire w;` (none is declared by its use); what a constant uses has to stand \
+            before it",
     },
     Rule {
         number: 304,
@@ -133,6 +134,14 @@ const RULES: [Rule; 20] = [
         instead: "declare it as what it is used as: a `reg` where statements write it, a `wire` where an `assign` or an output drives it",
     },
 ];
+
+/// What is told of the name of a port or a parameter that an instance can't be given.
+pub(crate) const NO_PORT: Rule = Rule {
+    number: 305,
+    names_word: true,
+    what: "is no port or parameter of the module, or stands twice",
+    instead: "write the names that the head of the module has, each at most once; a `localparam` can't be set from outside",
+};
 
 /// What is told of the number, if it has a place.
 pub(crate) fn rule_of(number: u16) -> Option<&'static Rule> {

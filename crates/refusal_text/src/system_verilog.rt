@@ -31,6 +31,29 @@ const CHOICES: [&str; 4] = ["case", "casez", "casex", "if"];
 
 const ASSERTIONS: [&str; 3] = ["assert", "assume", "cover"];
 
+// What a module may have by default.
+const DEFAULTS: [&str; 2] = ["clocking", "disable"];
+
+const SHARED: [&str; 2] = ["mailbox", "semaphore"];
+
+// Methods, told by their names and the parenthesis behind them.
+const METHODS: [&str; 14] = [
+    "push_back",
+    "push_front",
+    "pop_back",
+    "pop_front",
+    "size",
+    "num",
+    "exists",
+    "delete",
+    "insert",
+    "len",
+    "randomize",
+    "try_get",
+    "try_put",
+    "peek",
+];
+
 const TIME_UNITS: [&str; 6] = ["s", "ms", "us", "ns", "ps", "fs"];
 
 // Before these a number has a unit without being a delay.
@@ -144,6 +167,11 @@ fn by_type(words: Words<'_>) -> Option<Construct> {
     }
 }
 
+// Whether the word declares what processes share: a name is given a value, or there is no list of connections.
+fn is_shared(words: Words<'_>) -> bool {
+    words.is_name_after(1) && is_one_of(words.after(2), &["=", ";", ","])
+}
+
 // The construct of an item, or of what stands between modules.
 fn by_item(words: Words<'_>, walk: Walk) -> Option<Construct> {
     let (word, next) = (words.word(), words.after(1));
@@ -157,8 +185,13 @@ fn by_item(words: Words<'_>, walk: Walk) -> Option<Construct> {
     if is_one_of(word, &ASSERTIONS) && is(next, "property") && !is_told {
         return Some(Construct::Assertion);
     }
+    if is(word, "bind") && words.is_name_after(1) && words.is_name_after(2) {
+        return Some(Construct::Bind);
+    }
     match word {
         _ if !walk.starts => None,
+        word if is(word, "default") && is_one_of(next, &DEFAULTS) => Some(Construct::Property),
+        word if is_one_of(word, &SHARED) && is_shared(words) => Some(Construct::Mailbox),
         word if is(word, "always_ff") => Some(Construct::AlwaysFf),
         word if is_one_of(word, &ALWAYS) => Some(Construct::AlwaysComb),
         _ if is_final(words) => Some(Construct::Final),
@@ -237,8 +270,19 @@ fn by_colon(words: Words<'_>, walk: Walk) -> Option<Construct> {
     None
 }
 
-// The construct of a point that begins a connection: one without a value of its own.
+// Whether a method of an event, a queue or an object stands behind the point.
+fn is_method(words: Words<'_>) -> bool {
+    let (owner, method) = (words.before(1), words.after(1));
+    let is_owned = words.is_name_before(1) || is(owner, "]");
+    let is_called = is(words.after(2), "(") && is_one_of(method, &METHODS);
+    is_owned && (is(method, "triggered") || is_called)
+}
+
+// The construct of a point: a method; or a connection without a value of its own.
 fn by_point(words: Words<'_>, walk: Walk) -> Option<Construct> {
+    if is_method(words) {
+        return Some(Construct::Method);
+    }
     let is_first = is(words.before(1), "(") || is(words.before(1), ",");
     let is_short = is(words.after(2), ",") || is(words.after(2), ")");
     if is_first && walk.opening == Opening::Instance && (is(words.after(1), "*") || is_short) {
@@ -250,6 +294,7 @@ fn by_point(words: Words<'_>, walk: Walk) -> Option<Construct> {
 /// The construct that a symbol tells.
 pub(crate) fn by_symbol(words: Words<'_>, walk: Walk) -> Option<Construct> {
     match words.word() {
+        word if is(word, "(") && is(words.before(1), "new") => Some(Construct::Class),
         word if is(word, ":") => by_colon(words, walk),
         word if is(word, ".") => by_point(words, walk),
         word if is(word, ">") && is(words.before(1), "->") && words.adjoins() => {

@@ -2,7 +2,7 @@
 
 use crate::construct::{Construct, Row};
 
-pub(crate) const ROWS: [Row; 29] = [
+pub(crate) const ROWS: [Row; 33] = [
     Row {
         construct: Construct::AlwaysComb,
         names_word: false,
@@ -21,6 +21,12 @@ pub(crate) const ROWS: [Row; 29] = [
         what: "assertions (SystemVerilog, IEEE 1800)",
         instead: "for `assert (a) else ..` in a process write `if (a) ; else ..`; for `assert property` a process, `always \
             @(posedge clk) if (a) ; else $display(\"..\");`, which reads `a` after the edge, where the assertion reads it before",
+    },
+    Row {
+        construct: Construct::Bind,
+        names_word: false,
+        what: "`bind` (SystemVerilog, IEEE 1800)",
+        instead: "write the instance into the module that it is bound to",
     },
     Row {
         construct: Construct::Cast,
@@ -108,6 +114,20 @@ pub(crate) const ROWS: [Row; 29] = [
         instead: "write `reg` where statements write it, else `wire`",
     },
     Row {
+        construct: Construct::Mailbox,
+        names_word: false,
+        what: "`mailbox` and `semaphore` (SystemVerilog, IEEE 1800)",
+        instead: "hand a word over by a variable and a flag: `wait (!full); word = a; full = 1;`, and at the other end `wait (full); \
+            a = word; full = 0;`. It holds one word; `full` has to be 0 before",
+    },
+    Row {
+        construct: Construct::Method,
+        names_word: false,
+        what: "methods of events, queues and objects (SystemVerilog, IEEE 1800)",
+        instead: "for `e.triggered` write `at = $time; -> e;` at each trigger, with a `reg [63:0] at`, and `(at === $time)` where it is \
+            asked; a queue becomes a variable for each element, and a count",
+    },
+    Row {
         construct: Construct::NewType,
         names_word: false,
         what: "`typedef`, `enum`, `struct` and `union` (SystemVerilog, IEEE 1800)",
@@ -136,6 +156,12 @@ pub(crate) const ROWS: [Row; 29] = [
         names_word: false,
         what: "properties, sequences, clocking blocks and cover groups (SystemVerilog, IEEE 1800)",
         instead: "test in a process: `always @(posedge clk) if (a) ; else $display(\"..\");`, which reads `a` behind the edge",
+    },
+    Row {
+        construct: Construct::Queue,
+        names_word: false,
+        what: "queues, and `$` as a bound (SystemVerilog, IEEE 1800)",
+        instead: "write a variable for each element that there can be, with a count, and a `case` on the index",
     },
     Row {
         construct: Construct::ShortConnection,

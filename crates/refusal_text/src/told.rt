@@ -10,6 +10,7 @@ use crate::mended::{Mended, mend_files};
 use crate::message::put_found;
 use crate::modules::modules_of;
 use crate::tops::{missing_modules, put_none, put_several};
+use crate::undeclared::undeclared_names;
 use crate::walk::PRINTS;
 use crate::words::{Words, is, is_one_of};
 use basis::NoMemory;
@@ -75,6 +76,17 @@ fn is_first_argument(tokens: &Tokens<'_>, at: usize) -> bool {
     is(words.before(1), "(") && is_one_of(words.before(2), &PRINTS)
 }
 
+// A name that an instance gives something to, and that its module doesn't have.
+fn no_port_at<'a>(tokens: &'a Tokens<'a>, at: usize) -> Found<'a> {
+    let words = Words::new(tokens, at);
+    Found {
+        what: What::NoPort,
+        word: words.word(),
+        place: words.place(),
+        more: 0,
+    }
+}
+
 // The construct that the fault is told by, if it comes of one.
 fn construct_of<'a>(tokens: &'a Tokens<'a>, at: usize, number: u16) -> Option<Found<'a>> {
     match number {
@@ -84,6 +96,7 @@ fn construct_of<'a>(tokens: &'a Tokens<'a>, at: usize, number: u16) -> Option<Fo
             let words = Words::new(tokens, at);
             Some(found_at(words, Construct::OutputPart, words.word()))
         }
+        305 if is(Words::new(tokens, at).before(1), ".") => Some(no_port_at(tokens, at)),
         306 => range_at(tokens, at),
         303 | 310 if is_dump_path(tokens, at) => Some(found_at(
             Words::new(tokens, at),
@@ -140,6 +153,19 @@ fn put_modules<'a>(
     put_others(text, files, &all, &told)
 }
 
+// A fault of the design for a name that isn't declared: each other name that isn't, too.
+fn put_undeclared<'a>(
+    alloc: Global,
+    text: &mut Vec<u8>,
+    files: Files<'_>,
+    told: Found<'a>,
+    tokens: &'a Tokens<'a>,
+) -> Result<(), NoMemory> {
+    let all = undeclared_names(alloc, tokens)?;
+    put_found(text, files, &with_count(told, &all))?;
+    put_others(text, files, &all, &told)
+}
+
 // The messages of a text with words.
 fn put_by_words<'a>(
     alloc: Global,
@@ -158,10 +184,10 @@ fn put_by_words<'a>(
     };
     let all = constructs(alloc, tokens)?;
     let told = construct_of(tokens, at, number).unwrap_or(broken);
-    if told.what == What::Broken(301) {
-        put_modules(alloc, text, files, told, tokens, at)?;
-    } else {
-        put_found(text, files, &with_count(told, &all))?;
+    match told.what {
+        What::Broken(301) => put_modules(alloc, text, files, told, tokens, at)?,
+        What::Broken(303) => put_undeclared(alloc, text, files, told, tokens)?,
+        _ => put_found(text, files, &with_count(told, &all))?,
     }
     put_others(text, files, &all, &told)
 }

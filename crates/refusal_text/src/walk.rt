@@ -239,11 +239,16 @@ pub(crate) fn is_final(words: Words<'_>) -> bool {
     is(words.word(), "final") && (next.starts_with(b"$") || is_one_of(next, &FINAL_STATEMENTS))
 }
 
+// Whether the word begins the clocking block that a module has by default.
+fn is_default_clocking(words: Words<'_>) -> bool {
+    let is_default = is(words.word(), "default") && is(words.after(1), "clocking");
+    is_default && (is(words.after(2), "@") || is(words.after(3), "@"))
+}
+
 /// Whether the word begins an item of SystemVerilog that has rules of its own.
 pub(crate) fn passes_over(words: Words<'_>) -> bool {
-    is_one_of(words.word(), &PASSED_ITEMS)
-        && words.is_name_after(1)
-        && is_one_of(words.after(2), &PASSED_HEADS)
+    let is_named = is_one_of(words.word(), &PASSED_ITEMS) && words.is_name_after(1);
+    (is_named && is_one_of(words.after(2), &PASSED_HEADS)) || is_default_clocking(words)
 }
 
 // Whether the colon is one of two, as in the path of a name in a package.
