@@ -102,7 +102,8 @@ fn put_lines(page: &mut Vec<u8>, files: &Files<'_>, group: &Group) -> Result<(),
     put_line_of(page, files, other)
 }
 
-// The list of races, the first of which has this number: the first line of what is told of each, as a link, and the lines of both statements.
+// The list of races, the first of which has this number: of each the first line that is told of it, as a link, and the lines of both
+// statements.
 fn put_list(
     page: &mut Vec<u8>,
     first: u64,
@@ -128,7 +129,8 @@ fn put_list(
 
 // What the names of the runs mean, and the shapes of the waveforms.
 const NAMES: &str =
-    "<p><em>departed</em> is the run in the other order, <em>default</em> the one that it departs from. A time without a unit is in ns.</p>\n";
+    "<p><em>departed</em> is the run in the other order, <em>default</em> the one that it departs from. A time without a unit is in \
+    ns.</p>\n";
 
 // The heading of a race, as the first line of what is told of it, and the other lines.
 fn put_words(page: &mut Vec<u8>, words: &[u8]) -> Result<(), NoMemory> {
