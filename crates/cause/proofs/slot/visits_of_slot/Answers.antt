@@ -8,13 +8,13 @@ use Rattle.cause.proofs.SlotLemmas.{seen_on, stands_so, where_none, where_some}
 use Rattle.cause.proofs.slot.visits_of_slot.Goals as goal
 
 pub returns-in_default-clause-none : goal.returns-in_default-clause-none
-returns-in_default-clause-none c = where_none _ c.in_default.is c.in_ok-there.ensures.none c.args.steps
+returns-in_default-clause-none c = where_none _ c.in_default.is c.in_ok-state.ensures.none c.args.steps
 
 pub loop-step-init : goal.loop-step-init
 loop-step-init c = record {
   after = le_refl c.args.from;
   so = stands_so c.args.checkpoints.now c.args.members.now c.in-Some.left.now c.args.steps c.args.from c.in-Some.state c.in-Some.kept
-      c.apart-earlier.result.1 (where_some _ c.in-Some.is c.in_ok-there.ensures.some) c.apart-earlier.ensures.rest (omega (arith, c.if-from-steps.false));
+      c.apart-earlier.result.1 (where_some _ c.in-Some.is c.in_ok-state.ensures.some) c.apart-earlier.ensures.rest (omega (arith, c.if-from-steps.false));
 }
 
 pub loop-step-preserved : goal.loop-step-preserved
