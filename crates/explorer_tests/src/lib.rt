@@ -7,6 +7,8 @@ mod books;
 #[cfg(test)]
 mod devices;
 #[cfg(test)]
+mod dumps_read;
+#[cfg(test)]
 mod faults;
 #[cfg(test)]
 mod gates;

@@ -1,0 +1,8 @@
+-- *internal*: The list of these files; the first word of each says whether it has to be believed.
+pub mod Bytes
+pub mod Words
+pub mod Declarations
+pub mod Declaring
+pub mod Commands
+pub mod Telling
+pub mod Readers

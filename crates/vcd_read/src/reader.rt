@@ -1,0 +1,66 @@
+// A dump from a reader: its variables, and then item by item.
+
+ghost use Rattle.std.specs.Prelude.{◌≡◌, ◌∷◌, [], ◌<◌, false, List, IfOk, IfSome, IfNone};
+ghost use Rattle.vcd_read.specs.Words.{Text};
+ghost use Rattle.vcd_read.specs.Bytes.{left, AreAll, IsReady, Come};
+ghost use Rattle.vcd_read.specs.Commands.{Tells};
+ghost use Rattle.vcd_read.specs.Declarations.{Declares};
+ghost use Rattle.vcd_read.specs.Declaring.{all_seen};
+ghost use Rattle.vcd_read.specs.Telling.{Tell, item_of};
+ghost use Rattle.vcd_read.specs.Readers.{IsOpen, to_come};
+
+use crate::bytes::ByteReader;
+use crate::commands::Commands;
+use crate::fault::VcdFault;
+use crate::header::{Header, VcdVariable};
+use crate::item::VcdItem;
+use crate::words::WordReader;
+use basis::OrMemory;
+use byte_sinks::Metered;
+use std::alloc::Global;
+use std::io::Read;
+
+/// A dump whose declarations were read, and what is to come of it.
+#[derive(Drop)]
+pub struct VcdReader<R> {
+    commands: Commands<R>,
+    variables: Vec<VcdVariable>,
+}
+
+impl<R: Read + Drop> VcdReader<R> {
+    /// The dump of a reader, of which the declarations are read (18.2.3). E505 with its line where they are none or end early, E903 where
+    /// the reader fails, E901.
+    pub fn open(alloc: Global, reader: Metered<R>) -> Result<VcdReader<R>, OrMemory<VcdFault>>
+        ensures open { IfOk result (λ dump. IsOpen dump) }
+        ensures outside { IfOk result (λ dump. dump.commands.inside ≡ false) }
+        ensures declared { IfOk result (λ dump. (words : List Text) × Come words (R.remaining reader.inner) (to_come R.remaining dump)
+            × Declares [] [] words (all_seen dump.variables.items)) }
+    {
+        let mut words = WordReader::new(alloc, ByteReader::new(alloc, reader)?);
+        let variables = Header::read(alloc, &mut words)?;
+        Ok(VcdReader {
+            commands: Commands::new(words),
+            variables,
+        })
+    }
+
+    /// The variables that are declared, in their order.
+    pub fn variables(&self) -> &[VcdVariable]
+        ensures { result.now ≡ self.now.variables.items }
+    {
+        &self.variables
+    }
+
+    /// The next item; none at the end of the dump. E505 with its line where the text stops being a dump, E903 where the reader fails, E901.
+    pub fn next(&mut self, alloc: Global) -> Result<Option<VcdItem>, OrMemory<VcdFault>>
+        requires { IsOpen self.old }
+        ensures open { IsOpen self.new }
+        ensures item { IfOk result (λ told. IfSome told (λ item. (words : List Text)
+            × Come words (to_come R.remaining self.old) (to_come R.remaining self.new)
+            × Tell words self.old.commands.inside self.new.commands.inside (item_of item ∷ []))) }
+        ensures end { IfOk result (λ told. IfNone told ((words : List Text)
+            × AreAll words (to_come R.remaining self.old) (to_come R.remaining self.new) × Tells self.old.commands.inside words [])) }
+    {
+        self.commands.next(alloc)
+    }
+}
