@@ -3,19 +3,20 @@
 ghost use Rattle.std.specs.Prelude.{◌≡◌, is_err};
 ghost use Rattle.std.specs.Io.{ReadsAtMost, WritesAtMost};
 ghost use Rattle.std.specs.Io.KnownBytes.{Keeps};
-ghost use Rattle.byte_sinks.specs.Metered.{Reads, Writes, count_after_call, is_failed_write};
+ghost use Rattle.byte_sinks.specs.Metered.{Reads, Writes, count_after_call, is_failed_write, one_more};
 
 use crate::byte_sink::ByteSink;
 use crate::fault::WriteFault;
 use std::io;
 use std::io::{Read, Write};
 
-/// A reader or writer and the count of its failures: of each error, and of each `write` that takes no byte of a piece
-/// that isn't empty. The count goes from 2^64 - 1 to 0. One that differs after a call shows that it failed in it.
+/// A reader or writer, the count of its failures, and that of its reads. A failure is each error, and each `write` that takes no byte of a
+/// piece that isn't empty. Both counts go from 2^64 - 1 to 0. A count of failures that differs after a call shows that it failed in it.
 #[derive(Drop)]
 pub struct Metered<T> {
     inner: T,
     failures: u64,
+    reads: u64,
 }
 
 impl<T> Metered<T> {
@@ -23,8 +24,13 @@ impl<T> Metered<T> {
     pub fn new(inner: T) -> Metered<T>
         ensures inner { result.inner ≡ inner }
         ensures failures { result.failures ≡ 0 }
+        ensures reads { result.reads ≡ 0 }
     {
-        Metered { inner, failures: 0 }
+        Metered {
+            inner,
+            failures: 0,
+            reads: 0,
+        }
     }
 
     /// How often it has failed, modulo 2^64.
@@ -34,11 +40,22 @@ impl<T> Metered<T> {
         self.failures
     }
 
+    /// How often it was read from, modulo 2^64.
+    pub fn reads(&self) -> u64
+        ensures { result ≡ self.now.reads }
+    {
+        self.reads
+    }
+
     /// The reader or writer itself.
     pub fn into_inner(self) -> T
         ensures { result ≡ self.inner }
     {
-        let Metered { inner, failures: _ } = self;
+        let Metered {
+            inner,
+            failures: _,
+            reads: _,
+        } = self;
         inner
     }
 }
@@ -61,7 +78,9 @@ impl<R: Read> Read for Metered<R> {
         ensures bound { ReadsAtMost result buf.new }
         ensures bytes { Reads R.remaining self.old result buf.new self.new }
         ensures failures { self.new.failures ≡ count_after_call (is_err result) self.old.failures }
+        ensures reads { self.new.reads ≡ one_more self.old.reads }
     {
+        self.reads = self.reads.wrapping_add(1);
         let answer = self.inner.read(buf);
         self.failures = count(self.failures, answer.is_err());
         answer

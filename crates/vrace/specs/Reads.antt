@@ -1,5 +1,5 @@
 -- *product rule*: What reading a text to its end takes from a reader.
-use Rattle.std.specs.Prelude.{◌≡◌, ℕ, ◌+◌, ◌<◌, ◌≤◌, List, Option, length}
+use Rattle.std.specs.Prelude.{◌≡◌, ℕ, zero, suc, ◌+◌, ◌<◌, ◌≤◌, List, Option, length}
 use Rattle.std.specs.Io.KnownBytes.{Consumes, IsAtEnd}
 use Rattle.byte_sinks.specs.Metered.{one_more}
 use Rattle.vrace.specs.Replays.{limit}
@@ -11,6 +11,19 @@ pub record IsAllOf (old new : Option (List ℕ)) (text : List ℕ) : Type 0 wher
   pub taken : Consumes old new text
   pub at_end : IsAtEnd new
   pub short : length text ≤ limit
+
+-- the count after so many reads
+abbrev pub after_reads : ℕ → ℕ → ℕ
+after_reads zero count = count
+after_reads (suc n) count = one_more (after_reads n count)
+
+-- so many reads or fewer lead from one count to the other
+abbrev pub ReadsLead : ℕ → ℕ → ℕ → Type 0
+ReadsLead most old new = (n : ℕ) × (n ≤ most) × (new ≡ after_reads n old)
+
+-- a text is read by no more reads than there may be bytes, and one
+abbrev pub HasRead : ℕ → ℕ → Type 0
+HasRead old new = ReadsLead (limit + 1) old new
 
 -- how many bytes are asked for at once
 abbrev pub most : ℕ

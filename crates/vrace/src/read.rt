@@ -3,7 +3,8 @@
 ghost use Rattle.std.specs.Prelude.{◌≡◌, ◌≤◌, ◌<◌, ℕ, List, ◌++◌, Option, IfOk, IfErr, length};
 ghost use Rattle.std.specs.Io.KnownBytes.{Consumes};
 ghost use Rattle.vrace.specs.Replays.{limit};
-ghost use Rattle.vrace.specs.Reads.{IsAllOf, IsReadReason, IsTaken, most};
+ghost use Rattle.vrace.specs.Reads.{HasRead, IsAllOf, IsReadReason, IsTaken, most};
+ghost use Rattle.byte_sinks.specs.Metered.{one_more};
 
 use crate::fault::Fault;
 use basis::NoMemory;
@@ -26,6 +27,7 @@ fn read_more<R: Read>(
     requires some { 0 < length piece.old }
     requires few { length piece.old ≤ most }
     ensures same { length piece.new ≡ length piece.old }
+    ensures reads { reader.new.reads ≡ one_more reader.old.reads }
     ensures ok { IfOk result (λ count. (bytes : List ℕ) ×
         IsTaken (R.remaining reader.old.inner) (R.remaining reader.new.inner) reader.old.failures
         reader.new.failures bytes × (length bytes ≡ count) ×
@@ -48,10 +50,11 @@ fn read_more<R: Read>(
 
 /// All bytes of a reader, at most 16,777,216: E904 where there are more, also of a reader that never ends; E903 only where
 /// the reader failed; E901 only where a growth was refused. A refused reader stands where the reading stopped, at most
-/// 65,536 bytes past the limit.
+/// 65,536 bytes past the limit, after at most 16,777,217 reads.
 pub fn read_text<R: Read>(alloc: Global, reader: &mut Metered<R>) -> Result<Vec<u8>, Fault>
     ensures all { IfOk result (λ text.
         IsAllOf (R.remaining reader.old.inner) (R.remaining reader.new.inner) text.items) }
+    ensures reads { HasRead reader.old.reads reader.new.reads }
     ensures unfailed { IfOk result (λ _. reader.new.failures ≡ reader.old.failures) }
     ensures reason { IfErr result (λ fault.
         IsReadReason (R.remaining reader.old.inner) (R.remaining reader.new.inner)
