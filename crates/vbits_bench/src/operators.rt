@@ -46,47 +46,54 @@ pub enum Operator {
     ToU64,
 }
 
+// The names of the operators.
+const NAMES: [(&str, Operator); 36] = [
+    ("copy_free", Operator::CopyFree),
+    ("add", Operator::Add),
+    ("sub", Operator::Sub),
+    ("mul", Operator::Mul),
+    ("div", Operator::Div),
+    ("rem", Operator::Rem),
+    ("neg", Operator::Neg),
+    ("and", Operator::And),
+    ("or", Operator::Or),
+    ("xor", Operator::Xor),
+    ("xnor", Operator::Xnor),
+    ("not", Operator::Not),
+    ("join", Operator::Join),
+    ("eq", Operator::Eq),
+    ("ne", Operator::Ne),
+    ("case_eq", Operator::CaseEq),
+    ("case_ne", Operator::CaseNe),
+    ("lt", Operator::Lt),
+    ("le", Operator::Le),
+    ("gt", Operator::Gt),
+    ("ge", Operator::Ge),
+    ("reduce_and", Operator::ReduceAnd),
+    ("reduce_nand", Operator::ReduceNand),
+    ("reduce_or", Operator::ReduceOr),
+    ("reduce_nor", Operator::ReduceNor),
+    ("reduce_xor", Operator::ReduceXor),
+    ("reduce_xnor", Operator::ReduceXnor),
+    ("truth", Operator::Truth),
+    ("shl", Operator::Shl),
+    ("shr", Operator::Shr),
+    ("ashr", Operator::Ashr),
+    ("select", Operator::Select),
+    ("put", Operator::Put),
+    ("concat", Operator::Concat),
+    ("resize", Operator::Resize),
+    ("to_u64", Operator::ToU64),
+];
+
 /// The operator of this name; of another one a copy.
 pub fn named(name: &str) -> Operator {
-    match name {
-        "copy_free" => Operator::CopyFree,
-        "add" => Operator::Add,
-        "sub" => Operator::Sub,
-        "mul" => Operator::Mul,
-        "div" => Operator::Div,
-        "rem" => Operator::Rem,
-        "neg" => Operator::Neg,
-        "and" => Operator::And,
-        "or" => Operator::Or,
-        "xor" => Operator::Xor,
-        "xnor" => Operator::Xnor,
-        "not" => Operator::Not,
-        "join" => Operator::Join,
-        "eq" => Operator::Eq,
-        "ne" => Operator::Ne,
-        "case_eq" => Operator::CaseEq,
-        "case_ne" => Operator::CaseNe,
-        "lt" => Operator::Lt,
-        "le" => Operator::Le,
-        "gt" => Operator::Gt,
-        "ge" => Operator::Ge,
-        "reduce_and" => Operator::ReduceAnd,
-        "reduce_nand" => Operator::ReduceNand,
-        "reduce_or" => Operator::ReduceOr,
-        "reduce_nor" => Operator::ReduceNor,
-        "reduce_xor" => Operator::ReduceXor,
-        "reduce_xnor" => Operator::ReduceXnor,
-        "truth" => Operator::Truth,
-        "shl" => Operator::Shl,
-        "shr" => Operator::Shr,
-        "ashr" => Operator::Ashr,
-        "select" => Operator::Select,
-        "put" => Operator::Put,
-        "concat" => Operator::Concat,
-        "resize" => Operator::Resize,
-        "to_u64" => Operator::ToU64,
-        _ => Operator::Copy,
+    for (word, operator) in &NAMES {
+        if *word == name {
+            return *operator;
+        }
     }
+    Operator::Copy
 }
 
 /// What it makes of operands of one length.
