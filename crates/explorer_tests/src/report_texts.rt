@@ -321,19 +321,16 @@ fn reports_are_read_and_written_again(rt: HostRuntime) -> Result<(), Fail> {
 
 #[test]
 fn texts_that_are_no_reports(rt: HostRuntime) -> Result<(), Fail> {
-    for place in 0..REFUSED.len() {
-        let (old, new) = REFUSED[place];
-        let text = changed(rt.alloc(), PASS_OR_FAIL, old, new)?;
+    for (place, (old, new)) in REFUSED.iter().enumerate() {
+        let text = changed(rt.alloc(), PASS_OR_FAIL, *old, *new)?;
         assert!(rt; is_refused(rt.alloc(), &text)?, "{place}");
     }
-    for place in 0..REFUSED_OF_MANY.len() {
-        let (old, new) = REFUSED_OF_MANY[place];
-        let text = changed(rt.alloc(), MANY_LINES, old, new)?;
+    for (place, (old, new)) in REFUSED_OF_MANY.iter().enumerate() {
+        let text = changed(rt.alloc(), MANY_LINES, *old, *new)?;
         assert!(rt; is_refused(rt.alloc(), &text)?, "of many {place}");
     }
-    for place in 0..REFUSED_OF_OTHERS.len() {
-        let (whole, old, new) = REFUSED_OF_OTHERS[place];
-        let text = changed(rt.alloc(), whole, old, new)?;
+    for (place, (whole, old, new)) in REFUSED_OF_OTHERS.iter().enumerate() {
+        let text = changed(rt.alloc(), *whole, *old, *new)?;
         assert!(rt; is_refused(rt.alloc(), &text)?, "of others {place}");
     }
     Ok(())

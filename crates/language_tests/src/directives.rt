@@ -74,11 +74,12 @@ const TEXTS: [(&[u8], &[u8]); 40] = [
 
 #[test]
 fn expands_texts(rt: HostRuntime) -> Result<(), Fail> {
-    for (file, text) in TEXTS {
-        match expanded(rt.alloc(), &[file])? {
-            Ok(found) => assert_eq!(rt; found.text(), text, "{file:?}"),
-            Err(_) => assert!(rt; false, "{file:?}"),
-        }
+    for (file, text) in &TEXTS {
+        let is_expanded = match expanded(rt.alloc(), &[*file])? {
+            Ok(found) => found.text() == *text,
+            Err(_) => false,
+        };
+        assert!(rt; is_expanded, "{file:?}");
     }
     Ok(())
 }
@@ -144,16 +145,13 @@ fn told(fault: SrcFault) -> (u32, usize, usize) {
 
 #[test]
 fn refuses_texts(rt: HostRuntime) -> Result<(), Fail> {
-    for (file, number, line) in REFUSED {
-        match expanded(rt.alloc(), &[file])? {
-            Err(OrMemory::Fault(found)) => assert_eq!(rt;
-                told(found),
-                (number, 1, line),
-                "{file:?}"
-            ),
-            Err(OrMemory::Memory(_)) => assert!(rt; false, "{file:?}"),
-            Ok(_) => assert!(rt; false, "{file:?}"),
-        }
+    for (file, number, line) in &REFUSED {
+        let is_refused = match expanded(rt.alloc(), &[*file])? {
+            Err(OrMemory::Fault(found)) => told(found) == (*number, 1, *line),
+            Err(OrMemory::Memory(_)) => false,
+            Ok(_) => false,
+        };
+        assert!(rt; is_refused, "{file:?}");
     }
     Ok(())
 }
@@ -192,10 +190,11 @@ fn goes_on_over_files(rt: HostRuntime) -> Result<(), Fail> {
         return Err(Fail::from("expands"));
     };
     assert_eq!(rt; found.text(), b"\n\nb \nc /*\n\n*/ d \n".as_slice());
-    for (at, (file, line, column)) in PLACES.into_iter().enumerate() {
+    for (at, row) in PLACES.iter().enumerate() {
+        let (file, line, column) = *row;
         assert!(rt; at <= found.text().len());
         let place = Place { file, line, column };
-        assert_eq!(rt; found.place(at), place, "at {at}");
+        assert!(rt; found.place(at) == place, "at {at}");
     }
     let timescale = Timescale {
         unit: Span {
