@@ -6,7 +6,7 @@ ghost use Rattle.basis.specs.Timescales as spec;
 ghost use Rattle.basis.specs.Timescales.{count_number, unit_word};
 
 /// How many units a length of time has.
-#[derive(Clone, Copy, Debug, PartialEq, Eq)]
+#[derive(Clone, Copy, PartialEq, Eq)]
 pub enum Count {
     /// `1`
     One,
@@ -32,7 +32,7 @@ impl Count {
 }
 
 /// A unit of time.
-#[derive(Clone, Copy, Debug, PartialEq, Eq)]
+#[derive(Clone, Copy, PartialEq, Eq)]
 pub enum Unit {
     /// `s`
     Second,
@@ -81,7 +81,7 @@ impl Unit {
 }
 
 /// A length of time: 1, 10 or 100 of a unit.
-#[derive(Clone, Copy, Debug, PartialEq, Eq)]
+#[derive(Clone, Copy, PartialEq, Eq)]
 pub struct Span {
     pub count: Count,
     pub unit: Unit,
@@ -99,7 +99,7 @@ impl Span {
 }
 
 /// The unit that times are written in, and the precision, in units of which time is counted.
-#[derive(Clone, Copy, Debug, PartialEq, Eq)]
+#[derive(Clone, Copy, PartialEq, Eq)]
 pub struct Timescale {
     pub unit: Span,
     pub precision: Span,

@@ -18,7 +18,7 @@ use vdesign::action::Action;
 
 /// One of the two visits: who makes it, the place of its action in the design's table, that of the statement behind it where its action is a
 /// port connection or an `assign`, else the same place, and which step it is in both runs, none where it doesn't come.
-#[derive(Clone, Copy, Debug)]
+#[derive(Clone, Copy)]
 pub struct Blamed {
     pub actor: Actor,
     pub place: usize,

@@ -15,7 +15,7 @@ use basis::NoMemory;
 use std::alloc::Global;
 
 /// Two visits that two runs take in another order: their places in the lists of both runs' visits.
-#[derive(Clone, Copy, Debug)]
+#[derive(Clone, Copy)]
 pub(crate) struct Swap {
     pub(crate) in_run: usize,
     pub(crate) in_parent: usize,

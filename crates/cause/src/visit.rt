@@ -19,7 +19,7 @@ use vmodel::effect::{Effect, Post};
 use vmodel::part::{Kept, Part, Parts};
 
 /// Who makes a visit.
-#[derive(Clone, Copy, Debug, PartialEq, Eq)]
+#[derive(Clone, Copy, PartialEq, Eq)]
 pub enum Actor {
     /// The process of this number.
     Process(u32),

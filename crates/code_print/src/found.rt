@@ -4,7 +4,7 @@ use vcode::code::Code;
 use vcode::listener::Listeners;
 
 /// Whether a code is whole, and how much of each there is in it.
-#[derive(Clone, Copy, Debug)]
+#[derive(Clone, Copy)]
 pub struct CodeCounts {
     pub word: &'static str,
     pub places: usize,

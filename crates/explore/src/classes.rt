@@ -14,7 +14,7 @@ use statebook::Limits;
 use std::alloc::Global;
 
 /// As a job was to be taken there were as many entries as the limit, or more.
-#[derive(Clone, Copy, Debug)]
+#[derive(Clone, Copy)]
 pub struct Full;
 
 // Visits each entry of this budget, those that it adds among them. Answers false where a way

@@ -26,7 +26,7 @@ pub trait Collector<S> {
 /// How far a search that goes by rank has come: the rank under way, how many entries were opened in all, how
 /// many of them are held, those of this rank and those that wait at later ones, how many ranks were closed, and how much
 /// the collector found in these.
-#[derive(Clone, Copy, Debug)]
+#[derive(Clone, Copy)]
 pub struct Progress {
     pub rank: u64,
     pub entries_opened: usize,

@@ -6,7 +6,7 @@ use statebook::Reason;
 use std::hash::Hash;
 
 /// Whether the list of marks is whole. It is proved that `Exhausted` is said only where it is.
-#[derive(Clone, Copy, Debug, PartialEq, Eq)]
+#[derive(Clone, Copy, PartialEq, Eq)]
 pub enum Status {
     Exhausted,
     Cut(Reason),

@@ -2,7 +2,7 @@
 
 /// Why a search that goes by rank stops short, want of memory aside: there are as many entries as the limit, a
 /// run takes more steps than the limit, or the watcher said so.
-#[derive(Clone, Copy, Debug)]
+#[derive(Clone, Copy)]
 pub enum Halt {
     Entries,
     Steps,

@@ -7,7 +7,7 @@ use std::hash::Hash;
 
 /// What is known of a state on a forced way: for so many steps from it there is no station. With a
 /// place, the next station stands after them, and it is that of the entry at the place.
-#[derive(Clone, Copy, Debug)]
+#[derive(Clone, Copy)]
 pub struct Onward {
     pub steps: u32,
     pub station: Option<usize>,

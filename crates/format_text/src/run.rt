@@ -27,7 +27,7 @@ impl<'a> Model for Run<'a> {
 }
 
 /// Where a reading stands: outside of a form, after a `%`, or after `%0`.
-#[derive(Clone, Copy, Debug, PartialEq, Eq)]
+#[derive(Clone, Copy, PartialEq, Eq)]
 pub(crate) enum FormatState {
     Outside,
     Behind,

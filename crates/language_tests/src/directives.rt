@@ -206,6 +206,6 @@ fn goes_on_over_files(rt: HostRuntime) -> Result<(), Fail> {
             unit: Unit::Picosecond,
         },
     };
-    assert_eq!(rt; found.timescale(), timescale);
+    assert!(rt; found.timescale() == timescale);
     Ok(())
 }

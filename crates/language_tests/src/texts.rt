@@ -58,7 +58,7 @@ fn joins_files(rt: HostRuntime) -> Result<(), Fail> {
         assert!(rt; at <= source.text().len());
         assert_eq!(rt; source.place(at), place(file, line, column), "at {at}");
     }
-    assert_eq!(rt; source.timescale(), Timescale::usual());
+    assert!(rt; source.timescale() == Timescale::usual());
     Ok(())
 }
 
@@ -111,7 +111,7 @@ fn names_kinds_and_places(rt: HostRuntime) -> Result<(), Fail> {
     let found = tokens(rt.alloc(), &source)?;
     assert_eq!(rt; found.len(), 6);
     for (index, kind) in kinds.into_iter().enumerate() {
-        assert_eq!(rt; found.kind(index), kind);
+        assert!(rt; found.kind(index) == kind);
     }
     assert_eq!(rt; found.place(2), place(1, 2, 3));
     assert_eq!(rt; found.place(5), place(2, 2, 4));

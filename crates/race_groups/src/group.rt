@@ -12,7 +12,7 @@ use sched_core::Log;
 use vmachine::{Machine, MachineState};
 
 /// Which differences are told.
-#[derive(Clone, Copy, Debug)]
+#[derive(Clone, Copy)]
 pub struct Scope {
     /// Those of slots before this time are only counted.
     pub from: u64,
@@ -33,7 +33,7 @@ pub enum Difference {
 }
 
 /// A difference by its name: a variable at a time or, where it is of none, the lines of a time.
-#[derive(Clone, Copy, Debug)]
+#[derive(Clone, Copy)]
 pub struct Name {
     pub time: u64,
     pub variable: Option<usize>,

@@ -14,7 +14,7 @@ pub(crate) const WIDTH: u64 = 96;
 pub(crate) const HEIGHT: u64 = 22;
 
 // How a value is drawn.
-#[derive(Clone, Copy, Debug, PartialEq, Eq)]
+#[derive(Clone, Copy, PartialEq, Eq)]
 enum Look {
     // One bit: a low or a high line.
     Low,

@@ -7,7 +7,7 @@ use vdesign::design::Design;
 use vdesign::expression::{Expression, Node};
 
 /// A port of an instance, and the variable that it is connected to, if it is one alone.
-#[derive(Clone, Copy, Debug)]
+#[derive(Clone, Copy)]
 pub struct Port<'a> {
     pub instance: &'a [u8],
     pub name: &'a [u8],

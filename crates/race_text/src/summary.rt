@@ -18,7 +18,7 @@ pub const NAMED: usize = 3;
 /// What is told beside the races: how many departures a run may have, and how many steps; whether the top module was named in the call; the
 /// time before which differences are passed over; whether all that follow are named; how many states were visited, in how many
 /// milliseconds; and by which option the search was stopped, where its watcher stopped it.
-#[derive(Clone, Copy, Debug)]
+#[derive(Clone, Copy)]
 pub struct Told {
     pub departures: u32,
     pub steps: u32,

@@ -11,7 +11,7 @@ use serde_json::Value;
 use std::alloc::Global;
 
 /// How races are written.
-#[derive(Clone, Copy, Debug, PartialEq, Eq)]
+#[derive(Clone, Copy, PartialEq, Eq)]
 pub enum Format {
     Text,
     Json,

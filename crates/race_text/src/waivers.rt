@@ -5,21 +5,21 @@ use memchr::memchr_iter;
 use std::alloc::Global;
 
 /// A line of a file, as a waiver names it.
-#[derive(Clone, Copy, Debug)]
+#[derive(Clone, Copy)]
 pub struct Spot<'w> {
     pub file: &'w [u8],
     pub line: u64,
 }
 
 /// What a waiver is of: a cause by the lines of its two statements, or causes by the variables that differ.
-#[derive(Clone, Copy, Debug)]
+#[derive(Clone, Copy)]
 pub enum WaiverScope<'w> {
     Lines(Spot<'w>, Spot<'w>),
     Variables(&'w [u8]),
 }
 
 /// A waiver: its line in its file, from 1, what it is of, its reason, and its whole text.
-#[derive(Clone, Copy, Debug)]
+#[derive(Clone, Copy)]
 pub struct Waiver<'w> {
     pub line: u64,
     pub scope: WaiverScope<'w>,
@@ -28,7 +28,7 @@ pub struct Waiver<'w> {
 }
 
 /// Why a file of waivers can't be read: a line of it is none, or memory was refused.
-#[derive(Clone, Copy, Debug)]
+#[derive(Clone, Copy)]
 pub enum WaiverFault {
     Line(u64),
     Memory(NoMemory),

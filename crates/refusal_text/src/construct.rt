@@ -3,7 +3,7 @@
 use crate::system_verilog_rows;
 
 /// A construct of Verilog or of SystemVerilog that the profile leaves out.
-#[derive(Clone, Copy, Debug, PartialEq, Eq)]
+#[derive(Clone, Copy, PartialEq, Eq)]
 pub(crate) enum Construct {
     AlwaysComb,
     AlwaysFf,

@@ -13,7 +13,7 @@ use vlex::{TokenKind, Tokens};
 use vsrc::Place;
 
 /// What is told of a word: a construct that the profile leaves out, the number of a fault, or that a module has no such port.
-#[derive(Clone, Copy, Debug, PartialEq, Eq)]
+#[derive(Clone, Copy, PartialEq, Eq)]
 pub(crate) enum What {
     LeftOut(Construct),
     Broken(u16),

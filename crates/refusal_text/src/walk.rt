@@ -4,7 +4,7 @@ use crate::words::{Words, is, is_name, is_one_of};
 use vlex::TokenKind;
 
 /// What a word stands in.
-#[derive(Clone, Copy, Debug, PartialEq, Eq)]
+#[derive(Clone, Copy, PartialEq, Eq)]
 pub(crate) enum Level {
     Outside,
     Head,
@@ -18,7 +18,7 @@ pub(crate) enum Level {
 }
 
 /// What stands before the outermost brackets that are open.
-#[derive(Clone, Copy, Debug, PartialEq, Eq)]
+#[derive(Clone, Copy, PartialEq, Eq)]
 pub(crate) enum Group {
     Plain,
     Condition,
@@ -30,7 +30,7 @@ pub(crate) enum Group {
 }
 
 /// What an item, or a declaration in a block, begins with.
-#[derive(Clone, Copy, Debug, PartialEq, Eq)]
+#[derive(Clone, Copy, PartialEq, Eq)]
 pub(crate) enum Opening {
     Other,
     Variable,

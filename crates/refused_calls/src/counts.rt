@@ -4,7 +4,7 @@ use basis::NoMemory;
 use std::io;
 
 /// What was found after calls of one kind: how many succeeded, how many were refused, and what was wrong, if anything was.
-#[derive(Clone, Copy, Debug)]
+#[derive(Clone, Copy)]
 pub struct CallCounts {
     pub calls: u32,
     pub refused: u32,

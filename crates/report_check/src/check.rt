@@ -17,7 +17,7 @@ use std::alloc::Global;
 use vmachine::Machine;
 
 /// The first item of a report that isn't true, in the order of the report's own items, counted from 0.
-#[derive(Clone, Copy, Debug, PartialEq, Eq)]
+#[derive(Clone, Copy, PartialEq, Eq)]
 pub enum FirstBad {
     /// The top, the time limit, the grain, the departures, what is looked at or the variables aren't those of the machine (E504).
     Head,

@@ -10,7 +10,7 @@ use thiserror::Error;
 /// The version of a report's text. Version 1 has no line for the grain, which is process. Version 3 tells which departures
 /// there are and what is looked at, and is that of an exploration that was cut for time; in the others departures take and
 /// values are looked at.
-#[derive(Clone, Copy, Debug, PartialEq, Eq)]
+#[derive(Clone, Copy, PartialEq, Eq)]
 pub enum Version {
     One,
     Two,
@@ -18,7 +18,7 @@ pub enum Version {
 }
 
 /// How an exploration went: nothing within its limits was missed, or why it stopped short.
-#[derive(Clone, Copy, Debug, PartialEq, Eq)]
+#[derive(Clone, Copy, PartialEq, Eq)]
 pub enum Outcome {
     Exhausted,
     CutMemory,

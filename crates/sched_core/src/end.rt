@@ -4,7 +4,7 @@ ghost use Rattle.std.specs.Prelude.{◌≡◌};
 ghost use Rattle.sched_core.specs.Ends.{cause_rank};
 
 /// Why a run ended.
-#[derive(Clone, Copy, Debug)]
+#[derive(Clone, Copy)]
 pub enum Cause {
     /// `$finish` was taken (17.4.1).
     Finish,
@@ -52,7 +52,7 @@ impl Eq for Cause {
 }
 
 /// Where a run ended: the time, in units of the precision, and why.
-#[derive(Clone, Copy, Debug)]
+#[derive(Clone, Copy)]
 pub struct End {
     pub time: u64,
     pub cause: Cause,

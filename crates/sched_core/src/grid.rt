@@ -7,7 +7,7 @@ use crate::space::Space;
 use basis::NoMemory;
 
 /// A place on a board: `x` to the right, `y` down, from (0, 0).
-#[derive(Clone, Copy, Debug, PartialEq, Eq, Hash)]
+#[derive(Clone, Copy, PartialEq, Eq, Hash)]
 pub struct Square {
     pub x: u32,
     pub y: u32,
@@ -16,7 +16,7 @@ pub struct Square {
 /// A toy space: moves on a board from (0, 0), right until x is `right` and down until y is `down`.
 /// To go right is the first choice where there is room for it. Marks are the squares with x = y, and
 /// the one in the far corner. No call takes memory.
-#[derive(Clone, Copy, Debug)]
+#[derive(Clone, Copy)]
 pub struct Grid {
     pub right: u32,
     pub down: u32,

@@ -37,7 +37,7 @@ impl Model for Log {
 
 /// What the text of a log may name before a slash: the grain, and which departures there are, of the
 /// setting that it is a log of.
-#[derive(Clone, Copy, Debug, PartialEq, Eq)]
+#[derive(Clone, Copy, PartialEq, Eq)]
 pub enum LogHead {
     Plain,
     Named(Grain, Departures),

@@ -3,7 +3,7 @@
 
 /// How finely processes interleave (11.4.2), the granularity of what is atomic: in grain process one that
 /// can go on does so alone, in grain statement any other may come before it.
-#[derive(Clone, Copy, Debug)]
+#[derive(Clone, Copy)]
 pub enum Grain {
     Process,
     Statement,
@@ -36,7 +36,7 @@ impl Eq for Grain {
 }
 
 /// Which departures there are (docs/SCHEDULING.md, "Departures that hold back").
-#[derive(Clone, Copy, Debug, PartialEq, Eq)]
+#[derive(Clone, Copy, PartialEq, Eq)]
 pub enum Departures {
     /// A departure takes another choice first.
     Taking,
@@ -45,7 +45,7 @@ pub enum Departures {
 }
 
 /// What is looked at where slots and runs end.
-#[derive(Clone, Copy, Debug, PartialEq, Eq)]
+#[derive(Clone, Copy, PartialEq, Eq)]
 pub enum Looked {
     /// The values of the variables.
     Values,

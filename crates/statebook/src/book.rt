@@ -13,7 +13,7 @@ use std::marker::Model;
 
 /// What a book answers on meeting an entry, which is an insert into the visited set: the place where
 /// it put it, or that of an entry that dominates it.
-#[derive(Clone, Copy, Debug, PartialEq, Eq)]
+#[derive(Clone, Copy, PartialEq, Eq)]
 pub enum Met {
     New(usize),
     Known(usize),

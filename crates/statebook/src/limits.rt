@@ -5,7 +5,7 @@ ghost use Rattle.statebook.specs.Limits.{AreBounds, AreLimits};
 
 /// How far an explorer goes: at most `depart` departures, 0 to 4; at most `steps` steps of one run, 1 to 1,000,000; and no
 /// further job from `entries` entries on.
-#[derive(Clone, Copy, Debug)]
+#[derive(Clone, Copy)]
 pub struct Limits {
     pub depart: u32,
     pub steps: u32,

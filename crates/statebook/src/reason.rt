@@ -7,7 +7,7 @@ use basis::NoMemory;
 ///
 /// Nobody has a `NoMemory` who wasn't refused a growth; the calls that answer with a reason say what is
 /// proved of the other two.
-#[derive(Clone, Copy, Debug, PartialEq, Eq)]
+#[derive(Clone, Copy, PartialEq, Eq)]
 pub enum Reason {
     Memory(NoMemory),
     Entries,

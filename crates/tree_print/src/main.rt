@@ -21,7 +21,7 @@ use vparse::{SyntaxFault, parse};
 use vsrc::{Expanded, Place, SrcFault, expand};
 
 // A fault of the text: its number, and its place in the files.
-#[derive(Clone, Copy, Debug)]
+#[derive(Clone, Copy)]
 struct Refusal {
     number: u32,
     place: Place,

@@ -3,7 +3,7 @@
 use crate::token::Token;
 
 /// An operator before its operand (5.1, A.8.6).
-#[derive(Clone, Copy, Debug, PartialEq, Eq)]
+#[derive(Clone, Copy, PartialEq, Eq)]
 pub enum UnaryOperator {
     /// `+`
     Plus,
@@ -30,7 +30,7 @@ pub enum UnaryOperator {
 }
 
 /// An operator between its operands (5.1, A.8.6).
-#[derive(Clone, Copy, Debug, PartialEq, Eq)]
+#[derive(Clone, Copy, PartialEq, Eq)]
 pub enum BinaryOperator {
     /// `*`
     Times,

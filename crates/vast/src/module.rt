@@ -5,7 +5,7 @@ use crate::statement::Statement;
 use crate::token::Token;
 
 /// What holds a value: a net or a variable (4.2).
-#[derive(Clone, Copy, Debug, PartialEq, Eq)]
+#[derive(Clone, Copy, PartialEq, Eq)]
 pub enum NetKind {
     /// `wire`
     Wire,

@@ -8,7 +8,7 @@ use crate::token::{Token, letters};
 use basis::NoMemory;
 
 /// A word that a tree spells, by its bytes.
-#[derive(Clone, Copy, Debug)]
+#[derive(Clone, Copy)]
 pub struct Spelling<'t> {
     pub text: &'t [u8],
 }

@@ -4,7 +4,7 @@ use crate::expression::Expression;
 use crate::token::Token;
 
 /// How a case compares its value with a label (9.5).
-#[derive(Clone, Copy, Debug, PartialEq, Eq)]
+#[derive(Clone, Copy, PartialEq, Eq)]
 pub enum CaseKind {
     /// `case`: letter by letter, x and z too
     Exact,
@@ -15,7 +15,7 @@ pub enum CaseKind {
 }
 
 /// Which change of a name an event control waits for (9.7.2).
-#[derive(Clone, Copy, Debug, PartialEq, Eq)]
+#[derive(Clone, Copy, PartialEq, Eq)]
 pub enum Edge {
     /// `posedge`
     Rising,
@@ -24,7 +24,7 @@ pub enum Edge {
 }
 
 /// When a line is printed (17.1).
-#[derive(Clone, Copy, Debug, PartialEq, Eq)]
+#[derive(Clone, Copy, PartialEq, Eq)]
 pub enum Printing {
     /// `$display`: at once (17.1.1)
     Display,
@@ -35,7 +35,7 @@ pub enum Printing {
 }
 
 /// What is done to the dump (18.1).
-#[derive(Clone, Copy, Debug, PartialEq, Eq)]
+#[derive(Clone, Copy, PartialEq, Eq)]
 pub enum Dumping {
     /// `$dumpon` (18.1.3)
     On,
@@ -82,14 +82,14 @@ pub enum Delay {
 }
 
 /// A name whose changes are waited for, or those to one side (9.7.2).
-#[derive(Clone, Copy, Debug)]
+#[derive(Clone, Copy)]
 pub struct Term {
     pub edge: Option<Edge>,
     pub name: Token,
 }
 
 /// A further term of an event control, after a comma or after `or` (9.7.3).
-#[derive(Clone, Copy, Debug)]
+#[derive(Clone, Copy)]
 pub struct FurtherTerm {
     pub by_comma: bool,
     pub term: Term,

@@ -4,7 +4,7 @@ ghost use Rattle.std.specs.Prelude.{◌≡◌};
 ghost use Rattle.vast.specs.TokenTexts.{token_text, texts};
 
 /// A token of the text, by its number, from 0. Its letters aren't kept beside it: they are those of that token.
-#[derive(Clone, Copy, Debug, PartialEq, Eq)]
+#[derive(Clone, Copy, PartialEq, Eq)]
 pub struct Token {
     pub number: u32,
 }

@@ -4,7 +4,7 @@ ghost use Rattle.std.specs.Prelude.{◌≡◌};
 ghost use Rattle.vbits.specs.Letters as letters;
 
 /// One of the four letters of a value (IEEE 1364-2005, 4.1): 0, 1, unknown, high impedance.
-#[derive(Clone, Copy, Debug, PartialEq, Eq, Hash)]
+#[derive(Clone, Copy, PartialEq, Eq, Hash)]
 pub enum Bit4 {
     Zero,
     One,

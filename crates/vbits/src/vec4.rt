@@ -21,7 +21,7 @@ mod sums;
 
 /// A value: 1 to 64 letters, numbered from the right by 0, and a sign mark (4.1, 4.3).
 /// Kept as two words: the letter at place i is bit i of each (`specs/Planes.antt`).
-#[derive(Clone, Copy, Debug)]
+#[derive(Clone, Copy)]
 pub struct Vec4 {
     value: u64,
     unknown: u64,

@@ -3,7 +3,7 @@
 use crate::point::Point;
 
 /// What leads on from a place of a design's table of actions.
-#[derive(Clone, Copy, Debug)]
+#[derive(Clone, Copy)]
 pub struct Link {
     /// The point that stands behind the place: where a process comes once it is done with what is there.
     pub next: Point,

@@ -9,7 +9,7 @@ use std::marker::Model;
 use vdesign::action::Edge;
 
 /// A process that may wait for a change of a variable, or for a named event.
-#[derive(Clone, Copy, Debug)]
+#[derive(Clone, Copy)]
 pub struct Listener {
     /// The number of the process.
     pub process: u32,

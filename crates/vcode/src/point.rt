@@ -4,7 +4,7 @@ ghost use Rattle.std.specs.Prelude.{◌≡◌};
 ghost use Rattle.vcode.specs.Points as spec;
 
 /// Where a process stands. Places are those of the design's table of actions.
-#[derive(Clone, Copy, Debug)]
+#[derive(Clone, Copy)]
 pub enum Point {
     /// Nothing is left.
     Ended,

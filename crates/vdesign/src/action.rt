@@ -39,7 +39,7 @@ impl Places {
 }
 
 /// Which change of a variable is heard (9.7.2, table 9-2).
-#[derive(Clone, Copy, Debug, PartialEq, Eq)]
+#[derive(Clone, Copy, PartialEq, Eq)]
 pub enum Edge {
     /// Any change of any bit.
     Any,
@@ -50,7 +50,7 @@ pub enum Edge {
 }
 
 /// A term of an event control: what is heard (9.7.2, 9.7.3).
-#[derive(Clone, Copy, Debug, PartialEq, Eq)]
+#[derive(Clone, Copy, PartialEq, Eq)]
 pub enum Term {
     /// This change of the variable of this number (9.7.2).
     Change { edge: Edge, variable: u32 },

@@ -75,7 +75,7 @@ impl Model for Variable {
 }
 
 /// How a variable was declared.
-#[derive(Clone, Copy, Debug, PartialEq, Eq)]
+#[derive(Clone, Copy, PartialEq, Eq)]
 pub enum Kind {
     /// `reg`
     Reg,

@@ -56,7 +56,7 @@ impl Selection {
 }
 
 /// A task that commands a dump which was started (18.1).
-#[derive(Clone, Copy, Debug, PartialEq, Eq)]
+#[derive(Clone, Copy, PartialEq, Eq)]
 pub enum DumpSwitch {
     /// `$dumpoff` (18.1.3)
     Off,
@@ -67,7 +67,7 @@ pub enum DumpSwitch {
 }
 
 /// A task that commands the dump (18.1), as a run shows it.
-#[derive(Clone, Copy, Debug, PartialEq, Eq)]
+#[derive(Clone, Copy, PartialEq, Eq)]
 pub enum DumpCommand {
     /// `$dumpvars` (18.1.2): the place, in the design's table, of the action that says what is selected.
     Vars(usize),

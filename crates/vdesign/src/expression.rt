@@ -9,7 +9,7 @@ use vast::expression::{BinaryOperator, UnaryOperator};
 use vbits::Vec4;
 
 /// A number of the text (3.5.1).
-#[derive(Clone, Copy, Debug)]
+#[derive(Clone, Copy)]
 pub struct Constant {
     pub value: Vec4,
     /// Whether it is extended by its leftmost letter, x or z, to the size of what it stands in: a number
@@ -18,14 +18,14 @@ pub struct Constant {
 }
 
 /// The numbers of the leftmost and of the rightmost bit (4.3.1).
-#[derive(Clone, Copy, Debug, PartialEq, Eq)]
+#[derive(Clone, Copy, PartialEq, Eq)]
 pub struct Bounds {
     pub left: u32,
     pub right: u32,
 }
 
 /// A node of an expression, without its operands.
-#[derive(Clone, Copy, Debug)]
+#[derive(Clone, Copy)]
 pub enum Node {
     /// A number.
     Constant(Constant),

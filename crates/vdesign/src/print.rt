@@ -6,7 +6,7 @@ use crate::expression::Expression;
 use std::marker::Model;
 
 /// When a line is printed (17.1).
-#[derive(Clone, Copy, Debug, PartialEq, Eq)]
+#[derive(Clone, Copy, PartialEq, Eq)]
 pub enum When {
     /// `$display`: in its step (17.1.1).
     Now,
@@ -17,7 +17,7 @@ pub enum When {
 }
 
 /// How a value is shown (17.1.1.2, 17.1.1.3).
-#[derive(Clone, Copy, Debug, PartialEq, Eq)]
+#[derive(Clone, Copy, PartialEq, Eq)]
 pub enum Form {
     /// `%b`
     Binary,

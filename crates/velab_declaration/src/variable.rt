@@ -27,7 +27,7 @@ use vmodules::letters::letters;
 use vmodules::ports::PortForm;
 
 /// How names are declared: what a declaration says of each of them.
-#[derive(Clone, Copy, Debug)]
+#[derive(Clone, Copy)]
 pub struct Form {
     pub kind: Kind,
     pub signed: bool,

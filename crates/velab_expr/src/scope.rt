@@ -19,7 +19,7 @@ use vmodules::letters::letters;
 use vmodules::names::Names;
 
 /// What a name stands for.
-#[derive(Clone, Copy, Debug)]
+#[derive(Clone, Copy)]
 pub enum Meaning {
     /// The variable of this number (4.2).
     Variable(u32),
@@ -36,7 +36,7 @@ pub enum Meaning {
 }
 
 /// What a name in an expression stands for (5.2).
-#[derive(Clone, Copy, Debug)]
+#[derive(Clone, Copy)]
 pub enum Operand {
     /// The variable of this number (4.2).
     Variable(u32),

@@ -3,7 +3,7 @@
 use vast::expression::UnaryOperator;
 
 /// What the first word of an expression begins (IEEE 1364-2005, A.8.4).
-#[derive(Clone, Copy, Debug, PartialEq, Eq)]
+#[derive(Clone, Copy, PartialEq, Eq)]
 pub enum Beginning {
     /// A number, and nothing more.
     Number,
@@ -18,7 +18,7 @@ pub enum Beginning {
 }
 
 /// What a word begins that stands round an expression.
-#[derive(Clone, Copy, Debug, PartialEq, Eq)]
+#[derive(Clone, Copy, PartialEq, Eq)]
 pub enum Round {
     /// `(`
     Parenthesis,

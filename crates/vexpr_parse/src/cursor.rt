@@ -17,13 +17,13 @@ use vast::token::Token;
 use vlex::Tokens;
 
 /// A place between two tokens, and the words that are left after it.
-#[derive(Clone, Copy, Debug)]
+#[derive(Clone, Copy)]
 pub struct Cursor {
     at: u32,
 }
 
 /// A word at a place: its letters, and its token, which a tree keeps.
-#[derive(Clone, Copy, Debug)]
+#[derive(Clone, Copy)]
 pub struct Word<'t> {
     pub text: &'t [u8],
     pub token: Token,

@@ -1,7 +1,7 @@
 // Why a reader stops.
 
 /// Why a reader stops, at the word where its cursor is left.
-#[derive(Clone, Copy, Debug, PartialEq, Eq)]
+#[derive(Clone, Copy, PartialEq, Eq)]
 pub enum Stop {
     /// No rule takes the word here (E201, E202).
     NoTree,

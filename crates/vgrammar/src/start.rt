@@ -10,7 +10,7 @@ use vast::statement::{CaseKind, Dumping, Printing};
 use vast::words::is_name;
 
 /// What the first word of a statement begins, unless it begins what an assignment writes to (IEEE 1364-2005, A.6.4).
-#[derive(Clone, Copy, Debug, PartialEq, Eq)]
+#[derive(Clone, Copy, PartialEq, Eq)]
 pub enum StatementStart {
     /// `;`
     Empty,
@@ -45,7 +45,7 @@ pub enum StatementStart {
 }
 
 /// What stands before an expression in parentheses and a statement.
-#[derive(Clone, Copy, Debug, PartialEq, Eq)]
+#[derive(Clone, Copy, PartialEq, Eq)]
 pub enum Guard {
     /// `while`
     While,

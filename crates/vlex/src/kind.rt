@@ -1,7 +1,7 @@
 // The kinds of tokens.
 
 /// The kinds of tokens, IEEE 1364-2005, clause 3. A reserved word is a `Name` here.
-#[derive(Clone, Copy, Debug, PartialEq, Eq)]
+#[derive(Clone, Copy, PartialEq, Eq)]
 pub enum TokenKind {
     /// A letter or `_`, then letters, digits, `_` and `$` (3.7).
     Name,

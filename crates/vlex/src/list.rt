@@ -8,7 +8,7 @@ use std::marker::Model;
 use vsrc::{Expanded, Place};
 
 /// Where a token stands in the text, and its kind.
-#[derive(Clone, Copy, Debug, PartialEq, Eq)]
+#[derive(Clone, Copy, PartialEq, Eq)]
 pub struct Span {
     pub start: u32,
     pub len: u32,

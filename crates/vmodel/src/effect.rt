@@ -24,7 +24,7 @@ use vvalue::cases::{places_of_case, turns_of};
 use vvalue::environment::Environment;
 
 /// What becomes of a process by its step.
-#[derive(Clone, Copy, Debug, PartialEq, Eq)]
+#[derive(Clone, Copy, PartialEq, Eq)]
 pub enum Disposition {
     /// It goes on, or has ended where it has nothing left.
     Runnable,
@@ -42,7 +42,7 @@ pub struct Post {
 }
 
 /// What a step shows at once.
-#[derive(Clone, Copy, Debug, PartialEq, Eq)]
+#[derive(Clone, Copy, PartialEq, Eq)]
 pub enum Shown {
     /// A command to the dump (18.1).
     Commands(DumpCommand),

@@ -12,7 +12,7 @@ use std::sync::ArcSlice;
 use vbits::Vec4;
 
 /// A written part, with its new letters.
-#[derive(Clone, Copy, Debug)]
+#[derive(Clone, Copy)]
 pub enum Part {
     /// The whole variable of this number.
     Whole {

@@ -11,7 +11,7 @@ use std::marker::Model;
 use vbits::Vec4;
 
 /// One thing that a process has left.
-#[derive(Clone, Copy, Debug)]
+#[derive(Clone, Copy)]
 pub enum Frame {
     /// The action at this place of the design's table.
     Executing(usize),

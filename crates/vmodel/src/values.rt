@@ -16,7 +16,7 @@ use vbits::{Bit4, Vec4};
 use vdesign::design::Variable;
 
 /// A change of a variable by a step.
-#[derive(Clone, Copy, Debug)]
+#[derive(Clone, Copy)]
 pub(crate) struct Change {
     pub(crate) variable: u32,
     pub(crate) old: Vec4,

@@ -24,7 +24,7 @@ use vast::token::Token;
 use vlex::Tokens;
 
 /// What is connected does not fit; `at` is the number of the token where that shows.
-#[derive(Clone, Copy, Debug, PartialEq, Eq)]
+#[derive(Clone, Copy, PartialEq, Eq)]
 pub struct Misfit {
     pub at: u32,
 }

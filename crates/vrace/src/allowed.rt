@@ -11,7 +11,7 @@ use report_text::Report;
 const STEPS_MAX: u64 = 1_000_000;
 
 /// The most that a check allows the head of a report to ask for: the time limit, and the steps of one run.
-#[derive(Clone, Copy, Debug)]
+#[derive(Clone, Copy)]
 pub struct Allowed {
     pub until: u64,
     pub steps: u64,

@@ -34,7 +34,7 @@ use workpool::Gate;
 
 /// What a report says in one word, and how the exploration went. A cut for want of memory holds what only a refused growth
 /// makes.
-#[derive(Clone, Copy, Debug, PartialEq, Eq)]
+#[derive(Clone, Copy, PartialEq, Eq)]
 pub enum Status {
     /// No race, and nothing within the limits was missed.
     NoRace,

@@ -99,7 +99,7 @@ pub enum Fault {
 }
 
 /// What is told after a number.
-#[derive(Clone, Copy, Debug, PartialEq, Eq)]
+#[derive(Clone, Copy, PartialEq, Eq)]
 pub enum Detail {
     /// Nothing.
     Nothing,

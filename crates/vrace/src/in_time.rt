@@ -25,7 +25,7 @@ use vreport::{Budget, TimedReport, report_in_time, write_report};
 
 /// What a report says in short, and how the exploration went: whether a race was found, what the report says of how it went,
 /// and up to which time all was looked at.
-#[derive(Clone, Copy, Debug)]
+#[derive(Clone, Copy)]
 pub struct Timed {
     pub raced: bool,
     pub outcome: Outcome,

@@ -32,7 +32,7 @@ use vmachine::{Machine, machine_law};
 use vreport::{DumpFront, HeldDump, hold_dump, write_dump, write_from};
 
 /// What a replay shows of a run.
-#[derive(Clone, Copy, Debug, PartialEq, Eq)]
+#[derive(Clone, Copy, PartialEq, Eq)]
 pub enum Show {
     /// Its value change dump (clause 18; docs/FORMATS.md, "Dumps").
     Dump,

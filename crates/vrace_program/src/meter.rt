@@ -12,7 +12,7 @@ const SHOWN_APART: u64 = 500;
 
 /// What an exploration by time may take: seconds, and megabytes of memory by its own count; and whether it shows how far it
 /// has come.
-#[derive(Clone, Copy, Debug)]
+#[derive(Clone, Copy)]
 pub struct Allowance {
     pub seconds: Option<u64>,
     pub memory: Option<u64>,

@@ -39,7 +39,7 @@ fn stopped_by(spent: Spent) -> &'static [u8] {
 }
 
 // What searches say in one word, the worse later.
-#[derive(Clone, Copy, Debug, PartialEq, Eq)]
+#[derive(Clone, Copy, PartialEq, Eq)]
 enum Verdict {
     // No race that isn't waived, and nothing was left unseen.
     Clean,

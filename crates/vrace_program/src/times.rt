@@ -10,14 +10,14 @@ use vsrc::expand;
 const LAST_TIME: u64 = 4_611_686_018_427_387_903;
 
 /// Times in femtoseconds, where they are asked for; the greatest number stands for each that is later.
-#[derive(Clone, Copy, Debug)]
+#[derive(Clone, Copy)]
 pub struct Times {
     until: Option<u128>,
     from: Option<u128>,
 }
 
 /// The last time to which runs go, and the first of which differences are told, in units of the precision.
-#[derive(Clone, Copy, Debug)]
+#[derive(Clone, Copy)]
 pub struct Bounds {
     pub until: u64,
     pub from: u64,

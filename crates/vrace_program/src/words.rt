@@ -420,7 +420,7 @@ pub fn has_dashed_report(matches: &ArgMatches<'_>) -> bool {
 }
 
 /// What of a run is asked for.
-#[derive(Clone, Copy, Debug, PartialEq, Eq)]
+#[derive(Clone, Copy, PartialEq, Eq)]
 pub enum Wanted {
     /// The dump, or the printed lines.
     Shown(Show),
@@ -481,7 +481,7 @@ pub fn files_of<'a>(alloc: Global, matches: &ArgMatches<'a>) -> Result<Vec<&'a s
 
 /// How far an exploration goes: departures, entries that cut it, how many workers there are, what is looked at, and what it may
 /// take where it goes by time.
-#[derive(Clone, Copy, Debug)]
+#[derive(Clone, Copy)]
 pub struct Search {
     pub depart: u64,
     /// None: none is said.

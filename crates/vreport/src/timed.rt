@@ -17,7 +17,7 @@ use std::alloc::Global;
 use vmachine::{Machine, machine_law};
 
 /// What was spent where a search was stopped.
-#[derive(Clone, Copy, Debug, PartialEq, Eq)]
+#[derive(Clone, Copy, PartialEq, Eq)]
 pub enum Spent {
     Time,
     Memory,

@@ -15,7 +15,7 @@ use vdesign::design::Kind;
 use vdesign::expression::{Bounds, Expression, Node};
 
 /// What may be wrong with an expression.
-#[derive(Clone, Copy, Debug, PartialEq, Eq)]
+#[derive(Clone, Copy, PartialEq, Eq)]
 pub enum Flaw {
     /// A bit or a part is selected of a variable that is no vector and no `integer`.
     NoBits,

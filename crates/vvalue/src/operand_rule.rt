@@ -7,7 +7,7 @@ use vast::expression::{BinaryOperator, UnaryOperator};
 use vbits::Reduction;
 
 /// An operator whose operands have the size and the sign of its result.
-#[derive(Clone, Copy, Debug)]
+#[derive(Clone, Copy)]
 pub enum Shared {
     Times,
     Divide,
@@ -21,7 +21,7 @@ pub enum Shared {
 }
 
 /// An operator that compares its operands.
-#[derive(Clone, Copy, Debug)]
+#[derive(Clone, Copy)]
 pub enum Compared {
     Less,
     LessOrEqual,
@@ -34,14 +34,14 @@ pub enum Compared {
 }
 
 /// An operator of truths.
-#[derive(Clone, Copy, Debug)]
+#[derive(Clone, Copy)]
 pub enum Logical {
     And,
     Or,
 }
 
 /// A shift.
-#[derive(Clone, Copy, Debug)]
+#[derive(Clone, Copy)]
 pub enum Shift {
     Left,
     Right,
@@ -49,7 +49,7 @@ pub enum Shift {
 }
 
 /// What becomes of the operands of an operator that has two.
-#[derive(Clone, Copy, Debug)]
+#[derive(Clone, Copy)]
 pub enum OperandRule {
     /// Both have the size and the sign of the result.
     Shares(Shared),
@@ -94,7 +94,7 @@ pub fn operand_rule_of(operator: BinaryOperator) -> OperandRule
 }
 
 /// An operator that gives as many bits as its operand has.
-#[derive(Clone, Copy, Debug)]
+#[derive(Clone, Copy)]
 pub enum Sign {
     Plus,
     Minus,
@@ -102,7 +102,7 @@ pub enum Sign {
 }
 
 /// What becomes of the operand of an operator that has one.
-#[derive(Clone, Copy, Debug)]
+#[derive(Clone, Copy)]
 pub enum UnaryOperandRule {
     /// It has the size and the sign of the result.
     Keeps(Sign),

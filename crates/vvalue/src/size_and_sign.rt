@@ -5,7 +5,7 @@ ghost use Rattle.vvalue.specs.Value as spec;
 ghost use Rattle.vvalue.specs.Fits.{IsWithin};
 
 /// The size and the sign that an expression has where it stands; the size is 1 to 64.
-#[derive(Clone, Copy, Debug)]
+#[derive(Clone, Copy)]
 pub struct SizeAndSign {
     pub size: u32,
     pub signed: bool,

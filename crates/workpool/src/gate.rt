@@ -6,7 +6,7 @@ pub trait Gate: Sync {
 }
 
 /// A gate that holds nobody.
-#[derive(Clone, Copy, Debug)]
+#[derive(Clone, Copy)]
 pub struct OpenGate;
 
 impl Gate for OpenGate {
