@@ -1,0 +1,3 @@
+pub mod PastLemmas
+pub mod LengthLemmas
+pub mod OriginLemmas
