@@ -1,5 +1,5 @@
 -- A rule that the only tree of a text breaks leaves the text without a design.
-use Rattle.std.proofs.Common.{◌≡◌, ◌<◌, ◌≤◌, inr, ℕ, List, length, Option, Some, Result, Ok, Err, IfErr, sym, ap, subst, ◌∙◌, arith}
+use Rattle.std.proofs.Common.{◌≡◌, ◌<◌, ◌≤◌, inr, ℕ, List, length, Option, Some, None, Result, Ok, Err, IfOk, IfErr, refl, sym, ap, subst, ◌∙◌, arith}
 use Rattle.std.specs.Prelude.{option_and_then}
 use Rattle.vsrc.specs.Source.{Source, place_of}
 use Rattle.vsrc.specs.declared.expanded.Place.{Place}
@@ -18,9 +18,18 @@ use Rattle.vast.specs.NumberedTrees.{source_tree as numbered_tree}
 use Rattle.vast.proofs.NumberedTextLemmas.{numbered_text, numbered_once}
 use Rattle.vexpr_parse.specs.Texts.{words_of}
 use Rattle.vparse.specs.Refusals.{HasNoText, IsOnlyText}
-use Rattle.vhierarchy.specs.Instances.{Elaborates}
+use Rattle.basis.specs.declared.timescale.Timescale.{Timescale}
+use Rattle.vast.specs.NumberedWords.{Word}
+use Rattle.vdesign.specs.Design.{Design}
+use Rattle.vmodules.specs.Names.{first_again}
+use Rattle.vmodules.specs.Hierarchy.{module_names, top_of, rival_of}
+use Rattle.velab_expr.specs.Answers.{◌>>=◌, found}
+use Rattle.velab_expr.specs.declared.fault.Rule.TheVariants.{Doubled, Top}
+use Rattle.vhierarchy.specs.Instances.{Elaborates, Whole, as_design, barring, whole_of}
 use Rattle.vhierarchy.specs.Reasons.{IsDesignReason, HasNoDesign}
 use Rattle.velab_expr.specs.declared.fault.ElabFault.{ElabFault}
+use Rattle.vrace.specs.ActionPlaces.{ArePlaced, ArePlacedInFiles}
+use Rattle.vrace.specs.declared.design.Placed.{Placed}
 use Rattle.vrace.specs.Replays.{AreRead, most_words, IsTreeOf, texts_of}
 use Rattle.vrace.specs.Unique.{IsCut, IsReadAs}
 use Rattle.vrace.specs.declared.fault.At.{At}
@@ -80,3 +89,17 @@ pub err_of_text : {T : Type 0} (r : Result T Fault) (files : List (List ℕ)) (s
 err_of_text (Ok x) files source top read is reason = tt
 err_of_text (Err fault) files source top read is reason =
     inr (read, subst (λ t. IsTextReason t top fault) (same_source source read.source (expansion files) is read.expanded) reason)
+
+-- no two modules of a text that has a design have one name
+pub names_once : (tree : SourceTree) (top : Option Text) (scale : Timescale) (design : Design) → Elaborates tree top scale design → first_again (module_names tree) ≡ None
+names_once tree top scale design is = none_in (first_again (module_names tree)) (found (top_of tree top) Top (rival_of tree top) >>= λ m. whole_of tree m) is
+  where
+    none_in : (again : Option Word) (rest : Result Whole ElabFault) → as_design scale (barring again Doubled rest) ≡ Ok design → again ≡ None
+    none_in None rest is = refl
+    none_in (Some word) rest is = absurd cc
+
+-- the places are those of the text that the files make
+pub placed_in_files : (r : Result Placed Fault) (files : List (List ℕ)) (source : Source) (top : Option Text) → expansion files ≡ Ok source →
+    IfOk r (λ placed. ArePlaced source top placed.origins) → IfOk r (λ placed. ArePlacedInFiles files top placed.origins)
+placed_in_files (Ok placed) files source top is here = record { source = source; expanded = is; placed = here }
+placed_in_files (Err fault) files source top is here = tt

@@ -11,6 +11,7 @@ use Rattle.vmodel.specs.RunProgress.{Finishes}
 use Rattle.trace_text.specs.Traces.{IsTold, trace}
 use Rattle.trace_text.specs.TraceLaws.{told_to_end}
 use Rattle.vrace.specs.Request.{Request}
+use Rattle.vrace.specs.ActionPlaces.{ArePlacedInFiles}
 use Rattle.vrace.specs.Replays.{Replayed, setting_of}
 use Rattle.vrace.specs.FileTraces.{IsTrace, LeavesTrace}
 use Rattle.vrace.specs.Refusals.{IsOfWriting}
@@ -19,13 +20,14 @@ use Rattle.vrace.specs.declared.fault.Fault.{Fault}
 use Rattle.vrace.proofs.ReplayLemmas.{of_writing}
 
 module _ (files : List (List ℕ)) (asked : Request) (log : List ℕ) (replayed : Replayed files asked log) (setting : Setting) (same : setting ≡ setting_of files asked log replayed)
-    (members : List (ℕ × ℕ)) (are : members ≡ replayed.members) (origins : List (Option Place)) (n m : ℕ) (end : End)
+    (members : List (ℕ × ℕ)) (are : members ≡ replayed.members) (origins : List (Option Place)) (placed : ArePlacedInFiles files asked.top origins) (n m : ℕ) (end : End)
     (told : IsTold setting members asked.steps n) (finishes : Finishes setting members asked.steps m end) where
   -- the trace of the run to where it is told is that of the files
   pub traced : IsTrace files asked log (trace setting origins members n)
   traced = record {
     replayed = replayed;
     origins = origins;
+    placed = placed;
     steps = m;
     end = end;
     finishes =

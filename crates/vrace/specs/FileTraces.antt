@@ -8,14 +8,16 @@ use Rattle.sched_core.specs.declared.end.End.{End}
 use Rattle.vmodel.specs.RunProgress.{Finishes}
 use Rattle.trace_text.specs.Traces.{trace}
 use Rattle.vrace.specs.Request.{Request}
+use Rattle.vrace.specs.ActionPlaces.{ArePlacedInFiles}
 use Rattle.vrace.specs.Replays.{Replayed, setting_of}
 use Rattle.vrace.specs.Refusals.{IsOfWriting}
 use Rattle.vrace.specs.declared.fault.Fault.{Fault}
 
--- The trace of the files under the log, to the run's end. Where the statements of the design begin is told by `origins`.
+-- The trace of the files under the log, to the run's end. Each step is told with the place at which the statement of its action begins.
 pub record IsTrace (files : List (List ℕ)) (asked : Request) (log : List ℕ) (text : List ℕ) : Type 0 where
   pub replayed : Replayed files asked log
   pub origins : List (Option Place)
+  pub placed : ArePlacedInFiles files asked.top origins
   pub steps : ℕ
   pub end : End
   pub finishes : Finishes (setting_of files asked log replayed) replayed.members asked.steps steps end

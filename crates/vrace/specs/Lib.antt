@@ -11,4 +11,5 @@ pub mod Places
 pub mod Numbers
 pub mod Explores
 pub mod ExploresInTime
+pub mod ActionPlaces
 pub mod Checks

@@ -1,6 +1,6 @@
 // From the bytes of the files to the design that they stand for.
 
-ghost use Rattle.std.specs.Prelude.{◌≡◌, ◌≤◌, ℕ, nat_lt, List, Option, IfOk, OnOk, IfErr, option_map, option_and_then, true, false, None, Some, Ok, Err};
+ghost use Rattle.std.specs.Prelude.{◌≡◌, ◌≤◌, ℕ, nat_lt, List, Option, IfOk, OnOk, IfErr, map, option_map, option_and_then, true, false, None, Some, Ok, Err};
 ghost use Rattle.vsrc.specs.Source.{Source, file_bytes};
 ghost use Rattle.vsrc.specs.Expansion.{expansion, expanded_text, expanded_timescale};
 ghost use Rattle.vlex.specs.Lexed.{HasNoTokens, IsTokenReason};
@@ -10,7 +10,10 @@ ghost use Rattle.vast.specs.NumberedTrees.{source_tree};
 ghost use Rattle.vexpr_parse.specs.Texts.{words_of};
 ghost use Rattle.vparse.specs.Refusals.{HasNoText, IsRefusal};
 ghost use Rattle.vhierarchy.specs.Instances.{Elaborates};
-ghost use Rattle.vmodules.specs.Inner.{named_text};
+ghost use Rattle.vmodules.specs.Inner.{named_text, unit_names};
+ghost use Rattle.vmodules.specs.Names.{first_again};
+ghost use Rattle.action_origins.specs.Origins.{design_origins};
+ghost use Rattle.vrace.specs.ActionPlaces.{ArePlaced, ArePlacedInFiles};
 ghost use Rattle.vhierarchy.specs.Reasons.{IsDesignReason, HasNoDesign};
 ghost use Rattle.vrace.specs.Replays.{limit, total, AreRead, IsDesignOf, IsDesignOfFiles};
 ghost use Rattle.vrace.specs.Unique.{IsCut, IsReadAs};
@@ -18,6 +21,7 @@ ghost use Rattle.vrace.specs.Refusals.{word_place, IsFileReason, IsTextReason, I
 
 use crate::fault::{At, Fault};
 use crate::read::LIMIT;
+use action_origins::origins_of;
 use basis::{NoMemory, OrMemory, Timescale};
 use std::alloc::Global;
 use trace_text::Origins;
@@ -37,11 +41,11 @@ fn at(place: Place) -> At
 }
 
 // The place of the token of this number, if there is one.
-fn place_of(tokens: &Tokens<'_>, number: u32) -> Option<Place>
+fn place_of(tokens: &Tokens<'_>, number: usize) -> Option<Place>
     ensures { result ≡ word_place tokens.now number }
 {
-    if number as usize <= tokens.len() {
-        Some(tokens.place(number as usize))
+    if number <= tokens.len() {
+        Some(tokens.place(number))
     } else {
         None
     }
@@ -53,7 +57,7 @@ fn at_token(tokens: &Tokens<'_>, number: Option<u32>) -> At
 {
     match number {
         None => At(None),
-        Some(number) => At(place_of(tokens, number)),
+        Some(number) => At(place_of(tokens, number as usize)),
     }
 }
 
@@ -67,23 +71,50 @@ pub struct Placed {
     pub origins: Origins,
 }
 
-// The design with the places of the tokens at which its statements begin.
-fn with_places(alloc: Global, tokens: &Tokens<'_>, design: Design) -> Result<Placed, Fault>
-    ensures same { IfOk result (λ placed. placed.design ≡ design) }
+// The places of the tokens of these numbers.
+fn places_of(alloc: Global, tokens: &Tokens<'_>, numbers: &[usize]) -> Result<Origins, NoMemory>
+    ensures { IfOk result (λ places. places ≡ map (word_place tokens.now) numbers.now) }
+{
+    let mut places = Vec::new(alloc);
+    for number in numbers {
+        places.push(place_of(tokens, *number))?;
+    }
+    Ok(Origins::new(places))
+}
+
+// Where the statements of the design of a tree begin.
+fn origins_of_tree(
+    alloc: Global,
+    tokens: &Tokens<'_>,
+    tree: &TextTree,
+    top: Option<&[u8]>,
+) -> Result<Origins, NoMemory>
+    requires once { first_again (unit_names (words_of tokens.now) tree.now.modules.items) ≡ None }
+    ensures { IfOk result (λ places. places ≡ map (word_place tokens.now) (design_origins
+        (words_of tokens.now) (source_tree (words_of tokens.now) tree.now) (named_text top.entry))) }
+{
+    let numbers = origins_of(alloc, tokens, tree, top)?;
+    places_of(alloc, tokens, &numbers)
+}
+
+// The same of the design of the text, or want of memory.
+fn placed_origins(
+    alloc: Global,
+    tokens: &Tokens<'_>,
+    tree: &TextTree,
+    top: Option<&[u8]>,
+) -> Result<Origins, Fault>
+    requires once { first_again (unit_names (words_of tokens.now) tree.now.modules.items) ≡ None }
+    ensures placed { (source : Source) → IsCut source tokens.now →
+        IsReadAs source.text (source_tree (words_of tokens.now) tree.now) →
+        IfOk result (ArePlaced source (named_text top.entry)) }
     ensures err { (source : Source) (top : Option (List ℕ)) →
         IfErr result (IsTextReason source top) }
 {
-    let mut places = Vec::new(alloc);
-    for number in &design.origins {
-        match places.push(place_of(tokens, *number)) {
-            Ok(()) => {}
-            Err(refused) => return Err(Fault::Memory(NoMemory::from(refused))),
-        }
+    match origins_of_tree(alloc, tokens, tree, top) {
+        Ok(origins) => Ok(origins),
+        Err(refused) => Err(Fault::Memory(refused)),
     }
-    Ok(Placed {
-        design,
-        origins: Origins::new(places),
-    })
 }
 
 // What stops the expansion of the files.
@@ -201,12 +232,15 @@ fn design_of_tree(
 fn design_of_text(alloc: Global, text: &Expanded, top: Option<&[u8]>) -> Result<Placed, Fault>
     ensures ok { IfOk result (λ placed.
         IsDesignOf text.now.text text.now.timescale (named_text top.entry) placed.design) }
+    ensures placed { IfOk result (λ placed.
+        ArePlaced text.now (named_text top.entry) placed.origins) }
     ensures err { IfErr result (IsTextReason text.now (named_text top.entry)) }
 {
     let tokens = tokens_of(alloc, text)?;
     let tree = tree_of(alloc, &tokens)?;
     let design = design_of_tree(alloc, &tokens, &tree, top, text.timescale())?;
-    with_places(alloc, &tokens, design)
+    let origins = placed_origins(alloc, &tokens, &tree, top)?;
+    Ok(Placed { design, origins })
 }
 
 /// The design of the top module in the files, with the places of its statements. E904 where the
@@ -221,6 +255,8 @@ pub fn placed_design_of(
     ensures read { OnOk result (AreRead (file_bytes files.now)) }
     ensures ok { IfOk result (λ placed.
         IsDesignOfFiles (file_bytes files.now) (named_text top.entry) placed.design) }
+    ensures placed { IfOk result (λ placed.
+        ArePlacedInFiles (file_bytes files.now) (named_text top.entry) placed.origins) }
     ensures err { IfErr result (λ fault.
         IsDesignFault (file_bytes files.now) (named_text top.entry) fault) }
 {

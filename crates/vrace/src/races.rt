@@ -7,6 +7,7 @@ ghost use Rattle.vsrc.specs.Source.{file_bytes};
 ghost use Rattle.race_groups.specs.Found.{ClosesAllEnds, ClosesTimeOfRun, EachGroup, FirstsAreInTime, HasFirstDifference, HasItsCause};
 ghost use Rattle.race_groups.specs.Found.{HasLogOfFirst, LacksOnlyNoCause, TellsOfAll, TellsOfAllThroughout, TellsOfCuts};
 ghost use Rattle.race_groups.specs.Found.{TellsOfCutsThroughout, TellsOfNone, TellsOfNoneThroughout};
+ghost use Rattle.vrace.specs.ActionPlaces.{ArePlacedInFiles};
 ghost use Rattle.vrace.specs.Request.{request_of};
 ghost use Rattle.vrace.specs.Explores.{IsSearched};
 ghost use Rattle.vrace.specs.Refusals.{IsDesignFault};
@@ -49,6 +50,8 @@ pub fn find_races_in<B: Budget>(
 ) -> Result<FoundRaces, Fault>
     ensures searched { IfOk result (λ found.
         IsSearched (file_bytes files.now) (request_of options.now) found.machine) }
+    ensures placed { IfOk result (λ found.
+        ArePlacedInFiles (file_bytes files.now) (request_of options.now).top found.origins) }
     ensures cause { IfOk result (λ found. EachGroup (HasItsCause found.machine) found.races.groups.items) }
     ensures no_cause { IfOk result (λ found.
         EachGroup (LacksOnlyNoCause found.machine options.now.limits) found.races.groups.items) }

@@ -8,6 +8,7 @@ ghost use Rattle.sched_core.specs.declared.end.End.{End};
 ghost use Rattle.vmodel.specs.RunProgress.{Finishes};
 ghost use Rattle.vmodel.specs.Run.{rules_of};
 ghost use Rattle.byte_sinks.specs.Metered.{Grows};
+ghost use Rattle.vrace.specs.ActionPlaces.{ArePlacedInFiles};
 ghost use Rattle.vrace.specs.Request.{request_of};
 ghost use Rattle.vrace.specs.Replays.{IsShown, IsReplayInput, grain_under as grain_by, departures_under as departures_by};
 ghost use Rattle.vrace.specs.Refusals.{IsLogFault, IsReason, Leaves};
@@ -371,6 +372,8 @@ pub(crate) fn replay_input_of(
 ) -> Result<ReplayInput, Fault>
     ensures ok { IfOk result (λ input.
         IsReplayInput (file_bytes files.now) (request_of options.now) log.now input.machine input.members) }
+    ensures placed { IfOk result (λ input.
+        ArePlacedInFiles (file_bytes files.now) (request_of options.now).top input.origins) }
     ensures err { IfErr result (λ fault.
         IsReason (file_bytes files.now) (request_of options.now) log.now fault) }
     ensures unwritten { IfErr result IsUnwritten }

@@ -1,5 +1,8 @@
 use Rattle.std.proofs.Common.{option_map}
 use Rattle.std.proofs.lemmas.Result.{err_from_is_err_and}
+use Rattle.vast.specs.NumberedTrees.{source_tree}
+use Rattle.vexpr_parse.specs.Texts.{words_of}
+use Rattle.vrace.proofs.DesignLemmas.{names_once}
 use Rattle.vrace.proofs.design.design_of_text.Goals as goal
 
 pub returns-in_err-tokens-clause-err : goal.returns-in_err-tokens-clause-err
@@ -17,5 +20,15 @@ returns-in_err-design-clause-err c =
     let p = err_from_is_err_and c.from_residual-in_err-design.result c.from_residual-in_err-design.ensures.1 in
     rw (p.1, p.2) (c.in_err-design.ensures.err c.args.text.now c.in_ok-tokens.ensures.ok (c.in_ok-tree.ensures.ok c.args.text.now c.in_ok-tokens.ensures.ok))
 
-pub returns-clause-err : goal.returns-clause-err
-returns-clause-err c = c.with_places.ensures.err c.args.text.now (option_map (λ name. name.now) c.args.top)
+pub placed_origins-requires : goal.placed_origins-requires
+placed_origins-requires c =
+    let tree = source_tree (words_of c.in_ok-tokens.tokens) c.in_ok-tree.tree in
+    record { once = names_once tree (option_map (λ name. name.now) c.args.top) c.timescale.result c.in_ok-design.design c.in_ok-design.ensures.ok }
+
+pub returns-in_err-origins-clause-err : goal.returns-in_err-origins-clause-err
+returns-in_err-origins-clause-err c =
+    let p = err_from_is_err_and c.from_residual-in_err-origins.result c.from_residual-in_err-origins.ensures.1 in
+    rw (p.1, p.2) (c.in_err-origins.ensures.err c.args.text.now (option_map (λ name. name.now) c.args.top))
+
+pub returns-clause-placed : goal.returns-clause-placed
+returns-clause-placed c = c.in_ok-origins.ensures.placed c.args.text.now c.in_ok-tokens.ensures.ok (c.in_ok-tree.ensures.ok c.args.text.now c.in_ok-tokens.ensures.ok)

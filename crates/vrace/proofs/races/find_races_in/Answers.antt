@@ -5,3 +5,6 @@ returns-clause-searched g c = record {
   searched = record { are_read = c.in_ok-placed.ensures.read; design = c.in_ok-placed.placed.design; is_design = c.in_ok-placed.ensures.ok };
   setting_is = c.in_ok-machine.ensures;
 }
+
+pub returns-clause-placed : goal.returns-clause-placed
+returns-clause-placed g c = c.in_ok-placed.ensures.placed

@@ -27,3 +27,6 @@ returns-clause-ok c =
       looked = Values;
     } in
     (replayed, c.in_ok-machine.ensures ∙ (λ i. named (c.grain_under-grain.ensures i) (c.departures_under-departures.ensures i)), refl)
+
+pub returns-clause-placed : goal.returns-clause-placed
+returns-clause-placed c = c.in_ok-placed.ensures.placed

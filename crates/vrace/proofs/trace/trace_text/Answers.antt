@@ -38,7 +38,7 @@ returns-in-Err-clause-left g c =
     let (replayed, same, members) = c.in_ok-input.ensures.ok in
     let (end_at, end, finishes) = c.in_ok-see_end.ensures.ends in
     let (n, told, stops) = c.in-Err.ensures.err in
-    left_in_trace (file_bytes c.args.files.now) (request_of c.args.options.now) c.args.log.now replayed input.machine same input.members members input.origins n end_at end
+    left_in_trace (file_bytes c.args.files.now) (request_of c.args.options.now) c.args.log.now replayed input.machine same input.members members input.origins c.in_ok-input.ensures.placed n end_at end
     told finishes g.W.Write.contents c.args.writer.now c.write_trace.new.writer c.in-Err.fault c.of_writing.result c.of_writing.ensures stops
 
 pub returns-clause-traced : goal.returns-clause-traced
@@ -47,7 +47,7 @@ returns-clause-traced g c =
     let (replayed, same, members) = c.in_ok-input.ensures.ok in
     let (end_at, end, finishes) = c.in_ok-see_end.ensures.ends in
     let (n, told, grown) = c.in-Ok.ensures.ok in
-    (_, traced (file_bytes c.args.files.now) (request_of c.args.options.now) c.args.log.now replayed input.machine same input.members members input.origins n end_at end told finishes, grown)
+    (_, traced (file_bytes c.args.files.now) (request_of c.args.options.now) c.args.log.now replayed input.machine same input.members members input.origins c.in_ok-input.ensures.placed n end_at end told finishes, grown)
 
 pub returns-in-Err-clause-failures : goal.returns-in-Err-clause-failures
 returns-in-Err-clause-failures g c =
