@@ -134,7 +134,6 @@ fn design(alloc: Global) -> Result<Design, Fail> {
         variables,
         scopes,
         actions,
-        origins: Vec::new(alloc),
         processes: Vec::new(alloc),
     })
 }

@@ -138,7 +138,6 @@ pub(crate) fn pair_of(alloc: Global, design: &Design) -> Result<Design, NoMemory
         variables: variables_of(alloc, design)?,
         scopes: scopes_of(alloc, design)?,
         actions,
-        origins: Vec::new(alloc),
         processes: Vec::new(alloc),
     })
 }

@@ -140,7 +140,8 @@ impl Header {
     ) -> Result<(), OrMemory<VcdFault>>
         requires { IsReady words.old.bytes }
         ensures ready { IsReady words.new.bytes }
-        ensures lead { IfOk result (λ _. Takes R.remaining words.old words.new (λ list. Lead (codes "$scope" ∷ list) self.old self.new)) }
+        ensures lead { IfOk result (λ _. Takes R.remaining words.old words.new
+            (λ list. Lead (codes "$scope" ∷ list) self.old self.new)) }
         ensures budget { IfOk result (λ _. words.new.bytes.budget < words.old.bytes.budget) }
     {
         words.must()?;
@@ -157,7 +158,8 @@ impl Header {
     fn close<R: Read + Drop>(&mut self, words: &mut WordReader<R>) -> Result<(), OrMemory<VcdFault>>
         requires { IsReady words.old.bytes }
         ensures ready { IsReady words.new.bytes }
-        ensures lead { IfOk result (λ _. Takes R.remaining words.old words.new (λ list. Lead (codes "$upscope" ∷ list) self.old self.new)) }
+        ensures lead { IfOk result (λ _. Takes R.remaining words.old words.new
+            (λ list. Lead (codes "$upscope" ∷ list) self.old self.new)) }
         ensures budget { IfOk result (λ _. words.new.bytes.budget < words.old.bytes.budget) }
     {
         words.expect(b"$end")?;
@@ -176,7 +178,8 @@ impl Header {
     ) -> Result<(), OrMemory<VcdFault>>
         requires { IsReady words.old.bytes }
         ensures ready { IsReady words.new.bytes }
-        ensures lead { IfOk result (λ _. Takes R.remaining words.old words.new (λ list. Lead (codes "$var" ∷ list) self.old self.new)) }
+        ensures lead { IfOk result (λ _. Takes R.remaining words.old words.new
+            (λ list. Lead (codes "$var" ∷ list) self.old self.new)) }
         ensures budget { IfOk result (λ _. words.new.bytes.budget < words.old.bytes.budget) }
     {
         words.must()?;

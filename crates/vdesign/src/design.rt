@@ -19,9 +19,6 @@ pub struct Design {
     pub scopes: Vec<Scope>,
     /// Every action of every process; an action goes by its place in this list, from 0.
     pub actions: Vec<Action>,
-    /// For each action the number of the token that its statement begins with, by which a trace finds file and line. No
-    /// clause speaks of it.
-    pub origins: Vec<u32>,
     /// For each process where it begins: the places that it comes to first, in order. 256 processes at most.
     pub processes: Vec<Places>,
 }

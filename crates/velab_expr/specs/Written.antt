@@ -1,9 +1,7 @@
 -- *trusted*: What assignments write to (IEEE 1364-2005, 5.1.14, 5.2.1, 6.2): targets of the text, lowered to those of a design.
-use Rattle.std.specs.Prelude.{ℕ, List, [], ◌∷◌, ◌++◌, Option, Result, Ok}
+use Rattle.std.specs.Prelude.{List, [], ◌∷◌, ◌++◌, Option, Result, Ok}
 use Rattle.vast.specs.NumberedExpressions as text
 use Rattle.vast.specs.NumberedStatements.{TargetTree, TargetTrees, whole, bit, part, joined, none, first}
-use Rattle.vast.specs.declared.statement.Target.{Target as Written, Joined'}
-use Rattle.vast.specs.declared.statement.Target.TheVariants as written
 use Rattle.vdesign.specs.declared.action.Target.{Target}
 use Rattle.vdesign.specs.declared.action.Target.TheVariants.{Whole, Bit, Part}
 use Rattle.vdesign.specs.declared.expression.Bounds.{Bounds}
@@ -32,13 +30,6 @@ abbrev mutual
   lower_targets scope none = Ok []
   lower_targets scope (first one more) =
       lower_target scope one >>= λ front. lower_targets scope more >>= λ others. Ok (front ++ others)
-
--- the token that a target begins with
-abbrev pub first_token : Written → ℕ
-first_token (written.Whole name) = name.number
-first_token (written.Bit name index) = name.number
-first_token (written.Part name left right) = name.number
-first_token (Joined' at shape row) = at
 
 -- the targets, for those who know that there are some
 abbrev pub row_of : Scope → TargetTree → List Target

@@ -20,18 +20,6 @@ use vdesign::action::{Target, Targets};
 use vdesign::expression::Bounds;
 use vlex::Tokens;
 
-/// The number of the token that a target begins with, by which a trace finds its line.
-pub fn first_token(target: &Written) -> u32
-    ensures { result ≡ spec.first_token target.now }
-{
-    match target {
-        Written::Whole(name) => name.number,
-        Written::Bit { name, .. } => name.number,
-        Written::Part { name, .. } => name.number,
-        Written::Joined { at, .. } => *at,
-    }
-}
-
 // The bounds of a part. E303, E306 or E307 where one isn't constant.
 fn bounds_of(
     alloc: Global,

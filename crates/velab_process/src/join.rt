@@ -63,13 +63,7 @@ impl<'a> Connector<'a> {
             (Some (numbered (words_of self.now.tokens.now) self.now.whose)) action))) }
     {
         let mut begins = Vec::new(self.alloc);
-        put(
-            table,
-            &mut begins,
-            self.whose.number,
-            Some(self.whose.number),
-            action,
-        )?;
+        put(table, &mut begins, Some(self.whose.number), action)?;
         into.push(Places::new(begins))?;
         Ok(())
     }

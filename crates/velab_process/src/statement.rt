@@ -37,15 +37,13 @@ use velab_expr::first::{first_argument, first_delay, first_in, first_target};
 use velab_expr::scope::{Scope, event_of, number_of};
 use velab_expr::select::{levels_of, selection_of};
 use velab_expr::symbol::symbol_count;
-use velab_expr::target::{first_token, targets_of};
+use velab_expr::target::targets_of;
 use vlex::Tokens;
 
-/// Actions in the order in which they are come to; for each the number of the token that its statement begins with, by which a trace finds
-/// its line, and that of a token, if it has one, by which a fault of it is told. A clause sees all but the first numbers.
+/// Actions in the order in which they are come to, and for each the number of a token, if it has one, by which a fault of it is told.
 #[derive(Drop)]
 pub struct Table {
     pub actions: Vec<Action>,
-    pub origins: Vec<u32>,
     pub words: Vec<Option<u32>>,
 }
 
@@ -61,12 +59,10 @@ impl Model for Table {
     ghost view = { λ t. record { actions = t.actions.items; words = t.words.items } };
 }
 
-/// One action more, at the next place; `at` is the number of the token that its statement begins with, `word` that of the one by which a
-/// fault of it is told.
+/// One action more, at the next place; `word` is the number of the token, if it has one, by which a fault of it is told.
 pub fn put(
     table: &mut Table,
     into: &mut Vec<usize>,
-    at: u32,
     word: Option<u32>,
     action: Action,
 ) -> Result<(), OrMemory<ElabFault>>
@@ -74,7 +70,6 @@ pub fn put(
         (with_places_before into.old.items (Ok (at_next table.old word action))) }
 {
     into.push(table.actions.len())?;
-    table.origins.push(at)?;
     table.words.push(word)?;
     table.actions.push(action)?;
     Ok(())
@@ -223,13 +218,7 @@ impl<'a> Elaborator<'a> {
         let amount = self.own_amount(amount)?;
         let value = self.expression(value)?;
         let action = assignment_action(blocking, amount, targets, value);
-        put(
-            table,
-            into,
-            first_token(target),
-            first_target(target),
-            action,
-        )
+        put(table, into, first_target(target), action)
     }
 
     // A branch of an item, with a copy of the places.
@@ -268,7 +257,6 @@ impl<'a> Elaborator<'a> {
     // A print task.
     fn lower_print(
         &self,
-        at: u32,
         kind: Printing,
         arguments: &[Argument],
         table: &mut Table,
@@ -280,13 +268,12 @@ impl<'a> Elaborator<'a> {
     {
         let pieces = self.pieces(arguments)?;
         let action = print_action(kind, pieces);
-        put(table, into, at, first_argument(arguments), action)
+        put(table, into, first_argument(arguments), action)
     }
 
     // A system task.
     fn lower_task(
         &self,
-        at: u32,
         task: &Task,
         table: &mut Table,
         into: &mut Vec<usize>,
@@ -296,22 +283,21 @@ impl<'a> Elaborator<'a> {
             (task_tree (words_of self.now.tokens.now) task.now))) }
     {
         match task {
-            Task::Print { kind, arguments } => self.lower_print(at, *kind, arguments, table, into),
-            Task::DumpFile(_) => put(table, into, at, None, Action::NoOperation),
+            Task::Print { kind, arguments } => self.lower_print(*kind, arguments, table, into),
+            Task::DumpFile(_) => put(table, into, None, Action::NoOperation),
             Task::DumpVars(selection) => {
                 let word = levels_of(selection);
                 let selection = selection_of(self.alloc, self.scope, self.tokens, selection)?;
-                put(table, into, at, word, Action::DumpVars(selection))
+                put(table, into, word, Action::DumpVars(selection))
             }
-            Task::Dump(dumping) => put(table, into, at, None, dump_action(*dumping)),
-            Task::End { stops, .. } => put(table, into, at, None, end_action(*stops)),
+            Task::Dump(dumping) => put(table, into, None, dump_action(*dumping)),
+            Task::End { stops, .. } => put(table, into, None, end_action(*stops)),
         }
     }
 
     // What triggers an event.
     fn lower_trigger(
         &self,
-        at: u32,
         name: Token,
         table: &mut Table,
         into: &mut Vec<usize>,
@@ -321,7 +307,7 @@ impl<'a> Elaborator<'a> {
             (written.trigger (numbered (words_of self.now.tokens.now) name)))) }
     {
         let event = event_of(self.scope, self.tokens, name)?;
-        put(table, into, at, None, Action::Trigger(event))
+        put(table, into, None, Action::Trigger(event))
     }
 
     // Lays a statement on the table, and puts the places at which it begins behind others.
@@ -351,62 +337,58 @@ impl<'a> Elaborator<'a> {
                 value,
                 ..
             } => self.lower_assignment(false, target, delay, value, table, into),
-            Statement::Delayed { at, delay, body } => self.lower_delayed(
-                *at, body, delay, table, into,
-            ),
-            Statement::Task { at, task } => self.lower_task(*at, task, table, into),
-            Statement::Trigger { at, name } => self.lower_trigger(*at, *name, table, into),
+            Statement::Delayed { delay, body, .. } => self.lower_delayed(body, delay, table, into),
+            Statement::Task { task, .. } => self.lower_task(task, table, into),
+            Statement::Trigger { name, .. } => self.lower_trigger(*name, table, into),
             Statement::If {
-                at,
                 condition,
                 body,
-            } => self.lower_if(*at, body, condition, table, into),
+                ..
+            } => self.lower_if(body, condition, table, into),
             Statement::IfElse {
-                at,
                 condition,
                 body,
                 other,
+                ..
             } => {
                 let tested = self.expression(condition)?;
                 let inner = self.lower_body(body, table)?;
                 let outer = self.lower_body(other, table)?;
                 let action = test_action(tested, inner, outer);
-                put(table, into, *at, first_in(condition), action)
+                put(table, into, first_in(condition), action)
             }
             Statement::Case {
-                at,
                 kind,
                 value,
                 branches,
-            } => self.lower_case(*at, *kind, branches, value, table, into),
+                ..
+            } => self.lower_case(*kind, branches, value, table, into),
             Statement::While {
-                at,
                 condition,
                 body,
-            } => self.lower_while(*at, body, condition, table, into),
-            Statement::Repeat { at, count, body } => self.lower_repeat(
-                *at, body, count, table, into,
-            ),
-            Statement::Forever { at, body } => self.lower_forever(*at, body, table, into),
+                ..
+            } => self.lower_while(body, condition, table, into),
+            Statement::Repeat { count, body, .. } => self.lower_repeat(body, count, table, into),
+            Statement::Forever { body, .. } => self.lower_forever(body, table, into),
             Statement::For {
-                at,
                 target,
                 value,
                 condition,
                 next_target,
                 next_value,
                 body,
+                ..
             } => {
                 self.lower_assignment(true, target, &None, value, table, into)?;
-                self.lower_loop(*at, body, condition, next_target, next_value, table, into)
+                self.lower_loop(body, condition, next_target, next_value, table, into)
             }
             Statement::Wait {
-                at,
                 condition,
                 body,
-            } => self.lower_wait(*at, body, condition, table, into),
-            Statement::OnEvent { at, event, body } => self.lower_event_control(
-                *at, body, event, table, into,
+                ..
+            } => self.lower_wait(body, condition, table, into),
+            Statement::OnEvent { event, body, .. } => self.lower_event_control(
+                body, event, table, into,
             ),
         }
     }
@@ -430,7 +412,6 @@ impl<'a> Elaborator<'a> {
     #[cycle(statements)]
     fn lower_delayed(
         &self,
-        at: u32,
         body: &Statement,
         amount: &Delay,
         table: &mut Table,
@@ -445,14 +426,13 @@ impl<'a> Elaborator<'a> {
         let amount = self.amount(amount)?;
         let inner = self.lower_body(body, table)?;
         let body = Places::new(inner);
-        put(table, into, at, word, Action::Delay { amount, body })
+        put(table, into, word, Action::Delay { amount, body })
     }
 
     // An `if` without an `else` (9.4).
     #[cycle(statements)]
     fn lower_if(
         &self,
-        at: u32,
         body: &Statement,
         condition: &Value,
         table: &mut Table,
@@ -466,14 +446,13 @@ impl<'a> Elaborator<'a> {
         let tested = self.expression(condition)?;
         let inner = self.lower_body(body, table)?;
         let action = test_action(tested, inner, Vec::new(self.alloc));
-        put(table, into, at, first_in(condition), action)
+        put(table, into, first_in(condition), action)
     }
 
     // A `while` (9.6).
     #[cycle(statements)]
     fn lower_while(
         &self,
-        at: u32,
         body: &Statement,
         condition: &Value,
         table: &mut Table,
@@ -489,7 +468,6 @@ impl<'a> Elaborator<'a> {
         put(
             table,
             into,
-            at,
             first_in(condition),
             while_action(tested, inner),
         )
@@ -499,7 +477,6 @@ impl<'a> Elaborator<'a> {
     #[cycle(statements)]
     fn lower_repeat(
         &self,
-        at: u32,
         body: &Statement,
         count: &Value,
         table: &mut Table,
@@ -514,14 +491,13 @@ impl<'a> Elaborator<'a> {
         let count = self.expression(count)?;
         let inner = self.lower_body(body, table)?;
         let body = Places::new(inner);
-        put(table, into, at, word, Action::Repeat { count, body })
+        put(table, into, word, Action::Repeat { count, body })
     }
 
     // A statement that comes again and again (9.6, 9.9.2).
     #[cycle(statements)]
     fn lower_forever(
         &self,
-        at: u32,
         body: &Statement,
         table: &mut Table,
         into: &mut Vec<usize>,
@@ -532,14 +508,13 @@ impl<'a> Elaborator<'a> {
     {
         let inner = self.lower_body(body, table)?;
         let body = Places::new(inner);
-        put(table, into, at, None, Action::Forever { body })
+        put(table, into, None, Action::Forever { body })
     }
 
     // A `wait` (9.7.6).
     #[cycle(statements)]
     fn lower_wait(
         &self,
-        at: u32,
         body: &Statement,
         condition: &Value,
         table: &mut Table,
@@ -556,7 +531,6 @@ impl<'a> Elaborator<'a> {
         put(
             table,
             into,
-            at,
             first_in(condition),
             wait_action(awaited, terms, inner),
         )
@@ -566,7 +540,6 @@ impl<'a> Elaborator<'a> {
     #[cycle(statements)]
     fn lower_event_control(
         &self,
-        at: u32,
         body: &Statement,
         control: &Event,
         table: &mut Table,
@@ -580,14 +553,13 @@ impl<'a> Elaborator<'a> {
         let terms = event_terms(self.alloc, self.scope, self.tokens, control, body)?;
         let inner = self.lower_body(body, table)?;
         let body = Places::new(inner);
-        put(table, into, at, None, Action::EventControl { terms, body })
+        put(table, into, None, Action::EventControl { terms, body })
     }
 
     // A `for` behind its first assignment.
     #[cycle(statements)]
     fn lower_loop(
         &self,
-        at: u32,
         body: &Statement,
         condition: &Value,
         next_target: &Written,
@@ -608,7 +580,6 @@ impl<'a> Elaborator<'a> {
         put(
             table,
             into,
-            at,
             first_in(condition),
             while_action(tested, inner),
         )
@@ -636,7 +607,6 @@ impl<'a> Elaborator<'a> {
     #[cycle(statements)]
     fn lower_case(
         &self,
-        at: u32,
         kind: CaseKind,
         branches: &[Branch],
         value: &Value,
@@ -655,7 +625,6 @@ impl<'a> Elaborator<'a> {
         put(
             table,
             into,
-            at,
             first_in(value),
             case_action(kind, chosen_of, choices, otherwise),
         )
@@ -730,7 +699,7 @@ impl<'a> Elaborator<'a> {
             value,
             terms,
         };
-        put(table, into, net.number, Some(net.number), action)
+        put(table, into, Some(net.number), action)
     }
 
     // The process that drives a net.
@@ -869,9 +838,9 @@ impl<'a> Elaborator<'a> {
             },
             ModuleItem::Events { .. } => Ok(()),
             ModuleItem::Assignments { settings, .. } => self.lower_drives(settings, table, into),
-            ModuleItem::Always { at, statement } => {
+            ModuleItem::Always { statement, .. } => {
                 let mut begins = Vec::new(self.alloc);
-                self.lower_forever(*at, statement, table, &mut begins)?;
+                self.lower_forever(statement, table, &mut begins)?;
                 into.push(Places::new(begins))?;
                 Ok(())
             }

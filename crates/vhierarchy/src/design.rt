@@ -164,18 +164,13 @@ fn design_by(alloc: Global, name: &[u8], scale: Timescale, part: Part) -> Result
         begins,
         ..
     } = part;
-    let Table {
-        actions,
-        origins,
-        ..
-    } = table;
+    let Table { actions, .. } = table;
     Ok(Design {
         top: Vec::from_slice(alloc, name)?,
         scale,
         variables,
         scopes,
         actions,
-        origins,
         processes: begins,
     })
 }

@@ -50,7 +50,6 @@ impl Part {
             scopes: Vec::new(alloc),
             table: Table {
                 actions: Vec::new(alloc),
-                origins: Vec::new(alloc),
                 words: Vec::new(alloc),
             },
             begins: Vec::new(alloc),
