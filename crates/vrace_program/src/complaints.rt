@@ -13,9 +13,14 @@ struct Limit {
     most: u64,
 }
 
-const LIMITS: [Limit; 6] = [
+const LIMITS: [Limit; 7] = [
     Limit {
         option: "--depart",
+        least: 0,
+        most: 4,
+    },
+    Limit {
+        option: "--slot-depart",
         least: 0,
         most: 4,
     },
@@ -59,17 +64,25 @@ pub fn tell_races(words: &[String]) -> bool {
     }
 }
 
-/// Whether a refusal is told in words: that of `races` is, and each behind `--words`.
+// Whether these words name a command that tells people.
+fn tell_people(words: &[String]) -> bool {
+    match words.get(1) {
+        None => false,
+        Some(command) => command.as_str() == "races" || command.as_str() == "match",
+    }
+}
+
+/// Whether a refusal is told in words: those of `races` and of `match` are, and each behind `--words`.
 pub fn ask_for_words(words: &[String]) -> bool {
     for word in words {
         if word.as_str() == "--words" {
             return true;
         }
         if word.as_str() == "--" {
-            return tell_races(words);
+            return tell_people(words);
         }
     }
-    tell_races(words)
+    tell_people(words)
 }
 
 // What is said of a word that `races` doesn't take, as it does so already.

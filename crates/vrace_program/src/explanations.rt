@@ -10,7 +10,7 @@ pub struct Explanation {
     advice: &'static str,
 }
 
-const EXPLANATIONS: [Explanation; 33] = [
+const EXPLANATIONS: [Explanation; 34] = [
     Explanation {
         number: 101,
         meaning: "a comment or a string that begins here isn't ended",
@@ -178,6 +178,12 @@ const EXPLANATIONS: [Explanation; 33] = [
         meaning: "the head of the report isn't of this text",
         example: "the report of another testbench: other variables",
         advice: "give the files that the report was made of, in their order",
+    },
+    Explanation {
+        number: 505,
+        meaning: "the file of --vcd stops being a value change dump; at 3 is the number of the line, from 1",
+        example: "a dump that was cut short; a time that is lower than the one before",
+        advice: "have the other simulator write it anew; docs/FORMATS.md says under Dumps of other simulators what is read",
     },
     Explanation {
         number: 506,

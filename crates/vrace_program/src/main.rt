@@ -6,6 +6,7 @@
 
 mod complaints;
 mod explanations;
+mod matches;
 mod meter;
 mod races;
 mod refusals;
@@ -21,6 +22,7 @@ use complaints::{
     value_of, waiver_text,
 };
 use explanations::{explanation_of, show, show_advice, show_all};
+use matches::tell_match;
 use meter::{Allowance, Meter};
 use races::tell_races;
 use refusals::with_words;
@@ -37,9 +39,10 @@ use vrace::{
     explore_text_alone, explore_text_in_time, read_text, replay_text, trace_text,
 };
 use words::{
-    Request, Search, Wanted, commands, files_of, has_dashed_log, has_dashed_report, has_dashed_top,
-    has_dashed_waivers, has_joined_letters, has_one_output_for_two, has_output_over_file,
-    is_in_words, log_of, race_request_of, race_search_of, race_words_of, report_of, request_of,
+    Request, Search, Wanted, commands, files_of, has_dashed_dump, has_dashed_log,
+    has_dashed_report, has_dashed_top, has_dashed_waivers, has_joined_letters,
+    has_one_output_for_two, has_output_over_file, is_in_words, log_of, match_request_of,
+    match_words_of, race_request_of, race_search_of, race_words_of, report_of, request_of,
     search_of, steps_of, until_of, wanted_of,
 };
 use workpool::OpenGate;
@@ -110,6 +113,8 @@ enum Stop {
     NoMemory,
     // The line of this number, from 1, is no waiver.
     BadWaiver(u64),
+    // In the line of this number, from 1, the text of the dump stops being one.
+    BadDump(u64),
     Refused(Fault),
     // The same, with what is told of it in words.
     Told(Fault, Vec<u8>),
@@ -496,6 +501,15 @@ fn races_by<'a>(rt: &HostRuntime, matches: &ArgMatches<'a>) -> Result<ExitCode, 
     tell_races(rt, &request, &race_search_of(matches), &words)
 }
 
+// Compares the dump with the runs that the words ask for.
+fn match_by<'a>(rt: &HostRuntime, matches: &ArgMatches<'a>) -> Result<ExitCode, Stop> {
+    if has_dashed_top(matches) || has_dashed_dump(matches) {
+        return Err(Stop::Usage(DASHED));
+    }
+    let request = match_request_of(rt.alloc(), matches)?;
+    tell_match(rt, &request, &match_words_of(matches))
+}
+
 // Checks what the words ask for.
 fn check_by<'a>(rt: &HostRuntime, matches: &ArgMatches<'a>) -> Result<ExitCode, Stop> {
     if has_dashed_report(matches) {
@@ -549,6 +563,9 @@ fn run<'a, R: Threads + Wait + Sync>(
     if let Some(matches) = matches.subcommand_matches("explore") {
         return explore_by(rt, threads, matches);
     }
+    if let Some(matches) = matches.subcommand_matches("match") {
+        return match_by(rt, matches);
+    }
     if let Some(matches) = matches.subcommand_matches("races") {
         return races_by(rt, matches);
     }
@@ -590,6 +607,14 @@ fn say_waiver(rt: &HostRuntime, words: &[String], line: u64) {
     }
 }
 
+// What is said of a line at which a text stops being a dump.
+fn say_dump(rt: &HostRuntime, words: &[String], line: u64) {
+    let Some(name) = value_of(words, "--vcd") else {
+        return;
+    };
+    let _ = eprintln!(rt; "{name}:{line}: no value change dump (IEEE 1364-2005, 18.2)");
+}
+
 // What is said behind the line of a refusal.
 fn say_more(rt: &HostRuntime, words: &[String], stop: &Stop) {
     match stop {
@@ -605,6 +630,7 @@ fn say_more(rt: &HostRuntime, words: &[String], stop: &Stop) {
             let _ = eprintln!(rt; "{reason}");
         }
         Stop::BadWaiver(line) => say_waiver(rt, words, *line),
+        Stop::BadDump(line) => say_dump(rt, words, *line),
         Stop::Refused(fault) => say_fault(rt, words, *fault),
         Stop::Told(fault, text) => {
             if text.is_empty() {
@@ -630,6 +656,10 @@ fn say_line(rt: &HostRuntime, stop: &Stop) -> ExitCode {
         }
         Stop::BadWaiver(line) => {
             let _ = eprintln!(rt; "vrace: E506 at {line}");
+            ExitCode::from(2)
+        }
+        Stop::BadDump(line) => {
+            let _ = eprintln!(rt; "vrace: E505 at {line}");
             ExitCode::from(2)
         }
         Stop::Refused(fault) | Stop::Told(fault, _) => {

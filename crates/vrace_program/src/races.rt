@@ -348,8 +348,8 @@ fn write_file(rt: &HostRuntime, name: &str, text: &[u8]) -> Result<(), Stop> {
     Err(refused_output(rt.alloc(), name))
 }
 
-// Writes the document to standard output.
-fn write_out(rt: &HostRuntime, text: &[u8]) -> Result<(), Stop> {
+/// Writes the document to standard output.
+pub fn write_out(rt: &HostRuntime, text: &[u8]) -> Result<(), Stop> {
     let Ok(buffered) = BufWriter::new(rt.alloc(), io::writer(rt)) else {
         return Err(Stop::NoMemory);
     };

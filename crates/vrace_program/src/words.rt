@@ -309,6 +309,46 @@ fn races_command<'a>(alloc: Global) -> Result<Command<'a>, NoMemory> {
     Ok(command)
 }
 
+fn match_command<'a>(alloc: Global) -> Result<Command<'a>, NoMemory> {
+    let dump = option(
+        alloc,
+        "vcd",
+        "DUMP",
+        "The value change dump that another simulator wrote of these files",
+    )
+    .required(true);
+    let entries = number(
+        alloc,
+        "entries",
+        "The most states of one slot, and the most runs that fit so far, before the search is cut",
+        "100000",
+    );
+    let format = option(alloc, "format", "F", "How what was found is written")
+        .value_parser(["text", "json"].as_slice())
+        .default_value("text");
+    let command = Command::new(alloc, "match")
+        .about(
+            "Says which order of the files has the values of another simulator's dump, or that none has",
+        )
+        .arg(dump)?
+        .arg(number(
+            alloc,
+            "slot-depart",
+            "The most departures in a slot, 0 to 4",
+            "2",
+        ))?
+        .arg(top(alloc))?
+        .arg(number(alloc, "steps", "The most steps of one slot", "100000"))?
+        .arg(entries)?
+        .arg(grain(alloc))?
+        .arg(taking(alloc))?
+        .arg(format)?
+        .arg(seconds(alloc))?
+        .arg(progress(alloc))?
+        .arg(files(alloc))?;
+    Ok(command)
+}
+
 fn check_command<'a>(alloc: Global) -> Result<Command<'a>, NoMemory> {
     let report = option(alloc, "report", "REPORT", "The file of the report").required(true);
     let until = number(
@@ -353,6 +393,7 @@ pub fn commands<'a>(alloc: Global) -> Result<Command<'a>, NoMemory> {
         .subcommand_required(true)
         .subcommand(check_command(alloc)?)?
         .subcommand(explore_command(alloc)?)?
+        .subcommand(match_command(alloc)?)?
         .subcommand(races_command(alloc)?)?
         .subcommand(replay_command(alloc)?)?
         .subcommand(explain_command(alloc)?)?;
@@ -632,13 +673,52 @@ pub fn race_search_of(matches: &ArgMatches<'_>) -> Search {
     }
 }
 
-// What the words after `races` say of departures.
+// What the words after `races` and `match` say of departures.
 fn race_departures_of(matches: &ArgMatches<'_>) -> Departures {
     if matches.get_flag("taking") {
         Departures::Taking
     } else {
         Departures::Holding
     }
+}
+
+/// What the words after `match` ask for beside its machine: the dump, how many departures a slot may have, how many states, what the search
+/// may take, and how what was found is written.
+#[derive(Clone, Copy)]
+pub struct MatchWords<'a> {
+    pub dump: &'a str,
+    pub slot_depart: u64,
+    pub entries: u64,
+    pub allowance: Allowance,
+    pub format: Format,
+}
+
+/// Whether the name of the dump reads as an option.
+pub fn has_dashed_dump(matches: &ArgMatches<'_>) -> bool {
+    is_dashed(matches, "vcd")
+}
+
+/// What the words after `match` ask for alone.
+pub fn match_words_of<'a>(matches: &ArgMatches<'a>) -> MatchWords<'a> {
+    MatchWords {
+        dump: matches.get_str("vcd").unwrap_or(""),
+        slot_depart: matches.get_one::<u64>("slot-depart").unwrap_or(0),
+        entries: matches.get_one::<u64>("entries").unwrap_or(0),
+        allowance: Allowance {
+            seconds: matches.get_one::<u64>("seconds"),
+            memory: None,
+            progress: matches.get_flag("progress"),
+        },
+        format: format_of(matches),
+    }
+}
+
+/// What the words after `match` ask for, with no limit of time.
+pub fn match_request_of<'a>(
+    alloc: Global,
+    matches: &ArgMatches<'a>,
+) -> Result<Request<'a>, NoMemory> {
+    request_in(alloc, matches, 0, race_departures_of(matches), true)
 }
 
 /// What the words after `races` ask for, but for the time and the top modules.

@@ -1,0 +1,26 @@
+-- *product rule*: What an answer says of the runs of a machine and the dump of another simulator: `Explains`, `Refutes` and `ClosesTo` of
+-- `matching`, of the runs of the machine (`IsExplained`) and what the dump shows (`Shows`).
+use Rattle.std.specs.Prelude.{◌≡◌, ℕ, List, Option, None}
+use Rattle.vmachine.specs.declared.machine_state.MachineState.{MachineState}
+use Rattle.vmachine.specs.Machines.{machine_rules, rank_of}
+use Rattle.matching.specs.Answers.{ClosesTo, Explains, Refutes}
+use Rattle.matching.specs.declared.answer.Explanation.{Explanation}
+use Rattle.matching.specs.declared.answer.Unexplained.{Unexplained}
+use Rattle.matching.specs.declared.answer.Cut.{Cut}
+use Rattle.dump_match.specs.Showing.{Reads, piece_in}
+use Rattle.dump_match.specs.declared.reference.DumpReference.{DumpReference}
+
+-- the whole dump was read, and the run explains it
+abbrev pub ExplainsDump : {R : Type 0} → (R → Option (List ℕ)) → ℕ → DumpReference R → DumpReference R → Explanation MachineState → Type 0
+ExplainsDump remaining most old new =
+    Explains (machine_rules old.machine.now) (rank_of old.machine.now) most (piece_in old) (λ pieces. Reads remaining old pieces new) (new.slots.ahead ≡ None)
+
+-- no run explains it up to the time
+abbrev pub RefutesDump : {R : Type 0} → (R → Option (List ℕ)) → ℕ → DumpReference R → DumpReference R → Unexplained MachineState → Type 0
+RefutesDump remaining most old new =
+    Refutes (machine_rules old.machine.now) (rank_of old.machine.now) most (piece_in old) (λ pieces. Reads remaining old pieces new)
+
+-- some run explains it up to the time that was closed
+abbrev pub ClosesDump : {R : Type 0} → (R → Option (List ℕ)) → ℕ → DumpReference R → DumpReference R → Cut → Type 0
+ClosesDump remaining most old new =
+    ClosesTo (machine_rules old.machine.now) (rank_of old.machine.now) most (piece_in old) (λ pieces. Reads remaining old pieces new)

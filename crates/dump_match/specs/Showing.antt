@@ -1,0 +1,35 @@
+-- *internal*: What a reference shows, and what reading it shows.
+use Rattle.std.specs.Prelude.{◌≡◌, ℕ, true, List, [], Option, None, Some, refl}
+use Rattle.std.proofs.Common.{ap}
+use Rattle.vbits.specs.Vectors.{Vector}
+use Rattle.vmodel.specs.Run.{Setting}
+use Rattle.vmodel.specs.Same.{state_same}
+use Rattle.vmodel.specs.SameLaws.{states_tell}
+use Rattle.vmachine.specs.declared.machine_state.MachineState.{MachineState}
+use Rattle.matching.specs.Explained.{Piece}
+use Rattle.dump_match.specs.Comparison.{differ_from}
+use Rattle.dump_match.specs.Pieces.{Shows, piece_at, piece_of}
+use Rattle.dump_match.specs.declared.comparison.Pair.{Pair}
+use Rattle.dump_match.specs.declared.reference.DumpReference.{DumpReference}
+
+abbrev pub piece_in : {R : Type 0} → DumpReference R → Piece MachineState
+piece_in me = piece_of me.machine.now me.comparison.pairs.items me.slots
+
+-- going on shows these pieces, of the same machine and pairs
+pub record Reads {R : Type 0} (remaining : R → Option (List ℕ)) (first : DumpReference R) (pieces : List (Piece MachineState)) (now : DumpReference R) : Type 0 where
+  pub machine : now.machine.now ≡ first.machine.now
+  pub pairs : now.comparison.pairs.items ≡ first.comparison.pairs.items
+  pub shows : Shows remaining first.machine.now first.comparison.pairs.items first.slots pieces now.slots
+
+pub nothing_read : {R : Type 0} {remaining : R → Option (List ℕ)} (me : DumpReference R) → Reads remaining me [] me
+nothing_read me = record { machine = refl; pairs = refl; shows = Shows.none }
+
+-- ---- equal states differ alike
+
+alike_at : (setting : Setting) (time : Option ℕ) (told : List (Option Vector)) (pairs : List Pair) (s t : MachineState) → state_same s t ≡ true →
+    (piece_at setting time told pairs).differ s ≡ (piece_at setting time told pairs).differ t
+alike_at setting None told pairs s t h = refl
+alike_at setting (Some time) told pairs s t h = ap (differ_from setting time told pairs) ((states_tell s t).0 h)
+
+pub alike_in : {R : Type 0} (me : DumpReference R) (s t : MachineState) → state_same s t ≡ true → (piece_in me).differ s ≡ (piece_in me).differ t
+alike_in me = alike_at me.machine.now me.slots.time me.slots.columns.told.items me.comparison.pairs.items

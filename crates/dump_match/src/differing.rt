@@ -1,0 +1,46 @@
+// What differs in a state.
+
+ghost use Rattle.std.specs.Prelude.{◌≡◌, if◌then◌else◌};
+ghost use Rattle.dump_match.specs.Comparison.{differing};
+
+use crate::comparison::Pair;
+use std::io::Read;
+use vbits::Vec4;
+use vcd_slots::DumpSlots;
+
+/// A variable that differs: its number in the design, what the dump tells of it, and what it is worth in the run.
+#[derive(Clone, Copy)]
+pub struct Differing {
+    pub variable: usize,
+    pub told: Vec4,
+    pub value: Vec4,
+}
+
+/// Whether what the dump tells, if anything, is another value. Signs aren't compared.
+pub(crate) fn differs(told: Option<Vec4>, value: Option<Vec4>) -> bool
+    ensures { differing told value ≡ (if result then 1 else 0) }
+{
+    match (told, value) {
+        (Some(told), Some(value)) => value.with_sign(false) != told,
+        _ => false,
+    }
+}
+
+/// What differs of a pair, if it does.
+pub(crate) fn differing_of<R: Read + Drop>(
+    slots: &DumpSlots<R>,
+    values: &[Vec4],
+    pair: &Pair,
+) -> Option<Differing> {
+    let told = slots.value(pair.column)?;
+    let value = *values.get(pair.variable)?;
+    if differs(Some(told), Some(value)) {
+        Some(Differing {
+            variable: pair.variable,
+            told,
+            value,
+        })
+    } else {
+        None
+    }
+}

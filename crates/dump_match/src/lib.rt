@@ -1,0 +1,14 @@
+// Which order another simulator took. In go a machine and the value change dump that another simulator wrote of the same files; out comes
+// a run whose values at the end of every slot are the dump's, or the first time up to which no run's are.
+// The law: that is what `match_runs` says of the machine's runs, where what the dump shows is compared as specs/Comparison.antt says.
+#![tactic(auto)]
+
+mod comparison;
+mod differing;
+mod find;
+mod reference;
+
+pub use comparison::{Comparison, Pair};
+pub use differing::Differing;
+pub use find::match_dump;
+pub use reference::DumpReference;

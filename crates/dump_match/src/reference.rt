@@ -1,0 +1,165 @@
+// A dump as what runs are compared with.
+
+ghost use Rattle.std.specs.Prelude.{◌≡◌, None, IfOk};
+ghost use Rattle.vcd_slots.specs.Standing.{IsReady};
+ghost use Rattle.dump_match.specs.Comparison.{differ_from, differing_in};
+ghost use Rattle.dump_match.specs.Opening.{OpensDump};
+ghost use Rattle.dump_match.specs.Pieces.{IsUnderWay, OpensFrom};
+
+use crate::comparison::{Comparison, Pair};
+use crate::differing::{Differing, differing_of, differs};
+use basis::{NoMemory, OrMemory};
+use byte_sinks::Metered;
+use matching::Reference;
+use sched_core::Ranked;
+use std::alloc::Global;
+use std::io::Read;
+use vbits::Vec4;
+use vcd_read::{VcdFault, VcdReader};
+use vcd_slots::{Columns, DumpSlots};
+use vmachine::{Machine, MachineState, machine_law};
+
+/// The dump that another simulator wrote of a machine's files, and what of it is compared. It is read as the search goes on, and not held.
+#[derive(Drop)]
+pub struct DumpReference<'m, R> {
+    alloc: Global,
+    machine: &'m Machine,
+    slots: DumpSlots<R>,
+    comparison: Comparison,
+    ghost under_way: { IsUnderWay slots },
+}
+
+// How many of the pairs differ: what the dump tells, and the values.
+fn count_differing<R: Read + Drop>(slots: &DumpSlots<R>, values: &[Vec4], pairs: &[Pair]) -> usize
+    ensures { result ≡ differing_in slots.now.columns.told.items values.now pairs.now }
+{
+    let mut count = 0;
+    for pair in pairs {
+        if differs(slots.value(pair.column), values.get(pair.variable).copied()) {
+            count += 1;
+        }
+    }
+    count
+}
+
+// Up to the first time, if that is 0: what stands there is shown then.
+fn from_zero<R: Read + Drop>(
+    alloc: Global,
+    slots: DumpSlots<R>,
+) -> Result<DumpSlots<R>, OrMemory<VcdFault>>
+    requires ready { IsReady slots }
+    requires none { slots.time ≡ None }
+    ensures under_way { IfOk result (λ slots. IsUnderWay slots) }
+    ensures watched { IfOk result (λ now. now.columns.watched ≡ slots.columns.watched) }
+    ensures goes { IfOk result (OpensFrom R.remaining slots) }
+{
+    let mut slots = slots;
+    if slots.next_time() == Some(0) {
+        slots.advance(alloc)?;
+    }
+    Ok(slots)
+}
+
+impl<'m, R: Read + Drop> DumpReference<'m, R> {
+    /// The dump of this reader, of which the declarations are read: which of its variables are those of the machine. E505 with its line
+    /// where it is no dump, E903 where the reader fails, E904, E901.
+    pub fn open(
+        alloc: Global,
+        machine: &'m Machine,
+        reader: Metered<R>,
+    ) -> Result<DumpReference<'m, R>, OrMemory<VcdFault>>
+        ensures machine { IfOk result (λ reference. reference.machine.now ≡ machine.now) }
+        ensures opens { IfOk result (OpensDump R.remaining reader.inner) }
+    {
+        let dump = VcdReader::open(alloc, reader)?;
+        let mut columns = Columns::new(alloc);
+        let comparison = Comparison::new(
+            alloc,
+            &machine.design().variables,
+            dump.variables(),
+            &mut columns,
+        )?;
+        let slots = from_zero(alloc, DumpSlots::begin(alloc, dump, columns)?)?;
+        Ok(DumpReference {
+            alloc,
+            machine,
+            slots,
+            comparison,
+        })
+    }
+
+    /// What is compared.
+    pub fn comparison(&self) -> &Comparison {
+        &self.comparison
+    }
+
+    /// The machine.
+    pub fn machine(&self) -> &'m Machine
+        ensures { result.now ≡ self.now.machine.now }
+    {
+        self.machine
+    }
+
+    /// The time that is shown; 0 before the first.
+    pub fn time(&self) -> u64 {
+        self.slots.time().unwrap_or(0)
+    }
+
+    /// What differs in the state from what is shown.
+    pub fn differing(&self, s: &MachineState) -> Result<Vec<Differing>, NoMemory> {
+        let mut list = Vec::new(self.alloc);
+        let values = self.machine.values(s);
+        for pair in &self.comparison.pairs {
+            if let Some(differing) = differing_of(&self.slots, values, pair) {
+                list.push(differing)?;
+            }
+        }
+        Ok(list)
+    }
+
+    // How many differ in a state in which a slot ends, or in which the run was finished.
+    fn count_at(&self, time: u64, s: &MachineState) -> usize
+        ensures { result ≡ differ_from self.now.machine.now time self.now.slots.columns.told.items self.now.comparison.pairs.items s.now }
+    {
+        machine_law();
+        if self.machine.slot_of(s).is_some() {
+            return count_differing(&self.slots, self.machine.values(s), &self.comparison.pairs);
+        }
+        if self.machine.rank(s) < time { 1 } else { 0 }
+    }
+}
+
+/// What is shown is compared as specs/Comparison.antt says; to go on is to go on in the dump.
+impl<'m, R: Read + Drop> Reference<MachineState> for DumpReference<'m, R> {
+    ghost use Rattle.std.specs.Prelude.{◌≡◌, None};
+    ghost use Rattle.dump_match.specs.Showing.{Reads, piece_in, nothing_read, alike_in};
+
+    type Fault = VcdFault;
+
+    ghost piece = { piece_in };
+
+    ghost upcoming = { λ me. me.slots.ahead };
+
+    ghost reads = { Reads R.remaining };
+
+    ghost done = { λ me. me.slots.ahead ≡ None };
+
+    fn next_time(&self) -> Option<u64> {
+        self.slots.next_time()
+    }
+
+    fn advance(&mut self) -> Result<(), OrMemory<VcdFault>> {
+        self.slots.advance(self.alloc)
+    }
+
+    fn count_differences(&self, s: &MachineState) -> usize {
+        match self.slots.time() {
+            None => 0,
+            Some(time) => self.count_at(time, s),
+        }
+    }
+
+    ghost none = { nothing_read };
+
+    ghost alike = { alike_in };
+}

@@ -1,0 +1,54 @@
+// What is told.
+
+use basis::NoMemory;
+use cause::Cause;
+use dump_match::{Comparison, Differing};
+use matching::{Cut, Matching};
+use race_text::{Sources, log_text};
+use sched_core::Log;
+use std::alloc::Global;
+use vmachine::{Machine, MachineState};
+
+/// A departure of the run that explains a dump: its step, the time of its slot, and which two statements come in another order by it, where
+/// that is known.
+#[derive(Drop)]
+pub struct Departure {
+    pub step: u32,
+    pub time: u64,
+    pub cause: Option<Cause>,
+}
+
+/// What is told of a comparison: the machine and its files, the name of the dump, what of it was compared, how many departures a slot may
+/// have, up to which time the dump was read, and what was found.
+///
+/// `beyond` is what cut the search with one departure more a slot, where no run explains the dump with `most` of them and more were allowed.
+/// `departures` are those of the run that explains the dump; `differing` is what differs in the nearest run, where none explains it.
+/// `is_top_named` says whether the top module was named in the call, and `stopped_by` by which option the search was stopped, where its
+/// watcher stopped it.
+#[derive(Clone, Copy)]
+pub struct Found<'a> {
+    pub machine: &'a Machine,
+    pub sources: &'a Sources<'a>,
+    pub dump: &'a str,
+    pub compared: &'a Comparison,
+    pub most: u32,
+    pub last: u64,
+    pub answer: &'a Matching<MachineState>,
+    pub beyond: Option<Cut>,
+    pub departures: &'a [Departure],
+    pub differing: &'a [Differing],
+    pub is_top_named: bool,
+    pub stopped_by: &'static [u8],
+}
+
+impl<'a> Found<'a> {
+    /// Whether no variable stands in both, so that nothing was compared.
+    pub fn is_of_nothing(&self) -> bool {
+        self.compared.pairs.is_empty()
+    }
+
+    /// The log as `vrace replay` takes it.
+    pub fn log(&self, alloc: Global, log: &Log) -> Result<Vec<u8>, NoMemory> {
+        log_text(alloc, self.machine, log)
+    }
+}

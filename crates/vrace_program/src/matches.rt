@@ -1,0 +1,294 @@
+// Which order another simulator took: the dump that it wrote is compared with the runs of the files.
+
+use crate::complaints::unopened_text;
+use crate::meter::{Allowance, Meter};
+use crate::races::write_out;
+use crate::refusals::with_words;
+use crate::words::{MatchWords, Request};
+use crate::{Stop, refused_file, texts};
+use basis::{NoMemory, OrMemory};
+use byte_sinks::Metered;
+use cause::{Checkpoints, cause_of};
+use dump_match::{Comparison, Differing, DumpReference, match_dump};
+use match_text::{Departure, Found, match_json, match_words};
+use matching::{Cut, Explanation, Matching};
+use race_text::{Format, Sources};
+use sched_core::Log;
+use sched_core::setting::{Departures, Looked};
+use std::alloc::Global;
+use std::fs::File;
+use std::process::ExitCode;
+use trace_detail::choice_at;
+use vcd_read::VcdFault;
+use vmachine::{Machine, MachineState};
+use vrace::{Budget, Fault, Options, PlacedMachine, Spent, machine_of_files};
+
+// The latest time that there is.
+const LAST_TIME: u64 = 4_611_686_018_427_387_903;
+
+// What was found with so many departures a slot, and what was read of the dump meanwhile.
+#[derive(Drop)]
+struct Tried<'m> {
+    reference: DumpReference<'m, File>,
+    answer: Matching<MachineState>,
+    most: u64,
+    beyond: Option<Cut>,
+}
+
+// What stops the reading of the dump.
+fn refused_dump(fault: OrMemory<VcdFault>) -> Stop {
+    match fault {
+        OrMemory::Memory(_) => Stop::NoMemory,
+        OrMemory::Fault(VcdFault::NoDump { line }) => Stop::BadDump(line),
+        OrMemory::Fault(VcdFault::TooLong) => Stop::Refused(Fault::TooLong),
+        OrMemory::Fault(VcdFault::Read) => Stop::Refused(Fault::Read),
+    }
+}
+
+// The dump of this name, of which nothing is shown yet.
+fn open_dump<'m>(
+    rt: &HostRuntime,
+    machine: &'m Machine,
+    name: &str,
+) -> Result<DumpReference<'m, File>, Stop> {
+    let file = match File::open(rt, name) {
+        Ok(file) => file,
+        Err(error) => {
+            let words = unopened_text(rt.alloc(), name, &error)?;
+            return Err(refused_file(Fault::Read, words));
+        }
+    };
+    match DumpReference::open(rt.alloc(), machine, Metered::new(file)) {
+        Ok(reference) => Ok(reference),
+        Err(fault) => Err(refused_dump(fault)),
+    }
+}
+
+// The options of a search with so many departures a slot.
+fn options_of<'a>(
+    request: &Request<'a>,
+    words: &MatchWords<'_>,
+    most: u64,
+) -> Result<Options<'a>, Fault> {
+    let mut options = Options::new(
+        request.top.map(|name| name.as_bytes()),
+        LAST_TIME,
+        most,
+        request.steps,
+        words.entries,
+        request.grain,
+    )?;
+    options.look(request.departures, Looked::Values);
+    Ok(options)
+}
+
+// What is found with so many departures a slot.
+fn try_match<'m>(
+    rt: &HostRuntime,
+    machine: &'m Machine,
+    request: &Request<'_>,
+    words: &MatchWords<'_>,
+    most: u64,
+    meter: &mut Meter<'_, HostRuntime>,
+) -> Result<Tried<'m>, Stop> {
+    let limits = options_of(request, words, most)?.limits;
+    let mut reference = open_dump(rt, machine, words.dump)?;
+    match match_dump(rt.alloc(), &mut reference, &limits, meter) {
+        Ok(answer) => Ok(Tried {
+            reference,
+            answer,
+            most,
+            beyond: None,
+        }),
+        Err(fault) => Err(refused_dump(fault)),
+    }
+}
+
+// Whether no run within the limit has the values of the dump, so that more departures are to be tried.
+fn is_unexplained(answer: &Matching<MachineState>) -> bool {
+    match answer {
+        Matching::Unexplained(_) => true,
+        _ => false,
+    }
+}
+
+// What is found with as few departures a slot as explain the dump, or with as many as are allowed.
+fn find_match<'m>(
+    rt: &HostRuntime,
+    machine: &'m Machine,
+    request: &Request<'_>,
+    words: &MatchWords<'_>,
+    meter: &mut Meter<'_, HostRuntime>,
+) -> Result<Tried<'m>, Stop> {
+    let mut tried = try_match(rt, machine, request, words, 0, meter)?;
+    while tried.most < words.slot_depart && is_unexplained(&tried.answer) {
+        let next = try_match(rt, machine, request, words, tried.most + 1, meter)?;
+        if let Matching::Cut(cut) = next.answer {
+            tried.beyond = Some(cut);
+            return Ok(tried);
+        }
+        tried = next;
+    }
+    Ok(tried)
+}
+
+// The times before the steps at which the run under the log departs, in order.
+fn departed_times(alloc: Global, machine: &Machine, log: &Log) -> Result<Vec<u64>, NoMemory> {
+    let mut times = Vec::new(alloc);
+    let mut state = machine.opened()?;
+    let mut step = 0u32;
+    while times.len() < log.members().len() {
+        if log.members()[times.len()].0 == step {
+            times.push(state.time())?;
+        }
+        state.go(machine.design(), choice_at(log.members(), step))?;
+        step = step.saturating_add(1);
+    }
+    Ok(times)
+}
+
+// The first so many members of the log.
+fn front_of(alloc: Global, log: &Log, count: usize) -> Result<Log, NoMemory> {
+    let mut front = Log::new(alloc);
+    for member in log.members().iter().take(count) {
+        if front.takes(*member) {
+            front.push(member.0, member.1)?;
+        }
+    }
+    Ok(front)
+}
+
+// Each departure of the run, with its cause.
+fn departures_of(
+    alloc: Global,
+    machine: &Machine,
+    run: &Explanation<MachineState>,
+) -> Result<Vec<Departure>, NoMemory> {
+    let times = departed_times(alloc, machine, &run.log)?;
+    let mut checkpoints = Checkpoints::new(alloc, machine);
+    let mut departures = Vec::new(alloc);
+    for (place, time) in times.iter().enumerate() {
+        let front = front_of(alloc, &run.log, place.saturating_add(1))?;
+        let cause = cause_of(alloc, &mut checkpoints, &front, u32::MAX)?;
+        departures.push(Departure {
+            step: run.log.members()[place].0,
+            time: *time,
+            cause,
+        })?;
+    }
+    Ok(departures)
+}
+
+// The departures that are told of the answer.
+fn told_departures(
+    alloc: Global,
+    machine: &Machine,
+    answer: &Matching<MachineState>,
+) -> Result<Vec<Departure>, NoMemory> {
+    match answer {
+        Matching::Explained(run) => departures_of(alloc, machine, run),
+        _ => Ok(Vec::new(alloc)),
+    }
+}
+
+// What differs in the nearest run, where no run has the values of the dump.
+fn told_differing(alloc: Global, tried: &Tried<'_>) -> Result<Vec<Differing>, NoMemory> {
+    match &tried.answer {
+        Matching::Unexplained(answer) => match &answer.nearest {
+            Some(run) => tried.reference.differing(&run.state),
+            None => Ok(Vec::new(alloc)),
+        },
+        _ => Ok(Vec::new(alloc)),
+    }
+}
+
+// By which option the search was stopped, where it was.
+fn stopped_by(spent: Spent) -> &'static [u8] {
+    match spent {
+        Spent::Time => b"--seconds",
+        Spent::Memory => b"--memory",
+    }
+}
+
+// The exit status.
+fn code_of(tried: &Tried<'_>) -> ExitCode {
+    if tried.reference.comparison().pairs.is_empty() {
+        return ExitCode::from(3);
+    }
+    match &tried.answer {
+        Matching::Explained(_) => ExitCode::SUCCESS,
+        Matching::Unexplained(_) if tried.beyond.is_none() => ExitCode::from(1),
+        _ => ExitCode::from(3),
+    }
+}
+
+// Writes what was found, in the format that is asked for.
+fn write_found(rt: &HostRuntime, found: &Found<'_>, format: Format) -> Result<(), Stop> {
+    let text = match format {
+        Format::Json => match_json(rt.alloc(), found)?,
+        _ => match_words(rt.alloc(), found)?,
+    };
+    write_out(rt, &text)
+}
+
+// Compares the dump with the runs of the machine, and tells what was found.
+fn tell_found(
+    rt: &HostRuntime,
+    texts: &[Vec<u8>],
+    placed: &PlacedMachine,
+    request: &Request<'_>,
+    words: &MatchWords<'_>,
+) -> Result<ExitCode, Stop> {
+    let machine = &placed.machine;
+    let mut meter = Meter::new(rt, words.allowance);
+    let tried = find_match(rt, machine, request, words, &mut meter)?;
+    let departures = told_departures(rt.alloc(), machine, &tried.answer)?;
+    let differing = told_differing(rt.alloc(), &tried)?;
+    let sources = Sources {
+        names: &request.files,
+        texts,
+        origins: &placed.origins,
+    };
+    let found = Found {
+        machine,
+        sources: &sources,
+        dump: words.dump,
+        compared: tried.reference.comparison(),
+        most: tried.most as u32,
+        last: tried.reference.time(),
+        answer: &tried.answer,
+        beyond: tried.beyond,
+        departures: &departures,
+        differing: &differing,
+        is_top_named: request.top.is_some(),
+        stopped_by: stopped_by(meter.spent()),
+    };
+    write_found(rt, &found, words.format)?;
+    Ok(code_of(&tried))
+}
+
+// Compares the dump with the runs of the texts.
+fn match_texts(
+    rt: &HostRuntime,
+    texts: &[Vec<u8>],
+    request: &Request<'_>,
+    words: &MatchWords<'_>,
+) -> Result<ExitCode, Stop> {
+    words.allowance.check()?;
+    let options = options_of(request, words, words.slot_depart)?;
+    let placed = machine_of_files(rt.alloc(), texts, &options)?;
+    tell_found(rt, texts, &placed, request, words)
+}
+
+/// Says which order of the files has the values of the dump at the end of each slot: none of their departures is tried first, then one a
+/// slot, and so on.
+pub fn tell_match(
+    rt: &HostRuntime,
+    request: &Request<'_>,
+    words: &MatchWords<'_>,
+) -> Result<ExitCode, Stop> {
+    let texts = texts(rt, &request.files)?;
+    let done = match_texts(rt, &texts, request, words);
+    let tops = request.top.as_slice();
+    with_words(rt.alloc(), done, true, &request.files, &texts, tops)
+}
