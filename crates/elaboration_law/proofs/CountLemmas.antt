@@ -160,7 +160,7 @@ module _ (modules : SourceTree) (what : Counted) where
       few_each (λ so_far child. elaborate_instance levels modules so_far (child_context own.scope context child)) (λ so_far child. few_all levels so_far (child_context own.scope context child))
       own.whole all own.children opened.1 (few_own modules part context own what)
 
-  few_top : (m : ModuleTree) (part : Part) → elaborate_top modules m ≡ Ok part → held what part ≤ limit what
+  pub few_top : (m : ModuleTree) (part : Part) → elaborate_top modules m ≡ Ok part → held what part ≤ limit what
   unfolding elaborate_top
   few_top m part is = few_all 16 nothing (top_context m) part is
 

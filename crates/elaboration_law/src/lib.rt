@@ -1,5 +1,5 @@
 // What each rule of elaboration says of a text (IEEE 1364-2005, clause 12).
-// In and out go nothing: the crate has one function, a law, and nothing stands on it.
+// In and out go nothing: the crate has one function, a law.
 // The law: what a text is refused for under a rule is what the rule forbids, and no text that has a design has it.
 #![tactic(auto)]
 
