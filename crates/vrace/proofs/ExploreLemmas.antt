@@ -1,16 +1,20 @@
 -- From the exploration of a design to that of files.
-use Rattle.std.proofs.Common.{◌≡◌, inl, inr, ℕ, List, Option, refl, sym, ap, subst, ◌∙◌}
+use Rattle.std.proofs.Common.{◌≡◌, ◌≤◌, inl, inr, ℕ, List, Option, length, refl, sym, ap, subst, ◌∙◌, arith}
 use Rattle.statebook.specs.declared.limits.Limits.{Limits}
 use Rattle.explore.specs.Found.{HasEntries}
 use Rattle.explore.specs.declared.ranked_findings.RankedFindings.{RankedFindings}
 use Rattle.vmodel.specs.Run.{Setting, rules_of}
+use Rattle.basis.specs.Reasons.{Because}
 use Rattle.basis.specs.declared.memory.OrMemory.{OrMemory}
 use Rattle.basis.specs.declared.memory.OrMemory.TheVariants as or
 use Rattle.byte_sinks.specs.Metered.{Written, Broken, count_after}
 use Rattle.byte_sinks.specs.MeteredLaws.{stops_of}
 use Rattle.byte_sinks.specs.declared.metered.Metered.{Metered}
+use Rattle.byte_sinks.specs.declared.fault.TooMany.{TooMany}
 use Rattle.byte_sinks.specs.declared.fault.WriteFault.{WriteFault}
 use Rattle.byte_sinks.specs.declared.fault.WriteFault.TheVariants as write
+use Rattle.dump_law.specs.Small.{IsSmall}
+use Rattle.dump_law.specs.LengthLaws.{DumpsAreShort}
 use Rattle.report_text.specs.declared.report.Outcome.TheVariants.{CutEntries}
 use Rattle.report_text.specs.Report.{Report}
 use Rattle.report_text.specs.ReportText.{report_text}
@@ -21,10 +25,10 @@ use Rattle.vreport.specs.declared.timed.Spent.{Spent}
 use Rattle.vreport.specs.Reports.{IsExploration}
 use Rattle.vreport.specs.Written.{TakesReport, StopsReport as StopsByteSink}
 use Rattle.vrace.specs.Request.{Request}
-use Rattle.vrace.specs.Explores.{AreWorkers, EndsSearch, Explores, FilesHaveEntriesWhereCut, HasEntriesWhereCut, IsExploreReason, IsReported, IsSearchFault, IsSearchReason, IsSharedReason, IsStatusOf, LeavesReport, Reports, Searched, setting_for}
+use Rattle.vrace.specs.Explores.{AreWorkers, EndsSearch, Explores, FilesHaveEntriesWhereCut, HasEntriesWhereCut, IsExploreReason, IsReported, IsSearchReason, IsSharedReason, IsStatusOf, LeavesReport, Reports, Searched, setting_for}
 use Rattle.vrace.specs.ExploresInTime.{ExploresInTime, ReportsInTime, SaysInShort}
 use Rattle.vrace.specs.declared.in_time.Timed.{Timed}
-use Rattle.vrace.specs.Refusals.{IsOfWriting}
+use Rattle.vrace.specs.Refusals.{IsOfMemory, IsOfWriting}
 use Rattle.vrace.specs.RunDumps.{failures_after, fault_of}
 use Rattle.vrace.specs.declared.exploring.Status.{Status}
 use Rattle.vrace.specs.declared.fault.Fault.{Fault}
@@ -37,6 +41,21 @@ of_writing (or.Fault write.Write) = tt
 count_of_writing : (cause : OrMemory WriteFault) (n : ℕ) → count_after cause n ≡ failures_after (fault_of cause) n
 count_of_writing (or.Memory m) n = refl
 count_of_writing (or.Fault write.Write) n = refl
+
+-- ---- dumps
+
+-- the runs of a small design that end within the steps have short dumps
+pub short_dumps : DumpsAreShort → (setting : Setting) (limits : Limits) → IsSmall setting.design → setting.until ≤ 4611686018427387903 → ¬ HasSomeLongDump setting limits
+short_dumps law setting limits small early (log, departs, (dump, is_dump, long)) =
+    let few = limits.within.few_steps in
+    let within = is_dump.finishes.within in
+    let short = law setting log is_dump.steps small (omega (arith, early)) (omega (arith, few, within)) in
+    let same = ap length is_dump.is_text in
+    omega (arith, short, same, long)
+
+pub never_long : (setting : Setting) (limits : Limits) (fault : OrMemory TooMany) → ¬ HasSomeLongDump setting limits → Because (λ _. HasSomeLongDump setting limits) fault → Because (λ _. ⊥) fault
+never_long setting limits (or.Fault f) short long = short long
+never_long setting limits (or.Memory m) short long = tt
 
 -- ---- of a setting
 
@@ -82,8 +101,8 @@ module _ (files : List (List ℕ)) (asked : Request) (searched : Searched files 
   pub files_have : (status : Status) → HasEntriesWhereCut setting limits status → FilesHaveEntriesWhereCut files asked limits status
   files_have status has = (searched, subst (λ (s : Setting). HasEntriesWhereCut s limits status) same has)
 
-  search_reason : (fault : Fault) → IsSearchFault setting limits fault → IsSearchReason files asked limits fault
-  search_reason (TooLarge at) p = (searched, subst (λ (s : Setting). HasSomeLongDump s limits) same p.0, p.1)
+  search_reason : (fault : Fault) → IsOfMemory fault → IsSearchReason files asked limits fault
+  search_reason (TooLarge at) p = absurd p
   search_reason (Memory m) p = tt
   search_reason (NotEnded at) p = absurd p
   search_reason (BadToken at) p = absurd p
@@ -107,8 +126,8 @@ module _ (files : List (List ℕ)) (asked : Request) (searched : Searched files 
   search_reason Read p = absurd p
   search_reason TooLong p = absurd p
 
-  no_failure : (fault : Fault) (n : ℕ) → IsSearchFault setting limits fault → n ≡ failures_after fault n
-  no_failure (TooLarge at) n p = refl
+  no_failure : (fault : Fault) (n : ℕ) → IsOfMemory fault → n ≡ failures_after fault n
+  no_failure (TooLarge at) n p = absurd p
   no_failure (Memory m) n p = refl
   no_failure (NotEnded at) n p = absurd p
   no_failure (BadToken at) n p = absurd p

@@ -1,7 +1,6 @@
 -- *product rule*: What an exploration writes, from the bytes of the files to the report; and when it is refused.
-use Rattle.std.specs.Prelude.{◌≡◌, ℕ, ◌<◌, ◌≤◌, ◌⊎◌, List, [], Option, None, length, take}
+use Rattle.std.specs.Prelude.{◌≡◌, ℕ, ◌<◌, ◌≤◌, ◌⊎◌, List, [], Option, length, take}
 use Rattle.std.specs.Io.KnownBytes.{Appends}
-use Rattle.basis.specs.Reasons.{Because}
 use Rattle.basis.specs.declared.memory.OrMemory.{OrMemory}
 use Rattle.statebook.specs.declared.limits.Limits.{Limits}
 use Rattle.statebook.specs.declared.reason.Reason.TheVariants.{Entries}
@@ -13,25 +12,22 @@ use Rattle.sched_core.specs.declared.setting.Looked.TheVariants.{Values}
 use Rattle.vmodel.specs.Run.{Setting, rules_of}
 use Rattle.byte_sinks.specs.Metered.{Grows, Stops}
 use Rattle.byte_sinks.specs.declared.metered.Metered.{Metered}
-use Rattle.byte_sinks.specs.declared.fault.TooMany.{TooMany}
 use Rattle.byte_sinks.specs.declared.fault.WriteFault.{WriteFault}
 use Rattle.report_text.specs.declared.report.Outcome.TheVariants.{Exhausted}
 use Rattle.report_text.specs.Report.{Report}
 use Rattle.report_text.specs.ReportText.{report_text}
 use Rattle.report_text.specs.WellFormed.{IsReport}
 use Rattle.vreport.specs.Agreement.{Agree, IsPartButForLines, IsPartOf}
-use Rattle.vreport.specs.Ends.{HasSomeLongDump}
 use Rattle.vreport.specs.Reports.{HasOutcome, IsExploration}
 use Rattle.vreport.specs.Written.{AreDumps}
 use Rattle.vrace.specs.Request.{Request}
-use Rattle.vrace.specs.Refusals.{IsDesignFault, IsOfWriting}
+use Rattle.vrace.specs.Refusals.{IsDesignFault, IsOfMemory, IsOfWriting}
 use Rattle.vrace.specs.Replays.{AreRead, IsDesignOfFiles}
 use Rattle.vrace.specs.RunDumps.{fault_of}
 use Rattle.vrace.specs.declared.exploring.Status.{Status}
 use Rattle.vrace.specs.declared.exploring.Status.TheVariants.{NoRace, Raced, Cut}
-use Rattle.vrace.specs.declared.fault.At.{At}
 use Rattle.vrace.specs.declared.fault.Fault.{Fault}
-use Rattle.vrace.specs.declared.fault.Fault.TheVariants.{TooLarge, Memory, OutOfLimit, Write}
+use Rattle.vrace.specs.declared.fault.Fault.TheVariants.{Memory, OutOfLimit, Write}
 
 -- a race is listed, of a variable or of lines
 abbrev pub HasSomeRace : Report → Type 0
@@ -73,20 +69,6 @@ pub record Reports {W : Type 0} (contents : W → Option (List ℕ)) (setting : 
 abbrev pub HasEntriesWhereCut : Setting → Limits → Status → Type 0
 HasEntriesWhereCut setting limits status = IsCutForEntries status → HasEntries (rules_of setting) limits
 
--- no file and line is told
-abbrev pub HasNoPlace : At → Type 0
-HasNoPlace at = at ≡ record { 0 = None }
-
--- why there is no report
-abbrev pub IsSearchFault : Setting → Limits → Fault → Type 0
-IsSearchFault setting limits (TooLarge at) = HasSomeLongDump setting limits × HasNoPlace at
-IsSearchFault setting limits (Memory m) = Unit {0}
-IsSearchFault setting limits other = ⊥
-
--- what stops an exploration, as a fault of its own
-abbrev pub TellsSearchFault : OrMemory TooMany → Fault → Type 0
-TellsSearchFault cause fault = (setting : Setting) (limits : Limits) → Because (λ _. HasSomeLongDump setting limits) cause → IsSearchFault setting limits fault
-
 -- the fault came as the report went out
 pub record StopsReport {W : Type 0} (contents : W → Option (List ℕ)) (setting : Setting) (limits : Limits) (old new : Metered W) (fault : Fault) : Type 0 where
   pub cause : OrMemory WriteFault
@@ -96,10 +78,10 @@ pub record StopsReport {W : Type 0} (contents : W → Option (List ℕ)) (settin
   pub is_report : IsReported setting limits report dumps
   pub stops : Stops contents old new (report_text report dumps) cause
 
--- no report was begun, or the fault came as it went out
+-- no report was begun, for want of memory, or the fault came as it went out
 abbrev pub EndsSearch : {W : Type 0} → (W → Option (List ℕ)) → Setting → Limits → Metered W → Metered W → Fault → Type 0
 EndsSearch contents setting limits old new fault =
-    (IsSearchFault setting limits fault × (new ≡ old)) ⊎ StopsReport contents setting limits old new fault
+    (IsOfMemory fault × (new ≡ old)) ⊎ StopsReport contents setting limits old new fault
 
 -- ---- of files
 
@@ -128,8 +110,6 @@ FilesHaveEntriesWhereCut files asked limits status =
 
 -- what a fault of the search or of its report says
 abbrev pub IsSearchReason : List (List ℕ) → Request → Limits → Fault → Type 0
-IsSearchReason files asked limits (TooLarge at) =
-    (searched : Searched files asked) × HasSomeLongDump (setting_for files asked searched) limits × HasNoPlace at
 IsSearchReason files asked limits (Memory m) = Unit {0}
 IsSearchReason files asked limits Write =
     (searched : Searched files asked) × (report : Report) × (dumps : List (List ℕ)) × IsReported (setting_for files asked searched) limits report dumps

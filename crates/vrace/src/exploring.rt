@@ -1,23 +1,26 @@
 // From files to the report of an exploration, on the caller's own thread or by several workers.
 
 ghost use Rattle.std.specs.Prelude.{◌≡◌, ◌≤◌, IfOk, IfErr, Err};
+ghost use Rattle.basis.specs.Reasons.{Because};
 ghost use Rattle.statebook.specs.declared.reason.Reason.TheVariants.{Entries};
 ghost use Rattle.explore.specs.declared.findings.Status.TheVariants.{Cut};
 ghost use Rattle.vsrc.specs.Source.{file_bytes};
 ghost use Rattle.vdesign.specs.Named.{AreNamed};
+ghost use Rattle.vreport.specs.Ends.{HasSomeLongDump};
 ghost use Rattle.vreport.specs.Reports.{HoldsDumps, IsReadable, ReportsExploration, TellsBytes, TellsOutcome};
 ghost use Rattle.vrace.specs.Request.{request_of};
-ghost use Rattle.vrace.specs.Explores.{AreWorkers, EndsSearch, Explores, FilesHaveEntriesWhereCut, HasEntriesWhereCut, IsCutForEntries, IsExploreReason, IsSearched, IsSharedReason, IsStatusOf, LeavesReport, Reports, TellsSearchFault};
-ghost use Rattle.vrace.specs.Refusals.{IsDesignFault};
+ghost use Rattle.vrace.specs.Explores.{AreWorkers, EndsSearch, Explores, FilesHaveEntriesWhereCut, HasEntriesWhereCut, IsCutForEntries, IsExploreReason, IsSearched, IsSharedReason, IsStatusOf, LeavesReport, Reports};
+ghost use Rattle.vrace.specs.Refusals.{IsDesignFault, IsOfMemory};
 ghost use Rattle.vrace.specs.RunDumps.{IsUnwritten, failures_after};
 
 use crate::design::design_of;
-use crate::fault::{At, Fault};
+use crate::fault::Fault;
 use crate::machine::machine_in;
 use crate::options::Options;
 use crate::replay::of_writing;
 use basis::OrMemory;
 use byte_sinks::{Metered, TooMany};
+use dump_law::dumps_are_short;
 use explore::Reason;
 use statebook::Limits;
 use std::alloc::Global;
@@ -59,12 +62,13 @@ fn status_of(explored: &Explored) -> Status
     }
 }
 
-/// Why nothing is reported.
+/// Why nothing is reported: memory was refused, as no dump has 2^64 bytes.
 pub(crate) fn of_search(fault: OrMemory<TooMany>) -> Fault
-    ensures { TellsSearchFault fault result }
+    requires short { Because (λ _. ⊥) fault }
+    ensures memory { IsOfMemory result }
 {
     match fault {
-        OrMemory::Fault(_) => Fault::TooLarge(At(None)),
+        OrMemory::Fault(_) => unreachable!(),
         OrMemory::Memory(refused) => Fault::Memory(refused),
     }
 }
@@ -78,10 +82,12 @@ pub(crate) fn machine_of(
     ensures ok { IfOk result (IsSearched (file_bytes files.now) (request_of options.now)) }
     ensures named { IfOk result (λ machine. AreNamed machine.design) }
     ensures until { IfOk result (λ machine. machine.until ≤ 4611686018427387903) }
+    ensures short { IfOk result (λ machine. ¬ HasSomeLongDump machine options.now.limits) }
     ensures err { IfErr result (IsDesignFault (file_bytes files.now) (request_of options.now).top) }
     ensures unwritten { IfErr result IsUnwritten }
 {
     elaboration_law();
+    dumps_are_short();
     let design = design_of(alloc, files, options.top)?;
     Ok(machine_in(
         alloc,
@@ -130,6 +136,7 @@ fn explore_machine_alone<W: Write>(
 ) -> Result<Status, Fault>
     requires named { AreNamed machine.now.design }
     requires until { machine.now.until ≤ 4611686018427387903 }
+    requires short { ¬ HasSomeLongDump machine.now limits.now }
     ensures ok { IfOk result (λ status.
         Reports W.contents machine.now limits.now status writer.old writer.new) }
     ensures err { IfErr result (λ fault.
@@ -156,6 +163,7 @@ fn explore_machine_shared<R: Threads + Wait + Sync, G: Gate, W: Write>(
     requires workers { AreWorkers workers }
     requires named { AreNamed machine.now.design }
     requires until { machine.now.until ≤ 4611686018427387903 }
+    requires short { ¬ HasSomeLongDump machine.now limits.now }
     ensures ok { IfOk result (λ status.
         Reports W.contents machine.now limits.now status writer.old writer.new) }
     ensures err { IfErr result (λ fault.
@@ -177,9 +185,8 @@ fn explore_machine_shared<R: Threads + Wait + Sync, G: Gate, W: Write>(
 /// listed with all its values, and no log has more departures than needed.
 ///
 /// Refusals, in the order in which they are looked for: E904 where the files together are longer than 16,777,216 bytes;
-/// E1xx to E3xx where their text has no tokens, no tree or no design; E112 also where the dump of a run within the limits
-/// has 2^64 bytes or more. Then nothing is written. E902 where the writer failed, and E901 where memory was refused: then a
-/// prefix of a report may stand written.
+/// E1xx to E3xx where their text has no tokens, no tree or no design. Then nothing is written. E902 where the writer failed,
+/// and E901 where memory was refused: then a prefix of a report may stand written.
 pub fn explore_text_alone<W: Write>(
     alloc: Global,
     files: &[Vec<u8>],

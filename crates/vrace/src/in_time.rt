@@ -3,6 +3,7 @@
 ghost use Rattle.std.specs.Prelude.{◌≡◌, ◌≤◌, IfOk, IfErr};
 ghost use Rattle.vsrc.specs.Source.{file_bytes};
 ghost use Rattle.vdesign.specs.Named.{AreNamed};
+ghost use Rattle.vreport.specs.Ends.{HasSomeLongDump};
 ghost use Rattle.vreport.specs.InTime.{HoldsDumpsInTime, IsReadableInTime, IsTimedExploration, MeansEntriesInTime, ReportsOfClosed, ReportsUpTo, TellsBytesInTime};
 ghost use Rattle.vrace.specs.Request.{request_of};
 ghost use Rattle.vrace.specs.Explores.{EndsSearch, IsExploreReason, LeavesReport};
@@ -95,6 +96,7 @@ fn explore_machine_in_time<B: Budget, W: Write>(
 ) -> Result<Timed, Fault>
     requires named { AreNamed machine.now.design }
     requires until { machine.now.until ≤ 4611686018427387903 }
+    requires short { ¬ HasSomeLongDump machine.now limits.now }
     ensures ok { IfOk result (λ timed.
         ReportsInTime W.contents machine.now limits.now (B.lacks budget.new) timed writer.old writer.new) }
     ensures stopped { IfOk result (SaysIfStopped (B.stopped budget.new)) }

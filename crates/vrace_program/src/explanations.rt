@@ -37,7 +37,7 @@ const EXPLANATIONS: [Explanation; 33] = [
     },
     Explanation {
         number: 112,
-        meaning: "macros or conditionals nest deeper than 32, over 1,000,000 macros are used, the text grows past 33,554,432 bytes, or it has over 4,194,304 words; without a place, a dump that a report would hold has 2^64 bytes or more",
+        meaning: "macros or conditionals nest deeper than 32, over 1,000,000 macros are used, the text grows past 33,554,432 bytes, or it has over 4,194,304 words",
         example: "`define A `A and a use of A",
         advice: "take the macro out of its own text, make less text by macros, or write loops in place of many statements",
     },
