@@ -7,7 +7,7 @@ use Rattle.vmodel.specs.Step.{next}
 use Rattle.vmodel.specs.SameLaws.{states_tell}
 use Rattle.vmodel.specs.Run.{Setting, rules_of, opening_of, is_mark, state_after}
 use Rattle.vmachine.specs.declared.machine_state.MachineState.{MachineState}
-use Rattle.vmachine.specs.Machines.{Stands, machine_rules, rank_of}
+use Rattle.vmachine.specs.Machines.{Stands, machine_rules, rank_of, state_in}
 
 pub first_stands : (setting : Setting) → Stands setting (machine_rules setting).first (opening_of setting)
 unfolding Stands machine_rules rules_of
@@ -46,6 +46,10 @@ one_stands setting s r t h k = (states_tell s r).1 (h ∙ sym k)
 pub only_stands : (setting : Setting) (s : MachineState) (t u : State) → Stands setting s t → Stands setting s u → t ≡ u
 unfolding Stands
 only_stands setting s t u h k = sym h ∙ k
+
+pub own_stands : (setting : Setting) (s : MachineState) → Stands setting s (state_in setting s)
+unfolding Stands state_in
+own_stands setting s = refl
 
 pub all_stand : (setting : Setting) (log : List (ℕ × ℕ)) (n : ℕ) → Stands setting (stands (machine_rules setting) log n) (state_after setting log n)
 unfolding Stands machine_rules

@@ -4,7 +4,7 @@ use Rattle.sched_core.specs.Rules.{IsRun, stands}
 use Rattle.vmodel.specs.State.{State}
 use Rattle.vmodel.specs.Run.{Setting, rules_of, opening_of, state_after}
 use Rattle.vmachine.specs.declared.machine_state.MachineState.{MachineState}
-use Rattle.vmachine.specs.Machines.{Stands, machine_rules, rank_of}
+use Rattle.vmachine.specs.Machines.{Stands, machine_rules, rank_of, state_in}
 
 -- the first state stands for the opening state
 abbrev pub StandsAtFirst : Type 0
@@ -42,6 +42,10 @@ IsSameForOne = (setting : Setting) (s r : MachineState) (t : State) →
 -- it stands for one state only
 abbrev pub StandsForOne : Type 0
 StandsForOne = (setting : Setting) (s : MachineState) (t u : State) → Stands setting s t → Stands setting s u → t ≡ u
+
+-- each state of a machine stands for one
+abbrev pub StandsForOwn : Type 0
+StandsForOwn = (setting : Setting) (s : MachineState) → Stands setting s (state_in setting s)
 
 -- so the runs of a machine are those of its setting
 abbrev pub RunsAsSetting : Type 0

@@ -23,6 +23,10 @@ machine_rules setting = rules_of setting
 unfoldable pub rank_of : Setting → MachineState → ℕ
 rank_of setting s = s.queue.time
 
+-- the state of a run that a machine's state stands for
+unfoldable pub state_in : Setting → MachineState → State
+state_in setting s = s
+
 -- ---- laws with their proofs
 
 pub machine_is_lawful : (setting : Setting) → IsLawful (machine_rules setting)

@@ -22,6 +22,7 @@ mod SettingLemmas
 mod ValuesLemmas
 mod ShapeLemmas
 pub mod TimesLemmas
+mod SlotLemmas
 mod EndsLemmas
 mod ShownLemmas
 mod WrittenLemmas

@@ -114,7 +114,7 @@ timed_transition design times transition rises le =
 time-with_queue_moves : (q : Queue) → (with_queue_moves q).time ≡ q.time
 time-with_queue_moves q = settled_by (λ (r : Queue). r.time ≡ q.time) q (λ busy. refl) (λ i is a b. refl) (λ u us. refl) (λ idle i p. refl)
 
-time-with_moves : (s : State) → (with_moves s).queue.time ≡ s.queue.time
+pub time-with_moves : (s : State) → (with_moves s).queue.time ≡ s.queue.time
 time-with_moves s = by_cause s.cause
   where
     by_cause : (cause : Option Cause) → (with_moves_by cause s).queue.time ≡ s.queue.time
@@ -143,11 +143,11 @@ time-action_transition : (design : Design) (p : ℕ) (frame : Frame) (action : O
 time-action_transition design p frame None after s = refl
 time-action_transition design p frame (Some action) after s = time-transition_with design p (execute_at frame action after (held_of (slice_get s.processes p)) (environment_of design s)) s
 
-time-process : (design : Design) (p : ℕ) (continuation : List Frame) (s : State) → (continuation_transition design p continuation s).state.queue.time ≡ s.queue.time
+pub time-process : (design : Design) (p : ℕ) (continuation : List Frame) (s : State) → (continuation_transition design p continuation s).state.queue.time ≡ s.queue.time
 time-process design p [] s = refl
 time-process design p (frame ∷ after) s = time-action_transition design p frame (slice_get design.actions (place_of frame)) after s
 
-time-with_update : (us : List (List Part)) (q : Queue) → (without_update us q).time ≡ q.time
+pub time-with_update : (us : List (List Part)) (q : Queue) → (without_update us q).time ≡ q.time
 time-with_update [] q = refl
 time-with_update (u ∷ us) q = refl
 

@@ -1,12 +1,13 @@
 -- *internal*: What holds of the runs of every setting, log and number of steps; `run_law` proves each.
-use Rattle.std.specs.Prelude.{◌≡◌, ℕ, suc, ◌≤◌, List, [], Some, None, All, length, Decides}
+use Rattle.std.specs.Prelude.{◌≡◌, ℕ, suc, ◌<◌, ◌≤◌, true, false, List, [], Some, None, All, length, Decides}
 use Rattle.std.specs.List.{Contains}
 use Rattle.sched_core.specs.Rules.{IsLawful, IsRun}
 use Rattle.sched_core.specs.Replay.{EndsAfter}
 use Rattle.vbits.specs.Vectors.{Vector}
 use Rattle.vmodel.specs.State.{State}
 use Rattle.vmodel.specs.Same.{state_same}
-use Rattle.vmodel.specs.Run.{Setting, rules_of, state_after, items_after}
+use Rattle.vmodel.specs.Choices.{choices}
+use Rattle.vmodel.specs.Run.{Setting, rules_of, is_mark, state_after, items_after}
 use Rattle.vmodel.specs.declared.history.Item.TheVariants.{SlotEnd}
 use Rattle.sched_core.specs.declared.setting.Departures.TheVariants.{Taking, Holding}
 use Rattle.sched_core.specs.declared.setting.Looked.TheVariants.{Values}
@@ -34,6 +35,21 @@ TimeNeverFalls = (setting : Setting) (log : List (ℕ × ℕ)) (n : ℕ) → IsR
 abbrev pub HasRisingSlots : Type 0
 HasRisingSlots = (setting : Setting) (log : List (ℕ × ℕ)) (n : ℕ) →
     IsRun (rules_of setting) log n → RisesFrom 0 (slot_times (items_after setting log n))
+
+-- the end of a slot has one choice at most, to go on to the next slot
+abbrev pub GoesOnOneWay : Type 0
+GoesOnOneWay = (setting : Setting) (log : List (ℕ × ℕ)) (n : ℕ) → is_mark (state_after setting log n) ≡ true →
+    length (choices (state_after setting log n)) ≤ 1
+
+-- and that is later (11.3)
+abbrev pub GoesOnLater : Type 0
+GoesOnLater = (setting : Setting) (log : List (ℕ × ℕ)) (n : ℕ) → IsRun (rules_of setting) log (suc n) →
+    is_mark (state_after setting log n) ≡ true → (state_after setting log n).queue.time < (state_after setting log (suc n)).queue.time
+
+-- within a slot the time stays
+abbrev pub StaysInSlot : Type 0
+StaysInSlot = (setting : Setting) (log : List (ℕ × ℕ)) (n : ℕ) → IsRun (rules_of setting) log (suc n) →
+    is_mark (state_after setting log n) ≡ false → (state_after setting log (suc n)).queue.time ≡ (state_after setting log n).queue.time
 
 -- each state has as many values as the design has variables
 abbrev pub IsAlwaysFull : Type 0

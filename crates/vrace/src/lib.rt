@@ -27,6 +27,7 @@ pub use explore::{Progress, RankedFindings, RankedReason, RankedStatus, Reason, 
 pub use exploring::{Status, explore_text, explore_text_alone};
 pub use fault::{At, Detail, Fault};
 pub use in_time::{Timed, explore_text_in_time};
+pub use machine::{PlacedMachine, machine_of_files};
 pub use options::Options;
 pub use races::{FoundRaces, find_races_in};
 pub use read::{LIMIT, read_text};

@@ -12,9 +12,8 @@ ghost use Rattle.vrace.specs.Request.{request_of};
 ghost use Rattle.vrace.specs.Explores.{IsSearched};
 ghost use Rattle.vrace.specs.Refusals.{IsDesignFault};
 
-use crate::design::placed_design_of;
 use crate::fault::Fault;
-use crate::machine::machine_in;
+use crate::machine::{PlacedMachine, machine_of_files};
 use crate::options::Options;
 use race_groups::{Races, Scope, find_races};
 use std::alloc::Global;
@@ -78,20 +77,12 @@ pub fn find_races_in<B: Budget>(
     ensures stopped { IfOk result (λ found. TellsOfStop (B.stopped budget.new) found.races.search) }
     ensures reason { IfErr result (IsDesignFault (file_bytes files.now) (request_of options.now).top) }
 {
-    let placed = placed_design_of(alloc, files, options.top)?;
-    let machine = machine_in(
-        alloc,
-        placed.design,
-        options.until,
-        options.grain,
-        options.departures,
-        options.looked,
-    )?;
+    let PlacedMachine { machine, origins } = machine_of_files(alloc, files, options)?;
     budget.reckon(entry_bytes(&machine));
     let races = find_races(alloc, &machine, &options.limits, scope, budget)?;
     Ok(FoundRaces {
         machine,
-        origins: placed.origins,
+        origins,
         races,
     })
 }

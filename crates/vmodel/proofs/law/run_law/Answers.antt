@@ -2,6 +2,7 @@ use Rattle.vmodel.specs.SameLaws.{states_tell}
 use Rattle.vmodel.specs.RulesLaws.{lawful}
 use Rattle.vmodel.proofs.KeptLemmas.{kept}
 use Rattle.vmodel.proofs.TimesLemmas.{times_rise, time_never_falls}
+use Rattle.vmodel.proofs.SlotLemmas.{goes_on_one_way, goes_on_later, stays_in_slot}
 use Rattle.vmodel.proofs.ValuesLemmas.{as_many, as_many_shown}
 use Rattle.vmodel.proofs.ShapeLemmas.{as_shaped}
 use Rattle.vmodel.proofs.EndsLemmas.{shown_end, end_shown}
@@ -16,6 +17,9 @@ returns c = record {
   kept = kept;
   time = time_never_falls;
   times = times_rise;
+  one_way = goes_on_one_way;
+  later = goes_on_later;
+  stays = stays_in_slot;
   values = as_many;
   shapes = as_shaped;
   shown = as_many_shown;

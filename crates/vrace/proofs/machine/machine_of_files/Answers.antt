@@ -1,4 +1,4 @@
-use Rattle.vrace.proofs.races.find_races_in.Goals as goal
+use Rattle.vrace.proofs.machine.machine_of_files.Goals as goal
 
 pub returns-clause-searched : goal.returns-clause-searched
 returns-clause-searched g c = record {
