@@ -4,6 +4,7 @@ ghost use Rattle.std.specs.Prelude.{◌≡◌, ◌<◌, ◌++◌, ◌∷◌, [],
 ghost use Rattle.vcd_read.specs.Words.{Text};
 ghost use Rattle.vcd_read.specs.Bytes.{left, Come, IsReady, IsNextWord, NoneIsLeft};
 ghost use Rattle.vcd_read.specs.Declarations.{end_word, IsNoEnd, HaveNoEnd};
+ghost use Rattle.vcd_read.specs.Faults.{IsNoDump};
 
 use crate::bytes::ByteReader;
 use crate::fault::VcdFault;
@@ -43,7 +44,9 @@ impl<R: Read + Drop> WordReader<R> {
     }
 
     /// The text is no dump, as the last word shows.
-    pub(crate) fn no_dump(&self) -> OrMemory<VcdFault> {
+    pub(crate) fn no_dump(&self) -> OrMemory<VcdFault>
+        ensures { IsNoDump result }
+    {
         OrMemory::Fault(VcdFault::NoDump { line: self.line })
     }
 
