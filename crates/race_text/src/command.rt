@@ -49,8 +49,8 @@ fn put_quoted(text: &mut Vec<u8>, word: &[u8]) -> Result<(), NoMemory> {
     Ok(())
 }
 
-// The word behind a blank, in quotes where a shell would take it for something else.
-fn put_word(text: &mut Vec<u8>, word: &[u8]) -> Result<(), NoMemory> {
+/// The word behind a blank, in quotes where a shell would take it for something else.
+pub fn put_word(text: &mut Vec<u8>, word: &[u8]) -> Result<(), NoMemory> {
     text.push(b' ')?;
     if is_plain_word(word) {
         text.extend_from_slice(word)?;
@@ -59,8 +59,8 @@ fn put_word(text: &mut Vec<u8>, word: &[u8]) -> Result<(), NoMemory> {
     put_quoted(text, word)
 }
 
-// An option whose value is a number.
-fn put_option(text: &mut Vec<u8>, name: &[u8], n: u64) -> Result<(), NoMemory> {
+/// An option whose value is a number.
+pub fn put_option(text: &mut Vec<u8>, name: &[u8], n: u64) -> Result<(), NoMemory> {
     text.extend_from_slice(name)?;
     put_number(text, n)
 }
@@ -95,8 +95,8 @@ fn takes_steps(findings: &Findings<'_>) -> Result<bool, NoMemory> {
     is_longer(findings.machine, FEW_STEPS)
 }
 
-// The names of the files. One that would be taken for an option is told by its folder, too.
-fn put_files(text: &mut Vec<u8>, alloc: Global, names: &[&str]) -> Result<(), NoMemory> {
+/// The names of the files. One that would be taken for an option is told by its folder, too.
+pub fn put_files(text: &mut Vec<u8>, alloc: Global, names: &[&str]) -> Result<(), NoMemory> {
     for name in names {
         let mut word = Vec::new(alloc);
         if name.as_bytes().starts_with(b"-") {

@@ -91,8 +91,8 @@ fn deeds(
     Ok(list)
 }
 
-// One of the two statements.
-fn statement_of(
+/// One of the two statements, as JSON.
+pub fn statement_of(
     alloc: Global,
     design: &Design,
     sources: &Sources<'_>,

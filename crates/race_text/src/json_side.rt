@@ -33,8 +33,8 @@ fn earlier(subject: Subject<'_>, log: &Log) -> Option<&'static [u8]> {
     }
 }
 
-// The text of the log, with the name of the setting where it has departures.
-fn log_text(alloc: Global, machine: &Machine, log: &Log) -> Result<Vec<u8>, NoMemory> {
+/// The text of the log, with the name of the setting where it has departures.
+pub fn log_text(alloc: Global, machine: &Machine, log: &Log) -> Result<Vec<u8>, NoMemory> {
     let head = if log.members().is_empty() {
         LogHead::Plain
     } else {

@@ -26,10 +26,16 @@ mod waiver_file;
 mod waivers;
 mod whole;
 
+pub use command::{put_files, put_option, put_word};
 pub use connection::{port_of, put_port};
+pub use json::{document, statement_of};
+pub use json_side::log_text;
+pub use members::Members;
+pub use pieces::{put_all, put_count, put_number, string_of};
 pub use place::Sources;
+pub use statements::{put_other_order, put_statements};
 pub use summary::{Findings, NAMED, Told};
-pub use time::put_time;
+pub use time::{put_precision, put_time};
 pub use tops::{Format, Tops};
 pub use value::put_value;
 pub use waived::Waived;

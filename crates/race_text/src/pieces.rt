@@ -10,6 +10,14 @@ pub fn put_number(text: &mut Vec<u8>, n: u64) -> Result<(), NoMemory> {
     put_short_decimal(text, Vec4::from_u64(64, n))
 }
 
+/// The bytes of each of these, one behind another.
+pub fn put_all(text: &mut Vec<u8>, pieces: &[&[u8]]) -> Result<(), NoMemory> {
+    for piece in pieces {
+        text.extend_from_slice(piece)?;
+    }
+    Ok(())
+}
+
 /// So many of something: `1 race`, `2 races`.
 pub fn put_count(text: &mut Vec<u8>, n: u64, word: &[u8]) -> Result<(), NoMemory> {
     put_number(text, n)?;
