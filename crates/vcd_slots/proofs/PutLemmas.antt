@@ -5,6 +5,7 @@ use Rattle.std.specs.Cmp.Lexicographic.{pointwise}
 use Rattle.std.proofs.lemmas.Bool.{cases_eq, cases_lt}
 use Rattle.std.proofs.lemmas.List.{get_or_past}
 use Rattle.std.proofs.lemmas.Option.{slice_get_within}
+use Rattle.basis.proofs.Bools.{and_false}
 use Rattle.vbits.specs.Vectors.{Vector}
 use Rattle.vcd_read.specs.Words.{Text}
 use Rattle.vcd_slots.specs.Slots.{vector_of}
@@ -13,10 +14,6 @@ use Rattle.vcd_slots.specs.declared.column.Column.{Column}
 
 some_is : {A : Type 0} (x y : A) → Some x ≡ Some y → x ≡ y
 some_is x y p = cc
-
-and_false : (b : Bool) → (b && false) ≡ false
-and_false true = refl
-and_false false = refl
 
 put_none : (is_on : Bool) (some : Option Vector) (before : Option Vector) (same : Bool) → same ≡ false → (if is_on && same then some else before) ≡ before
 put_none is_on some before same other =
