@@ -1,5 +1,5 @@
 -- Reading the marks from entries that were seen, in whatever order.
-use Rattle.std.proofs.Common.{◌≡◌, ℕ, ◌+◌, ◌<◌, ◌≤◌, Bool, true, List, [], length, slice_get, get_or, Option, option_map, Some, None, Result, Ok, Err, OnOk, arith, ap, sym, ◌∙◌, subst, inl, inr}
+use Rattle.std.proofs.Common.{◌≡◌, ℕ, ◌+◌, ◌<◌, ◌≤◌, Bool, true, List, [], length, slice_get, get_or, Option, option_map, Some, None, Result, Ok, Err, OnErr, OnOk, arith, ap, sym, ◌∙◌, subst, inl, inr}
 use Rattle.std.specs.Cmp.{IsEquivalence}
 use Rattle.std.specs.List.{IsDistinct}
 use Rattle.std.specs.Map.{keys_of, lookup}
@@ -157,6 +157,10 @@ long_from_none eq laws marks apart s d e i p at equal = absurd (none-some p.1 (e
 pub on_ok : {A E : Type 0} {P Q : Type 0} (x : Result A E) → (P → Q) → OnOk x P → OnOk x Q
 on_ok (Ok a) f p = f p
 on_ok (Err e) f p = tt
+
+pub on_both : {A E : Type 0} {P Q R : Type 0} (x : Result A E) → (P → R) → (Q → R) → OnOk x P → OnErr x Q → R
+on_both (Ok a) f g p q = f p
+on_both (Err e) f g p q = g q
 
 -- what is asked of an entry that may be added, by the search parameters
 pub wanted : {S : Type 0} (rules : Option (Rules S)) (k limit : ℕ) (r : Rules S) (limits : Limits) (e : Entry S) → AreParametersOf rules k limit r limits → ((x : Rules S) → rules ≡ Some x → IsEntry x k limit e) → MayBeAdded r limits e

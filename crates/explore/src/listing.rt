@@ -40,11 +40,11 @@ fn list_entry<P: Space>(
     requires allowed { MayBeAdded (P.rules space.now) limits.now entry.now }
     requires found { AreFound (P.rules space.now) limits.now marks.old.entries }
     requires distinct { IsUnique P.State.eq marks.old }
-    ensures found { OnOk result (AreFound (P.rules space.now) limits.now marks.new.entries) }
+    ensures found { AreFound (P.rules space.now) limits.now marks.new.entries }
     ensures listed { OnOk result (ListsEntry (P.rules space.now) marks.new.entries entry.now) }
     ensures kept { OnOk result
         (KeepsListed (P.rules space.now) marks.old.entries marks.new.entries) }
-    ensures distinct { OnOk result (IsUnique P.State.eq marks.new) }
+    ensures distinct { IsUnique P.State.eq marks.new }
 {
     if !space.is_mark(&entry.state) {
         return Ok(());
@@ -75,4 +75,30 @@ pub fn list_seen<P: Space, Q: SearchParameters<P::State>, B: BookIdentity>(
         list_entry(space, limits, &mut marks, book.read(seen))?;
     }
     Ok(marks)
+}
+
+/// The marks that the entries of the first places stand at, each once, at most so many places and as far as memory goes: what stands
+/// behind a refused growth is left out.
+pub fn list_met<P: Space, Q: SearchParameters<P::State>, B: BookIdentity>(
+    alloc: Global,
+    space: &P,
+    limits: &Limits,
+    book: &Book<P::State, Q, B>,
+    count: u64,
+) -> IndexMap<P::State, Log>
+    requires { AreParametersOf Q.rules Q.depart Q.steps (P.rules space.now) limits.now }
+    ensures found { AreFound (P.rules space.now) limits.now result.entries }
+    ensures distinct { IsUnique P.State.eq result }
+{
+    let mut marks = IndexMap::new(alloc);
+    for place in 0..count as usize {
+        let Some(seen) = book.at(place) else {
+            continue;
+        };
+        match list_entry(space, limits, &mut marks, book.read(&seen)) {
+            Ok(()) => {}
+            Err(_) => return marks,
+        }
+    }
+    marks
 }

@@ -1,6 +1,6 @@
 // The list of marks, read from the book.
 
-ghost use Rattle.std.specs.Prelude.{◌≡◌, length, IfOk, OnOk};
+ghost use Rattle.std.specs.Prelude.{◌≡◌, length, IfOk, OnErr, OnOk};
 ghost use Rattle.indexmap.specs.IndexMap.{IsUnique, insert_entry};
 ghost use Rattle.explore.specs.Found.{AreFound};
 ghost use Rattle.explore.specs.BookFindings.{ListsExactly};
@@ -21,6 +21,7 @@ pub fn note<S: Eq + Hash + Drop>(
     log: Log,
 ) -> Result<(), NoMemory>
     ensures put { OnOk result (marks.new.entries ≡ insert_entry S.eq marks.old.entries state log) }
+    ensures kept { OnErr result (marks.new.entries ≡ marks.old.entries) }
     ensures distinct { IsUnique S.eq marks.new }
 {
     marks.insert(state, log)?;

@@ -12,7 +12,7 @@ ghost use Rattle.statebook.specs.Inner.Forced.{IfReached};
 
 use crate::alone::explore_alone;
 use crate::findings::{Findings, Status};
-use crate::listing::list_seen;
+use crate::listing::{list_met, list_seen};
 use basis::NoMemory;
 use sched_core::Space;
 use shardbook::{Book, BookIdentity, SearchParameters, Seen, Unopened};
@@ -26,6 +26,9 @@ use workpool::{Gate, Ran, run_workers};
 
 /// The shards of a book that workers share.
 const SHARDS: usize = 16;
+
+/// Room that is held while workers search, in words of 8 bytes, and free when the marks are listed: 4 MiB.
+const ROOM: usize = 524_288;
 
 // What is to be said of entries that were seen: exhausted where they close, else the reason for which
 // the workers stopped short; None where there is none.
@@ -94,6 +97,50 @@ fn all_seen<S: Eq + Hash + Drop, Q: SearchParameters<S>, B: BookIdentity>(
     Ok(all)
 }
 
+// What is read of the book whose entries are so many. None where they don't close and no reason is given.
+fn read_all<P: Space, Q: SearchParameters<P::State>, B: BookIdentity>(
+    alloc: Global,
+    space: &P,
+    limits: &Limits,
+    book: &Book<P::State, Q, B>,
+    root: &Seen<P::State, Q, B>,
+    count: u64,
+    cut: Option<Reason>,
+) -> Result<Option<Findings<P::State>>, NoMemory>
+    requires parameters { AreParametersOf Q.rules Q.depart Q.steps (P.rules space.now) limits.now }
+    requires steps { TellsWhy (P.rules space.now) limits.now cut }
+    ensures found { IfReached result (ListsFound (P.rules space.now) limits.now) }
+    ensures distinct { IfReached result (λ findings. IsUnique P.State.eq findings.marks) }
+    ensures exhausted { IfReached result (ListsAll (P.rules space.now) limits.now) }
+    ensures fewest { IfReached result (ListsFewest (P.rules space.now)) }
+    ensures steps { IfReached result (TellsSteps (P.rules space.now) limits.now) }
+{
+    let all = all_seen(alloc, book, count)?;
+    read_findings(alloc, space, limits, book, root, all.as_slice(), cut)
+}
+
+// As many of the marks as memory goes, where it was refused.
+fn read_some<P: Space, Q: SearchParameters<P::State>, B: BookIdentity>(
+    alloc: Global,
+    space: &P,
+    limits: &Limits,
+    book: &Book<P::State, Q, B>,
+    count: u64,
+    refused: NoMemory,
+) -> Findings<P::State>
+    requires { AreParametersOf Q.rules Q.depart Q.steps (P.rules space.now) limits.now }
+    ensures found { ListsFound (P.rules space.now) limits.now result }
+    ensures distinct { IsUnique P.State.eq result.marks }
+    ensures exhausted { ListsAll (P.rules space.now) limits.now result }
+    ensures fewest { ListsFewest (P.rules space.now) result }
+    ensures steps { TellsSteps (P.rules space.now) limits.now result }
+{
+    Findings {
+        marks: list_met(alloc, space, limits, book, count),
+        status: Status::Cut(Reason::Memory(refused)),
+    }
+}
+
 // Where the root's entry wasn't met: want of memory, if that is why.
 fn without_root<S: Eq + Hash>(cut: Option<Reason>) -> Result<Option<Findings<S>>, NoMemory>
     ensures { IfReached result (λ _. ⊥) }
@@ -132,6 +179,7 @@ fn within<
     ensures steps { IfReached result (TellsSteps (P.rules space.now) limits.now) }
 {
     let (book, pass) = Book::<P::State, Q, B>::open(alloc, unopened)?;
+    let room = Vec::<u64>::with_capacity(alloc, ROOM)?;
     let Ran {
         opens,
         shuts: _,
@@ -145,8 +193,11 @@ fn within<
     let Some(root) = root else {
         return without_root(cut);
     };
-    let all = all_seen(alloc, &book, opens)?;
-    read_findings(alloc, space, limits, &book, &root, all.as_slice(), cut)
+    drop(room);
+    match read_all(alloc, space, limits, &book, &root, opens, cut) {
+        Ok(found) => Ok(found),
+        Err(refused) => Ok(Some(read_some(alloc, space, limits, &book, opens, refused))),
+    }
 }
 
 // The names of a book are picked, and it is gone through.
@@ -188,7 +239,8 @@ fn over<
 /// answers false and the workers had no reason to stop short, what they left is dropped and the answer is
 /// that of `explore_alone`, without the gate.
 ///
-/// The error is want of memory before the root's entry was met, or for the list, E901.
+/// Where memory is refused for the list of marks, it lists as many as memory goes, and says `Cut(Memory)`; for the first of them 4 MiB
+/// are held while the workers search. The error is want of memory before the root's entry was met, E901.
 pub fn explore<P: Space + Sync, R: Threads + Wait + Sync, G: Gate>(
     rt: &R,
     alloc: Global,

@@ -79,7 +79,7 @@ fn bound_at(words: Words<'_>) -> Option<Bound> {
         let len = pair.saturating_mul(2).saturating_add(1);
         let next = len.saturating_add(1);
         let sign = words.after(len);
-        if is(sign, ":") || is(sign, "]") {
+        if is_one_of(sign, &[":", "]"]) {
             let value = sum.whole();
             return Some(Bound { value, len });
         }

@@ -541,12 +541,20 @@ const ROWS: [Row; 65] = [
     },
 ];
 
+// The row of the construct, if it is one of these.
+fn row_among(rows: &'static [Row], construct: Construct) -> Option<&'static Row> {
+    for row in rows {
+        if row.construct == construct {
+            return Some(row);
+        }
+    }
+    None
+}
+
 /// What the construct is called, and what serves in its place.
 pub(crate) fn row_of(construct: Construct) -> Option<&'static Row> {
-    match ROWS.iter().find(|row| row.construct == construct) {
+    match row_among(&ROWS, construct) {
         Some(row) => Some(row),
-        None => system_verilog_rows::ROWS
-            .iter()
-            .find(|row| row.construct == construct),
+        None => row_among(&system_verilog_rows::ROWS, construct),
     }
 }

@@ -21,7 +21,7 @@ const SWITCHES: [&str; 9] = [
 // Whether the word is the first name of a module's ports, without a direction.
 fn is_old_port(words: Words<'_>, walk: Walk) -> bool {
     let next = words.after(1);
-    let is_alone = is(next, ",") || is(next, ")") || is(next, "[");
+    let is_alone = is_one_of(next, &[",", ")", "["]);
     walk.level == Level::Head
         && walk.group == Group::Plain
         && walk.open == 1
@@ -57,7 +57,7 @@ pub(crate) fn by_name(words: Words<'_>, walk: Walk) -> Option<Construct> {
     if is(word, "integer") && walk.level == Level::Head && walk.group == Group::Plain {
         return Some(Construct::PortValue);
     }
-    if (is(word, "vectored") || is(word, "scalared")) && is_one_of(words.before(1), &NETS) {
+    if is_one_of(word, &["vectored", "scalared"]) && is_one_of(words.before(1), &NETS) {
         return Some(Construct::Vectored);
     }
     if is_old_port(words, walk) {
@@ -81,7 +81,7 @@ pub(crate) fn by_symbol(words: Words<'_>, walk: Walk) -> Option<Construct> {
         word if is(word, "{") && is_port => Some(Construct::PortExpression),
         word if is(word, "#") && is_driven => Some(Construct::NetDelay),
         word if is(word, "(") && is_driven => Some(Construct::Strength),
-        word if (is(word, "{") || is(word, "[")) && assigns => Some(Construct::PartialAssign),
+        word if is_one_of(word, &["{", "["]) && assigns => Some(Construct::PartialAssign),
         _ => None,
     }
 }

@@ -113,9 +113,12 @@ fn is_part(words: Words<'_>, walk: Walk) -> bool {
 impl<'a> Declared<'a> {
     // Whether the module has an output of this name.
     fn has_output(&self, module: &[u8], port: &[u8]) -> bool {
-        self.outputs
-            .iter()
-            .any(|one| one.module == module && one.port == port)
+        for one in &self.outputs {
+            if one.module == module && one.port == port {
+                return true;
+            }
+        }
+        false
     }
 
     /// The construct that the word tells, in an instance of this module, by what is declared.

@@ -3,6 +3,7 @@
 use crate::construct::Construct;
 use crate::walk::{Group, Level, Opening, TYPES, Walk};
 use crate::words::{Words, is, is_one_of};
+use basis::digits_len;
 
 /// Whether the word stands in statements.
 pub(crate) fn is_in_statements(walk: Walk) -> bool {
@@ -66,7 +67,7 @@ fn by_point(words: Words<'_>, walk: Walk) -> Option<Construct> {
     if words.is_plain_before(1) {
         return Some(Construct::Real);
     }
-    if is(before, "(") || is(before, ",") {
+    if is_one_of(before, &["(", ","]) {
         let is_port = walk.level == Level::Head;
         return if is_port {
             Some(Construct::PortExpression)
@@ -89,7 +90,7 @@ fn by_parenthesis(words: Words<'_>, walk: Walk) -> Option<Construct> {
     if before.starts_with(b"$") && is(words.after(1), ")") {
         return Some(Construct::MissingArgument);
     }
-    let follows = is(words.before(2), ".") || is(words.before(2), "#") || is(before, "iff");
+    let follows = is_one_of(words.before(2), &[".", "#"]) || is(before, "iff");
     if words.is_name_before(1) && !follows && is_in_expression(walk) {
         return Some(Construct::Function);
     }
@@ -99,7 +100,7 @@ fn by_parenthesis(words: Words<'_>, walk: Walk) -> Option<Construct> {
 // The construct of a comma with nothing before it or behind it: an argument or a connection that is left out.
 fn by_comma(words: Words<'_>, walk: Walk) -> Option<Construct> {
     let next = words.after(1);
-    let is_gap = is(next, ",") || is(next, ")") || is(words.before(1), "(");
+    let is_gap = is_one_of(next, &[",", ")"]) || is(words.before(1), "(");
     if !is_gap || walk.open != 1 {
         return None;
     }
@@ -129,7 +130,7 @@ pub(crate) fn by_symbol(words: Words<'_>, walk: Walk) -> Option<Construct> {
         word if is(word, ".") => by_point(words, walk),
         word if is(word, "(") => by_parenthesis(words, walk),
         word if is(word, ",") => by_comma(words, walk),
-        word if is(word, "+:") || is(word, "-:") => by_indexed_part(walk),
+        word if is_one_of(word, &["+:", "-:"]) => by_indexed_part(walk),
         word if is(word, ";") && is(words.before(1), "$monitor") => {
             Some(Construct::MissingArgument)
         }
@@ -143,7 +144,7 @@ fn is_exponent(words: Words<'_>) -> bool {
         return false;
     };
     let is_letter = *first == b'e' || *first == b'E';
-    let has_digits = rest.iter().all(|digit| digit.is_ascii_digit());
+    let has_digits = digits_len(rest) == rest.len();
     is_letter && has_digits && words.is_plain_before(1) && words.adjoins()
 }
 
@@ -166,8 +167,7 @@ pub(crate) fn by_based_number(words: Words<'_>) -> Option<Construct> {
 
 /// Whether the word is an argument of a task that prints.
 pub(crate) fn is_printed(words: Words<'_>, walk: Walk) -> bool {
-    let is_argument = is(words.before(1), "(") || is(words.before(1), ",");
-    walk.group == Group::Print && walk.open == 1 && is_argument
+    walk.group == Group::Print && walk.open == 1 && is_one_of(words.before(1), &["(", ","])
 }
 
 // Whether the word stands in a system call that isn't one of those.

@@ -117,9 +117,19 @@ const CALLS: [Construct; 7] = [
     Construct::Task,
 ];
 
+// Whether the construct is one of those.
+fn is_call(construct: Construct) -> bool {
+    for call in &CALLS {
+        if *call == construct {
+            return true;
+        }
+    }
+    false
+}
+
 // A construct that this word tells: a call stands where its name does, a real number where it begins.
 fn told_at<'a>(words: Words<'a>, construct: Construct) -> Found<'a> {
-    let is_call = is_one_of(words.word(), &["(", ";"]) && CALLS.contains(&construct);
+    let is_call = is_one_of(words.word(), &["(", ";"]) && is_call(construct);
     let is_number = construct == Construct::Real && words.is_plain_before(1) && words.adjoins();
     let place = if is_call || is_number {
         words.previous()

@@ -1,14 +1,9 @@
 // Constructs that one word tells: keywords, names of system tasks, operators.
 
 use crate::construct::Construct;
+use crate::phrase::{Keywords, told_alone};
 use crate::words::{Words, is, is_one_of};
 use vlex::TokenKind;
-
-// Words, and the construct that each of them begins.
-struct Keywords {
-    words: &'static [&'static str],
-    construct: Construct,
-}
 
 const KEYWORDS: [Keywords; 25] = [
     Keywords {
@@ -189,8 +184,8 @@ pub(crate) fn by_keyword(words: Words<'_>) -> Option<Construct> {
     if is(word, "disable") && is(words.after(1), "iff") {
         return None;
     }
-    if let Some(row) = KEYWORDS.iter().find(|row| is_one_of(word, row.words)) {
-        return Some(row.construct);
+    if let Some(construct) = told_alone(word, &KEYWORDS) {
+        return Some(construct);
     }
     if words.is(TokenKind::System) && !is_one_of(word, &SYSTEM_NAMES) {
         return Some(Construct::SystemTask);

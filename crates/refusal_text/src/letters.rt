@@ -3,7 +3,9 @@
 
 use crate::construct::Construct;
 use crate::find::What;
+use crate::lines::{from, front};
 use crate::numbers;
+use crate::words::is_one_of;
 use basis::is_in_name;
 use memchr::memchr;
 
@@ -18,6 +20,18 @@ pub(crate) struct Flaw {
     pub(crate) other: u8,
 }
 
+/// Letters that stand side by side.
+#[derive(Clone, Copy)]
+pub(crate) enum Letters {
+    OfName,
+    OfNumber,
+    /// On their line.
+    Blanks,
+    /// On several lines.
+    Spaces,
+    NoSpaces,
+}
+
 // Directives of the standard that stand alone.
 const ALONE: [&str; 5] = [
     "resetall",
@@ -30,45 +44,27 @@ const ALONE: [&str; 5] = [
 // Directives of the standard with words behind them.
 const WITH_WORDS: [&str; 4] = ["unconnected_drive", "line", "pragma", "begin_keywords"];
 
-// Whether the word is one of these.
-fn is_among(word: &[u8], words: &[&'static str]) -> bool {
-    words.iter().any(|one| word == one.as_bytes())
-}
-
-// The first so many letters.
-fn front(rest: &[u8], len: usize) -> &[u8] {
-    match rest.get(..len) {
-        None => rest,
-        Some(front) => front,
+// Whether the letter is one of these.
+fn is_in(letters: Letters, letter: u8) -> bool {
+    match letters {
+        Letters::OfName => is_in_name(letter),
+        Letters::OfNumber => is_in_name(letter) || letter == b'?' || letter == b'\'',
+        Letters::Blanks => letter == b' ' || letter == b'\t',
+        Letters::Spaces => letter.is_ascii_whitespace(),
+        Letters::NoSpaces => !letter.is_ascii_whitespace(),
     }
 }
 
-// The letters from this one on.
-fn from(rest: &[u8], at: usize) -> &[u8] {
-    match rest.get(at..) {
-        None => &[],
-        Some(behind) => behind,
-    }
-}
-
-// How many letters of names stand at the head.
-fn name_len(rest: &[u8]) -> usize {
-    for (at, letter) in rest.iter().enumerate() {
-        if !is_in_name(*letter) {
-            return at;
+/// How many of these letters stand at the head.
+pub(crate) fn len_of(letters: Letters, rest: &[u8]) -> usize {
+    let mut len = 0usize;
+    for letter in rest {
+        if !is_in(letters, *letter) {
+            return len;
         }
+        len = len.saturating_add(1);
     }
-    rest.len()
-}
-
-// How many blanks stand at the head.
-fn blanks_len(rest: &[u8]) -> usize {
-    for (at, letter) in rest.iter().enumerate() {
-        if *letter != b' ' && *letter != b'\t' {
-            return at;
-        }
-    }
-    rest.len()
+    len
 }
 
 /// The letters up to the end of the line.
@@ -93,7 +89,7 @@ fn definition_len(rest: &[u8]) -> usize {
 
 /// The letters of the use of a macro, with its arguments where they stand at once behind its name.
 pub(crate) fn use_len(rest: &[u8]) -> usize {
-    let name = name_len(from(rest, 1)).saturating_add(1);
+    let name = len_of(Letters::OfName, from(rest, 1)).saturating_add(1);
     let mut open = 0usize;
     for (at, letter) in from(rest, name).iter().enumerate() {
         if *letter == b'(' {
@@ -139,8 +135,8 @@ pub(crate) fn numbered(what: What, word: usize, len: usize) -> Flaw {
 // The word behind the blanks behind so many letters.
 fn word_behind(rest: &[u8], len: usize) -> &[u8] {
     let behind = from(rest, len);
-    let word = from(behind, blanks_len(behind));
-    front(word, name_len(word))
+    let word = from(behind, len_of(Letters::Blanks, behind));
+    front(word, len_of(Letters::OfName, word))
 }
 
 // Whether the letters begin with the definition of a macro with arguments: of this name, or of any.
@@ -149,7 +145,7 @@ fn defines(rest: &[u8], name: Option<&[u8]>) -> bool {
         return false;
     };
     let defined = word_behind(behind, 0);
-    let word = from(behind, blanks_len(behind));
+    let word = from(behind, len_of(Letters::Blanks, behind));
     let is_right = match name {
         None => true,
         Some(name) => name == defined,
@@ -173,20 +169,30 @@ fn has_arguments(text: &[u8], name: &[u8]) -> bool {
     false
 }
 
+// Whether one of the files defines a macro of this name with arguments.
+fn has_macro(files: &[Vec<u8>], name: &[u8]) -> bool {
+    for text in files {
+        if has_arguments(text, name) {
+            return true;
+        }
+    }
+    false
+}
+
 // A directive that isn't read, or a macro that isn't there.
 fn by_macro(rest: &[u8], files: &[Vec<u8>]) -> Flaw {
-    let name = front(from(rest, 1), name_len(from(rest, 1)));
+    let name = front(from(rest, 1), len_of(Letters::OfName, from(rest, 1)));
     let word = name.len().saturating_add(1);
     if name == b"include".as_slice() {
         return blanked(What::LeftOut(Construct::Include), word, line_len(rest));
     }
-    if is_among(name, &ALONE) {
+    if is_one_of(name, &ALONE) {
         return blanked(What::LeftOut(Construct::Directive), word, word);
     }
-    if is_among(name, &WITH_WORDS) {
+    if is_one_of(name, &WITH_WORDS) {
         return blanked(What::LeftOut(Construct::Directive), word, line_len(rest));
     }
-    if files.iter().any(|text| has_arguments(text, name)) {
+    if has_macro(files, name) {
         let what = What::LeftOut(Construct::MacroArguments);
         return numbered(what, word, use_len(rest));
     }
@@ -195,7 +201,7 @@ fn by_macro(rest: &[u8], files: &[Vec<u8>]) -> Flaw {
 
 // A directive that is ill formed, or isn't first on its line.
 fn by_directive(rest: &[u8]) -> Flaw {
-    let word = name_len(from(rest, 1)).saturating_add(1);
+    let word = len_of(Letters::OfName, from(rest, 1)).saturating_add(1);
     if defines(rest, None) {
         let what = What::LeftOut(Construct::MacroArguments);
         return blanked(what, word, definition_len(rest));
@@ -204,7 +210,7 @@ fn by_directive(rest: &[u8]) -> Flaw {
         return blanked(What::Broken(110), word, definition_len(rest));
     }
     let kind = word_behind(rest, word);
-    let is_known = kind.is_empty() || is_among(kind, &["wire", "none"]);
+    let is_known = kind.is_empty() || is_one_of(kind, &["wire", "none"]);
     if rest.starts_with(b"`default_nettype") && !is_known {
         let what = What::LeftOut(Construct::NetTypeDirective);
         return blanked(what, word, line_len(rest));

@@ -17,6 +17,7 @@ mod mended;
 mod message;
 mod modules;
 mod numbers;
+mod phrase;
 mod rules;
 mod statements;
 mod system_verilog;

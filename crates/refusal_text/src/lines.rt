@@ -16,6 +16,22 @@ pub struct Files<'a> {
     pub texts: &'a [Vec<u8>],
 }
 
+/// The letters from this one on.
+pub(crate) fn from(letters: &[u8], at: usize) -> &[u8] {
+    match letters.get(at..) {
+        None => &[],
+        Some(behind) => behind,
+    }
+}
+
+/// The first so many letters.
+pub(crate) fn front(letters: &[u8], len: usize) -> &[u8] {
+    match letters.get(..len) {
+        None => letters,
+        Some(front) => front,
+    }
+}
+
 // What stands before the first line feed.
 fn first_line(text: &[u8]) -> &[u8] {
     match memchr(b'\n', text) {
@@ -30,10 +46,7 @@ pub fn line_of(text: &[u8], number: usize) -> &[u8] {
     for _ in 1..number {
         match memchr(b'\n', rest) {
             None => return &[],
-            Some(at) => match rest.get(at.saturating_add(1)..) {
-                None => return &[],
-                Some(after) => rest = after,
-            },
+            Some(at) => rest = from(rest, at.saturating_add(1)),
         }
     }
     first_line(rest)
@@ -43,8 +56,7 @@ pub fn line_of(text: &[u8], number: usize) -> &[u8] {
 pub(crate) fn offset_of(text: &[u8], place: Place) -> usize {
     let mut offset = 0usize;
     for _ in 1..place.line {
-        let rest = text.get(offset..);
-        match rest.and_then(|rest| memchr(b'\n', rest)) {
+        match memchr(b'\n', from(text, offset)) {
             None => return text.len(),
             Some(at) => offset = offset.saturating_add(at).saturating_add(1),
         }
@@ -70,8 +82,8 @@ impl<'a> Files<'a> {
     }
 }
 
-/// A byte of a source line as any terminal may be shown it: `?` in place of one that isn't a letter of ASCII.
-pub(crate) fn shown(byte: u8) -> u8 {
+// A byte of a source line as any terminal may be shown it: `?` in place of one that isn't a letter of ASCII.
+fn shown(byte: u8) -> u8 {
     if byte == b'\t' || byte.is_ascii_graphic() || byte == b' ' {
         byte
     } else {
@@ -84,17 +96,36 @@ fn step_of(byte: u8) -> u8 {
     if byte == b'\t' { b'\t' } else { b' ' }
 }
 
-/// The line, and below it a caret under the column, from 0. Of a long line there is what stands round it.
-pub(crate) fn put_pointed(text: &mut Vec<u8>, line: &[u8], column: usize) -> Result<(), NoMemory> {
-    let from = column.saturating_sub(BEFORE);
-    text.extend_from_slice(b"    ")?;
-    for byte in line.iter().skip(from).take(WIDTH) {
-        text.push(shown(*byte))?;
+/// These pieces, one after another.
+pub(crate) fn put_all(text: &mut Vec<u8>, pieces: &[&[u8]]) -> Result<(), NoMemory> {
+    for piece in pieces {
+        text.extend_from_slice(piece)?;
     }
-    text.extend_from_slice(b"\n    ")?;
-    for byte in line.iter().skip(from).take(column.saturating_sub(from)) {
-        text.push(step_of(*byte))?;
-    }
-    text.extend_from_slice(b"^\n")?;
     Ok(())
+}
+
+/// The letters as any terminal may be shown them.
+pub(crate) fn put_letters(text: &mut Vec<u8>, letters: &[u8]) -> Result<(), NoMemory> {
+    for letter in letters {
+        text.push(shown(*letter))?;
+    }
+    Ok(())
+}
+
+// What moves the caret behind these letters.
+fn put_steps(text: &mut Vec<u8>, letters: &[u8]) -> Result<(), NoMemory> {
+    for letter in letters {
+        text.push(step_of(*letter))?;
+    }
+    Ok(())
+}
+
+/// Behind what is told the line, and below it a caret under the column, from 0. Of a long line there is what stands round it.
+pub(crate) fn put_pointed(text: &mut Vec<u8>, line: &[u8], column: usize) -> Result<(), NoMemory> {
+    let shown = from(line, column.saturating_sub(BEFORE));
+    put_all(text, &[b"\n    "])?;
+    put_letters(text, front(shown, WIDTH))?;
+    put_all(text, &[b"\n    "])?;
+    put_steps(text, front(shown, column.min(BEFORE)))?;
+    put_all(text, &[b"^\n"])
 }

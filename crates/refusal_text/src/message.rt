@@ -2,7 +2,7 @@
 
 use crate::construct::{Row, row_of};
 use crate::find::{Found, What};
-use crate::lines::{Files, put_pointed, shown};
+use crate::lines::{Files, front, put_all, put_letters, put_pointed};
 use crate::rules::{NO_PORT, Rule, rule_of};
 use basis::NoMemory;
 use itoa::Buffer;
@@ -11,26 +11,26 @@ use vsrc::Place;
 // How much of a word is shown.
 const WORD: usize = 40;
 
-// The number in decimal.
-fn put_number(text: &mut Vec<u8>, n: usize) -> Result<(), NoMemory> {
-    let mut digits = Buffer::new();
-    text.extend_from_slice(digits.format(n as u64).as_bytes())?;
-    Ok(())
-}
-
 /// The file, the line and the column, from 1.
 pub(crate) fn put_place(
     text: &mut Vec<u8>,
     files: Files<'_>,
     place: Place,
 ) -> Result<(), NoMemory> {
-    text.extend_from_slice(files.name(place.file).as_bytes())?;
-    text.push(b':')?;
-    put_number(text, place.line)?;
-    text.push(b':')?;
-    put_number(text, place.column.saturating_add(1))?;
-    text.extend_from_slice(b": ")?;
-    Ok(())
+    let (mut line, mut column) = (Buffer::new(), Buffer::new());
+    put_all(
+        text,
+        &[
+            files.name(place.file).as_bytes(),
+            b":",
+            line.format(place.line as u64).as_bytes(),
+            b":",
+            column
+                .format(place.column.saturating_add(1) as u64)
+                .as_bytes(),
+            b": ",
+        ],
+    )
 }
 
 /// The source line with its caret, and what to write in its place.
@@ -40,12 +40,8 @@ pub(crate) fn put_rest(
     place: Place,
     instead: &[u8],
 ) -> Result<(), NoMemory> {
-    text.push(b'\n')?;
     put_pointed(text, files.line(place), place.column)?;
-    text.extend_from_slice(b"    instead: ")?;
-    text.extend_from_slice(instead)?;
-    text.push(b'\n')?;
-    Ok(())
+    put_all(text, &[b"    instead: ", instead, b"\n"])
 }
 
 // How often the construct comes later.
@@ -53,10 +49,11 @@ fn put_more(text: &mut Vec<u8>, more: usize) -> Result<(), NoMemory> {
     if more == 0 {
         return Ok(());
     }
-    text.extend_from_slice(b" (and ")?;
-    put_number(text, more)?;
-    text.extend_from_slice(b" more)")?;
-    Ok(())
+    let mut digits = Buffer::new();
+    put_all(
+        text,
+        &[b" (and ", digits.format(more as u64).as_bytes(), b" more)"],
+    )
 }
 
 // What the profile leaves out; of some constructs with the word.
@@ -67,42 +64,39 @@ fn put_construct(
     row: &Row,
 ) -> Result<(), NoMemory> {
     put_place(text, files, found.place)?;
-    text.extend_from_slice(b"not in the profile: ")?;
-    text.extend_from_slice(row.what.as_bytes())?;
+    put_all(text, &[b"not in the profile: ", row.what.as_bytes()])?;
     if row.names_word {
-        text.push(b' ')?;
+        put_all(text, &[b" "])?;
         put_quoted(text, found.word)?;
     }
     put_more(text, found.more)?;
     put_rest(text, files, found.place, row.instead.as_bytes())
 }
 
-/// The letters as any terminal may be shown them.
+/// The word as any terminal may be shown it.
 pub(crate) fn put_shown(text: &mut Vec<u8>, word: &[u8]) -> Result<(), NoMemory> {
-    for byte in word.iter().take(WORD) {
-        text.push(shown(*byte))?;
-    }
+    put_letters(text, front(word, WORD))?;
     if word.len() > WORD {
-        text.extend_from_slice(b"..")?;
+        put_all(text, &[b".."])
+    } else {
+        Ok(())
     }
-    Ok(())
 }
 
 /// The word in quotes.
 pub(crate) fn put_quoted(text: &mut Vec<u8>, word: &[u8]) -> Result<(), NoMemory> {
-    text.push(b'`')?;
+    put_all(text, &[b"`"])?;
     put_shown(text, word)?;
-    text.push(b'`')?;
-    Ok(())
+    put_all(text, &[b"`"])
 }
 
 // The word in quotes; where there is none, the end of the text.
 fn put_word(text: &mut Vec<u8>, word: &[u8]) -> Result<(), NoMemory> {
     if word.is_empty() {
-        text.extend_from_slice(b"the end of the text")?;
-        return Ok(());
+        put_all(text, &[b"the end of the text"])
+    } else {
+        put_quoted(text, word)
     }
-    put_quoted(text, word)
 }
 
 // The rule that the word breaks.
@@ -115,9 +109,9 @@ fn put_rule(
     put_place(text, files, found.place)?;
     if rule.names_word {
         put_word(text, found.word)?;
-        text.push(b' ')?;
+        put_all(text, &[b" "])?;
     }
-    text.extend_from_slice(rule.what.as_bytes())?;
+    put_all(text, &[rule.what.as_bytes()])?;
     put_more(text, found.more)?;
     put_rest(text, files, found.place, rule.instead.as_bytes())
 }

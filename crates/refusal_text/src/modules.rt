@@ -23,7 +23,12 @@ pub(crate) struct Modules<'a> {
 
 /// Whether one of these has the name.
 pub(crate) fn are_named(all: &[Named<'_>], name: &[u8]) -> bool {
-    all.iter().any(|one| one.name == name)
+    for one in all {
+        if one.name == name {
+            return true;
+        }
+    }
+    false
 }
 
 /// Whether the word begins instances of a module.

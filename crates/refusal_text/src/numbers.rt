@@ -2,52 +2,13 @@
 
 use crate::construct::Construct;
 use crate::find::What;
-use crate::letters::{Flaw, numbered, use_len};
-use basis::{digits_len, is_in_name};
+use crate::letters::{Flaw, Letters, len_of, numbered, use_len};
+use crate::lines::{from, front};
+use basis::digits_len;
+use memchr::memchr;
 
 // The widest number, in bits.
 const WIDTH: u64 = 64;
-
-// The letters from this one on.
-fn from(rest: &[u8], at: usize) -> &[u8] {
-    match rest.get(at..) {
-        None => &[],
-        Some(behind) => behind,
-    }
-}
-
-// The first so many letters.
-fn front_of(rest: &[u8], len: usize) -> &[u8] {
-    match rest.get(..len) {
-        None => rest,
-        Some(front) => front,
-    }
-}
-
-// Whether the letter may stand in a number.
-fn is_in_number(letter: u8) -> bool {
-    is_in_name(letter) || letter == b'?' || letter == b'\''
-}
-
-// How many letters of a number stand at the head.
-fn number_len(rest: &[u8]) -> usize {
-    for (at, letter) in rest.iter().enumerate() {
-        if !is_in_number(*letter) {
-            return at;
-        }
-    }
-    rest.len()
-}
-
-// How many letters stand before the first blank.
-fn word_len(rest: &[u8]) -> usize {
-    for (at, letter) in rest.iter().enumerate() {
-        if letter.is_ascii_whitespace() {
-            return at;
-        }
-    }
-    rest.len()
-}
 
 // How many letters a string has, with its quotes.
 fn string_len(rest: &[u8]) -> usize {
@@ -63,7 +24,7 @@ fn string_len(rest: &[u8]) -> usize {
 
 // Whether the letter names a base.
 fn is_base(letter: u8) -> bool {
-    b"bBoOdDhH".contains(&letter)
+    memchr(letter, b"bBoOdDhH").is_some()
 }
 
 // Whether a letter of the number that these digits write is past the widest one.
@@ -104,19 +65,9 @@ fn without_base(size: usize, behind: &[u8], whole: usize) -> Flaw {
     }
 }
 
-// How many blanks stand at the head.
-fn blanks_len(rest: &[u8]) -> usize {
-    for (at, letter) in rest.iter().enumerate() {
-        if !letter.is_ascii_whitespace() {
-            return at;
-        }
-    }
-    rest.len()
-}
-
 // A number whose digits, or whose size, there aren't.
 fn by_number(rest: &[u8]) -> Flaw {
-    let whole = number_len(rest);
+    let whole = len_of(Letters::OfNumber, rest);
     let size = digits_len(rest);
     let behind = from(rest, size.saturating_add(1));
     let is_signed = behind.starts_with(b"s") || behind.starts_with(b"S");
@@ -130,13 +81,13 @@ fn by_number(rest: &[u8]) -> Flaw {
         return without_base(size, behind, whole);
     }
     let digits = from(base, 1);
-    let blanks = blanks_len(digits);
-    let front = size.saturating_add(sign).saturating_add(2);
-    let end = front
+    let blanks = len_of(Letters::Spaces, digits);
+    let before = size.saturating_add(sign).saturating_add(2);
+    let end = before
         .saturating_add(blanks)
-        .saturating_add(number_len(from(digits, blanks)));
+        .saturating_add(len_of(Letters::OfNumber, from(digits, blanks)));
     let len = if blanks > 0 { end } else { whole };
-    if is_wide(front_of(rest, size)) {
+    if is_wide(front(rest, size)) {
         return number(What::LeftOut(Construct::WideNumber), len);
     }
     if blanks > 0 {
@@ -160,7 +111,7 @@ fn has_octal(string: &[u8]) -> bool {
 // A string with an escape that there isn't; its letters become blanks.
 fn by_string(rest: &[u8]) -> Flaw {
     let whole = string_len(rest);
-    let string = front_of(rest, whole);
+    let string = front(rest, whole);
     Flaw {
         what: if has_octal(string) {
             What::LeftOut(Construct::OctalEscape)
@@ -176,7 +127,7 @@ fn by_string(rest: &[u8]) -> Flaw {
 
 // A name that is escaped.
 fn by_escape(rest: &[u8]) -> Flaw {
-    let len = word_len(rest);
+    let len = len_of(Letters::NoSpaces, rest);
     Flaw {
         what: What::LeftOut(Construct::EscapedName),
         word: len,

@@ -145,5 +145,10 @@ pub(crate) const NO_PORT: Rule = Rule {
 
 /// What is told of the number, if it has a place.
 pub(crate) fn rule_of(number: u16) -> Option<&'static Rule> {
-    RULES.iter().find(|rule| rule.number == number)
+    for rule in &RULES {
+        if rule.number == number {
+            return Some(rule);
+        }
+    }
+    None
 }

@@ -12,6 +12,13 @@ const FRONTS: [&str; 14] = [
     "endcase", "default", "endtask",
 ];
 
+// Blocks that may have a name.
+const NAMED_BLOCKS: [&str; 2] = ["begin", "fork"];
+
+const EDGES: [&str; 2] = ["posedge", "negedge"];
+
+const ASSIGNING: [&str; 2] = ["=", "<="];
+
 /// Whether a statement begins at the word so many places earlier.
 pub(crate) fn begins_statement(words: Words<'_>, fewer: usize) -> bool {
     let front = words.before(fewer.saturating_add(1));
@@ -21,13 +28,12 @@ pub(crate) fn begins_statement(words: Words<'_>, fewer: usize) -> bool {
         return true;
     }
     if is(front, ":") {
-        return !is(second, "begin") && !is(second, "fork");
+        return !is_one_of(second, &NAMED_BLOCKS);
     }
     if is(second, ":") {
-        return is(third, "begin") || is(third, "fork");
+        return is_one_of(third, &NAMED_BLOCKS);
     }
-    let is_edge = is(front, "posedge") || is(front, "negedge");
-    (is(second, "#") || is(second, "@")) && !is_edge
+    is_one_of(second, &["#", "@"]) && !is_one_of(front, &EDGES)
 }
 
 // The construct of a call of a task, at the word behind its name.
@@ -61,10 +67,10 @@ fn by_colon(words: Words<'_>, walk: Walk) -> Option<Construct> {
 
 // The construct of `@`: an event inside an assignment, or an edge without parentheses.
 fn by_at(words: Words<'_>) -> Option<Construct> {
-    if is(words.before(1), "=") || is(words.before(1), "<=") {
+    if is_one_of(words.before(1), &ASSIGNING) {
         return Some(Construct::EventInAssignment);
     }
-    if is(words.after(1), "posedge") || is(words.after(1), "negedge") {
+    if is_one_of(words.after(1), &EDGES) {
         return Some(Construct::EventTerm);
     }
     None
@@ -100,7 +106,7 @@ pub(crate) fn by_name(words: Words<'_>, walk: Walk) -> Option<Construct> {
     if is(word, "assign") && is_in_statements(walk) {
         return Some(Construct::ProceduralAssign);
     }
-    if is(word, "repeat") && (is(before, "=") || is(before, "<=")) {
+    if is(word, "repeat") && is_one_of(before, &ASSIGNING) {
         return Some(Construct::EventInAssignment);
     }
     None

@@ -3,15 +3,10 @@
 
 use crate::construct::Construct;
 use crate::expressions::is_in_statements;
+use crate::phrase::{Beside, Keywords, Phrase, told_alone, told_by};
 use crate::statements::begins_statement;
-use crate::walk::{ALWAYS, Level, Opening, TWO_VALUED, Walk, is_final, is_type, passes_over};
+use crate::walk::{Level, Opening, TWO_VALUED, Walk, is_final, is_type, passes_over};
 use crate::words::{Words, is, is_one_of};
-
-// A word, and the construct that it tells.
-struct Named {
-    word: &'static str,
-    construct: Construct,
-}
 
 // Operators that are joined to `=`.
 const JOINED: [&str; 11] = ["+", "-", "*", "/", "%", "&", "|", "^", "<<", ">>", "<<<"];
@@ -21,20 +16,7 @@ const BODIES: [&str; 10] = [
     "begin", "if", "case", "casez", "casex", "for", "while", "repeat", "#", "@",
 ];
 
-const KINDS: [&str; 8] = [
-    "enum", "struct", "union", "logic", "bit", "int", "byte", "reg",
-];
-
-const TYPE_BODIES: [&str; 5] = ["{", "packed", "logic", "bit", "int"];
-
-const CHOICES: [&str; 4] = ["case", "casez", "casex", "if"];
-
 const ASSERTIONS: [&str; 3] = ["assert", "assume", "cover"];
-
-// What a module may have by default.
-const DEFAULTS: [&str; 2] = ["clocking", "disable"];
-
-const SHARED: [&str; 2] = ["mailbox", "semaphore"];
 
 // Methods, told by their names and the parenthesis behind them.
 const METHODS: [&str; 14] = [
@@ -59,85 +41,142 @@ const TIME_UNITS: [&str; 6] = ["s", "ms", "us", "ns", "ps", "fs"];
 // Before these a number has a unit without being a delay.
 const SCALES: [&str; 4] = ["timeunit", "timeprecision", "/", "."];
 
+// What the name of a type tells where it declares.
+const TYPE_NAMES: [Keywords; 3] = [
+    Keywords {
+        words: &["logic"],
+        construct: Construct::Logic,
+    },
+    Keywords {
+        words: &TWO_VALUED,
+        construct: Construct::TwoValued,
+    },
+    Keywords {
+        words: &["string"],
+        construct: Construct::StringType,
+    },
+];
+
+// What tells something wherever it stands, by the words round it.
+const PHRASES: [Phrase; 4] = [
+    Phrase {
+        words: &["typedef"],
+        before: Beside::Any,
+        next: Beside::One(&[
+            "enum", "struct", "union", "logic", "bit", "int", "byte", "reg",
+        ]),
+        then: Beside::Any,
+        construct: Construct::NewType,
+    },
+    Phrase {
+        words: &["enum", "struct"],
+        before: Beside::Not(&["typedef"]),
+        next: Beside::One(&["{", "packed", "logic", "bit", "int"]),
+        then: Beside::Any,
+        construct: Construct::NewType,
+    },
+    Phrase {
+        words: &["import"],
+        before: Beside::Any,
+        next: Beside::Any,
+        then: Beside::One(&[":"]),
+        construct: Construct::Package,
+    },
+    Phrase {
+        words: &["unique", "priority"],
+        before: Beside::Any,
+        next: Beside::One(&["case", "casez", "casex", "if"]),
+        then: Beside::Any,
+        construct: Construct::Unique,
+    },
+];
+
 // What begins between modules.
-const UNITS: [Named; 6] = [
-    Named {
-        word: "package",
+const UNITS: [Keywords; 5] = [
+    Keywords {
+        words: &["package", "import"],
         construct: Construct::Package,
     },
-    Named {
-        word: "import",
-        construct: Construct::Package,
-    },
-    Named {
-        word: "interface",
+    Keywords {
+        words: &["interface"],
         construct: Construct::Interface,
     },
-    Named {
-        word: "program",
+    Keywords {
+        words: &["program"],
         construct: Construct::Program,
     },
-    Named {
-        word: "class",
+    Keywords {
+        words: &["class"],
         construct: Construct::Class,
     },
-    Named {
-        word: "typedef",
+    Keywords {
+        words: &["typedef"],
         construct: Construct::NewType,
     },
 ];
 
+// What begins an item of a module.
+const ITEMS: [Phrase; 4] = [
+    Phrase {
+        words: &["default"],
+        before: Beside::Any,
+        next: Beside::One(&["clocking", "disable"]),
+        then: Beside::Any,
+        construct: Construct::Property,
+    },
+    Phrase {
+        // a name is given a value, or there is no list of connections
+        words: &["mailbox", "semaphore"],
+        before: Beside::Any,
+        next: Beside::Name,
+        then: Beside::One(&["=", ";", ","]),
+        construct: Construct::Mailbox,
+    },
+    Phrase {
+        words: &["always_ff"],
+        before: Beside::Any,
+        next: Beside::Any,
+        then: Beside::Any,
+        construct: Construct::AlwaysFf,
+    },
+    Phrase {
+        words: &["always_comb", "always_latch"],
+        before: Beside::Any,
+        next: Beside::Any,
+        then: Beside::Any,
+        construct: Construct::AlwaysComb,
+    },
+];
+
 // Statements that look like calls of tasks.
-const STATEMENTS: [Named; 8] = [
-    Named {
-        word: "foreach",
+const STATEMENTS: [Keywords; 4] = [
+    Keywords {
+        words: &["foreach"],
         construct: Construct::Foreach,
     },
-    Named {
-        word: "break",
+    Keywords {
+        words: &["break", "continue", "return"],
         construct: Construct::Jump,
     },
-    Named {
-        word: "continue",
-        construct: Construct::Jump,
-    },
-    Named {
-        word: "return",
-        construct: Construct::Jump,
-    },
-    Named {
-        word: "do",
+    Keywords {
+        words: &["do"],
         construct: Construct::DoWhile,
     },
-    Named {
-        word: "assert",
-        construct: Construct::Assertion,
-    },
-    Named {
-        word: "assume",
-        construct: Construct::Assertion,
-    },
-    Named {
-        word: "cover",
+    Keywords {
+        words: &ASSERTIONS,
         construct: Construct::Assertion,
     },
 ];
 
-// The construct that the word tells, if it is one of these.
-fn construct_among(word: &[u8], all: &[Named]) -> Option<Construct> {
-    let named = all.iter().find(|named| is(word, named.word))?;
-    Some(named.construct)
-}
-
 /// The construct of a statement that looks like the call of a task of this name.
 pub(crate) fn by_call(word: &[u8]) -> Option<Construct> {
-    construct_among(word, &STATEMENTS)
+    told_alone(word, &STATEMENTS)
 }
 
 // Whether a value ends with the word before.
 fn is_behind_value(words: Words<'_>) -> bool {
     let before = words.before(1);
-    words.is_name_before(1) || words.is_plain_before(1) || is(before, ")") || is(before, "]")
+    words.is_name_before(1) || words.is_plain_before(1) || is_one_of(before, &[")", "]"])
 }
 
 /// Whether the word is the unit of the number before it.
@@ -145,91 +184,106 @@ pub(crate) fn is_unit(words: Words<'_>) -> bool {
     is_one_of(words.word(), &TIME_UNITS) && words.is_plain_before(1) && words.adjoins()
 }
 
-// The construct of a type, or of the definition of one.
-fn by_type(words: Words<'_>) -> Option<Construct> {
-    let (word, next) = (words.word(), words.after(1));
-    if is_type(words) {
-        return Some(match word {
-            word if is(word, "logic") => Construct::Logic,
-            word if is_one_of(word, &TWO_VALUED) => Construct::TwoValued,
-            _ => Construct::StringType,
-        });
-    }
-    let is_body = is_one_of(next, &TYPE_BODIES) && !is(words.before(1), "typedef");
-    match word {
-        word if is(word, "typedef") && is_one_of(next, &KINDS) => Some(Construct::NewType),
-        word if is(word, "enum") && is_body => Some(Construct::NewType),
-        word if is(word, "struct") && is_body => Some(Construct::NewType),
-        word if is(word, "import") && is(words.after(2), ":") => Some(Construct::Package),
-        word if is(word, "unique") && is_one_of(next, &CHOICES) => Some(Construct::Unique),
-        word if is(word, "priority") && is_one_of(next, &CHOICES) => Some(Construct::Unique),
-        _ => None,
-    }
+// Whether the word begins an assertion of a property, and no item of which that was told at its name.
+fn is_assertion(words: Words<'_>, walk: Walk) -> bool {
+    let is_told = walk.level == Level::Items && is(words.before(1), ":");
+    is_one_of(words.word(), &ASSERTIONS) && is(words.after(1), "property") && !is_told
 }
 
-// Whether the word declares what processes share: a name is given a value, or there is no list of connections.
-fn is_shared(words: Words<'_>) -> bool {
-    words.is_name_after(1) && is_one_of(words.after(2), &["=", ";", ","])
+// The construct of an item that begins here.
+fn by_first_word(words: Words<'_>) -> Option<Construct> {
+    if let Some(construct) = told_by(words, &ITEMS) {
+        return Some(construct);
+    }
+    if is_final(words) {
+        return Some(Construct::Final);
+    }
+    if passes_over(words) {
+        let is_class = is(words.word(), "class");
+        return Some(if is_class {
+            Construct::Class
+        } else {
+            Construct::Property
+        });
+    }
+    None
 }
 
 // The construct of an item, or of what stands between modules.
 fn by_item(words: Words<'_>, walk: Walk) -> Option<Construct> {
-    let (word, next) = (words.word(), words.after(1));
-    if (is(word, "timeunit") || is(word, "timeprecision")) && words.is_plain_after(1) {
-        return Some(Construct::TimeUnit);
-    }
     if walk.level == Level::Outside {
-        return construct_among(word, &UNITS);
+        return told_alone(words.word(), &UNITS);
     }
-    let is_told = walk.level == Level::Items && is(words.before(1), ":");
-    if is_one_of(word, &ASSERTIONS) && is(next, "property") && !is_told {
+    if is_assertion(words, walk) {
         return Some(Construct::Assertion);
     }
-    if is(word, "bind") && words.is_name_after(1) && words.is_name_after(2) {
+    if is(words.word(), "bind") && words.is_name_after(1) && words.is_name_after(2) {
         return Some(Construct::Bind);
     }
-    match word {
-        _ if !walk.starts => None,
-        word if is(word, "default") && is_one_of(next, &DEFAULTS) => Some(Construct::Property),
-        word if is_one_of(word, &SHARED) && is_shared(words) => Some(Construct::Mailbox),
-        word if is(word, "always_ff") => Some(Construct::AlwaysFf),
-        word if is_one_of(word, &ALWAYS) => Some(Construct::AlwaysComb),
-        _ if is_final(words) => Some(Construct::Final),
-        word if is(word, "class") && passes_over(words) => Some(Construct::Class),
-        _ if passes_over(words) => Some(Construct::Property),
-        _ => None,
+    if walk.starts {
+        by_first_word(words)
+    } else {
+        None
     }
+}
+
+// Whether the word begins a loop that is tested at its end.
+fn is_loop(words: Words<'_>, walk: Walk) -> bool {
+    is(words.word(), "do")
+        && walk.open == 0
+        && (is_one_of(words.after(1), &BODIES) || words.is_name_after(1))
+        && begins_statement(words, 0)
 }
 
 // The construct of a word in a statement.
 fn by_statement(words: Words<'_>, walk: Walk) -> Option<Construct> {
-    let (word, next) = (words.word(), words.after(1));
     if !is_in_statements(walk) {
         return None;
     }
-    let begins = begins_statement(words, 0) && walk.open == 0;
-    match word {
-        word if is(word, "do") && begins && is_one_of(next, &BODIES) => Some(Construct::DoWhile),
-        word if is(word, "do") && begins && words.is_name_after(1) => Some(Construct::DoWhile),
-        word if is(word, "fork") && is(words.before(1), "wait") => Some(Construct::WaitFork),
-        _ => None,
+    if is_loop(words, walk) {
+        return Some(Construct::DoWhile);
     }
+    if is(words.word(), "fork") && is(words.before(1), "wait") {
+        return Some(Construct::WaitFork);
+    }
+    None
+}
+
+// The construct of a word that tells it wherever it stands.
+fn by_word(words: Words<'_>) -> Option<Construct> {
+    if is_unit(words) && !is_one_of(words.before(2), &SCALES) {
+        return Some(Construct::TimeLiteral);
+    }
+    if is_one_of(words.word(), &["timeunit", "timeprecision"]) && words.is_plain_after(1) {
+        return Some(Construct::TimeUnit);
+    }
+    if is_type(words) {
+        return told_alone(words.word(), &TYPE_NAMES);
+    }
+    told_by(words, &PHRASES)
+}
+
+// The construct of an operator that is a word.
+fn by_operator(words: Words<'_>) -> Option<Construct> {
+    let (word, next) = (words.word(), words.after(1));
+    if !is_behind_value(words) {
+        return None;
+    }
+    if is(word, "inside") && is(next, "{") {
+        return Some(Construct::Inside);
+    }
+    if is(word, "iff") && (words.is_name_after(1) || is_one_of(next, &["(", "!"])) {
+        return Some(Construct::Iff);
+    }
+    None
 }
 
 /// The construct that a name tells.
 pub(crate) fn by_name(words: Words<'_>, walk: Walk) -> Option<Construct> {
-    let (word, next) = (words.word(), words.after(1));
-    if is_unit(words) && !is_one_of(words.before(2), &SCALES) {
-        return Some(Construct::TimeLiteral);
+    if let Some(construct) = by_word(words) {
+        return Some(construct);
     }
-    if is(word, "inside") && is(next, "{") && is_behind_value(words) {
-        return Some(Construct::Inside);
-    }
-    let goes_on = words.is_name_after(1) || is(next, "(") || is(next, "!");
-    if is(word, "iff") && is_behind_value(words) && goes_on {
-        return Some(Construct::Iff);
-    }
-    if let Some(construct) = by_type(words) {
+    if let Some(construct) = by_operator(words) {
         return Some(construct);
     }
     match by_item(words, walk) {
@@ -247,8 +301,8 @@ fn by_sign(words: Words<'_>, walk: Walk) -> Option<Construct> {
     if is_one_of(sign, &JOINED) && is(next, "=") {
         return Some(Construct::JoinedAssignment);
     }
-    let is_double = (is(sign, "+") || is(sign, "-")) && next == sign;
-    let is_last = is(behind, ";") || is(behind, ")");
+    let is_double = is_one_of(sign, &["+", "-"]) && next == sign;
+    let is_last = is_one_of(behind, &[";", ")"]);
     let begins = (walk.open == 0 && begins_statement(words, 0)) || is(words.before(1), ";");
     if is_double && (is_last || (begins && !walk.assigned && words.is_name_after(2))) {
         return Some(Construct::Increment);
@@ -283,8 +337,8 @@ fn by_point(words: Words<'_>, walk: Walk) -> Option<Construct> {
     if is_method(words) {
         return Some(Construct::Method);
     }
-    let is_first = is(words.before(1), "(") || is(words.before(1), ",");
-    let is_short = is(words.after(2), ",") || is(words.after(2), ")");
+    let is_first = is_one_of(words.before(1), &["(", ","]);
+    let is_short = is_one_of(words.after(2), &[",", ")"]);
     if is_first && walk.opening == Opening::Instance && (is(words.after(1), "*") || is_short) {
         return Some(Construct::ShortConnection);
     }

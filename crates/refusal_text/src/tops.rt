@@ -1,7 +1,7 @@
 // Which modules may be the top, where none is, or several are.
 
 use crate::find::{Found, What, keep};
-use crate::lines::Files;
+use crate::lines::{Files, put_all};
 use crate::message::{put_place, put_quoted, put_rest, put_shown};
 use crate::modules::{Modules, Named, are_named};
 use basis::NoMemory;
@@ -16,10 +16,8 @@ fn put_names(
     between: &[u8],
 ) -> Result<(), NoMemory> {
     for (at, one) in all.iter().enumerate() {
-        if at > 0 {
-            text.extend_from_slice(between)?;
-        }
-        text.extend_from_slice(before)?;
+        let between = if at > 0 { between } else { &[] };
+        put_all(text, &[between, before])?;
         put_shown(text, one.name)?;
     }
     Ok(())
@@ -46,10 +44,11 @@ pub(crate) fn put_several(
 ) -> Result<(), NoMemory> {
     let tops = uninstantiated(alloc, modules)?;
     let mut choice = Vec::new(alloc);
-    choice.extend_from_slice(b"choose one with --top; `vrace races` takes several: ")?;
+    let how = b"choose one with --top; `vrace races` takes several: ";
+    put_all(&mut choice, &[how])?;
     put_names(&mut choice, &tops, b"--top ", b" ")?;
     put_place(text, files, place)?;
-    text.extend_from_slice(b"modules that none instantiates: ")?;
+    put_all(text, &[b"modules that none instantiates: "])?;
     put_names(text, &tops, b"", b", ")?;
     put_rest(text, files, place, &choice)
 }
@@ -58,12 +57,22 @@ pub(crate) fn put_several(
 fn put_missing(text: &mut Vec<u8>, modules: &Modules<'_>, tops: &[&str]) -> Result<(), NoMemory> {
     for top in tops {
         if !are_named(&modules.modules, top.as_bytes()) {
-            text.extend_from_slice(b"--top: ")?;
+            put_all(text, &[b"--top: "])?;
             put_quoted(text, top.as_bytes())?;
-            text.extend_from_slice(b" is no module of the files\n")?;
+            put_all(text, &[b" is no module of the files\n"])?;
         }
     }
     Ok(())
+}
+
+// Why none is the top.
+fn put_reason(alloc: Global, text: &mut Vec<u8>, modules: &Modules<'_>) -> Result<(), NoMemory> {
+    let reason: &[u8] = if uninstantiated(alloc, modules)?.is_empty() {
+        b"none is the top: each module is instantiated by one of the modules\n"
+    } else {
+        b"the top that is asked for is no module of the files\n"
+    };
+    put_all(text, &[reason])
 }
 
 /// Where no module is the top: which were asked for, and which there are.
@@ -75,23 +84,18 @@ pub(crate) fn put_none(
 ) -> Result<(), NoMemory> {
     put_missing(text, modules, tops)?;
     if modules.modules.is_empty() {
-        text.extend_from_slice(
-            b"the files have no module\n    instead: name the file of the testbench\n",
-        )?;
-        return Ok(());
+        let none = b"the files have no module\n    instead: name the file of the testbench\n";
+        return put_all(text, &[none]);
     }
     if tops.is_empty() {
-        let free = uninstantiated(alloc, modules)?;
-        text.extend_from_slice(if free.is_empty() {
-            b"none is the top: each module is instantiated by one of the modules\n".as_slice()
-        } else {
-            b"the top that is asked for is no module of the files\n".as_slice()
-        })?;
+        put_reason(alloc, text, modules)?;
     }
-    text.extend_from_slice(b"    instead: name one of the modules with --top: ")?;
+    put_all(
+        text,
+        &[b"    instead: name one of the modules with --top: "],
+    )?;
     put_names(text, &modules.modules, b"", b", ")?;
-    text.push(b'\n')?;
-    Ok(())
+    put_all(text, &[b"\n"])
 }
 
 /// Each module that isn't there and of which the text has instances.

@@ -90,8 +90,12 @@ fn declared_of<'a>(
 
 // Whether the module declares the name.
 fn has(all: &[Declared<'_>], module: usize, name: &[u8]) -> bool {
-    all.iter()
-        .any(|one| one.module == module && one.name == name)
+    for one in all {
+        if one.module == module && one.name == name {
+            return true;
+        }
+    }
+    false
 }
 
 // The names that are used and aren't among these.

@@ -84,6 +84,15 @@ pub(crate) const TWO_VALUED: [&str; 5] = ["bit", "int", "byte", "shortint", "lon
 /// With these processes of SystemVerilog begin.
 pub(crate) const ALWAYS: [&str; 3] = ["always_comb", "always_ff", "always_latch"];
 
+// With these processes begin, those of SystemVerilog among them.
+const PROCESSES: [&str; 5] = [
+    "initial",
+    "always",
+    "always_comb",
+    "always_ff",
+    "always_latch",
+];
+
 /// The tasks that print.
 pub(crate) const PRINTS: [&str; 3] = ["$display", "$strobe", "$monitor"];
 
@@ -189,7 +198,12 @@ fn is_print(word: &[u8]) -> bool {
         None => name,
         Some(rest) => rest,
     };
-    PRINT_NAMES.iter().any(|one| is_name_with_radix(name, *one))
+    for one in &PRINT_NAMES {
+        if is_name_with_radix(name, one) {
+            return true;
+        }
+    }
+    false
 }
 
 // What the brackets that this word opens stand behind.
@@ -214,8 +228,8 @@ fn opening_of(words: Words<'_>) -> Opening {
     match words.word() {
         word if is_one_of(word, &VARIABLES) => Opening::Variable,
         word if is_one_of(word, &NETS) => Opening::Net,
-        word if is(word, "input") || is(word, "output") || is(word, "inout") => Opening::Net,
-        word if is(word, "parameter") || is(word, "localparam") => Opening::Parameter,
+        word if is_one_of(word, &["input", "output", "inout"]) => Opening::Net,
+        word if is_one_of(word, &["parameter", "localparam"]) => Opening::Parameter,
         word if is(word, "assign") => Opening::Assign,
         word if is(word, "defparam") => Opening::Defparam,
         _ if is_type(words) => Opening::Variable,
@@ -224,13 +238,19 @@ fn opening_of(words: Words<'_>) -> Opening {
     }
 }
 
+// Whether what is behind a type is declared: a name that no parentheses follow, a sign, or a range and a name.
+fn is_declared(words: Words<'_>) -> bool {
+    let next = words.after(1);
+    if is_name(next) {
+        return !is_one_of(words.after(2), &["(", "#"]);
+    }
+    let is_sized = is(next, "[") && is_name(words.next().behind_brackets());
+    is_sized || is_one_of(next, &["signed", "unsigned"])
+}
+
 /// Whether the word is a type of SystemVerilog, and no other name.
 pub(crate) fn is_type(words: Words<'_>) -> bool {
-    let next = words.after(1);
-    let declares = words.is_name_after(1) && !is(words.after(2), "(") && !is(words.after(2), "#");
-    let sized = is(next, "[") && is_name(words.next().behind_brackets());
-    is_one_of(words.word(), &TYPES)
-        && (declares || sized || is(next, "signed") || is(next, "unsigned"))
+    is_one_of(words.word(), &TYPES) && is_declared(words)
 }
 
 /// Whether the word begins the final statements of SystemVerilog.
@@ -304,7 +324,7 @@ impl Walk {
         if self.attribute {
             return self.in_attribute(words);
         }
-        if is(word, "module") || is(word, "macromodule") {
+        if is_one_of(word, &["module", "macromodule"]) {
             return self.at(Level::Head);
         }
         if is(word, "endmodule") {
@@ -414,7 +434,7 @@ impl Walk {
     fn in_brackets(&self, words: Words<'_>) -> Walk {
         let word = words.word();
         let mut next = *self;
-        if (is(word, ",") || is(word, "or")) && self.open == 1 {
+        if self.open == 1 && is_one_of(word, &[",", "or"]) {
             next.told = false;
         } else if is(word, ":") || self.group == Group::Event {
             next.told = self.told || words.is(TokenKind::Symbol) || is(word, "iff");
@@ -454,14 +474,12 @@ impl Walk {
         let mut next = self.at(Level::Items);
         next.depth = 0;
         match word {
-            word if is(word, "initial") || is(word, "always") || is_one_of(word, &ALWAYS) => {
-                next.at(Level::Statement)
-            }
+            word if is_one_of(word, &PROCESSES) => next.at(Level::Statement),
             _ if is_final(words) => next.at(Level::Statement),
             _ if passes_over(words) => next.passing(),
-            word if is(word, "function") || is(word, "task") => next.at(Level::RoutineHead),
+            word if is_one_of(word, &["function", "task"]) => next.at(Level::RoutineHead),
             word if is(word, "specify") => next.passing(),
-            word if is(word, "generate") || is(word, "endgenerate") => {
+            word if is_one_of(word, &["generate", "endgenerate"]) => {
                 next.generates = is(word, "generate");
                 next
             }
@@ -500,7 +518,7 @@ impl Walk {
     fn marked(&self, word: &[u8]) -> Walk {
         let mut next = *self;
         match word {
-            word if is(word, "=") || is(word, "<=") => next.assigned = true,
+            word if is_one_of(word, &["=", "<="]) => next.assigned = true,
             word if is(word, ",") && self.opening != Opening::Other => {
                 next.assigned = false;
                 next.told = false;

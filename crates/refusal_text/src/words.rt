@@ -20,7 +20,12 @@ pub(crate) fn is(word: &[u8], text: &str) -> bool {
 
 /// Whether the word is one of these.
 pub(crate) fn is_one_of(word: &[u8], words: &[&'static str]) -> bool {
-    words.iter().any(|one| is(word, *one))
+    for one in words {
+        if is(word, one) {
+            return true;
+        }
+    }
+    false
 }
 
 /// Whether the word is a name, and no keyword.

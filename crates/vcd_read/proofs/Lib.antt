@@ -1,3 +1,5 @@
 pub mod WordLemmas
 pub mod HeaderLemmas
 pub mod TellLemmas
+pub mod OneTelling
+pub mod OneDeclaring

@@ -1,5 +1,5 @@
 -- *trusted*: What a value change dump declares (IEEE 1364-2005, 18.2.3).
-use Rattle.std.specs.Prelude.{◌≡◌, ℕ, ◌≤◌, ◌<◌, Bool, not, take, ◌==◌, List, [], ◌∷◌, ◌++◌, codes, ◌⊎◌, ⊤}
+use Rattle.std.specs.Prelude.{◌≡◌, ℕ, Bool, not, take, ◌==◌, List, [], ◌∷◌, ◌++◌, codes, ◌⊎◌, ⊤}
 use Rattle.std.specs.List.{prefix_len}
 use Rattle.basis.specs.Numerals.{IsNumber}
 use Rattle.vcd_read.specs.Words.{Text}

@@ -1,5 +1,5 @@
 -- *internal*: How far declarations have come.
-use Rattle.std.specs.Prelude.{◌≡◌, ℕ, List, [], ◌∷◌, ◌++◌, map, reverse}
+use Rattle.std.specs.Prelude.{◌≡◌, List, ◌++◌, map, reverse}
 use Rattle.vcd_read.specs.Words.{Text}
 use Rattle.vcd_read.specs.Declarations.{Variable, Declares}
 use Rattle.vcd_read.specs.declared.header.Header.{Header}

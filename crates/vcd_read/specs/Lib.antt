@@ -6,3 +6,5 @@ pub mod Declaring
 pub mod Commands
 pub mod Telling
 pub mod Readers
+pub mod Faults
+pub mod Laws

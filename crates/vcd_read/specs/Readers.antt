@@ -8,3 +8,7 @@ to_come remaining dump = left remaining dump.commands.words.bytes
 
 abbrev pub IsOpen : {R : Type 0} → VcdReader R → Type 0
 IsOpen dump = IsReady dump.commands.words.bytes
+
+-- so many more bytes are taken at most: each item takes some
+abbrev pub bytes_left : {R : Type 0} → VcdReader R → ℕ
+bytes_left dump = dump.commands.words.bytes.budget

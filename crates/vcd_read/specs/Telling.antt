@@ -1,5 +1,5 @@
 -- *internal*: How far what a dump tells has come.
-use Rattle.std.specs.Prelude.{ℕ, Bool, true, false, List, [], ◌∷◌, ◌++◌, Option, None, Some}
+use Rattle.std.specs.Prelude.{Bool, true, false, List, [], ◌∷◌, ◌++◌, Option, None, Some}
 use Rattle.vcd_read.specs.Words.{Text}
 use Rattle.vcd_read.specs.Commands.{Item, at, value, off, on, Tells}
 use Rattle.vcd_read.specs.declared.item.VcdItem.{VcdItem}

@@ -1,5 +1,5 @@
 -- *trusted*: The words of a value change dump (IEEE 1364-2005, 18.2.1): blanks, tabs and ends of lines divide them.
-use Rattle.std.specs.Prelude.{ℕ, Bool, if◌then◌else◌, List, [], ◌∷◌, ◌++◌}
+use Rattle.std.specs.Prelude.{ℕ, if◌then◌else◌, List, [], ◌∷◌, ◌++◌}
 use Rattle.std.specs.Char.{is_ascii_whitespace}
 
 abbrev pub Text : Type 0

@@ -5,6 +5,7 @@ ghost use Rattle.std.specs.List.{list_all};
 ghost use Rattle.vcd_read.specs.Words.{Text};
 ghost use Rattle.vcd_read.specs.Bytes.{left, AreAll, IsReady, Takes};
 ghost use Rattle.vcd_read.specs.Commands.{IsReal, IsVector, Tells, is_digit};
+ghost use Rattle.vcd_read.specs.Faults.{IsNoDump};
 ghost use Rattle.vcd_read.specs.Telling.{Tell, Opens, item_of, items_of};
 
 use crate::fault::VcdFault;
@@ -81,6 +82,13 @@ impl<R: Read + Drop> Commands<R> {
             words,
             inside: false,
         }
+    }
+
+    /// The text is no dump, as the last word shows.
+    pub(crate) fn no_dump(&self) -> OrMemory<VcdFault>
+        ensures { IsNoDump result }
+    {
+        self.words.no_dump()
     }
 
     // A time, of which the digits have come.

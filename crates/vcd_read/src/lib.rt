@@ -1,6 +1,6 @@
-// Value change dumps of any simulator, slot by slot (IEEE 1364-2005, 18.2). In go a reader; out come the variables that the dump declares,
-// and then, slot by slot, what changes, or a refusal with its line.
-// The law: what comes out is what specs/Dumps.antt says of the words of the text.
+// Value change dumps of any simulator, item by item (IEEE 1364-2005, 18.2). In go a reader; out come the variables that the dump declares,
+// and then, one by one, the times and values that it tells, or a refusal with its line.
+// The law: what comes out is what the words of the text declare (specs/Declarations.antt) and tell (specs/Commands.antt): they say one thing.
 #![tactic(auto)]
 
 mod bytes;
@@ -8,10 +8,12 @@ mod commands;
 mod fault;
 mod header;
 mod item;
+mod law;
 mod reader;
 mod words;
 
 pub use fault::VcdFault;
 pub use header::VcdVariable;
 pub use item::VcdItem;
+pub use law::a_dump_says_one_thing;
 pub use reader::VcdReader;

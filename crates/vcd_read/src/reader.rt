@@ -7,7 +7,8 @@ ghost use Rattle.vcd_read.specs.Commands.{Tells};
 ghost use Rattle.vcd_read.specs.Declarations.{Declares};
 ghost use Rattle.vcd_read.specs.Declaring.{all_seen};
 ghost use Rattle.vcd_read.specs.Telling.{Tell, item_of};
-ghost use Rattle.vcd_read.specs.Readers.{IsOpen, to_come};
+ghost use Rattle.vcd_read.specs.Faults.{IsNoDump};
+ghost use Rattle.vcd_read.specs.Readers.{IsOpen, bytes_left, to_come};
 
 use crate::bytes::ByteReader;
 use crate::commands::Commands;
@@ -60,7 +61,15 @@ impl<R: Read + Drop> VcdReader<R> {
             × Tell words self.old.commands.inside self.new.commands.inside (item_of item ∷ []))) }
         ensures end { IfOk result (λ told. IfNone told ((words : List Text)
             × AreAll words (to_come R.remaining self.old) (to_come R.remaining self.new) × Tells self.old.commands.inside words [])) }
+        ensures ends { IfOk result (λ told. IfSome told (λ _. bytes_left self.new < bytes_left self.old)) }
     {
         self.commands.next(alloc)
+    }
+
+    /// What the items tell, up to the last one, isn't told by a dump: E505 with the line that has been come to.
+    pub fn no_dump(&self) -> OrMemory<VcdFault>
+        ensures { IsNoDump result }
+    {
+        self.commands.no_dump()
     }
 }

@@ -4,6 +4,7 @@ ghost use Rattle.std.specs.Prelude.{◌≡◌, ◌<◌, ◌++◌, ◌∷◌, [],
 ghost use Rattle.vcd_read.specs.Words.{Text};
 ghost use Rattle.vcd_read.specs.Bytes.{left, Come, IsReady, IsNextWord, NoneIsLeft};
 ghost use Rattle.vcd_read.specs.Declarations.{end_word, IsNoEnd, HaveNoEnd};
+ghost use Rattle.vcd_read.specs.Faults.{IsNoDump};
 
 use crate::bytes::ByteReader;
 use crate::fault::VcdFault;
@@ -15,12 +16,13 @@ use std::mem;
 // How long a word may be.
 const MOST: usize = 65_536;
 
-/// The bytes of a dump, the last word, and the number of the line of the next byte, from 1.
+/// The bytes of a dump, the last word and the number of its line, from 1, and that of the line of the next byte.
 #[derive(Drop)]
 pub(crate) struct WordReader<R> {
     bytes: ByteReader<R>,
     word: Vec<u8>,
     line: u64,
+    next_line: u64,
 }
 
 impl<R: Read + Drop> WordReader<R> {
@@ -32,6 +34,7 @@ impl<R: Read + Drop> WordReader<R> {
             bytes,
             word: Vec::new(alloc),
             line: 1,
+            next_line: 1,
         }
     }
 
@@ -43,7 +46,9 @@ impl<R: Read + Drop> WordReader<R> {
     }
 
     /// The text is no dump, as the last word shows.
-    pub(crate) fn no_dump(&self) -> OrMemory<VcdFault> {
+    pub(crate) fn no_dump(&self) -> OrMemory<VcdFault>
+        ensures { IsNoDump result }
+    {
         OrMemory::Fault(VcdFault::NoDump { line: self.line })
     }
 
@@ -63,12 +68,13 @@ impl<R: Read + Drop> WordReader<R> {
                 return Ok(!self.word.is_empty());
             };
             if byte == b'\n' {
-                self.line = self.line.saturating_add(1);
+                self.next_line = self.next_line.saturating_add(1);
             }
             if !byte.is_ascii_whitespace() {
                 if self.word.len() >= MOST {
                     return Err(self.no_dump());
                 }
+                self.line = self.next_line;
                 self.word.push(byte)?;
             } else if !self.word.is_empty() {
                 return Ok(true);

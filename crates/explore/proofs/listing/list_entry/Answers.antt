@@ -1,7 +1,8 @@
 use Rattle.std.proofs.Common.{◌≡◌, ◌∙◌, sym, subst, ℕ, List, length}
 use Rattle.indexmap.specs.IndexMap.{insert_entry}
 use Rattle.explore.specs.Inner.Listing.{AreLong, IsShort}
-use Rattle.explore.proofs.ListingLemmas.{PutsIn, on_ok, put_found, put_keeps, put_listed, stays_listed}
+use Rattle.explore.specs.Found.{AreFound}
+use Rattle.explore.proofs.ListingLemmas.{PutsIn, on_both, on_ok, put_found, put_keeps, put_listed, stays_listed}
 use Rattle.explore.proofs.listing.list_entry.Given.{Over}
 use Rattle.explore.proofs.listing.list_entry.Goals as goal
 
@@ -24,7 +25,11 @@ puts g c put = record {
 }
 
 pub returns-clause-found : goal.returns-clause-found
-returns-clause-found g c = on_ok c.note.result (λ put. put_found (g.P.Space.rules c.args.space.now) c.args.limits.now g.P.State.PartialEq.eq c.args.entry.now c.in_ok-copy.field-0 c.in_ok-copy-2.field-0 c.args.marks.now.entries c.note.new.marks.entries (puts g c put) c.requires.found) c.note.ensures.put
+returns-clause-found g c =
+    on_both c.note.result
+    (λ put. put_found (g.P.Space.rules c.args.space.now) c.args.limits.now g.P.State.PartialEq.eq c.args.entry.now c.in_ok-copy.field-0 c.in_ok-copy-2.field-0 c.args.marks.now.entries c.note.new.marks.entries (puts g c put) c.requires.found)
+    (λ same. subst (AreFound (g.P.Space.rules c.args.space.now) c.args.limits.now) (sym same) c.requires.found)
+    c.note.ensures.put c.note.ensures.kept
 
 pub returns-clause-listed : goal.returns-clause-listed
 returns-clause-listed g c = on_ok c.note.result (λ put. put_listed (g.P.Space.rules c.args.space.now) c.args.limits.now g.P.State.PartialEq.eq c.args.entry.now c.in_ok-copy.field-0 c.in_ok-copy-2.field-0 c.args.marks.now.entries c.note.new.marks.entries (puts g c put)) c.note.ensures.put

@@ -1,4 +1,4 @@
-use Rattle.std.proofs.Common.{◌≡◌, ℕ, List, [], ◌∷◌, subst, sym}
+use Rattle.std.proofs.Common.{[], ◌∷◌, subst, sym}
 use Rattle.vcd_read.specs.Words.{Text}
 use Rattle.vcd_read.specs.Bytes.{left, Come}
 use Rattle.vcd_read.specs.Telling.{Tell}

@@ -1,7 +1,6 @@
-use Rattle.std.proofs.Common.{◌≡◌, ℕ, Bool, List, [], ◌∷◌, ◌++◌, Option, Some, ap, sym, subst, ◌∙◌, arith}
+use Rattle.std.proofs.Common.{[], ◌∷◌, ◌++◌, Option, Some, ap, subst, ◌∙◌, arith}
 use Rattle.vcd_read.specs.Words.{Text}
 use Rattle.vcd_read.specs.Bytes.{left, Come}
-use Rattle.vcd_read.specs.Commands.{Item}
 use Rattle.vcd_read.specs.Telling.{Tell, items_of}
 use Rattle.vcd_read.proofs.WordLemmas.{all_come, words_come}
 use Rattle.vcd_read.proofs.TellLemmas.{all_told, tell_then}

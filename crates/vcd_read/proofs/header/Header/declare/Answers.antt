@@ -2,7 +2,7 @@ use Rattle.std.proofs.Common.{ℕ, List, ◌∷◌, ◌++◌, [], ap, subst, ◌
 use Rattle.basis.specs.Numerals.{IsNumber}
 use Rattle.vcd_read.specs.Words.{Text}
 use Rattle.vcd_read.specs.Bytes.{left}
-use Rattle.vcd_read.specs.Declarations.{Variable, end_word, declared}
+use Rattle.vcd_read.specs.Declarations.{end_word, declared}
 use Rattle.vcd_read.specs.Declaring.{all_seen}
 use Rattle.vcd_read.proofs.WordLemmas.{more_come}
 use Rattle.vcd_read.proofs.HeaderLemmas.{lead_variable}

@@ -1,5 +1,4 @@
-use Rattle.std.proofs.Common.{List, ◌∷◌, ◌++◌, [], subst}
-use Rattle.vcd_read.specs.Words.{Text}
+use Rattle.std.proofs.Common.{◌∷◌, ◌++◌, [], subst}
 use Rattle.vcd_read.specs.Bytes.{left}
 use Rattle.vcd_read.specs.Declarations.{IsNote, end_word}
 use Rattle.vcd_read.proofs.WordLemmas.{more_come}

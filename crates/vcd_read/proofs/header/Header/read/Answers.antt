@@ -1,9 +1,9 @@
-use Rattle.std.proofs.Common.{List, ◌∷◌, ◌++◌, [], arith, ap, sym, subst}
+use Rattle.std.proofs.Common.{List, ◌∷◌, ◌++◌, [], arith, sym, subst}
 use Rattle.std.specs.Prelude.{codes}
 use Rattle.vcd_read.specs.Words.{Text}
 use Rattle.vcd_read.specs.Bytes.{left}
 use Rattle.vcd_read.specs.Declarations.{Declares, end_word}
-use Rattle.vcd_read.specs.Declaring.{Lead, all_seen}
+use Rattle.vcd_read.specs.Declaring.{all_seen}
 use Rattle.vcd_read.specs.declared.header.Header.{Header}
 use Rattle.vcd_read.proofs.WordLemmas.{more_come}
 use Rattle.vcd_read.proofs.HeaderLemmas.{lead_then, all_declared}

@@ -1,4 +1,4 @@
-use Rattle.std.proofs.Common.{List, [], ◌∷◌, ◌++◌, Option, subst, arith}
+use Rattle.std.proofs.Common.{[], ◌∷◌, ◌++◌, subst, arith}
 use Rattle.vcd_read.specs.Words.{Text}
 use Rattle.vcd_read.specs.Bytes.{left, Come}
 use Rattle.vcd_read.specs.Declarations.{end_word}

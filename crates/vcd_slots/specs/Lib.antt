@@ -1,0 +1,7 @@
+-- *internal*: The list of these files; the first word of each says whether it has to be believed.
+pub mod Slots
+pub mod Digits
+pub mod Following
+pub mod Standing
+pub mod Taken
+pub mod Laws

@@ -1,0 +1,75 @@
+// Digits of values, as vectors (18.2.2).
+
+ghost use Rattle.std.specs.Prelude.{◌≡◌, ◌+◌, ◌≤◌, ◌∷◌, length, replicate, false};
+ghost use Rattle.vbits.specs.Vectors.{filled, single};
+ghost use Rattle.vcd_slots.specs.Slots.{extension, letter_of, vector_of};
+ghost use Rattle.vcd_slots.specs.Digits.{begun, put_all};
+
+use vbits::{Bit4, Vec4};
+
+// The letter of a digit.
+fn letter_of(digit: u8) -> Bit4
+    ensures { result ≡ letter_of digit }
+{
+    if digit == b'0' {
+        Bit4::Zero
+    } else if digit == b'1' {
+        Bit4::One
+    } else if digit == b'x' || digit == b'X' {
+        Bit4::X
+    } else {
+        Bit4::Z
+    }
+}
+
+// So many letters as stand to the left of this one.
+fn left_of(letter: Bit4, count: u32) -> Vec4
+    requires some { 1 ≤ count }
+    requires few { count ≤ 64 }
+    ensures { result ≡ filled count (extension letter) }
+{
+    match letter {
+        Bit4::Zero => Vec4::zeros(count),
+        Bit4::One => Vec4::zeros(count),
+        Bit4::X => Vec4::all_x(count),
+        Bit4::Z => Vec4::all_z(count),
+    }
+}
+
+// The letter, with so many to its left.
+fn begun(letter: Bit4, more: u32) -> Vec4
+    requires { more ≤ 63 }
+    ensures { result ≡ begun letter more }
+{
+    if more == 0 {
+        Vec4::of_bit(letter)
+    } else {
+        left_of(letter, more).concat(Vec4::of_bit(letter))
+    }
+}
+
+// With the letters of digits to its right.
+fn put_all(start: Vec4, digits: &[u8]) -> Vec4
+    requires room { length start.letters + length digits.now ≤ 64 }
+    requires unsigned { start.signed ≡ false }
+    ensures { result ≡ put_all start digits.now }
+{
+    let mut vector = start;
+    for digit in digits {
+        vector = vector.concat(Vec4::of_bit(letter_of(*digit)));
+    }
+    vector
+}
+
+/// The value of a variable of so many bits, if the digits are some and no more.
+pub(crate) fn vector_of(width: u32, digits: &[u8]) -> Option<Vec4>
+    requires { width ≤ 64 }
+    ensures { result ≡ vector_of width digits.now }
+{
+    let (first, rest) = digits.split_first()?;
+    if digits.len() > width as usize {
+        return None;
+    }
+    let more = width - digits.len() as u32;
+    Some(put_all(begun(letter_of(*first), more), rest))
+}

@@ -1,0 +1,14 @@
+// What a value change dump shows from time to time (IEEE 1364-2005, 18.2). In goes a dump whose declarations were read, and which of its
+// variables are followed; out comes, slot by slot, what each of them is worth at the slot's end, or a refusal with its line.
+// The law: that is what the dump shows at this time (specs/Slots.antt).
+#![tactic(auto)]
+
+mod column;
+mod columns;
+mod digits;
+mod law;
+mod slots;
+
+pub use columns::Columns;
+pub use law::slots_show_their_time;
+pub use slots::DumpSlots;
