@@ -1,1 +1,5 @@
 mod SlotLemmas
+mod NamedLemmas
+mod UnderWayLemmas
+mod ReadLemmas
+mod CountLemmas

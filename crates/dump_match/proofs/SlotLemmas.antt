@@ -6,6 +6,7 @@ use Rattle.vmodel.specs.Choices.{choices}
 use Rattle.vmodel.specs.Run.{Setting, rules_of, is_mark, state_after}
 use Rattle.vmodel.specs.RunProgress.{width_is}
 use Rattle.vmodel.specs.RunLaws.{GoesOnOneWay, GoesOnLater, StaysInSlot}
+use Rattle.vmachine.specs.declared.machine_state.MachineState.{MachineState}
 use Rattle.vmachine.specs.Machines.{Stands, machine_rules, rank_of}
 use Rattle.vmachine.specs.MachineLaws.{HasSameWidth, HasSameMarks, HasTimeAsRank, RunsAsSetting, StandsThroughout}
 use Rattle.matching.specs.Explained.{EndsSlots}
@@ -27,7 +28,7 @@ ends_slots one later stays width mark rank there runs setting = record {
       timed log (suc n) ∙ stays setting log n (runs setting log (suc n) run) (unmarked log n is) ∙ sym (timed log n);
 }
   where
-    at : List (ℕ × ℕ) → ℕ → _
+    at : List (ℕ × ℕ) → ℕ → MachineState
     at log n = stands (machine_rules setting) log n
 
     marked : (log : List (ℕ × ℕ)) (n : ℕ) → (machine_rules setting).mark (at log n) ≡ true → is_mark (state_after setting log n) ≡ true

@@ -8,7 +8,7 @@ use Rattle.matching.specs.declared.answer.Explanation.{Explanation}
 use Rattle.matching.specs.declared.answer.Unexplained.{Unexplained}
 use Rattle.matching.specs.declared.answer.Cut.{Cut}
 use Rattle.dump_match.specs.Showing.{Reads, piece_in}
-use Rattle.dump_match.specs.declared.reference.DumpReference.{DumpReference}
+use Rattle.dump_match.specs.declared.dump.DumpReference.{DumpReference}
 
 -- the whole dump was read, and the run explains it
 abbrev pub ExplainsDump : {R : Type 0} → (R → Option (List ℕ)) → ℕ → DumpReference R → DumpReference R → Explanation MachineState → Type 0

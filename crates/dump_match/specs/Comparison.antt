@@ -1,5 +1,5 @@
 -- *product rule*: What of a run's states is compared with a dump (IEEE 1364-2005, 18.2; docs/FROM-ICARUS.md).
-use Rattle.std.specs.Prelude.{◌≡◌, ℕ, ◌+◌, nat_lt, if◌then◌else◌, List, [], ◌∷◌, Option, Some, None, slice_get, get_or}
+use Rattle.std.specs.Prelude.{◌≡◌, ℕ, ◌+◌, nat_lt, false, if◌then◌else◌, List, [], ◌∷◌, Option, Some, None, slice_get, get_or}
 use Rattle.vbits.specs.Vectors.{Vector, vector_same, with_sign}
 use Rattle.vmodel.specs.State.{State}
 use Rattle.vmodel.specs.Run.{Setting}

@@ -1,11 +1,11 @@
 -- *product rule*: What a dump shows, time after time.
-use Rattle.std.specs.Prelude.{◌≡◌, ℕ, ◌<◌, List, [], ◌∷◌, ◌++◌, Option, Some, None}
+use Rattle.std.specs.Prelude.{◌≡◌, ℕ, List, [], ◌∷◌, ◌++◌, Option, Some, None}
 use Rattle.vbits.specs.Vectors.{Vector}
 use Rattle.vmodel.specs.Run.{Setting}
 use Rattle.vmachine.specs.declared.machine_state.MachineState.{MachineState}
 use Rattle.matching.specs.Explained.{Piece}
 use Rattle.vcd_read.specs.Commands.{Item}
-use Rattle.vcd_slots.specs.Standing.{Advances, IsReady}
+use Rattle.vcd_slots.specs.Standing.{Advances}
 use Rattle.vcd_slots.specs.declared.slots.DumpSlots.{DumpSlots}
 use Rattle.dump_match.specs.Comparison.{differ_from}
 use Rattle.dump_match.specs.declared.comparison.Pair.{Pair}
@@ -23,16 +23,6 @@ pub data Shows {R : Type 0} (remaining : R → Option (List ℕ)) (setting : Set
   none : Shows remaining setting pairs first [] first
   more : (pieces : List (Piece MachineState)) (old new : DumpSlots R) (items : List Item) → Shows remaining setting pairs first pieces old →
       Advances remaining old new items → Shows remaining setting pairs first (pieces ++ piece_of setting pairs new ∷ []) new
-
--- a dump that has a first time, and shows nothing yet, begins later than at 0
-abbrev pub BeginsLater : Option ℕ → Option ℕ → Type 0
-BeginsLater None (Some next) = 0 < next
-BeginsLater None None = Unit {0}
-BeginsLater (Some time) next = Unit {0}
-
-pub record IsUnderWay {R : Type 0} (slots : DumpSlots R) : Type 0 where
-  pub ready : IsReady slots
-  pub begins : BeginsLater slots.time slots.ahead
 
 -- what is shown at first is the dump before its first time, or at it
 pub data OpensFrom {R : Type 0} (remaining : R → Option (List ℕ)) (begun : DumpSlots R) : DumpSlots R → Type 0 where

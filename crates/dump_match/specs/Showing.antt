@@ -7,22 +7,26 @@ use Rattle.vmodel.specs.Same.{state_same}
 use Rattle.vmodel.specs.SameLaws.{states_tell}
 use Rattle.vmachine.specs.declared.machine_state.MachineState.{MachineState}
 use Rattle.matching.specs.Explained.{Piece}
+use Rattle.vcd_slots.specs.declared.slots.DumpSlots.{DumpSlots}
 use Rattle.dump_match.specs.Comparison.{differ_from}
 use Rattle.dump_match.specs.Pieces.{Shows, piece_at, piece_of}
 use Rattle.dump_match.specs.declared.comparison.Pair.{Pair}
-use Rattle.dump_match.specs.declared.reference.DumpReference.{DumpReference}
+use Rattle.dump_match.specs.declared.dump.DumpReference.{DumpReference}
 
 abbrev pub piece_in : {R : Type 0} → DumpReference R → Piece MachineState
 piece_in me = piece_of me.machine.now me.comparison.pairs.items me.slots
 
 -- going on shows these pieces, of the same machine and pairs
-pub record Reads {R : Type 0} (remaining : R → Option (List ℕ)) (first : DumpReference R) (pieces : List (Piece MachineState)) (now : DumpReference R) : Type 0 where
-  pub machine : now.machine.now ≡ first.machine.now
-  pub pairs : now.comparison.pairs.items ≡ first.comparison.pairs.items
-  pub shows : Shows remaining first.machine.now first.comparison.pairs.items first.slots pieces now.slots
+pub record ReadsTo {R : Type 0} (remaining : R → Option (List ℕ)) (first : DumpReference R) (pieces : List (Piece MachineState)) (setting : Setting) (pairs : List Pair) (slots : DumpSlots R) : Type 0 where
+  pub machine : setting ≡ first.machine.now
+  pub same : pairs ≡ first.comparison.pairs.items
+  pub shows : Shows remaining first.machine.now first.comparison.pairs.items first.slots pieces slots
+
+abbrev pub Reads : {R : Type 0} → (R → Option (List ℕ)) → DumpReference R → List (Piece MachineState) → DumpReference R → Type 0
+Reads remaining first pieces now = ReadsTo remaining first pieces now.machine.now now.comparison.pairs.items now.slots
 
 pub nothing_read : {R : Type 0} {remaining : R → Option (List ℕ)} (me : DumpReference R) → Reads remaining me [] me
-nothing_read me = record { machine = refl; pairs = refl; shows = Shows.none }
+nothing_read me = record { machine = refl; same = refl; shows = Shows.none }
 
 -- ---- equal states differ alike
 

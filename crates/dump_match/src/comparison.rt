@@ -1,6 +1,6 @@
 // Which variables stand in the files and in a dump.
 
-ghost use Rattle.std.specs.Prelude.{◌≡◌, [], List, IfOk, OnOk};
+ghost use Rattle.std.specs.Prelude.{◌≡◌, [], true, List, IfOk, OnOk};
 ghost use Rattle.vdesign.specs.Design as design;
 ghost use Rattle.vcd_read.specs.declared.header.VcdVariable as header;
 ghost use Rattle.vcd_slots.specs.Following.{IsFresh, IsSound};
@@ -40,11 +40,17 @@ enum Likeness {
 // The numbers of variables by their names.
 fn numbers_of(alloc: Global, variables: &[Variable]) -> Result<BTreeMap<Vec<u8>, usize>, NoMemory> {
     let mut numbers = BTreeMap::new(alloc);
-    for number in 0..variables.len() {
-        let name = Vec::from_slice(alloc, &variables[number].name)?;
-        numbers.insert(name, number)?;
+    for (number, variable) in variables.iter().enumerate() {
+        numbers.insert(Vec::from_slice(alloc, &variable.name)?, number)?;
     }
     Ok(numbers)
+}
+
+// Whether the names are the same.
+fn is_same_name(name: &[u8], other: &[u8]) -> bool
+    ensures { result ≡ true → name.now ≡ other.now }
+{
+    name == other
 }
 
 // Whether the variable of the files is that of the dump: it has its name and as many bits.
@@ -57,7 +63,7 @@ fn likeness_of(variables: &[Variable], number: Option<usize>, told: &VcdVariable
     let Some(variable) = variables.get(number) else {
         return Likeness::Unknown;
     };
-    if variable.name != told.name {
+    if !is_same_name(&told.name, &variable.name) {
         return Likeness::Unknown;
     }
     if u64::from(variable.length) != told.width {
@@ -69,6 +75,21 @@ fn likeness_of(variables: &[Variable], number: Option<usize>, told: &VcdVariable
 // Puts a copy of the name.
 fn push_name(alloc: Global, names: &mut Vec<Vec<u8>>, name: &[u8]) -> Result<(), NoMemory> {
     names.push(Vec::from_slice(alloc, name)?)?;
+    Ok(())
+}
+
+// Puts the names of the variables that weren't met.
+fn put_unmet(
+    alloc: Global,
+    names: &mut Vec<Vec<u8>>,
+    variables: &[Variable],
+    met: &[bool],
+) -> Result<(), NoMemory> {
+    for (number, variable) in variables.iter().enumerate() {
+        if met.get(number) == Some(&false) {
+            push_name(alloc, names, &variable.name)?;
+        }
+    }
     Ok(())
 }
 
@@ -143,23 +164,6 @@ impl Comparison {
         }
     }
 
-    // The names of the variables of the files that weren't met.
-    fn put_unmet(
-        &mut self,
-        alloc: Global,
-        variables: &[Variable],
-        met: &[bool],
-    ) -> Result<(), NoMemory>
-        ensures { self.new.pairs ≡ self.old.pairs }
-    {
-        for number in 0..variables.len() {
-            if met.get(number) == Some(&false) {
-                push_name(alloc, &mut self.only_in_files, &variables[number].name)?;
-            }
-        }
-        Ok(())
-    }
-
     /// What is compared of these variables of the files and of a dump, of which those are followed.
     pub(crate) fn new(
         alloc: Global,
@@ -182,7 +186,7 @@ impl Comparison {
             let likeness = likeness_of(variables, numbers.get(&told.name).copied(), told);
             comparison.take(alloc, columns, told, likeness, &mut met)?;
         }
-        comparison.put_unmet(alloc, variables, &met)?;
+        put_unmet(alloc, &mut comparison.only_in_files, variables, &met)?;
         Ok(comparison)
     }
 }

@@ -1,6 +1,6 @@
 // What differs in a state.
 
-ghost use Rattle.std.specs.Prelude.{◌≡◌, if◌then◌else◌};
+ghost use Rattle.std.specs.Prelude.{◌≡◌, get_or, slice_get, None, if◌then◌else◌};
 ghost use Rattle.dump_match.specs.Comparison.{differing};
 
 use crate::comparison::Pair;
@@ -24,6 +24,18 @@ pub(crate) fn differs(told: Option<Vec4>, value: Option<Vec4>) -> bool
         (Some(told), Some(value)) => value.with_sign(false) != told,
         _ => false,
     }
+}
+
+/// Whether the pair differs: what the dump tells, and its value.
+pub(crate) fn pair_differs<R: Read + Drop>(
+    slots: &DumpSlots<R>,
+    values: &[Vec4],
+    pair: &Pair,
+) -> bool
+    ensures { differing (get_or slots.now.columns.told.items pair.now.column None) (slice_get values.now pair.now.variable)
+        ≡ (if result then 1 else 0) }
+{
+    differs(slots.value(pair.column), values.get(pair.variable).copied())
 }
 
 /// What differs of a pair, if it does.

@@ -4,7 +4,7 @@ ghost use Rattle.std.specs.Prelude.{IfOk};
 ghost use Rattle.matching.specs.Answers.{IfCut, IfExplained, IfUnexplained, TellsOfStop};
 ghost use Rattle.dump_match.specs.Answering.{ClosesDump, ExplainsDump, RefutesDump};
 
-use crate::reference::DumpReference;
+use crate::dump::DumpReference;
 use basis::OrMemory;
 use explore::Watcher;
 use matching::{Matching, match_runs};

@@ -5,10 +5,11 @@
 
 mod comparison;
 mod differing;
+mod dump;
 mod find;
 mod reference;
 
 pub use comparison::{Comparison, Pair};
 pub use differing::Differing;
+pub use dump::DumpReference;
 pub use find::match_dump;
-pub use reference::DumpReference;

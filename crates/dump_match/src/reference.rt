@@ -4,10 +4,12 @@ ghost use Rattle.std.specs.Prelude.{◌≡◌, None, IfOk};
 ghost use Rattle.vcd_slots.specs.Standing.{IsReady};
 ghost use Rattle.dump_match.specs.Comparison.{differ_from, differing_in};
 ghost use Rattle.dump_match.specs.Opening.{OpensDump};
-ghost use Rattle.dump_match.specs.Pieces.{IsUnderWay, OpensFrom};
+ghost use Rattle.dump_match.specs.Pieces.{OpensFrom};
+ghost use Rattle.dump_match.specs.UnderWay.{IsUnderWay};
 
 use crate::comparison::{Comparison, Pair};
-use crate::differing::{Differing, differing_of, differs};
+use crate::differing::{Differing, differing_of, pair_differs};
+use crate::dump::DumpReference;
 use basis::{NoMemory, OrMemory};
 use byte_sinks::Metered;
 use matching::Reference;
@@ -19,23 +21,13 @@ use vcd_read::{VcdFault, VcdReader};
 use vcd_slots::{Columns, DumpSlots};
 use vmachine::{Machine, MachineState, machine_law};
 
-/// The dump that another simulator wrote of a machine's files, and what of it is compared. It is read as the search goes on, and not held.
-#[derive(Drop)]
-pub struct DumpReference<'m, R> {
-    alloc: Global,
-    machine: &'m Machine,
-    slots: DumpSlots<R>,
-    comparison: Comparison,
-    ghost under_way: { IsUnderWay slots },
-}
-
 // How many of the pairs differ: what the dump tells, and the values.
 fn count_differing<R: Read + Drop>(slots: &DumpSlots<R>, values: &[Vec4], pairs: &[Pair]) -> usize
     ensures { result ≡ differing_in slots.now.columns.told.items values.now pairs.now }
 {
     let mut count = 0;
     for pair in pairs {
-        if differs(slots.value(pair.column), values.get(pair.variable).copied()) {
+        if pair_differs(slots, values, pair) {
             count += 1;
         }
     }
@@ -53,10 +45,11 @@ fn from_zero<R: Read + Drop>(
     ensures watched { IfOk result (λ now. now.columns.watched ≡ slots.columns.watched) }
     ensures goes { IfOk result (OpensFrom R.remaining slots) }
 {
-    let mut slots = slots;
-    if slots.next_time() == Some(0) {
-        slots.advance(alloc)?;
+    if slots.next_time() != Some(0) {
+        return Ok(slots);
     }
+    let mut slots = slots;
+    slots.advance(alloc)?;
     Ok(slots)
 }
 

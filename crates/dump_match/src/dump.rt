@@ -1,0 +1,18 @@
+// A dump and a machine.
+
+ghost use Rattle.dump_match.specs.UnderWay.{IsUnderWay};
+
+use crate::comparison::Comparison;
+use std::alloc::Global;
+use vcd_slots::DumpSlots;
+use vmachine::Machine;
+
+/// The dump that another simulator wrote of a machine's files, and what of it is compared. It is read as the search goes on, and not held.
+#[derive(Drop)]
+pub struct DumpReference<'m, R> {
+    pub(crate) alloc: Global,
+    pub(crate) machine: &'m Machine,
+    pub(crate) slots: DumpSlots<R>,
+    pub(crate) comparison: Comparison,
+    ghost under_way: { IsUnderWay slots },
+}
