@@ -1,0 +1,3 @@
+pub mod JoinedLogs
+pub mod Segments
+pub mod Explaining
