@@ -73,18 +73,16 @@ pub record ComesTo {S : Type 0} (r : Rules S) (rank : S → ℕ) (shown : ℕ �
   pub few : (i j : ℕ) → i ≤ j → j < n → NoEndWithin r log i j → departures_within log i j ≤ most
   pub ends : (i : ℕ) → i < n → (m : ℕ) × (i ≤ m) × (m < n) × (r.mark (stands r log m) ≡ true)
 
-module _ {S : Type 0} (r : Rules S) (law : IsLawful r) (rank : S → ℕ) (ranked : IsRanked r rank) (slots : EndsSlots r rank) (shown : ℕ → S → ℕ) (most w : ℕ) (log : List (ℕ × ℕ)) (n : ℕ) (base : ComesTo r rank shown most w log n)
-    (start : S) (slot : List (ℕ × ℕ)) (c : ℕ) (s : S) (first : r.same start (stands r log n) ≡ true) (end : EndsSlot r start slot c s) (short : length slot ≤ most) where
-  whole : List (ℕ × ℕ)
+module _ {S : Type 0} (r : Rules S) (law : IsLawful r) (log : List (ℕ × ℕ)) (n : ℕ) (run : IsRun r log n) (names : NamesBelow log n)
+    (start : S) (slot : List (ℕ × ℕ)) (c : ℕ) (s : S) (first : r.same start (stands r log n) ≡ true) (end : EndsSlot r start slot c s) where
+  abbrev pub whole : List (ℕ × ℕ)
   whole = log ++ shifted n slot
 
   front_alike : ChooseAlike log whole n
-  unfolding whole
   front_alike k lt = sym (joined_before log n k slot lt)
 
   behind : ChoosesFrom slot whole n c
-  unfolding whole
-  behind k lt = sym (joined_after log n k slot base.names)
+  behind k lt = sym (joined_after log n k slot names)
 
   pub front_same : (j : ℕ) → j ≤ n → stands r log j ≡ stands r whole j
   front_same j le = stands_alike r log whole n j front_alike le
@@ -97,7 +95,7 @@ module _ {S : Type 0} (r : Rules S) (law : IsLawful r) (rank : S → ℕ) (ranke
 
   pub joined_run : IsRun r whole (n + c)
   joined_run k lt = elim (cases_lt k n) [
-    | inl before ↦ run_alike r log whole n front_alike base.run k before
+    | inl before ↦ run_alike r log whole n front_alike run k before
     | inr ge ↦ (
         let is : n + (k - n) ≡ k = omega (arith, ge) in
         let P : ℕ → Type 0 = λ j. choice_at whole j < r.width (stands r whole j) in
@@ -105,8 +103,7 @@ module _ {S : Type 0} (r : Rules S) (law : IsLawful r) (rank : S → ℕ) (ranke
   ]
 
   pub joined_names : NamesBelow whole (n + c)
-  unfolding whole
-  joined_names = names_joined log n c slot base.names end.names
+  joined_names = names_joined log n c slot names end.names
 
   -- the end of the slot
   pub joined_at : r.same s (stands r whole (n + c)) ≡ true
@@ -118,70 +115,69 @@ module _ {S : Type 0} (r : Rules S) (law : IsLawful r) (rank : S → ℕ) (ranke
   none_open : NoEndWithin r whole n (n + c)
   none_open = along_open r law start slot whole n c begins_there behind end.run
 
-  pub joined_rank : rank (stands r whole (n + c)) ≡ w
-  joined_rank = rank_stays r rank slots whole n c joined_run none_open ∙ sym (ap rank (front_same n (omega arith))) ∙ base.rank_is
+  module _ (rank : S → ℕ) (ranked : IsRanked r rank) (slots : EndsSlots r rank) (shown : ℕ → S → ℕ) (most w : ℕ) (base : ComesTo r rank shown most w log n) (short : length slot ≤ most) where
+    pub joined_rank : rank (stands r whole (n + c)) ≡ w
+    joined_rank = rank_stays r rank slots whole n c joined_run none_open ∙ sym (ap rank (front_same n (omega arith))) ∙ base.rank_is
 
-  none_chosen : choice_at whole (n + c) ≡ 0
-  none_chosen = choice_beyond whole (n + c) (n + c) joined_names (omega arith)
+    none_chosen : choice_at whole (n + c) ≡ 0
+    none_chosen = choice_beyond whole (n + c) (n + c) joined_names (omega arith)
 
-  last_by : (width : ℕ) → r.width (stands r whole (n + c)) ≡ width → (r.width (stands r whole (n + c)) ≡ 0) ⊎ (w < rank (r.after (stands r whole (n + c)) 0))
-  last_by zero e = inl e
-  last_by (suc m) e =
-      let t : S = stands r whole (n + c) in
-      let more : IsRun r whole (suc (n + c)) = λ k lt. (elim (cases_lt k (n + c)) [
-        | inl before ↦ joined_run k before
-        | inr ge ↦ (
-            let is : n + c ≡ k = omega (arith, ge, lt) in
-            let P : ℕ → Type 0 = λ j. choice_at whole j < r.width (stands r whole j) in
-            subst P is (omega (arith, none_chosen, e)))
-      ]) in
-      let P : ℕ → Type 0 = λ i. rank t < rank (r.after t i) in
-      inr (omega (arith, subst P none_chosen (slots.later whole (n + c) more joined_mark), joined_rank))
+    last_by : (width : ℕ) → r.width (stands r whole (n + c)) ≡ width → (r.width (stands r whole (n + c)) ≡ 0) ⊎ (w < rank (r.after (stands r whole (n + c)) 0))
+    last_by zero e = inl e
+    last_by (suc m) e =
+        let t : S = stands r whole (n + c) in
+        let more : IsRun r whole (suc (n + c)) = λ k lt. (elim (cases_lt k (n + c)) [
+          | inl before ↦ joined_run k before
+          | inr ge ↦ (
+              let is : n + c ≡ k = omega (arith, ge, lt) in
+              let P : ℕ → Type 0 = λ j. choice_at whole j < r.width (stands r whole j) in
+              subst P is (omega (arith, none_chosen, e)))
+        ]) in
+        let P : ℕ → Type 0 = λ i. rank t < rank (r.after t i) in
+        inr (omega (arith, subst P none_chosen (slots.later whole (n + c) more joined_mark), joined_rank))
 
-  few_by : (i j : ℕ) → i ≤ j → j ≤ n + c → NoEndWithin r whole i j → departures_within whole i j ≤ most
-  unfolding whole
-  few_by i j le within none =
-      let parts = within_joined log (shifted n slot) i j in
-      elim (cases_lt i n) [
-        | inl before ↦ elim (cases_lt j n) [
-          | inl lt ↦ (
-              let front : NoEndWithin r log i j = λ m ge less. ap r.mark (front_same m (omega (arith, lt, less))) ∙ none m ge less in
-              omega (arith, parts, none_before slot n i j (omega (arith, lt)), base.few i j le lt front))
-          | inr beyond ↦ (
-              let e = base.ends i before in
-              let marked : r.mark (stands r whole e.0) ≡ true = sym (ap r.mark (front_same e.0 (omega (arith, e.2)))) ∙ e.3 in
-              absurd (clash (r.mark (stands r whole e.0)) marked (none e.0 e.1 (omega (arith, e.2, beyond)))))
+    few_by : (i j : ℕ) → i ≤ j → j ≤ n + c → NoEndWithin r whole i j → departures_within whole i j ≤ most
+    few_by i j le within none =
+        let parts = within_joined log (shifted n slot) i j in
+        elim (cases_lt i n) [
+          | inl before ↦ elim (cases_lt j n) [
+            | inl lt ↦ (
+                let front : NoEndWithin r log i j = λ m ge less. ap r.mark (front_same m (omega (arith, lt, less))) ∙ none m ge less in
+                omega (arith, parts, none_before slot n i j (omega (arith, lt)), base.few i j le lt front))
+            | inr beyond ↦ (
+                let e = base.ends i before in
+                let marked : r.mark (stands r whole e.0) ≡ true = sym (ap r.mark (front_same e.0 (omega (arith, e.2)))) ∙ e.3 in
+                absurd (clash (r.mark (stands r whole e.0)) marked (none e.0 e.1 (omega (arith, e.2, beyond)))))
+          ]
+          | inr ge ↦ omega (arith, parts, none_beyond log n i j base.names ge, within_all (shifted n slot) i j, shifted_length n slot, short)
         ]
-        | inr ge ↦ omega (arith, parts, none_beyond log n i j base.names ge, within_all (shifted n slot) i j, shifted_length n slot, short)
+
+    fits_by : shown w (stands r whole (n + c)) ≡ 0 → (j u : ℕ) → IsAtEnd r rank whole (n + c) j u → u ≤ w → shown u (stands r whole j) ≡ 0
+    fits_by now j u at within = elim (cases_lt j n) [
+      | inl before ↦ (
+          let here : stands r log j ≡ stands r whole j = front_same j (omega (arith, before)) in
+          let next : rank (stands r log (suc j)) ≡ rank (stands r whole (suc j)) = ap rank (front_same (suc j) before) in
+          ap (shown u) (sym here) ∙ base.fits j u before (ap r.mark here ∙ at.mark) (omega (arith, ap rank here, at.ended)) within (omega (arith, next, at.next (omega (arith, before)))))
+      | inr ge ↦ elim (cases_lt j (n + c)) [
+        | inl short_of ↦ absurd (clash (r.mark (stands r whole j)) at.mark (none_open j ge short_of))
+        | inr end_of ↦ (
+            let itself : n + c ≡ j = omega (arith, end_of, at.within) in
+            let same_rank : rank (stands r whole j) ≡ w = ap (λ i. rank (stands r whole i)) (sym itself) ∙ joined_rank in
+            let time : w ≡ u = omega (arith, same_rank, at.ended, within) in
+            let P : ℕ → Type 0 = λ i. shown u (stands r whole i) ≡ 0 in
+            let Q : ℕ → Type 0 = λ t. shown t (stands r whole (n + c)) ≡ 0 in
+            subst P itself (subst Q time now))
       ]
-
-  fits_by : shown w (stands r whole (n + c)) ≡ 0 → (j u : ℕ) → IsAtEnd r rank whole (n + c) j u → u ≤ w → shown u (stands r whole j) ≡ 0
-  fits_by now j u at within = elim (cases_lt j n) [
-    | inl before ↦ (
-        let here : stands r log j ≡ stands r whole j = front_same j (omega (arith, before)) in
-        let next : rank (stands r log (suc j)) ≡ rank (stands r whole (suc j)) = ap rank (front_same (suc j) before) in
-        ap (shown u) (sym here) ∙ base.fits j u before (ap r.mark here ∙ at.mark) (omega (arith, ap rank here, at.ended)) within (omega (arith, next, at.next (omega (arith, before)))))
-    | inr ge ↦ elim (cases_lt j (n + c)) [
-      | inl short_of ↦ absurd (clash (r.mark (stands r whole j)) at.mark (none_open j ge short_of))
-      | inr end_of ↦ (
-          let itself : n + c ≡ j = omega (arith, end_of, at.within) in
-          let same_rank : rank (stands r whole j) ≡ w = ap (λ i. rank (stands r whole i)) (sym itself) ∙ joined_rank in
-          let time : w ≡ u = omega (arith, same_rank, at.ended, within) in
-          let P : ℕ → Type 0 = λ i. shown u (stands r whole i) ≡ 0 in
-          let Q : ℕ → Type 0 = λ t. shown t (stands r whole (n + c)) ≡ 0 in
-          subst P itself (subst Q time now))
     ]
-  ]
 
-  -- the run that goes on into the slot is explained up to its time
-  pub explained_joined : shown w (stands r whole (n + c)) ≡ 0 → IsExplained r rank shown most w (log ++ shifted n slot) (n + c)
-  unfolding whole
-  explained_joined now = record {
-    run = joined_run;
-    names = joined_names;
-    mark = joined_mark;
-    begun = omega (arith, joined_rank);
-    last = last_by (r.width (stands r whole (n + c))) refl;
-    fits = fits_by now;
-    few = few_by;
-  }
+    -- the run that goes on into the slot is explained up to its time
+    pub explained_joined : shown w (stands r whole (n + c)) ≡ 0 → IsExplained r rank shown most w (log ++ shifted n slot) (n + c)
+    explained_joined now = record {
+      run = joined_run;
+      names = joined_names;
+      mark = joined_mark;
+      begun = omega (arith, joined_rank);
+      last = last_by (r.width (stands r whole (n + c))) refl;
+      fits = fits_by now;
+      few = few_by;
+    }

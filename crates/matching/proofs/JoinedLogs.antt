@@ -65,16 +65,15 @@ shifted_length n (m ∷ slot) = omega (arith, shifted_length n slot)
 pub joined_length : (log : List (ℕ × ℕ)) (n : ℕ) (slot : List (ℕ × ℕ)) → length (log ++ shifted n slot) ≡ length log + length slot
 joined_length log n slot = length-append log (shifted n slot) ∙ ap (λ l. length log + l) (shifted_length n slot)
 
--- whether a step is from i to before j
-is_within : ℕ → ℕ → ℕ → Bool
-is_within i j s = nat_le i s && nat_lt s j
+abbrev one_if : Bool → ℕ
+one_if b = if b then 1 else 0
 
-one_most : (b : Bool) → (if b then 1 else 0) ≤ 1
+one_most : (b : Bool) → one_if b ≤ 1
 one_most true = omega arith
 one_most false = omega arith
 
-none_of : (b : Bool) → b ≡ false → (if b then 1 else 0) ≡ 0
-none_of b e = ap (λ c. if c then 1 else 0) e
+none_of : (b : Bool) → b ≡ false → one_if b ≡ 0
+none_of b e = ap one_if e
 
 outside_below : (i j s : ℕ) → s < i → (nat_le i s && nat_lt s j) ≡ false
 outside_below i j s lt = grind (arith, nat_tests)
@@ -108,7 +107,7 @@ none_before (m ∷ slot) n i j le =
 
 -- the members of a stretch
 between_by : (i j : ℕ) (m : ℕ × ℕ) (log : List (ℕ × ℕ)) (b : Bool) → length (between i j log) ≡ departures_within log i j →
-    length (if b then (m.0 - i, m.1) ∷ between i j log else between i j log) ≡ (if b then 1 else 0) + departures_within log i j
+    length (if b then (m.0 - i, m.1) ∷ between i j log else between i j log) ≡ one_if b + departures_within log i j
 between_by i j m log true e = omega (arith, e)
 between_by i j m log false e = omega (arith, e)
 
@@ -142,7 +141,7 @@ between_choice [] i j k lt = refl
 between_choice (m ∷ log) i j k lt = between_choice_by i j k m log (nat_le i m.0 && nat_lt m.0 j) refl lt (between_choice log i j k lt)
 
 -- two stretches that don't meet have no more departures than all
-both_by : (i j k : ℕ) (s : ℕ) → i ≤ j → (if nat_le 0 s && nat_lt s i then 1 else 0) + (if nat_le j s && nat_lt s k then 1 else 0) ≤ 1
+both_by : (i j k : ℕ) (s : ℕ) → i ≤ j → one_if (nat_le 0 s && nat_lt s i) + one_if (nat_le j s && nat_lt s k) ≤ 1
 both_by i j k s le = elim (cases_lt s i) [
   | inl lt ↦ omega (arith, none_of (nat_le j s && nat_lt s k) (outside_below j k s (omega (arith, lt, le))), one_most (nat_le 0 s && nat_lt s i))
   | inr ge ↦ omega (arith, none_of (nat_le 0 s && nat_lt s i) (outside_above 0 i s ge), one_most (nat_le j s && nat_lt s k))
@@ -154,7 +153,7 @@ both_within (m ∷ log) i j k le = omega (arith, both_by i j k m.0 le, both_with
 
 -- of the members before a step no more lie in a stretch than of all
 front_by : (i a b : ℕ) (m : ℕ × ℕ) (log : List (ℕ × ℕ)) (t : Bool) → departures_within (between 0 i log) a b ≤ departures_within log a b →
-    departures_within (if t then (m.0 - 0, m.1) ∷ between 0 i log else between 0 i log) a b ≤ (if nat_le a m.0 && nat_lt m.0 b then 1 else 0) + departures_within log a b
+    departures_within (if t then (m.0 - 0, m.1) ∷ between 0 i log else between 0 i log) a b ≤ one_if (nat_le a m.0 && nat_lt m.0 b) + departures_within log a b
 front_by i a b m log true le =
     let same : m.0 - 0 ≡ m.0 = omega arith in
     rw same (omega (arith, le))

@@ -97,8 +97,9 @@ pub fn earliest<S: Eq + Hash>(candidates: &IndexMap<S, Way<S>>, until: u64) -> u
 {
     let mut least = until;
     for place in 0..candidates.len() {
-        if let Some((_, way)) = candidates.get_index(place) {
-            least = earlier(least, way);
+        match candidates.get_index(place) {
+            Some((_, way)) => least = earlier(least, way),
+            None => return least,
         }
     }
     least

@@ -2,9 +2,9 @@
 
 ghost use Rattle.std.specs.Prelude.{◌≡◌, ◌+◌, length, IfOk, OnOk};
 ghost use Rattle.basis.specs.Reasons.{IfFault};
-ghost use Rattle.explore.specs.Found.{IsFound};
+ghost use Rattle.explore.specs.Found.{AreFound, IsFound};
 ghost use Rattle.matching.specs.Answers.{Stands};
-ghost use Rattle.matching.specs.Inner.Candidates.{IsEndOf, IsFittingEnd, IsKept, KeepsEnds};
+ghost use Rattle.matching.specs.Inner.Candidates.{IsEndOf, IsFittingEnd, IsKept, KeepsEnds, KeepsFound};
 ghost use Rattle.matching.specs.Inner.Slots.{one_slot};
 ghost use Rattle.matching.specs.Inner.Searching.{Extends, IsSearch};
 
@@ -17,6 +17,7 @@ use crate::reference::Reference;
 use crate::search::{Nearest, Search, ask, is_nearer};
 use basis::OrMemory;
 use explore::{Findings, Watcher, explore_alone};
+use indexmap::IndexMap;
 use sched_core::{Log, Ranked, replay};
 use statebook::Limits;
 use std::alloc::Global;
@@ -30,6 +31,7 @@ pub struct SlotStart<S> {
 }
 
 // The run that goes on from the start to an end of the slot that was found.
+#[tactic(auto, using(crate::proofs::JoinedLogs::joined_length))]
 fn end_of<P: Ranked>(
     space: &P,
     limits: &Limits,
@@ -40,6 +42,7 @@ fn end_of<P: Ranked>(
     requires { IsFound (one_slot (P.rules space.now) start.now.state) limits.now (state, log.now) }
     ensures end { IfOk result (λ end. IsEndOf (P.rules space.now) limits.now.depart start.now end.state end.log end.steps) }
     ensures state { IfOk result (λ end. end.state ≡ state) }
+    ensures longer { IfOk result (λ end. length end.log ≡ length start.now.log + length log.now) }
     ensures why { IfFault result (λ halt. halt ≡ Halt.Stopped → ⊥) }
 {
     let slot = OneSlot {
@@ -105,6 +108,32 @@ fn meet_end<P: Ranked, R: Reference<P::State>>(
     )
 }
 
+// Takes in all ends of the slot that were found.
+fn meet_ends<P: Ranked, R: Reference<P::State>>(
+    space: &P,
+    limits: &Limits,
+    reference: &R,
+    search: &mut Search<P::State>,
+    start: &SlotStart<P::State>,
+    marks: IndexMap<P::State, Log>,
+) -> Result<(), OrMemory<Halt>>
+    requires start { Stands (P.rules space.now) start.now.state start.now.log start.now.steps }
+    requires found { AreFound (one_slot (P.rules space.now) start.now.state) limits.now marks.entries }
+    requires search { IsSearch P.State.eq (P.rules space.now) search.old }
+    ensures search { OnOk result (IsSearch P.State.eq (P.rules space.now) search.new) }
+    ensures extends { OnOk result (Extends (P.rules space.now)
+        (IsFittingEnd (P.rules space.now) (P.ranks space.now) (R.piece reference.now).differ limits.now.depart start.now)
+        search.old search.new) }
+    ensures kept { OnOk result (KeepsFound (P.rules space.now) (R.piece reference.now).differ (length start.now.log)
+        marks.entries search.new.candidates.entries) }
+    ensures why { IfFault result (λ halt. halt ≡ Halt.Stopped → ⊥) }
+{
+    for (state, log) in marks {
+        meet_end(space, limits, reference, search, start, state, log)?;
+    }
+    Ok(())
+}
+
 /// Searches a slot, and takes in its ends.
 pub fn search_slot<P: Ranked, R: Reference<P::State>, W: Watcher>(
     alloc: Global,
@@ -132,8 +161,5 @@ pub fn search_slot<P: Ranked, R: Reference<P::State>, W: Watcher>(
     };
     let Findings { marks, status } = explore_alone(alloc, &slot, limits)?;
     whole(status)?;
-    for (state, log) in marks {
-        meet_end(space, limits, reference, search, start, state, log)?;
-    }
-    Ok(())
+    meet_ends(space, limits, reference, search, start, marks)
 }

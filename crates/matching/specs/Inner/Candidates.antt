@@ -63,6 +63,11 @@ pub record IsFittingEnd {S : Type 0} (r : Rules S) (rank : S → ℕ) (differ : 
   pub fits : differ e.0 ≡ 0
   pub next : GoesOn r rank e.0 e.1.next
 
+-- Each of the ends that were found in which nothing differs is in the list, after a run of so many departures more.
+abbrev pub KeepsFound : {S : Type 0} → Rules S → (S → ℕ) → ℕ → List (S × List (ℕ × ℕ)) → List (S × Way S) → Type 0
+KeepsFound {S} r differ more marks entries = (found : S × List (ℕ × ℕ)) → IsIn marks found → differ found.0 ≡ 0 →
+    IsKept r entries found.0 (more + length found.1)
+
 -- Each end of the slot in which nothing differs is in the list, after a run of at most so many departures more.
 abbrev pub KeepsEnds : {S : Type 0} → Rules S → (S → ℕ) → ℕ → SlotStart S → List (S × Way S) → Type 0
 KeepsEnds {S} r differ most start entries = (log : List (ℕ × ℕ)) (n : ℕ) (s : S) → length log ≤ most → EndsSlot r start.state log n s → differ s ≡ 0 → IsKept r entries s (length start.log + length log)
