@@ -21,40 +21,6 @@ use Rattle.matching.proofs.JoinedLogs.{choice_beyond, names_more}
 use Rattle.matching.proofs.Kept.{in_first, in_later, in_none, in_rest}
 use Rattle.matching.proofs.Matched.{goes_on_alike, stands_at}
 
-no_width : (mark : Bool) (w : ℕ) → mark ≡ true → (if mark then 0 else w) ≡ 0
-no_width true w e = refl
-no_width false w e = cc
-
--- the run to a mark that was found ends there
-pub found_ends : {S : Type 0} (r : Rules S) → IsLawful r → (start : S) (limits : Limits) (s : S) (log : List (ℕ × ℕ)) (f : IsFound (one_slot r start) limits (s, log)) → EndsAfter (one_slot r start) log f.steps
-found_ends r law start limits s log f = record {
-  run = f.run;
-  end = no_width (r.mark (stands (one_slot r start) log f.steps)) (r.width (stands (one_slot r start) log f.steps)) (sym (law.mark_same s (stands (one_slot r start) log f.steps) f.at) ∙ f.mark);
-  names = f.names;
-}
-
-pub found_slot : {S : Type 0} (r : Rules S) → IsLawful r → (start : S) (limits : Limits) (s : S) (log : List (ℕ × ℕ)) (f : IsFound (one_slot r start) limits (s, log)) (n : ℕ) → n ≡ f.steps → EndsSlot r start log n s
-found_slot {S} r law start limits s log f n is =
-    let E : ℕ → Type 0 = λ k. EndsSlot r start log k s in
-    subst E (sym is) (record {
-      run = f.run;
-      names = f.names;
-      mark = sym (law.mark_same s (stands (one_slot r start) log f.steps) f.at) ∙ f.mark;
-      at = f.at;
-    })
-
--- the end that was found is one of the slot
-pub end_found : {S : Type 0} (r : Rules S) → IsLawful r → (start : SlotStart S) (limits : Limits) (s : S) (slot log : List (ℕ × ℕ)) (f : IsFound (one_slot r start.state) limits (s, slot)) (count steps : ℕ) → count ≡ f.steps → log ≡ start.log ++ shifted start.steps slot → steps ≡ start.steps + count →
-    IsEndOf r limits.depart start s log steps
-end_found r law start limits s slot log f count steps is joined sum = record {
-  slot = slot;
-  count = count;
-  ends = found_slot r law start.state limits s slot f count is;
-  short = f.short;
-  log_is = joined;
-  steps_is = sum;
-}
-
 -- the run to the end of a slot
 pub stands_end : {S : Type 0} (r : Rules S) → IsLawful r → (most : ℕ) (start : SlotStart S) (s : S) (log : List (ℕ × ℕ)) (steps : ℕ) → Stands r start.state start.log start.steps → IsEndOf r most start s log steps → Stands r s log steps × (r.mark s ≡ true)
 stands_end {S} r law most start s log steps from h =
@@ -71,14 +37,6 @@ stands_end {S} r law most start s log steps from h =
       subst P (sym h.log_is) (subst Q (sym h.steps_is) there),
       law.mark_same s (stands r whole n) at ∙ joined_mark r law start.log start.steps from.run from.names start.state h.slot h.count s from.at h.ends,
     )
-
--- nothing was added
-pub extends_same : {S : Type 0} (r : Rules S) (P : S × Way S → Type 0) (old new : Search S) → new.time ≡ old.time → new.candidates ≡ old.candidates → Extends r P old new
-extends_same {S} r P old new time same =
-    let entries : new.candidates.entries ≡ old.candidates.entries = ap (λ m. m.entries) same in
-    let A : List (S × Way S) → Type 0 = λ l. AddsOnly old.candidates.entries l P in
-    let K : List (S × Way S) → Type 0 = λ l. KeepsAll r old.candidates.entries l in
-    record { time = time; adds = subst A (sym entries) (λ e at. inl at); all = subst K (sym entries) (λ s d kept. kept) }
 
 pub extends_on : {S : Type 0} (r : Rules S) (P : S × Way S → Type 0) (a b c : Search S) → Extends r P a b → Extends r P b c → Extends r P a c
 extends_on r P a b c one two = record {
@@ -122,19 +80,10 @@ kept_end {S} r s t way old new d keeps same count =
     let K : ℕ → Type 0 = λ n. IsKept r new s n in
     subst P same (subst K count keeps.kept)
 
--- what is kept stays
-pub found_more : {S : Type 0} (r : Rules S) (s : S) (d : ℕ) (old new : List (S × Way S)) (A : Type 0) → KeepsAll r old new → (A → IsKept r old s d) → A → IsKept r new s d
-found_more r s d old new A all kept a = all s d (kept a)
-
 -- of the ends that were found those that aren't left are taken in
 pub record TakenIn {S : Type 0} (r : Rules S) (limits : Limits) (differ : S → ℕ) (start : SlotStart S) (marks left : List (S × List (ℕ × ℕ))) (entries : List (S × Way S)) : Type 0 where
   pub found : (p : S × List (ℕ × ℕ)) → IsIn left p → IsFound (one_slot r start.state) limits p
   pub kept : (p : S × List (ℕ × ℕ)) → IsIn marks p → IsIn left p ⊎ (differ p.0 ≡ 0 → IsKept r entries p.0 (length start.log + length p.1))
-
-pub none_taken : {S : Type 0} (r : Rules S) (limits : Limits) (differ : S → ℕ) (start : SlotStart S) (marks left : List (S × List (ℕ × ℕ))) (entries : List (S × Way S)) → left ≡ marks → AreFound (one_slot r start.state) limits marks → TakenIn r limits differ start marks left entries
-none_taken {S} r limits differ start marks left entries all found =
-    let P : List (S × List (ℕ × ℕ)) → Type 0 = λ l. TakenIn r limits differ start marks l entries in
-    subst P (sym all) (record { found = λ p at. found at.0 p at.1; kept = λ p at. inl at })
 
 pub one_taken : {S : Type 0} (r : Rules S) (limits : Limits) (differ : S → ℕ) (start : SlotStart S) (marks left rest : List (S × List (ℕ × ℕ))) (s : S) (log : List (ℕ × ℕ)) (old new : List (S × Way S)) → TakenIn r limits differ start marks left old → left ≡ (s, log) ∷ rest → KeepsAll r old new →
     (differ s ≡ 0 → IsKept r new s (length start.log + length log)) → TakenIn r limits differ start marks rest new
@@ -191,37 +140,30 @@ stands_next {S} r law rank s way next h is =
       at = ap (λ i. r.same next.state (r.after t i)) none ∙ on.1;
     })
 
--- a candidate that waits is kept
-pub extends_waiting : {S : Type 0} (r : Rules S) (differ : S → ℕ) (v : ℕ) (s : S) (way : Way S) (old new : Search S) → IsWaiting v way → differ s ≡ 0 → new.time ≡ old.time → Keeps r s way old.candidates.entries new.candidates.entries → Extends r (Waits r differ v (s, way)) old new
-extends_waiting r differ v s way old new waiting none time keeps = record {
-  time = time;
-  adds = λ e at. elim (keeps.adds e at) [
-    | inl before ↦ inl before
-    | inr is ↦ inr (record { waiting = waiting; same = is.0; way = is.1; fits = none })
-  ];
-  all = keeps.all;
-}
-
--- what follows from a candidate whose next slot was searched, or that waits
-pub follows_into : {S : Type 0} (r : Rules S) (differ : S → ℕ) (most v : ℕ) (s : S) (way : Way S) (next : Onward S) (entries : List (S × Way S)) → way.next ≡ Some next → next.rank ≤ v → KeepsEnds r differ most (begins next.state way (way.steps + 1)) entries → KeepsFollowing r differ most v (s, way) entries
-follows_into {S} r differ most v s way next entries is due kept = record {
+-- what follows from a candidate whose next slot was searched
+pub follows_into : {S : Type 0} (r : Rules S) (differ : S → ℕ) (most v : ℕ) (s : S) (way : Way S) (next : Onward S) (steps : ℕ) (entries : List (S × Way S)) → way.next ≡ Some next → next.rank ≤ v → steps ≡ way.steps + 1 → KeepsEnds r differ most (begins next.state way steps) entries → KeepsFollowing r differ most v (s, way) entries
+follows_into {S} r differ most v s way next steps entries is due one kept = record {
   waits = λ waiting none. (
       let W : Option (Onward S) → Type 0 = λ n. IfSome n (λ x. v < x.rank) in
       let later : v < next.rank = subst W is waiting in
       absurd (omega (arith, later, due)));
   ends = λ other also. (
       let same : next ≡ other = same_Some next other (sym is ∙ also.0) in
+      let E : ℕ → Type 0 = λ n. KeepsEnds r differ most (begins next.state way n) entries in
       let K : Onward S → Type 0 = λ x. KeepsEnds r differ most (begins x.state way (way.steps + 1)) entries in
-      subst K same kept);
+      subst K same (subst E one kept));
 }
 
-pub follows_waiting : {S : Type 0} (r : Rules S) (differ : S → ℕ) (most v : ℕ) (s : S) (way : Way S) (entries : List (S × Way S)) → IsWaiting v way → (differ s ≡ 0 → IsKept r entries s (length way.log)) → KeepsFollowing r differ most v (s, way) entries
-follows_waiting {S} r differ most v s way entries waiting kept = record {
-  waits = λ _ none. kept none;
-  ends = λ next due. (
-      let W : Option (Onward S) → Type 0 = λ n. IfSome n (λ x. v < x.rank) in
-      let later : v < next.rank = subst W due.0 waiting in
-      absurd (omega (arith, later, due.1)));
+pub extends_into : {S : Type 0} (r : Rules S) (rank differ : S → ℕ) (most v : ℕ) (s : S) (way : Way S) (next : Onward S) (steps : ℕ) (old new : Search S) → way.next ≡ Some next → next.rank ≤ v → steps ≡ way.steps + 1 → Extends r (IsFittingEnd r rank differ most (begins next.state way steps)) old new → Extends r (Follows r rank differ most v (s, way)) old new
+extends_into {S} r rank differ most v s way next steps old new is due one h = record {
+  time = h.time;
+  adds = λ e at. elim (h.adds e at) [
+    | inl before ↦ inl before
+    | inr end ↦ (
+        let E : ℕ → Type 0 = λ n. IsFittingEnd r rank differ most (begins next.state way n) e in
+        inr (inr (record { next = next; due = (is, due); ends = subst E one end })))
+  ];
+  all = h.all;
 }
 
 following_more : {S : Type 0} (r : Rules S) (differ : S → ℕ) (most v : ℕ) (c : S × Way S) (old new : List (S × Way S)) → KeepsAll r old new → KeepsFollowing r differ most v c old → KeepsFollowing r differ most v c new
@@ -235,11 +177,6 @@ pub record FollowedSoFar {S : Type 0} (r : Rules S) (rank differ : S → ℕ) (m
   pub those : (c : S × Way S) → IsIn left c → IsIn old c
   pub only : (e : S × Way S) → IsIn new e → (c : S × Way S) × IsIn old c × Follows r rank differ most v c e
   pub all : (c : S × Way S) → IsIn old c → IsIn left c ⊎ KeepsFollowing r differ most v c new
-
-pub none_followed : {S : Type 0} (r : Rules S) (rank differ : S → ℕ) (most v : ℕ) (old left new : List (S × Way S)) → left ≡ old → new ≡ [] → FollowedSoFar r rank differ most v old left new
-none_followed {S} r rank differ most v old left new all none =
-    let P : List (S × Way S) → Type 0 = λ l. FollowedSoFar r rank differ most v old l new in
-    subst P (sym all) (record { those = λ c at. at; only = λ e at. absurd (in_none new e none at); all = λ c at. inl at })
 
 pub one_followed : {S : Type 0} (r : Rules S) (rank differ : S → ℕ) (most v : ℕ) (old left rest : List (S × Way S)) (s : S) (way : Way S) (one two : Search S) → FollowedSoFar r rank differ most v old left one.candidates.entries → left ≡ (s, way) ∷ rest → Extends r (Follows r rank differ most v (s, way)) one two →
     KeepsFollowing r differ most v (s, way) two.candidates.entries → FollowedSoFar r rank differ most v old rest two.candidates.entries

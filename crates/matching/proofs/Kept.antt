@@ -109,9 +109,6 @@ pub record EarliestBefore {S : Type 0} (entries : List (S × Way S)) (place unti
   pub least : (i : ℕ) (e : S × Way S) (next : Onward S) → i < place → slice_get entries i ≡ Some e → e.1.next ≡ Some next → v ≤ next.rank
   pub some : (v ≡ until) ⊎ ((e : S × Way S) × (next : Onward S) × IsIn entries e × (e.1.next ≡ Some next) × (next.rank ≡ v))
 
-pub earliest_none : {S : Type 0} (entries : List (S × Way S)) (until : ℕ) → EarliestBefore entries 0 until until
-earliest_none entries until = record { within = omega arith; least = λ i e next lt at is. absurd (omega (arith, lt)); some = inl refl }
-
 pub earliest_more : {S : Type 0} (entries : List (S × Way S)) (place until v w : ℕ) (p : S × Way S) → EarliestBefore entries place until v → slice_get entries place ≡ Some p → IsEarlier v p.1 w → EarliestBefore entries (place + 1) until w
 earliest_more {S} entries place until v w p h there e = record {
   within = omega (arith, h.within, e.within);
@@ -161,11 +158,6 @@ pub record IsShortestSoFar {S : Type 0} (entries left : List (S × Way S)) (best
   pub one : IsSomeOf entries best
   pub those : (e : S × Way S) → IsIn left e → IsIn entries e
   pub each : (e : S × Way S) → IsIn entries e → IsIn left e ⊎ IsNoLongerThan best e
-
-pub none_passed : {S : Type 0} (entries left : List (S × Way S)) → left ≡ entries → IsShortestSoFar entries left None
-none_passed {S} entries left all =
-    let P : List (S × Way S) → Type 0 = λ l. IsShortestSoFar entries l None in
-    subst P (sym all) (record { one = tt; those = λ e at. at; each = λ e at. inl at })
 
 one_new : {S : Type 0} (entries : List (S × Way S)) (x : S × Way S) (new : Explanation S) → IsIn entries x → new.state ≡ x.0 → new.log ≡ x.1.log → new.steps ≡ x.1.steps → IsOneOf entries new
 one_new entries x new at s l n = record { entry = x; at = at; state = sym s; log = sym l; steps = sym n }

@@ -35,10 +35,6 @@ pub last_piece-more : {S : Type 0} (first : Piece S) (ps : List (Piece S)) (p : 
 last_piece-more first [] p = refl
 last_piece-more first (q ∷ ps) p = last_piece-more q ps p
 
--- nothing was read
-pub read_nothing : {R S : Type 0} (piece : R → Piece S) (reads : R → List (Piece S) → R → Type 0) (me : R) (start : ℕ) → reads me [] me → HasRead piece reads me start start me
-read_nothing piece reads me start none = record { pieces = []; read = none; last = refl; within = omega arith }
-
 -- one piece more was read
 pub read_more : {R S : Type 0} (piece : R → Piece S) (reads : R → List (Piece S) → R → Type 0) (first : R) (start v w : ℕ) (old new : R) → HasRead piece reads first start v old → ReadsOn reads old (piece new) new → v ≤ w → (piece new).from ≤ w → HasRead piece reads first start w new
 read_more piece reads first start v w old new h on le from = record {
@@ -47,9 +43,6 @@ read_more piece reads first start v w old new h on le from = record {
   last = sym (last_piece-more (piece first) h.pieces (piece new));
   within = omega (arith, last_time-more start h.pieces (piece new), h.within, le, from);
 }
-
-pub read_later : {R S : Type 0} (piece : R → Piece S) (reads : R → List (Piece S) → R → Type 0) (first : R) (start v w : ℕ) (now : R) → HasRead piece reads first start v now → v ≤ w → HasRead piece reads first start w now
-read_later piece reads first start v w now h le = record { pieces = h.pieces; read = h.read; last = h.last; within = omega (arith, h.within, le) }
 
 -- at the time up to which it was read, and behind it, the last piece is shown
 pub shows_last : {R S : Type 0} (piece : R → Piece S) (reads : R → List (Piece S) → R → Type 0) (first : R) (start v : ℕ) (now : R) (h : HasRead piece reads first start v now) (w : ℕ) (s : S) → v ≤ w → differ_at (piece first) h.pieces w s ≡ (piece now).differ s

@@ -1,16 +1,18 @@
 -- From one time of a search to the next, and to its answer.
-use Rattle.std.proofs.Common.{◌≡◌, ◌≢◌, ℕ, ◌+◌, ◌-◌, ◌<◌, ◌≤◌, zero, suc, max, Bool, true, false, List, [], ◌∷◌, ◌++◌, length, Option, Some, None, IfSome, inl, inr, ◌⊎◌, arith, ap, refl, sym, ◌∙◌, subst}
+use Rattle.std.proofs.Common.{◌≡◌, ◌≢◌, ℕ, ◌+◌, ◌-◌, ◌^◌, ◌<◌, ◌≤◌, zero, suc, max, Bool, true, false, List, [], ◌∷◌, ◌++◌, length, Option, Some, None, IfSome, inl, inr, ◌⊎◌, arith, ap, refl, sym, ◌∙◌, subst}
 use Rattle.std.proofs.lemmas.Option.{same_Some, none-some}
 use Rattle.sched_core.specs.Ranks.{IsRanked}
 use Rattle.sched_core.specs.Rules.{Rules, IsLawful, stands}
-use Rattle.matching.specs.Answers.{ClosesTo, DiffersAlike, Explains, ReadsOn, Refutes, SomeIsExplained, Stands}
+use Rattle.matching.specs.Answers.{ClosesTo, DiffersAlike, Explains, IfCut, IfExplained, IfUnexplained, ReadsOn, Refutes, SomeIsExplained, Stands}
 use Rattle.matching.specs.Explained.{EndsSlots, IsExplained, Piece, differ_at, last_time}
 use Rattle.matching.specs.Inner.Candidates.{FollowAll, GoesOn, IsEarliest, IsIn, IsRunToEnd, IsShortest}
 use Rattle.matching.specs.Inner.Reading.{HasRead, IsAhead, ReadsAt}
 use Rattle.matching.specs.Inner.Searching.{AreMatched, IsOpening, IsOver, IsUnderWay, IsWanted, OpensWith}
-use Rattle.matching.specs.declared.answer.Cut.{Cut}
+use Rattle.matching.specs.declared.answer.Cut.{Cut as CutShort}
 use Rattle.matching.specs.declared.answer.Explanation.{Explanation}
-use Rattle.matching.specs.declared.answer.Unexplained.{Unexplained}
+use Rattle.matching.specs.declared.answer.Matching.{Matching}
+use Rattle.matching.specs.declared.answer.Matching.TheVariants.{Explained, Unexplained, Cut}
+use Rattle.matching.specs.declared.answer.Unexplained.{Unexplained as UnexplainedAt}
 use Rattle.matching.specs.declared.candidates.Onward.{Onward}
 use Rattle.matching.specs.declared.candidates.Way.{Way}
 use Rattle.matching.specs.declared.slot.SlotStart.{SlotStart}
@@ -162,7 +164,7 @@ module _ {R S : Type 0} (r : Rules S) (law : IsLawful r) (rank : S → ℕ) (ran
           })
 
       -- or it was cut short
-      pub closes : (c : Cut) → c.closed ≡ Some v → ClosesTo r rank most (piece first) (λ pieces. reads first pieces new) c
+      pub closes : (c : CutShort) → c.closed ≡ Some v → ClosesTo r rank most (piece first) (λ pieces. reads first pieces new) c
       unfolding shown
       closes c is =
           let some = some_of entries wanted.some in
@@ -196,7 +198,7 @@ module _ {R S : Type 0} (r : Rules S) (law : IsLawful r) (rank : S → ℕ) (ran
         }
 
     -- no candidate is left
-    pub refutes : (u : Unexplained S) → entries ≡ [] → u.time ≡ v → IfSome u.nearest (IsRunToEnd r) → Refutes r rank most (piece first) (λ pieces. reads first pieces old) u
+    pub refutes : (u : UnexplainedAt S) → entries ≡ [] → u.time ≡ v → IfSome u.nearest (IsRunToEnd r) → Refutes r rank most (piece first) (λ pieces. reads first pieces old) u
     refutes u none time nearest =
         let shown : ℕ → S → ℕ = differ_at (piece first) way.read.pieces in
         let P : ℕ → Type 0 = λ t. (log : List (ℕ × ℕ)) (k : ℕ) → IsExplained r rank shown most t log k → ⊥ in
@@ -210,8 +212,21 @@ module _ {R S : Type 0} (r : Rules S) (law : IsLawful r) (rank : S → ℕ) (ran
           nearest = nearest;
         }
 
--- nothing is known of any time
-pub closes_none : {R S : Type 0} (r : Rules S) (rank : S → ℕ) (most : ℕ) (piece : R → Piece S) (reads : R → List (Piece S) → R → Type 0) (first now : R) (pieces : List (Piece S)) (c : Cut) → reads first pieces now → c.closed ≡ None → ClosesTo r rank most (piece first) (λ ps. reads first ps now) c
-closes_none r rank most piece reads first now pieces c read is =
-    let I : Option ℕ → Type 0 = λ closed. IfSome closed (SomeIsExplained r rank (differ_at (piece first) pieces) most) in
-    record { pieces = pieces; read = read; closed = subst I (sym is) tt }
+-- what is known of an answer of one kind
+pub if_explained : {S : Type 0} (answer : Matching S) (P Q : Explanation S → Type 0) → ((e : Explanation S) → P e → Q e) → IfExplained answer P → IfExplained answer Q
+if_explained (Explained e) P Q so h = so e h
+if_explained (Unexplained u) P Q so h = tt
+if_explained (Cut c) P Q so h = tt
+
+pub if_unexplained : {S : Type 0} (answer : Matching S) (A B C Q : UnexplainedAt S → Type 0) → ((u : UnexplainedAt S) → A u → B u → C u → Q u) → IfUnexplained answer A → IfUnexplained answer B → IfUnexplained answer C → IfUnexplained answer Q
+if_unexplained (Explained e) A B C Q so a b c = tt
+if_unexplained (Unexplained u) A B C Q so a b c = so u a b c
+if_unexplained (Cut x) A B C Q so a b c = tt
+
+pub if_cut : {S : Type 0} (answer : Matching S) (P Q : CutShort → Type 0) → ((c : CutShort) → P c → Q c) → IfCut answer P → IfCut answer Q
+if_cut (Explained e) P Q so h = tt
+if_cut (Unexplained u) P Q so h = tt
+if_cut (Cut c) P Q so h = so c h
+
+pub nearer : (v w : ℕ) → v < w → w < 18446744073709551616 → 2 ^ 64 - w < 2 ^ 64 - v
+nearer v w lt high = omega arith
