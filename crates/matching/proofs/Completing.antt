@@ -1,9 +1,9 @@
 -- Each explained run goes on from one that was explained up to a time before, by the next slot or none.
-use Rattle.std.proofs.Common.{◌≡◌, ℕ, ◌+◌, ◌-◌, ◌<◌, ◌≤◌, zero, suc, Bool, true, false, List, [], ◌∷◌, ◌++◌, length, inl, inr, ◌⊎◌, arith, ap, refl, sym, ◌∙◌, subst}
+use Rattle.std.proofs.Common.{◌≡◌, ℕ, ◌+◌, ◌-◌, ◌<◌, ◌≤◌, zero, suc, Bool, true, false, List, length, inl, inr, ◌⊎◌, arith, ap, refl, sym, ◌∙◌, subst}
 use Rattle.std.proofs.lemmas.Bool.{cases_lt}
 use Rattle.sched_core.specs.Ranks.{IsRanked}
 use Rattle.sched_core.specs.Rules.{Rules, IsLawful, stands, choice_at, IsRun, NamesBelow}
-use Rattle.matching.specs.Explained.{EndsSlots, IsAtEnd, IsExplained, NoEndWithin, departures_within}
+use Rattle.matching.specs.Explained.{EndsSlots, IsAtEnd, IsExplained, NoEndWithin}
 use Rattle.matching.specs.Inner.Slots.{EndsSlot}
 use Rattle.matching.proofs.JoinedLogs.{between, between_choice, between_length, between_names, both_within, front_within}
 use Rattle.matching.proofs.Segments.{ChooseAlike, ranks_rise_to, run_alike, run_front, stands_alike, stretch}

@@ -1,17 +1,15 @@
 -- The ends of a slot that were found, as candidates.
-use Rattle.std.proofs.Common.{◌≡◌, ℕ, ◌+◌, ◌<◌, ◌≤◌, zero, suc, Bool, true, false, if◌then◌else◌, List, [], ◌∷◌, ◌++◌, length, slice_get, Option, Some, None, IfSome, Result, Ok, Err, MatchResult, inl, inr, ◌⊎◌, arith, ap, refl, sym, ◌∙◌, subst}
+use Rattle.std.proofs.Common.{◌≡◌, ℕ, ◌+◌, ◌<◌, ◌≤◌, suc, true, List, [], ◌∷◌, ◌++◌, length, Option, Some, IfSome, inl, inr, ◌⊎◌, arith, ap, sym, ◌∙◌, subst}
 use Rattle.std.proofs.lemmas.Bool.{cases_lt}
 use Rattle.std.proofs.lemmas.Option.{same_Some}
-use Rattle.basis.specs.Reasons.{Because}
-use Rattle.sched_core.specs.Replay.{EndsAfter}
-use Rattle.sched_core.specs.Rules.{Rules, IsLawful, stands, choice_at, IsRun, NamesBelow}
+use Rattle.sched_core.specs.Rules.{Rules, IsLawful, stands, choice_at}
 use Rattle.statebook.specs.Covered.{IsCovered}
 use Rattle.statebook.specs.declared.limits.Limits.{Limits}
-use Rattle.explore.specs.Found.{AreFound, IsFound, IsListedMark}
+use Rattle.explore.specs.Found.{IsFound, IsListedMark}
 use Rattle.matching.specs.Answers.{Stands}
-use Rattle.matching.specs.Inner.Candidates.{AddsOnly, FollowAll, Follows, GoesInto, GoesOn, IsAWay, IsDue, IsEndOf, IsFittingEnd, IsIn, IsKept, IsWaiting, Keeps, KeepsAll, KeepsEnds, KeepsFollowing, KeepsFound, Waits, begins}
+use Rattle.matching.specs.Inner.Candidates.{FollowAll, Follows, GoesOn, IsAWay, IsEndOf, IsFittingEnd, IsIn, IsKept, Keeps, KeepsAll, KeepsEnds, KeepsFollowing, KeepsFound, begins}
 use Rattle.matching.specs.Inner.Searching.{Extends, OpensWith}
-use Rattle.matching.specs.Inner.Slots.{EndsSlot, one_slot, shifted}
+use Rattle.matching.specs.Inner.Slots.{one_slot, shifted}
 use Rattle.matching.specs.declared.candidates.Onward.{Onward}
 use Rattle.matching.specs.declared.candidates.Way.{Way}
 use Rattle.matching.specs.declared.search.Search.{Search}
@@ -19,7 +17,7 @@ use Rattle.matching.specs.declared.slot.SlotStart.{SlotStart}
 use Rattle.matching.proofs.Explaining.{joined_at, joined_mark, joined_names, joined_run}
 use Rattle.matching.proofs.JoinedLogs.{choice_beyond, names_more}
 use Rattle.matching.proofs.Kept.{in_first, in_later, in_none, in_rest}
-use Rattle.matching.proofs.Matched.{goes_on_alike, stands_at}
+use Rattle.matching.proofs.Matched.{goes_on_alike}
 
 -- the run to the end of a slot
 pub stands_end : {S : Type 0} (r : Rules S) → IsLawful r → (most : ℕ) (start : SlotStart S) (s : S) (log : List (ℕ × ℕ)) (steps : ℕ) → Stands r start.state start.log start.steps → IsEndOf r most start s log steps → Stands r s log steps × (r.mark s ≡ true)

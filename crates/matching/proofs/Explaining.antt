@@ -1,13 +1,13 @@
 -- What is explained up to a time, and what of it is explained up to another.
-use Rattle.std.proofs.Common.{◌≡◌, ℕ, ◌+◌, ◌-◌, ◌<◌, ◌≤◌, zero, suc, Bool, true, false, List, [], ◌∷◌, ◌++◌, length, inl, inr, ◌⊎◌, arith, ap, refl, sym, ◌∙◌, subst}
+use Rattle.std.proofs.Common.{◌≡◌, ℕ, ◌+◌, ◌-◌, ◌<◌, ◌≤◌, zero, suc, true, List, ◌++◌, length, inl, inr, ◌⊎◌, arith, ap, refl, sym, ◌∙◌, subst}
 use Rattle.std.proofs.lemmas.Bool.{cases_lt}
 use Rattle.basis.proofs.Bools.{clash}
 use Rattle.sched_core.specs.Ranks.{IsRanked}
 use Rattle.sched_core.specs.Rules.{Rules, IsLawful, stands, choice_at, IsRun, NamesBelow}
 use Rattle.matching.specs.Explained.{EndsSlots, IsAtEnd, IsExplained, NoEndWithin, departures_within}
 use Rattle.matching.specs.Inner.Slots.{one_slot, shifted, EndsSlot}
-use Rattle.matching.proofs.JoinedLogs.{between, between_choice, between_names, choice_beyond, front_within, joined_after, joined_before, names_joined, names_more, none_before, none_beyond, shifted_length, within_all, within_joined}
-use Rattle.matching.proofs.Segments.{ChooseAlike, ChoosesFrom, along, along_open, along_run, rank_stays, ranks_rise_to, run_alike, run_front, stands_alike}
+use Rattle.matching.proofs.JoinedLogs.{choice_beyond, joined_after, joined_before, names_joined, none_before, none_beyond, shifted_length, within_all, within_joined}
+use Rattle.matching.proofs.Segments.{ChooseAlike, ChoosesFrom, along, along_open, along_run, rank_stays, ranks_rise_to, run_alike, stands_alike}
 
 -- Two references show the same up to a time.
 abbrev pub ShowAlike : {S : Type 0} → (ℕ → S → ℕ) → (ℕ → S → ℕ) → ℕ → Type 0

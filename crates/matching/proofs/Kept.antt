@@ -1,5 +1,5 @@
 -- Looking among candidates, and putting one among them.
-use Rattle.std.proofs.Common.{◌≡◌, ℕ, ◌+◌, ◌<◌, ◌≤◌, zero, suc, Bool, true, false, List, [], ◌∷◌, length, slice_get, min, Option, Some, None, IfSome, IfNone, inl, inr, ◌⊎◌, arith, ap, refl, sym, ◌∙◌, subst}
+use Rattle.std.proofs.Common.{◌≡◌, ℕ, ◌+◌, ◌<◌, ◌≤◌, zero, suc, Bool, true, List, [], ◌∷◌, length, slice_get, min, Option, Some, None, IfSome, IfNone, inl, inr, ◌⊎◌, arith, ap, refl, sym, ◌∙◌, subst}
 use Rattle.std.specs.Cmp.{IsEquivalence}
 use Rattle.std.specs.List.{IsDistinct}
 use Rattle.std.specs.Map.{keys_of, lookup}
@@ -10,7 +10,7 @@ use Rattle.indexmap.specs.IndexMap.{insert_entry}
 use Rattle.sched_core.specs.Rules.{Rules, IsLawful}
 use Rattle.explore.proofs.InsertLemmas.{Inserted, inserted, same_value, value_at}
 use Rattle.explore.proofs.MarkLemmas.{equivalence}
-use Rattle.matching.specs.Inner.Candidates.{IsEarliest, IsIn, IsKept, IsShortest, Keeps, KeepsAll}
+use Rattle.matching.specs.Inner.Candidates.{IsEarliest, IsIn, IsShortest, Keeps}
 use Rattle.matching.specs.Inner.Merging.{AreLonger, IsEarlier, IsNoLonger, IsShorter}
 use Rattle.matching.specs.declared.answer.Explanation.{Explanation}
 use Rattle.matching.specs.declared.candidates.Onward.{Onward}

@@ -1,11 +1,11 @@
 -- From the runs that are explained up to one time to those that are up to the next.
-use Rattle.std.proofs.Common.{◌≡◌, ℕ, ◌+◌, ◌-◌, ◌<◌, ◌≤◌, zero, suc, Bool, true, false, List, [], ◌∷◌, ◌++◌, length, Option, Some, None, IfSome, inl, inr, ◌⊎◌, arith, ap, refl, sym, ◌∙◌, subst}
+use Rattle.std.proofs.Common.{◌≡◌, ℕ, ◌+◌, ◌-◌, ◌<◌, ◌≤◌, suc, true, List, [], ◌++◌, length, Option, Some, None, IfSome, inl, inr, ◌⊎◌, arith, ap, refl, sym, ◌∙◌, subst}
 use Rattle.std.proofs.lemmas.Bool.{cases_lt}
 use Rattle.sched_core.specs.Ranks.{IsRanked}
-use Rattle.sched_core.specs.Rules.{Rules, IsLawful, stands, choice_at, IsRun, NamesBelow}
+use Rattle.sched_core.specs.Rules.{Rules, IsLawful, stands, choice_at}
 use Rattle.matching.specs.Answers.{Stands}
 use Rattle.matching.specs.Explained.{EndsSlots, IsAtEnd, IsExplained}
-use Rattle.matching.specs.Inner.Candidates.{FollowAll, Follows, GoesInto, GoesOn, IsAWay, IsDue, IsEndOf, IsFittingEnd, IsIn, IsKept, IsWaiting, KeepsEnds, Waits, begins}
+use Rattle.matching.specs.Inner.Candidates.{FollowAll, GoesInto, GoesOn, IsAWay, IsFittingEnd, IsIn, IsKept, IsWaiting, Waits, begins}
 use Rattle.matching.specs.Inner.Searching.{AreMatched, IsOpening, OpensWith}
 use Rattle.matching.specs.Inner.Slots.{shifted}
 use Rattle.matching.specs.declared.candidates.Onward.{Onward}

@@ -1,5 +1,5 @@
 -- What pieces that were read one after another show.
-use Rattle.std.proofs.Common.{◌≡◌, ℕ, ◌+◌, ◌<◌, ◌≤◌, max, nat_lt, true, false, if◌then◌else◌, List, [], ◌∷◌, ◌++◌, Option, Some, None, arith, ap, refl, sym, ◌∙◌, subst}
+use Rattle.std.proofs.Common.{◌≡◌, ℕ, ◌<◌, ◌≤◌, max, nat_lt, true, false, if◌then◌else◌, List, [], ◌∷◌, ◌++◌, arith, ap, refl, sym, ◌∙◌}
 use Rattle.std.proofs.lemmas.Bool.Decides.{nat_tests}
 use Rattle.matching.specs.Answers.{ReadsOn}
 use Rattle.matching.specs.Explained.{Piece, differ_at, last_time}

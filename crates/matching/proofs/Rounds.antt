@@ -1,13 +1,13 @@
 -- From one time of a search to the next, and to its answer.
-use Rattle.std.proofs.Common.{◌≡◌, ◌≢◌, ℕ, ◌+◌, ◌-◌, ◌^◌, ◌<◌, ◌≤◌, zero, suc, max, Bool, true, false, List, [], ◌∷◌, ◌++◌, length, Option, Some, None, IfSome, inl, inr, ◌⊎◌, arith, ap, refl, sym, ◌∙◌, subst}
+use Rattle.std.proofs.Common.{◌≡◌, ◌≢◌, ℕ, ◌-◌, ◌^◌, ◌<◌, ◌≤◌, suc, true, List, [], ◌∷◌, ◌++◌, Option, Some, None, IfSome, inl, inr, ◌⊎◌, arith, ap, refl, sym, ◌∙◌, subst}
 use Rattle.std.proofs.lemmas.Option.{same_Some, none-some}
 use Rattle.sched_core.specs.Ranks.{IsRanked}
 use Rattle.sched_core.specs.Rules.{Rules, IsLawful, stands}
-use Rattle.matching.specs.Answers.{ClosesTo, DiffersAlike, Explains, IfCut, IfExplained, IfUnexplained, ReadsOn, Refutes, SomeIsExplained, Stands}
+use Rattle.matching.specs.Answers.{ClosesTo, DiffersAlike, Explains, IfCut, IfExplained, IfUnexplained, Refutes, SomeIsExplained}
 use Rattle.matching.specs.Explained.{EndsSlots, IsExplained, Piece, differ_at, last_time}
 use Rattle.matching.specs.Inner.Candidates.{FollowAll, GoesOn, IsEarliest, IsIn, IsRunToEnd, IsShortest}
 use Rattle.matching.specs.Inner.Reading.{HasRead, IsAhead, ReadsAt}
-use Rattle.matching.specs.Inner.Searching.{AreMatched, IsOpening, IsOver, IsUnderWay, IsWanted, OpensWith}
+use Rattle.matching.specs.Inner.Searching.{AreMatched, IsOpening, IsUnderWay, IsWanted, OpensWith}
 use Rattle.matching.specs.declared.answer.Cut.{Cut as CutShort}
 use Rattle.matching.specs.declared.answer.Explanation.{Explanation}
 use Rattle.matching.specs.declared.answer.Matching.{Matching}

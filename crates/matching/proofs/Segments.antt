@@ -1,10 +1,9 @@
 -- A slot's runs are stretches of the space's runs, and the other way round.
-use Rattle.std.proofs.Common.{◌≡◌, ℕ, ◌+◌, ◌-◌, ◌<◌, ◌≤◌, zero, suc, Bool, true, false, if◌then◌else◌, List, [], ◌∷◌, ◌++◌, length, inl, inr, ◌⊎◌, arith, ap, refl, sym, ◌∙◌, subst}
-use Rattle.std.proofs.lemmas.Bool.{cases_lt}
+use Rattle.std.proofs.Common.{◌≡◌, ℕ, ◌+◌, ◌-◌, ◌<◌, ◌≤◌, zero, suc, Bool, true, false, if◌then◌else◌, List, arith, ap, refl, sym, ◌∙◌, subst}
 use Rattle.sched_core.specs.Ranks.{IsRanked}
 use Rattle.sched_core.specs.Rules.{Rules, IsLawful, stands, choice_at, IsRun, NamesBelow}
 use Rattle.matching.specs.Explained.{EndsSlots, NoEndWithin}
-use Rattle.matching.specs.Inner.Slots.{one_slot, shifted, EndsSlot}
+use Rattle.matching.specs.Inner.Slots.{one_slot, EndsSlot}
 use Rattle.matching.proofs.JoinedLogs.{between, between_choice, between_names}
 
 -- The two logs choose alike below a step.

@@ -1,8 +1,8 @@
 -- *internal*: The candidates of a search, and which of them follow from those of the time before.
-use Rattle.std.specs.Prelude.{◌≡◌, ℕ, ◌+◌, ◌<◌, ◌≤◌, ◌⊎◌, true, List, [], ◌∷◌, ◌++◌, length, slice_get, Option, Some, None, IfSome}
-use Rattle.sched_core.specs.Rules.{Rules, stands, IsRun, NamesBelow}
+use Rattle.std.specs.Prelude.{◌≡◌, ℕ, ◌+◌, ◌<◌, ◌≤◌, ◌⊎◌, true, List, ◌++◌, length, slice_get, Option, Some, None, IfSome}
+use Rattle.sched_core.specs.Rules.{Rules}
 use Rattle.matching.specs.Answers.{Stands}
-use Rattle.matching.specs.Inner.Slots.{one_slot, shifted, EndsSlot}
+use Rattle.matching.specs.Inner.Slots.{shifted, EndsSlot}
 use Rattle.matching.specs.declared.answer.Explanation.{Explanation}
 use Rattle.matching.specs.declared.candidates.Onward.{Onward}
 use Rattle.matching.specs.declared.candidates.Way.{Way}

@@ -1,5 +1,5 @@
 -- *internal*: What a search keeps as it goes from one time to the next.
-use Rattle.std.specs.Prelude.{◌≡◌, ◌≢◌, ℕ, ◌<◌, ◌≤◌, ◌-◌, ◌⊎◌, Bool, true, List, [], length, Option, Some, None, IfSome}
+use Rattle.std.specs.Prelude.{◌≡◌, ◌≢◌, ℕ, ◌<◌, ◌-◌, ◌⊎◌, Bool, true, List, [], length, Option, Some, None, IfSome}
 use Rattle.indexmap.specs.IndexMap.{IsUnique}
 use Rattle.sched_core.specs.Rules.{Rules, stands}
 use Rattle.matching.specs.Explained.{Piece, differ_at, last_time, IsExplained}

@@ -1,5 +1,5 @@
 -- *internal*: One slot of a lawful space is a lawful space (a law with its proof).
-use Rattle.std.proofs.Common.{◌≡◌, ℕ, ◌<◌, Bool, true, false, if◌then◌else◌, arith, ap, refl, sym, ◌∙◌}
+use Rattle.std.proofs.Common.{◌≡◌, ℕ, ◌<◌, Bool, true, false, if◌then◌else◌, arith, refl}
 use Rattle.sched_core.specs.Rules.{Rules, IsLawful}
 use Rattle.matching.specs.Inner.Slots.{one_slot}
 

@@ -1,5 +1,5 @@
 -- *internal*: One slot of a space, and the run that goes on into it.
-use Rattle.std.specs.Prelude.{◌≡◌, ℕ, ◌+◌, ◌<◌, ◌≤◌, true, if◌then◌else◌, List, [], ◌∷◌, ◌++◌, length}
+use Rattle.std.specs.Prelude.{◌≡◌, ℕ, ◌+◌, true, if◌then◌else◌, List, [], ◌∷◌}
 use Rattle.sched_core.specs.Rules.{Rules, stands, IsRun, NamesBelow}
 
 -- The runs from a state on to the first mark.

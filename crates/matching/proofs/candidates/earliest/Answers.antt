@@ -1,6 +1,4 @@
-use Rattle.std.proofs.Common.{ap, arith, sym, ◌∙◌}
-use Rattle.std.specs.Option.{option_map}
-use Rattle.indexmap.specs.IndexMap.{index_map_len}
+use Rattle.std.proofs.Common.{arith, sym}
 use Rattle.matching.proofs.Kept.{earliest_all, earliest_more}
 use Rattle.matching.proofs.candidates.earliest.Goals as goal
 

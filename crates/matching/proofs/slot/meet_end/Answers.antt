@@ -1,4 +1,4 @@
-use Rattle.std.proofs.Common.{◌≡◌, ℕ, true, arith, ap, sym, ◌∙◌, refl}
+use Rattle.std.proofs.Common.{◌≡◌, ℕ, arith, ap, sym, ◌∙◌, refl}
 use Rattle.explore.proofs.ListingLemmas.{on_ok}
 use Rattle.matching.specs.declared.candidates.Way.{Way}
 use Rattle.matching.proofs.Ends.{extends_end, kept_end, stands_end}
