@@ -7,7 +7,8 @@ ghost use Rattle.explore.specs.declared.ranked_findings.RankedReason.{RankedReas
 ghost use Rattle.sched_core.specs.Rules.{Rules};
 ghost use Rattle.matching.specs.Explained.{EndsSlots};
 ghost use Rattle.matching.specs.Answers.{ClosesTo, Explains, IfCut, IfExplained, IfUnexplained, Refutes, TellsOfStop};
-ghost use Rattle.matching.specs.Inner.Candidates.{AreWays, FollowAll, Follows, IsAWay, IsKept, IsRunToEnd, IsShortest, IsWaiting, KeepsFollowing, Waits};
+ghost use Rattle.matching.specs.Inner.Candidates.{AreWays, FollowAll, Follows, IsAWay, IsKept, IsRunToEnd};
+ghost use Rattle.matching.specs.Inner.Candidates.{IsShortest, IsWaiting, KeepsFollowing, Waits};
 ghost use Rattle.matching.specs.Inner.Searching.{Extends, IsNearest, IsOpening, IsOver, IsSearch, IsWanted, OpensWith};
 
 use crate::answer::{Cut, Explanation, Matching, Unexplained};
