@@ -2,11 +2,12 @@
 use Rattle.std.proofs.Common.{◌≡◌, ℕ, ◌+◌, ◌-◌, ◌<◌, ◌≤◌, zero, suc, Bool, true, false, List, length, inl, inr, ◌⊎◌, arith, ap, refl, sym, ◌∙◌, subst}
 use Rattle.std.proofs.lemmas.Bool.{cases_lt}
 use Rattle.sched_core.specs.Ranks.{IsRanked}
+use Rattle.statebook.proofs.FrontierLemmas.{rank_rises}
 use Rattle.sched_core.specs.Rules.{Rules, IsLawful, stands, choice_at, IsRun, NamesBelow}
 use Rattle.matching.specs.Explained.{EndsSlots, IsAtEnd, IsExplained, NoEndWithin}
 use Rattle.matching.specs.Inner.Slots.{EndsSlot}
 use Rattle.matching.proofs.JoinedLogs.{between, between_choice, between_length, between_names, both_within, front_within}
-use Rattle.matching.proofs.Segments.{ChooseAlike, ranks_rise_to, run_alike, run_front, stands_alike, stretch}
+use Rattle.matching.proofs.Segments.{ChooseAlike, run_alike, run_front, stands_alike, stretch}
 
 -- what is up to v at first and beyond it in the end passes v in one step
 pub passes : (f : ℕ → ℕ) (v k : ℕ) → f 0 ≤ v → v < f k → (i : ℕ) × (i < k) × (f i ≤ v) × (v < f (suc i))
@@ -94,9 +95,9 @@ module _ {S : Type 0} (r : Rules S) (law : IsLawful r) (rank : S → ℕ) (ranke
     no_end due m ge less = elim (either (r.mark (stands r log m))) [
       | inr not ↦ not
       | inl is ↦ (
-          let one = ranks_rise_to r rank ranked log (suc i) m (run_front r log k m e.run (omega (arith, less))) ge in
+          let one = rank_rises r rank ranked log (suc i) m (run_front r log k m e.run (omega (arith, less))) ge in
           let two = slots.later log m (run_front r log k (suc m) e.run less) is in
-          let three = ranks_rise_to r rank ranked log (suc m) k e.run less in
+          let three = rank_rises r rank ranked log (suc m) k e.run less in
           absurd (omega (arith, one, two, three, due, e.begun)))
     ]
 
@@ -124,9 +125,9 @@ whole_slot {S} r law rank ranked slots shown most log k e start first =
     let none : NoEndWithin r log 0 k = λ m ge less. elim (either (r.mark (stands r log m))) [
       | inr not ↦ not
       | inl is ↦ (
-          let one = ranks_rise_to r rank ranked log 0 m (run_front r log k m e.run (omega (arith, less))) ge in
+          let one = rank_rises r rank ranked log 0 m (run_front r log k m e.run (omega (arith, less))) ge in
           let two = slots.later log m (run_front r log k (suc m) e.run less) is in
-          let three = ranks_rise_to r rank ranked log (suc m) k e.run less in
+          let three = rank_rises r rank ranked log (suc m) k e.run less in
           absurd (omega (arith, one, two, three, e.begun)))
     ] in
     let whole : 0 + k ≡ k = omega arith in

@@ -3,11 +3,12 @@ use Rattle.std.proofs.Common.{◌≡◌, ℕ, ◌+◌, ◌-◌, ◌<◌, ◌≤�
 use Rattle.std.proofs.lemmas.Bool.{cases_lt}
 use Rattle.basis.proofs.Bools.{clash}
 use Rattle.sched_core.specs.Ranks.{IsRanked}
+use Rattle.statebook.proofs.FrontierLemmas.{rank_rises}
 use Rattle.sched_core.specs.Rules.{Rules, IsLawful, stands, choice_at, IsRun, NamesBelow}
 use Rattle.matching.specs.Explained.{EndsSlots, IsAtEnd, IsExplained, NoEndWithin, departures_within}
 use Rattle.matching.specs.Inner.Slots.{one_slot, shifted, EndsSlot}
 use Rattle.matching.proofs.JoinedLogs.{choice_beyond, joined_after, joined_before, names_joined, none_before, none_beyond, shifted_length, within_all, within_joined}
-use Rattle.matching.proofs.Segments.{ChooseAlike, ChoosesFrom, along, along_open, along_run, rank_stays, ranks_rise_to, run_alike, stands_alike}
+use Rattle.matching.proofs.Segments.{ChooseAlike, ChoosesFrom, along, along_open, along_run, rank_stays, run_alike, stands_alike}
 
 -- Two references show the same up to a time.
 abbrev pub ShowAlike : {S : Type 0} → (ℕ → S → ℕ) → (ℕ → S → ℕ) → ℕ → Type 0
@@ -51,7 +52,7 @@ waits_on r rank ranked shown most v w log k e le on now last = record {
     | inr early ↦ e.fits j u at early
     | inl more ↦ elim (cases_lt j k) [
       | inl lt ↦ (
-          let later : rank (stands r log (suc j)) ≤ rank (stands r log k) = ranks_rise_to r rank ranked log (suc j) k e.run lt in
+          let later : rank (stands r log (suc j)) ≤ rank (stands r log k) = rank_rises r rank ranked log (suc j) k e.run lt in
           absurd (omega (arith, at.next lt, later, e.begun, more)))
       | inr ge ↦ (
           let itself : k ≡ j = omega (arith, ge, at.within) in

@@ -2,6 +2,7 @@
 use Rattle.std.proofs.Common.{◌≡◌, ℕ, ◌+◌, ◌-◌, ◌<◌, ◌≤◌, suc, true, List, [], ◌++◌, length, Option, Some, None, IfSome, inl, inr, ◌⊎◌, arith, ap, refl, sym, ◌∙◌, subst}
 use Rattle.std.proofs.lemmas.Bool.{cases_lt}
 use Rattle.sched_core.specs.Ranks.{IsRanked}
+use Rattle.statebook.proofs.FrontierLemmas.{rank_rises}
 use Rattle.sched_core.specs.Rules.{Rules, IsLawful, stands, choice_at}
 use Rattle.matching.specs.Answers.{Stands}
 use Rattle.matching.specs.Explained.{EndsSlots, IsAtEnd, IsExplained}
@@ -14,7 +15,6 @@ use Rattle.matching.specs.declared.slot.SlotStart.{SlotStart}
 use Rattle.matching.proofs.Completing.{both_few, earlier, front_explained, front_same, goes_on, passes, rest, rest_few, whole_slot}
 use Rattle.matching.proofs.Explaining.{ComesTo, ShowsOn, explained_joined, joined_at, joined_mark, joined_names, joined_run, waits_on}
 use Rattle.matching.proofs.JoinedLogs.{between, choice_beyond, names_more}
-use Rattle.matching.proofs.Segments.{ranks_rise_to}
 
 -- where a run goes on from a state it goes on from an equal one
 pub goes_on_alike : {S : Type 0} (r : Rules S) → IsLawful r → (rank : S → ℕ) (s t : S) (next : Option (Onward S)) → r.same s t ≡ true → GoesOn r rank s next → GoesOn r rank t next
@@ -85,7 +85,7 @@ comes_on {S} r law rank ranked shown most v w log k e le on wide due =
             let at : IsAtEnd r rank log k j u = record { within = omega (arith, lt); mark = mark; ended = ended; next = λ _. next } in
             e.fits j u at early)
         | inl more ↦ elim (cases_lt j k) [
-          | inl before ↦ absurd (omega (arith, ranks_rise_to r rank ranked log (suc j) k e.run before, e.begun, more, next))
+          | inl before ↦ absurd (omega (arith, rank_rises r rank ranked log (suc j) k e.run before, e.begun, more, next))
           | inr ge ↦ (
               let itself : k ≡ j = omega (arith, ge, lt) in
               let P : ℕ → Type 0 = λ i. u < rank (stands r log (suc i)) in
@@ -193,7 +193,7 @@ module _ {S : Type 0} (r : Rules S) (law : IsLawful r) (rank : S → ℕ) (ranke
       let first : r.same next.state (stands r log (suc i)) ≡ true = ap (r.same next.state) (sym step) ∙ (goes_on_alike r law rank c.0 t (Some next) same goes).1 in
       let rank_is : next.rank ≡ rank (stands r log (suc i)) = next_rank r law rank ranked c.0 t next same goes ∙ ap rank step in
       let due : w ≤ rank (stands r log (suc i)) = omega (arith, rank_is, least c next at is) in
-      let come : next.rank ≤ w = omega (arith, rank_is, ranks_rise_to r rank ranked log (suc i) k e.run lt, e.begun) in
+      let come : next.rank ≤ w = omega (arith, rank_is, rank_rises r rank ranked log (suc i) k e.run lt, e.begun) in
       let kept = (follow.all c at).ends next (is, come) (between (suc i) k log) (k - suc i) (stands r log k)
       (rest_few r law rank ranked slots shown most v w log k e le i lt before behind due)
       (rest r law rank ranked slots shown most v w log k e le i lt before behind next.state first due)

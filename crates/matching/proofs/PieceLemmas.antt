@@ -5,15 +5,11 @@ use Rattle.matching.specs.Answers.{ReadsOn}
 use Rattle.matching.specs.Explained.{Piece, differ_at, last_time}
 use Rattle.matching.specs.Inner.Reading.{HasRead, last_piece}
 
-less : (a b : ℕ) → a < b → nat_lt a b ≡ true
-less a b lt = grind (arith, nat_tests)
-
-not_less : (a b : ℕ) → b ≤ a → nat_lt a b ≡ false
-not_less a b le = grind (arith, nat_tests)
-
 -- a later piece changes nothing before its time
 pub shown_before : {S : Type 0} (first : Piece S) (ps : List (Piece S)) (p : Piece S) (v : ℕ) (s : S) → v < p.from → differ_at first (ps ++ p ∷ []) v s ≡ differ_at first ps v s
-shown_before first [] p v s lt = rw (less v p.from lt) refl
+shown_before first [] p v s lt =
+    let before : nat_lt v p.from ≡ true = grind (arith, nat_tests, lt) in
+    rw before refl
 shown_before first (q ∷ ps) p v s lt = ap (λ d. if nat_lt v q.from then first.differ s else d) (shown_before q ps p v s lt)
 
 pub last_time-least : {S : Type 0} (start : ℕ) (ps : List (Piece S)) → start ≤ last_time start ps
@@ -24,7 +20,8 @@ last_time-least start (p ∷ ps) = omega (arith, last_time-least (max start p.fr
 pub shown_last : {S : Type 0} (first : Piece S) (start : ℕ) (ps : List (Piece S)) (v : ℕ) (s : S) → last_time start ps ≤ v → differ_at first ps v s ≡ (last_piece first ps).differ s
 shown_last first start [] v s le = refl
 shown_last first start (p ∷ ps) v s le =
-    let come : nat_lt v p.from ≡ false = not_less v p.from (omega (arith, last_time-least (max start p.from) ps, le)) in
+    let there : p.from ≤ v = omega (arith, last_time-least (max start p.from) ps, le) in
+    let come : nat_lt v p.from ≡ false = grind (arith, nat_tests, there) in
     rw come (shown_last p (max start p.from) ps v s le)
 
 pub last_time-more : {S : Type 0} (start : ℕ) (ps : List (Piece S)) (p : Piece S) → last_time start (ps ++ p ∷ []) ≡ max (last_time start ps) p.from

@@ -1,6 +1,5 @@
 -- A slot's runs are stretches of the space's runs, and the other way round.
 use Rattle.std.proofs.Common.{◌≡◌, ℕ, ◌+◌, ◌-◌, ◌<◌, ◌≤◌, zero, suc, Bool, true, false, if◌then◌else◌, List, arith, ap, refl, sym, ◌∙◌, subst}
-use Rattle.sched_core.specs.Ranks.{IsRanked}
 use Rattle.sched_core.specs.Rules.{Rules, IsLawful, stands, choice_at, IsRun, NamesBelow}
 use Rattle.matching.specs.Explained.{EndsSlots, NoEndWithin}
 use Rattle.matching.specs.Inner.Slots.{one_slot, EndsSlot}
@@ -26,23 +25,6 @@ run_alike r a b n alike run k lt =
 -- of a run the first steps are one
 pub run_front : {S : Type 0} (r : Rules S) (log : List (ℕ × ℕ)) (n k : ℕ) → IsRun r log n → k ≤ n → IsRun r log k
 run_front r log n k run le j lt = run j (omega (arith, lt, le))
-
--- ranks of a run rise
-pub ranks_rise : {S : Type 0} (r : Rules S) (rank : S → ℕ) → IsRanked r rank → (log : List (ℕ × ℕ)) (i c : ℕ) → IsRun r log (i + c) → rank (stands r log i) ≤ rank (stands r log (i + c))
-ranks_rise r rank ranked log i zero run =
-    let same : i + 0 ≡ i = omega arith in
-    rw same (omega arith)
-ranks_rise r rank ranked log i (suc c) run =
-    let next : i + suc c ≡ suc (i + c) = omega arith in
-    let whole : IsRun r log (suc (i + c)) = subst (λ n. IsRun r log n) next run in
-    let before = ranks_rise r rank ranked log i c (run_front r log (suc (i + c)) (i + c) whole (omega arith)) in
-    rw next (omega (arith, before, ranked.rises log (i + c) whole))
-
-pub ranks_rise_to : {S : Type 0} (r : Rules S) (rank : S → ℕ) → IsRanked r rank → (log : List (ℕ × ℕ)) (i k : ℕ) → IsRun r log k → i ≤ k → rank (stands r log i) ≤ rank (stands r log k)
-ranks_rise_to r rank ranked log i k run le =
-    let whole : i + (k - i) ≡ k = omega (arith, le) in
-    let P : ℕ → Type 0 = λ n. rank (stands r log i) ≤ rank (stands r log n) in
-    subst P whole (ranks_rise r rank ranked log i (k - i) (subst (λ n. IsRun r log n) (sym whole) run))
 
 -- where no slot ends the rank stays
 pub rank_stays : {S : Type 0} (r : Rules S) (rank : S → ℕ) → EndsSlots r rank → (log : List (ℕ × ℕ)) (i c : ℕ) → IsRun r log (i + c) → NoEndWithin r log i (i + c) → rank (stands r log (i + c)) ≡ rank (stands r log i)
