@@ -1,0 +1,9 @@
+pub mod JoinedLogs
+pub mod Segments
+pub mod Explaining
+pub mod Completing
+pub mod PieceLemmas
+pub mod Matched
+pub mod Kept
+pub mod Ends
+pub mod Rounds

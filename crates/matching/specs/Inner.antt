@@ -1,0 +1,7 @@
+-- *internal*: Words for the contracts of calls within.
+pub mod Slots
+pub mod SlotLaws
+pub mod Candidates
+pub mod Reading
+pub mod Merging
+pub mod Searching

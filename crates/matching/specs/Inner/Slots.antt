@@ -1,0 +1,25 @@
+-- *internal*: One slot of a space, and the run that goes on into it.
+use Rattle.std.specs.Prelude.{◌≡◌, ℕ, ◌+◌, true, if◌then◌else◌, List, [], ◌∷◌}
+use Rattle.sched_core.specs.Rules.{Rules, stands, IsRun, NamesBelow}
+
+-- The runs from a state on to the first mark.
+abbrev pub one_slot : {S : Type 0} → Rules S → S → Rules S
+one_slot r start = record {
+  same = r.same;
+  first = start;
+  width = λ s. if r.mark s then 0 else r.width s;
+  mark = r.mark;
+  after = r.after;
+}
+
+-- The members of a log, so many steps later.
+abbrev pub shifted : ℕ → List (ℕ × ℕ) → List (ℕ × ℕ)
+shifted n [] = []
+shifted n (m ∷ log) = (n + m.0, m.1) ∷ shifted n log
+
+-- A run from the start comes to the end of the slot at this state: under this log, in so many steps.
+pub record EndsSlot {S : Type 0} (r : Rules S) (start : S) (log : List (ℕ × ℕ)) (n : ℕ) (s : S) : Type 0 where
+  pub run : IsRun (one_slot r start) log n
+  pub names : NamesBelow log n
+  pub mark : r.mark (stands (one_slot r start) log n) ≡ true
+  pub at : r.same s (stands (one_slot r start) log n) ≡ true
