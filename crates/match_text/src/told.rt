@@ -9,8 +9,8 @@ use sched_core::Log;
 use std::alloc::Global;
 use vmachine::{Machine, MachineState};
 
-/// A departure of the run that explains a dump: its step, the time of its slot, and which two statements come in another order by it, where
-/// that is known.
+/// A departure of the run that explains a dump: its step, the time of its slot, and which two statements come in another order by it,
+/// where that is known.
 #[derive(Drop)]
 pub struct Departure {
     pub step: u32,
@@ -18,10 +18,11 @@ pub struct Departure {
     pub cause: Option<Cause>,
 }
 
-/// What is told of a comparison: the machine and its files, the name of the dump, what of it was compared, how many departures a slot may
-/// have, up to which time the dump was read, and what was found.
+/// What is told of a comparison: the machine and its files, the name of the dump, what of it was compared, how many departures a slot
+/// may have, up to which time the dump was read, and what was found.
 ///
-/// `beyond` is what cut the search with one departure more a slot, where no run explains the dump with `most` of them and more were allowed.
+/// `beyond` is what cut the search with one departure more a slot, where no run explains the dump with `most` of them and more were
+/// allowed.
 /// `departures` are those of the run that explains the dump; `differing` is what differs in the nearest run, where none explains it.
 /// `is_top_named` says whether the top module was named in the call, and `stopped_by` by which option the search was stopped, where its
 /// watcher stopped it.
