@@ -37,6 +37,6 @@ pub fn match_dump<R: Read + Drop, W: Watcher>(
 {
     machine_law();
     run_law();
-    let machine = reference.machine();
+    let machine = reference.machine;
     match_runs(alloc, machine, reference, limits, watcher)
 }

@@ -15,14 +15,14 @@ loop-pair-preserved g c =
     let pair : Pair = get_or pairs i (record { column = 0; variable = 0 }) in
     let one : suc i ≡ i + 1 = omega arith in
     let is = subst (λ (n : ℕ). pair ∷ drop n pairs ≡ drop i pairs) one
-        (sym (drop_at_place pairs i pair (at_place pairs i (record { column = 0; variable = 0 }) c.loop-pair-test.true))) in
+    (sym (drop_at_place pairs i pair (at_place pairs i (record { column = 0; variable = 0 }) c.loop-pair-test.true))) in
     elim c.if-pair_differs.branch [
-    | then-pair_differs w ↦ (
+      | then-pair_differs w ↦ (
         counted told values pair (drop i pairs) (drop (i + 1) pairs) c.loop-pair.count c.if-pair_differs.count (differing_in told values pairs) 1
             is c.loop-pair.invariant.0 (c.pair_differs.ensures ∙ ap (λ (b : Bool). if b then 1 else 0) w.if-pair_differs.true) w.count-is,
         omega (arith, w.count-is, c.loop-pair.invariant.1),
       )
-    | else-pair_differs w ↦ (
+      | else-pair_differs w ↦ (
         counted told values pair (drop i pairs) (drop (i + 1) pairs) c.loop-pair.count c.if-pair_differs.count (differing_in told values pairs) 0
             is c.loop-pair.invariant.0 (c.pair_differs.ensures ∙ ap (λ (b : Bool). if b then 1 else 0) w.if-pair_differs.false) (omega (arith, w.count-is)),
         omega (arith, w.count-is, c.loop-pair.invariant.1),

@@ -10,8 +10,7 @@ loop-told-preserved c =
       place = c.loop-told.told-index;
       in_dump = at_place c.args.declared.now c.loop-told.told-index c.told-item.result c.loop-told-test.true
           ∙ ap (λ (told : VcdVariable). Some told) (sym c.told-item.is);
-    } in
-    (
+    } in (
       c.in_ok-take.ensures.sound,
       c.in_ok-take.ensures.fresh c.loop-told.invariant.1,
       c.in_ok-take.ensures.named c.args.variables.now c.args.declared.now c.likeness_of-likeness.ensures place c.loop-told.invariant.2,
