@@ -1,8 +1,6 @@
 -- The digits of a value are read back.
 use Rattle.std.proofs.Common.{◌≡◌, ℕ, zero, suc, ◌+◌, ◌-◌, ◌<◌, ◌≤◌, Bool, true, false, ◌==◌, ◌||◌, if◌then◌else◌, List, [], ◌∷◌, ◌++◌, length, get_or, map, replicate, reverse, Some, None, refl, ap, sym, ◌∙◌, subst, inl, inr, arith, append-nil, length-append}
-use Rattle.std.specs.Prelude.{nat_le}
-use Rattle.std.proofs.lemmas.Bool.{cases_Bool}
-use Rattle.std.proofs.lemmas.Bool.Decides.{nat_tests}
+use Rattle.std.proofs.lemmas.Bool.{cases_Bool, eqb-true, le-leb}
 use Rattle.std.proofs.lemmas.List.{map-append, reverse-append, length-map, length-reverse, length-replicate}
 use Rattle.vbits.specs.declared.bit4.Bit4.{Bit4}
 use Rattle.vbits.specs.declared.bit4.Bit4.TheVariants.{Zero, One, X, Z}
@@ -39,9 +37,6 @@ put_same x c (suc n) k is =
     let more : suc k + n ≡ k + suc n = omega arith in
     ap (λ (y : Bit4). put_digits (y ∷ replicate k x) (replicate n c)) is ∙ put_same x c n (suc k) is ∙ ap (λ (m : ℕ). replicate m x) more
 
-same_when : (a b : ℕ) → (a == b) ≡ true → a ≡ b
-same_when a b h = grind (arith, nat_tests)
-
 other_letter : (p : Bool) → (if p then X else Z) ≡ extension (if p then X else Z)
 other_letter true = refl
 other_letter false = refl
@@ -56,9 +51,9 @@ other_fill c p q =
 
 fill_letter : (c : ℕ) → letter_of (left_fill c) ≡ extension (letter_of c)
 fill_letter c = elim (cases_Bool (c == 48)) [
-  | inl zero_is ↦ subst (λ (d : ℕ). letter_of (left_fill d) ≡ extension (letter_of d)) (sym (same_when c 48 zero_is)) refl
+  | inl zero_is ↦ subst (λ (d : ℕ). letter_of (left_fill d) ≡ extension (letter_of d)) (sym (eqb-true c 48 zero_is)) refl
   | inr p ↦ elim (cases_Bool (c == 49)) [
-    | inl one_is ↦ subst (λ (d : ℕ). letter_of (left_fill d) ≡ extension (letter_of d)) (sym (same_when c 49 one_is)) refl
+    | inl one_is ↦ subst (λ (d : ℕ). letter_of (left_fill d) ≡ extension (letter_of d)) (sym (eqb-true c 49 one_is)) refl
     | inr q ↦ other_fill c p q
   ]
 ]
@@ -80,9 +75,6 @@ shorter width s ds long is =
     let same : length (full_digits width s) ≡ width = ap length is ∙ long in
     omega arith
 
-binary_length : (v : Vector) → length (binary v) ≡ length v.letters
-binary_length v = length-map (reverse v.letters) binary_digit ∙ length-reverse v.letters
-
 -- the letters of digits that are extended
 extended : (width c : ℕ) (cs : Text) → put_digits [] (full_digits width (c ∷ cs)) ≡ (vector_by (width - length (c ∷ cs)) c cs).letters
 extended width c cs =
@@ -93,25 +85,23 @@ extended width c cs =
     none_more : (m : ℕ) → 0 + m ≡ m
     none_more m = omega arith
 
-is_low : (a b : ℕ) → a ≤ b → nat_le a b ≡ true
-is_low a b h = grind (arith, nat_tests)
-
 fits : (width c : ℕ) (cs : Text) (v : Vector) → length (binary v) ≡ width → full_digits width (c ∷ cs) ≡ binary v →
     vector_of width (c ∷ cs) ≡ Some (unsigned v)
 fits width c cs v long back =
     let letters : (vector_by (width - length (c ∷ cs)) c cs).letters ≡ v.letters =
     sym (extended width c cs) ∙ ap (put_digits []) back ∙ put_reversed v.letters [] ∙ append-nil v.letters in
-    ap (λ (b : Bool). if b then Some (vector_by (width - length (c ∷ cs)) c cs) else None) (is_low (length (c ∷ cs)) width (shorter width (c ∷ cs) (binary v) long back))
+    ap (λ (b : Bool). if b then Some (vector_by (width - length (c ∷ cs)) c cs) else None) (le-leb (length (c ∷ cs)) width (shorter width (c ∷ cs) (binary v) long back))
     ∙ (λ i. Some (record { letters = letters i; signed = false }))
 
-back_by : (v : Vector) (digits : Text) → binary v ≡ digits → 0 < length digits → vector_of (length v.letters) (short_digits (binary v)) ≡ Some (unsigned v)
-back_by v [] is some = absurd (omega arith)
-back_by v (d ∷ ds) is some =
+back_by : (v : Vector) (digits : Text) → length (binary v) ≡ length v.letters → binary v ≡ digits → 0 < length digits → vector_of (length v.letters) (short_digits (binary v)) ≡ Some (unsigned v)
+back_by v [] long is some = absurd (omega arith)
+back_by v (d ∷ ds) long is some =
     let left = short_some d ds in
     let short : short_digits (binary v) ≡ left.0 ∷ left.1 = ap short_digits is ∙ left.2 in
     let back : full_digits (length v.letters) (left.0 ∷ left.1) ≡ binary v =
-    ap (full_digits (length v.letters)) (sym short) ∙ ap (λ (n : ℕ). full_digits n (short_digits (binary v))) (sym (binary_length v)) ∙ digits_back (binary v) in
-    ap (vector_of (length v.letters)) short ∙ fits (length v.letters) left.0 left.1 v (binary_length v) back
+    ap (full_digits (length v.letters)) (sym short) ∙ ap (λ (n : ℕ). full_digits n (short_digits (binary v))) (sym long) ∙ digits_back (binary v) in
+    ap (vector_of (length v.letters)) short ∙ fits (length v.letters) left.0 left.1 v long back
 
 pub vector_back : (v : Vector) → 0 < length v.letters → vector_of (length v.letters) (short_digits (binary v)) ≡ Some (unsigned v)
-vector_back v some = let long : length (binary v) ≡ length v.letters = binary_length v in back_by v (binary v) refl (omega arith)
+vector_back v some = let long : length (binary v) ≡ length v.letters = length-map (reverse v.letters) binary_digit ∙ length-reverse v.letters in
+    back_by v (binary v) long refl (omega arith)

@@ -5,3 +5,7 @@ mod CodesBack
 mod ValuesBack
 mod BodyBack
 mod SlotsBack
+mod LinesBack
+mod ScopesBack
+mod HeaderBack
+mod WholeBack

@@ -1,7 +1,8 @@
 -- What the values and the commands of a slot tell.
-use Rattle.std.proofs.Common.{◌≡◌, ℕ, zero, suc, ◌<◌, ◌≤◌, Bool, true, false, ◌&&◌, ◌==◌, if◌then◌else◌, List, [], ◌∷◌, ◌++◌, length, map, refl, ap, sym, ◌∙◌, subst, inl, arith, append_assoc, append-nil}
+use Rattle.std.proofs.Common.{◌≡◌, ℕ, zero, suc, ◌<◌, ◌≤◌, Bool, true, false, ◌==◌, if◌then◌else◌, List, [], ◌∷◌, ◌++◌, length, map, refl, ap, sym, ◌∙◌, subst, inl, arith, append_assoc, append-nil}
 use Rattle.std.specs.Prelude.{codes, nat_lt, reverse}
 use Rattle.std.specs.List.{list_all}
+use Rattle.basis.proofs.Bools.{and_both, clash}
 use Rattle.std.proofs.lemmas.List.{length-map, length-reverse, length-replicate}
 use Rattle.vbits.specs.declared.bit4.Bit4.{Bit4}
 use Rattle.vbits.specs.declared.bit4.Bit4.TheVariants.{Zero, One, X, Z}
@@ -14,8 +15,9 @@ use Rattle.vcd_read.specs.Telling.{Tell}
 use Rattle.vcd_text.specs.DumpText.{Part, change, changed_part, changes, code, command_part, command_parts, following, is_news, is_nothing, line, named_line, on_by, part_text, parts_text, selected_values, short_digits, unknown_of, value_lines}
 use Rattle.vdesign.specs.declared.dump.DumpCommand.{DumpCommand}
 use Rattle.vdesign.specs.declared.dump.DumpCommand.TheVariants.{Vars, Off, On, All as AllValues}
+use Rattle.vcd_law.specs.Headers.{Plain}
 use Rattle.vcd_law.specs.ReadBack.{HaveLetters}
-use Rattle.vcd_law.proofs.WordsBack.{Plain, TellsText, line_of_one, line_of_two, plain_code, plain_word, text_alone, text_none, text_then}
+use Rattle.vcd_law.proofs.WordsBack.{TellsText, line_of_one, line_of_two, plain_code, plain_word, text_alone, text_none, text_then}
 
 -- ---- digits
 
@@ -37,12 +39,9 @@ written_plain : (ds : Text) → Written ds → Plain ds
 written_plain [] w = tt
 written_plain (d ∷ ds) w = (w.1, written_plain ds w.2)
 
-both : (a b : Bool) → a ≡ true → b ≡ true → (a && b) ≡ true
-both a b p q = (λ i. p i && q i)
-
 written_digits : (ds : Text) → Written ds → list_all is_digit ds ≡ true
 written_digits [] w = refl
-written_digits (d ∷ ds) w = both (is_digit d) (list_all is_digit ds) w.0 (written_digits ds w.2)
+written_digits (d ∷ ds) w = and_both (is_digit d) (list_all is_digit ds) w.0 (written_digits ds w.2)
 
 written_by : (b : Bool) (s t : Text) → Written s → Written t → Written (if b then s else t)
 written_by true s t v w = v
@@ -77,7 +76,7 @@ following_some (c ∷ cs) = by (nat_lt c 126)
     by true = (suc c, cs, refl)
     by false = (33, following cs, refl)
 
-code_some : (n : ℕ) → (c : ℕ) × (cs : Text) × (code n ≡ c ∷ cs)
+pub code_some : (n : ℕ) → (c : ℕ) × (cs : Text) × (code n ≡ c ∷ cs)
 code_some zero = (33, [], refl)
 code_some (suc n) = following_some (code n)
 
@@ -223,18 +222,23 @@ module _ (marks : List Bool) (values : List Vector) (have : HaveLetters values) 
 
 -- ---- where nothing is written nothing is told
 
-nothing_both : (xs ys : List ℕ) → is_nothing (xs ++ ys) ≡ true → (is_nothing xs ≡ true) × (is_nothing ys ≡ true)
-nothing_both [] ys h = (refl, h)
-nothing_both (x ∷ xs) ys h = absurd cc
+nothing_front : (xs ys : List ℕ) → is_nothing (xs ++ ys) ≡ true → is_nothing xs ≡ true
+nothing_front [] ys h = refl
+nothing_front (x ∷ xs) ys h = h
 
-line_written : (text rest : List ℕ) → is_nothing (line text ++ rest) ≡ false
-line_written [] rest = refl
-line_written (c ∷ cs) rest = refl
+nothing_back : (xs ys : List ℕ) → is_nothing (xs ++ ys) ≡ true → is_nothing ys ≡ true
+nothing_back [] ys h = h
+nothing_back (x ∷ xs) ys h = absurd cc
+
+line_written : (text : List ℕ) → is_nothing (line text) ≡ false
+line_written [] = refl
+line_written (c ∷ cs) = refl
 
 lines_nothing : (told : List (ℕ × Vector)) → is_nothing (value_lines told) ≡ true → told_items told ≡ []
 lines_nothing [] h = refl
 lines_nothing (entry ∷ told) h =
-    let some : is_nothing (value_lines (entry ∷ told)) ≡ false = line_written (change (binary entry.1) (code entry.0)) (value_lines told) in absurd cc
+    let first : List ℕ = change (binary entry.1) (code entry.0) in
+    absurd (clash (is_nothing (line first)) (nothing_front (line first) (value_lines told) h) (line_written first))
 
 module _ (marks : List Bool) (values : List Vector) where
   command_nothing : (is_on : Bool) (command : DumpCommand) → is_nothing (parts_text (command_part marks is_on command values)) ≡ true →
@@ -253,13 +257,15 @@ module _ (marks : List Bool) (values : List Vector) where
   commands_nothing is_on (command ∷ commands) h =
       let first : List Part = command_part marks is_on command values in
       let rest : List Part = command_parts marks (on_by is_on command) commands values in
-      let none = nothing_both (parts_text first) (parts_text rest) (sym (ap is_nothing (parts_joined first rest)) ∙ h) in
-      (λ i. command_nothing is_on command none.0 i ++ commands_nothing (on_by is_on command) commands none.1 i)
+      let none : is_nothing (parts_text first ++ parts_text rest) ≡ true = sym (ap is_nothing (parts_joined first rest)) ∙ h in
+      (λ i. command_nothing is_on command (nothing_front (parts_text first) (parts_text rest) none) i
+      ++ commands_nothing (on_by is_on command) commands (nothing_back (parts_text first) (parts_text rest) none) i)
 
   pub slot_nothing : (is_on : Bool) (before : List Vector) (commands : List DumpCommand) →
       is_nothing (parts_text (changed_part marks is_on before values ++ command_parts marks is_on commands values)) ≡ true →
       changed_items marks values is_on before ++ commands_items marks values is_on commands ≡ []
   slot_nothing false before commands h = commands_nothing false commands h
   slot_nothing true before commands h =
-      let none = nothing_both (value_lines (changes 0 marks before values)) (parts_text (command_parts marks true commands values)) h in
-      (λ i. lines_nothing (changes 0 marks before values) none.0 i ++ commands_nothing true commands none.1 i)
+      let changed : List ℕ = value_lines (changes 0 marks before values) in
+      let rest : List ℕ = parts_text (command_parts marks true commands values) in
+      (λ i. lines_nothing (changes 0 marks before values) (nothing_front changed rest h) i ++ commands_nothing true commands (nothing_back changed rest h) i)

@@ -2,7 +2,7 @@
 use Rattle.std.proofs.Common.{◌≡◌, ℕ, zero, suc, ◌<◌, ◌≤◌, Bool, true, false, ◌==◌, if◌then◌else◌, List, [], ◌∷◌, ◌++◌, length, map, Option, Some, None, slice_get, refl, ap, sym, ◌∙◌, subst, inl, inr, arith, append_assoc, append-nil}
 use Rattle.std.specs.Prelude.{option_and_then}
 use Rattle.std.proofs.lemmas.Bool.{cases_lt}
-use Rattle.std.proofs.lemmas.Option.{slice_get_within}
+use Rattle.std.proofs.lemmas.Option.{same_Some, slice_get_within}
 use Rattle.vbits.specs.Vectors.{Vector}
 use Rattle.vcd_read.specs.Words.{Text}
 use Rattle.vcd_read.specs.Commands.{Item, at, value, off, on}
@@ -93,12 +93,9 @@ module _ (marks : List Bool) (end : ℕ) where
     pub turned : on_behind true items ≡ is_on
     pub told : (n : ℕ) (v : Vector) → slice_get marks n ≡ Some true → slice_get slot.values n ≡ Some v → value_after items (code n) ≡ known is_on (digits_of v)
 
-  same_vector : (u v : Vector) → Some u ≡ Some v → u ≡ v
-  same_vector u v p = cc
-
   letters_at : (vs : List Vector) (n : ℕ) (v : Vector) → HaveLetters vs → slice_get vs n ≡ Some v → 0 < length v.letters
   letters_at [] n v have at_v = absurd cc
-  letters_at (w ∷ vs) zero v have at_v = subst (λ (u : Vector). 0 < length u.letters) (same_vector w v at_v) have.0
+  letters_at (w ∷ vs) zero v have at_v = subst (λ (u : Vector). 0 < length u.letters) (same_Some w v at_v) have.0
   letters_at (w ∷ vs) (suc n) v have at_v = letters_at vs n v have.1 at_v
 
   shown_known : (is_on : Bool) (v : Vector) → 0 < length v.letters → option_and_then (vector_of (length v.letters)) (known is_on (digits_of v)) ≡ value_if is_on v

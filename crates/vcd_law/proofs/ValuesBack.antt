@@ -1,13 +1,14 @@
 -- What is known of a code behind what a slot tells.
-use Rattle.std.proofs.Common.{◌≡◌, ℕ, zero, suc, ◌+◌, ◌<◌, Bool, true, false, if◌then◌else◌, List, [], ◌∷◌, ◌++◌, length, map, Option, Some, None, slice_get, refl, ap, sym, ◌∙◌, subst, arith}
+use Rattle.std.proofs.Common.{◌≡◌, ℕ, zero, suc, ◌+◌, ◌<◌, Bool, true, false, ◌&&◌, if◌then◌else◌, List, [], ◌∷◌, ◌++◌, length, map, Option, Some, None, slice_get, refl, ap, sym, ◌∙◌, subst, arith}
 use Rattle.std.specs.Prelude.{nat_eq, not, zip}
 use Rattle.std.specs.List.{list_all}
-use Rattle.std.proofs.lemmas.Bool.Decides.{nat_tests}
-use Rattle.basis.proofs.Bools.{and_left, and_right}
+use Rattle.std.proofs.lemmas.Bool.{eqb-true}
+use Rattle.std.proofs.lemmas.Option.{same_Some}
+use Rattle.basis.proofs.Bools.{and_both, and_left, and_right}
 use Rattle.vbits.specs.declared.bit4.Bit4.{Bit4}
-use Rattle.vbits.specs.declared.bit4.Bit4.TheVariants.{Zero, One, X, Z}
 use Rattle.vbits.specs.Letters.{is_same}
-use Rattle.vbits.specs.Vectors.{Vector, same_letters}
+use Rattle.vbits.specs.Equal.{vectors_tell}
+use Rattle.vbits.specs.Vectors.{Vector, letters_alike, same_letters}
 use Rattle.value_text.specs.ValueText.{binary}
 use Rattle.vcd_read.specs.Words.{Text}
 use Rattle.vcd_read.specs.Commands.{Item}
@@ -15,6 +16,7 @@ use Rattle.vcd_slots.specs.Slots.{digits_behind, digits_by, on_behind, on_by as 
 use Rattle.vcd_text.specs.DumpText.{changes, code, is_kept, is_news, on_after, on_by, selected_values, short_digits, unknown_of}
 use Rattle.vdesign.specs.declared.dump.DumpCommand.{DumpCommand}
 use Rattle.vdesign.specs.declared.dump.DumpCommand.TheVariants.{Vars, Off, On, All as AllValues}
+use Rattle.vcd_law.specs.ReadBack.{unsigned}
 use Rattle.vcd_law.proofs.PartsBack.{changed_items, command_items, commands_items, told_items, value_item}
 use Rattle.vcd_law.proofs.CodesBack.{code_differs, code_same}
 
@@ -52,9 +54,6 @@ value_same n m v o is =
     subst (λ (k : ℕ). digits_by (code n) true o (value_item k v) ≡ Some (digits_of v)) (sym is)
     (ap (λ (b : Bool). if b then Some (digits_of v) else o) (code_same n))
 
-some_is : {A : Type 0} (x y : A) → Some x ≡ Some y → x ≡ y
-some_is x y p = cc
-
 -- ---- all values
 
 untouched : (n m : ℕ) (marks : List Bool) (vs : List Vector) (o : Option Text) → n < m → digits_behind (code n) true o (told_items (selected_values m marks vs)) ≡ o
@@ -72,7 +71,7 @@ told_all n m j [] (w ∷ vs) v o is at_m at_v = absurd cc
 told_all n m zero (false ∷ marks) (w ∷ vs) v o is at_m at_v = absurd cc
 told_all n m zero (true ∷ marks) (w ∷ vs) v o is at_m at_v =
     ap (λ (p : Option Text). digits_behind (code n) true p (told_items (selected_values (suc m) marks vs))) (value_same n m w o (omega arith))
-    ∙ untouched n (suc m) marks vs (Some (digits_of w)) (omega arith) ∙ ap (λ (u : Vector). Some (digits_of u)) (some_is w v at_v)
+    ∙ untouched n (suc m) marks vs (Some (digits_of w)) (omega arith) ∙ ap (λ (u : Vector). Some (digits_of u)) (same_Some w v at_v)
 told_all n m (suc j) (true ∷ marks) (w ∷ vs) v o is at_m at_v =
     ap (λ (p : Option Text). digits_behind (code n) true p (told_items (selected_values (suc m) marks vs))) (value_other n m w o (λ same. omega arith))
     ∙ told_all n (suc m) j marks vs v o (omega arith) at_m at_v
@@ -93,30 +92,21 @@ unchanged n m (mark ∷ marks) [] (v ∷ vs) o lt = refl
 unchanged n m (mark ∷ marks) (u ∷ us) (v ∷ vs) o lt =
     skipped (is_news mark u v) n m v (changes (suc m) marks us vs) o o (λ same. omega arith) (unchanged n (suc m) marks us vs o (omega arith))
 
-alike : (x y : Bit4) → is_same x y ≡ true → x ≡ y
-alike Zero Zero h = refl
-alike One One h = refl
-alike X X h = refl
-alike Z Z h = refl
-alike x y h = cc
-
-all_alike : (xs ys : List Bit4) → length xs ≡ length ys → list_all (λ pair. is_same pair.0 pair.1) (zip xs ys) ≡ true → xs ≡ ys
-all_alike [] [] long h = refl
-all_alike [] (y ∷ ys) long h = absurd (omega arith)
-all_alike (x ∷ xs) [] long h = absurd (omega arith)
-all_alike (x ∷ xs) (y ∷ ys) long h =
-    let rest : Bool = list_all (λ pair. is_same pair.0 pair.1) (zip xs ys) in
-    λ i. alike x y (and_left (is_same x y) rest h) i ∷ all_alike xs ys (omega arith) (and_right (is_same x y) rest h) i
+-- the letters, one by one
+alike_is : (xs ys : List Bit4) → length xs ≡ length ys → list_all (λ pair. is_same pair.0 pair.1) (zip xs ys) ≡ letters_alike xs ys
+alike_is [] [] long = refl
+alike_is [] (y ∷ ys) long = absurd (omega arith)
+alike_is (x ∷ xs) [] long = absurd (omega arith)
+alike_is (x ∷ xs) (y ∷ ys) long = ap (λ (b : Bool). is_same x y && b) (alike_is xs ys (omega arith))
 
 kept_digits : (u v : Vector) → is_kept u v ≡ true → digits_of u ≡ digits_of v
 unfolding same_letters
 kept_digits u v h =
-    let long : nat_eq (length u.letters) (length v.letters) ≡ true = and_left (nat_eq (length u.letters) (length v.letters)) (same_letters u.letters v.letters) h in
+    let long : length u.letters ≡ length v.letters = eqb-true (length u.letters) (length v.letters) (and_left (nat_eq (length u.letters) (length v.letters)) (same_letters u.letters v.letters) h) in
     let same : same_letters u.letters v.letters ≡ true = and_right (nat_eq (length u.letters) (length v.letters)) (same_letters u.letters v.letters) h in
-    ap (λ (letters : List Bit4). digits_of (record { letters = letters; signed = false })) (all_alike u.letters v.letters (is_long (length u.letters) (length v.letters) long) same)
-  where
-    is_long : (a b : ℕ) → nat_eq a b ≡ true → a ≡ b
-    is_long a b h = grind (arith, nat_tests)
+    let one : unsigned u ≡ unsigned v =
+    (vectors_tell (unsigned u) (unsigned v)).0 (and_both (letters_alike u.letters v.letters) true (sym (alike_is u.letters v.letters long) ∙ same) refl) in
+    ap digits_of one
 
 -- the first of the values changed, or didn't
 one_changed : (n m : ℕ) (kept : Bool) (u v : Vector) (rest : List (ℕ × Vector)) → m ≡ n → is_kept u v ≡ kept →
@@ -133,9 +123,9 @@ told_changes n m j [] us (w ∷ vs) u v is at_m at_u at_v = absurd cc
 told_changes n m j (mark ∷ marks) [] (w ∷ vs) u v is at_m at_u at_v = absurd cc
 told_changes n m zero (false ∷ marks) (t ∷ us) (w ∷ vs) u v is at_m at_u at_v = absurd cc
 told_changes n m zero (true ∷ marks) (t ∷ us) (w ∷ vs) u v is at_m at_u at_v =
-    ap (λ (x : Vector). digits_behind (code n) true (Some (digits_of x)) (told_items (changes m (true ∷ marks) (t ∷ us) (w ∷ vs)))) (sym (some_is t u at_u))
+    ap (λ (x : Vector). digits_behind (code n) true (Some (digits_of x)) (told_items (changes m (true ∷ marks) (t ∷ us) (w ∷ vs)))) (sym (same_Some t u at_u))
     ∙ one_changed n m (is_kept t w) t w (changes (suc m) marks us vs) (omega arith) refl (λ o. unchanged n (suc m) marks us vs o (omega arith))
-    ∙ ap (λ (x : Vector). Some (digits_of x)) (some_is w v at_v)
+    ∙ ap (λ (x : Vector). Some (digits_of x)) (same_Some w v at_v)
 told_changes n m (suc j) (mark ∷ marks) (t ∷ us) (w ∷ vs) u v is at_m at_u at_v =
     skipped (is_news mark t w) n m w (changes (suc m) marks us vs) (Some (digits_of u)) (Some (digits_of v)) (λ same. omega arith)
     (told_changes n (suc m) j marks us vs u v (omega arith) at_m at_u at_v)

@@ -4,24 +4,17 @@ use Rattle.std.specs.Prelude.{All, nat_le, decimal}
 use Rattle.std.specs.Char.{is_ascii_digit, is_ascii_whitespace}
 use Rattle.std.specs.List.{list_all}
 use Rattle.std.specs.Str.{all_ascii_digits}
-use Rattle.std.proofs.lemmas.Bool.Decides.{nat_tests}
+use Rattle.std.proofs.lemmas.Bool.{leb-true, lt-leb}
 use Rattle.std.proofs.lemmas.List.Elements.{All-head, All-tail}
 use Rattle.basis.proofs.Bools.{and_left, and_right}
 use Rattle.basis.proofs.Decimals.{decimal_digits}
 use Rattle.vcd_read.specs.Words.{Text, closed, words_behind, words_of}
 use Rattle.vcd_read.specs.Commands.{Item, Tells, at, time}
 use Rattle.vcd_read.specs.Telling.{Tell}
+use Rattle.vcd_law.specs.Headers.{Plain}
 use Rattle.vcd_text.specs.CodeLaws.{IsDigit}
 use Rattle.vcd_text.specs.DumpText.{code, line, time_line}
 use Rattle.vcd_text.proofs.CodeLemmas.{code_digits}
-
--- no letter is a blank
-abbrev pub Plain : Text → Type 0
-Plain [] = Unit {0}
-Plain (c ∷ cs) = (33 ≤ c) × Plain cs
-
-low : (c k : ℕ) → k < c → nat_le c k ≡ false
-low c k h = grind (arith, nat_tests)
 
 no_range : (a b d : Bool) → (((a && false) || (b && false)) || (d && false)) ≡ false
 no_range true true true = refl
@@ -35,18 +28,18 @@ no_range false false false = refl
 
 no_blank : (c : ℕ) → 33 ≤ c → is_ascii_whitespace c ≡ false
 no_blank c h =
-    let ten : nat_le c 10 ≡ false = low c 10 (omega arith) in
-    let more : nat_le c 13 ≡ false = low c 13 (omega arith) in
-    let last : nat_le c 32 ≡ false = low c 32 (omega arith) in
+    let ten : nat_le c 10 ≡ false = lt-leb c 10 (omega arith) in
+    let more : nat_le c 13 ≡ false = lt-leb c 13 (omega arith) in
+    let last : nat_le c 32 ≡ false = lt-leb c 32 (omega arith) in
     (λ i. ((nat_le 9 c && ten i) || (nat_le 12 c && more i)) || (nat_le 32 c && last i)) ∙ no_range (nat_le 9 c) (nat_le 12 c) (nat_le 32 c)
 
-letters_come : (w : Text) (rest : List ℕ) (letters : Text) → Plain w → words_behind (w ++ rest) letters ≡ words_behind rest (letters ++ w)
+pub letters_come : (w : Text) (rest : List ℕ) (letters : Text) → Plain w → words_behind (w ++ rest) letters ≡ words_behind rest (letters ++ w)
 letters_come [] rest letters plain = ap (words_behind rest) (sym (append-nil letters))
 letters_come (c ∷ cs) rest letters plain =
     ap (λ (b : Bool). if b then closed letters (words_behind (cs ++ rest) []) else words_behind (cs ++ rest) (letters ++ c ∷ [])) (no_blank c plain.0)
     ∙ letters_come cs rest (letters ++ c ∷ []) plain.1 ∙ ap (words_behind rest) (append_assoc letters (c ∷ []) cs)
 
-word_comes : (c : ℕ) (cs : Text) (blank : ℕ) (rest : List ℕ) → Plain (c ∷ cs) → is_ascii_whitespace blank ≡ true →
+pub word_comes : (c : ℕ) (cs : Text) (blank : ℕ) (rest : List ℕ) → Plain (c ∷ cs) → is_ascii_whitespace blank ≡ true →
     words_of ((c ∷ cs) ++ blank ∷ rest) ≡ (c ∷ cs) ∷ words_of rest
 word_comes c cs blank rest plain is =
     letters_come (c ∷ cs) (blank ∷ rest) [] plain
@@ -84,12 +77,9 @@ line_of_two old new c cs d ds items plain also tell rest more told =
     (tell (words_of rest) more told)
 
 low_digit : (c : ℕ) → is_ascii_digit c ≡ true → 33 ≤ c
-low_digit c h = let first : nat_le 48 c ≡ true = and_left (nat_le 48 c) (nat_le c 57) h in is_above c first
-  where
-    is_above : (c : ℕ) → nat_le 48 c ≡ true → 33 ≤ c
-    is_above c h = grind (arith, nat_tests)
+low_digit c h = let first : 48 ≤ c = leb-true 48 c (and_left (nat_le 48 c) (nat_le c 57) h) in omega arith
 
-plain_numbers : (ds : Text) → all_ascii_digits ds ≡ true → Plain ds
+pub plain_numbers : (ds : Text) → all_ascii_digits ds ≡ true → Plain ds
 plain_numbers [] h = tt
 plain_numbers (c ∷ cs) h = (low_digit c (and_left (is_ascii_digit c) (all_ascii_digits cs) h), plain_numbers cs (and_right (is_ascii_digit c) (all_ascii_digits cs) h))
 
@@ -105,12 +95,7 @@ plain_code_digits (c ∷ cs) all = ((All-head IsDigit c cs all).0, plain_code_di
 pub plain_code : (n : ℕ) → Plain (code n)
 plain_code n = plain_code_digits (code n) (code_digits n)
 
-above_by : (w : Text) → list_all (λ c. nat_le 33 c) w ≡ true → Plain w
-above_by [] h = tt
-above_by (c ∷ cs) h = (is_above c (and_left (nat_le 33 c) (list_all (λ c. nat_le 33 c) cs) h), above_by cs (and_right (nat_le 33 c) (list_all (λ c. nat_le 33 c) cs) h))
-  where
-    is_above : (c : ℕ) → nat_le 33 c ≡ true → 33 ≤ c
-    is_above c h = grind (arith, nat_tests)
-
 pub plain_word : (w : Text) → list_all (λ c. nat_le 33 c) w ≡ true → Plain w
-plain_word = above_by
+plain_word [] h = tt
+plain_word (c ∷ cs) h =
+    let rest : Bool = list_all (λ c. nat_le 33 c) cs in (leb-true 33 c (and_left (nat_le 33 c) rest h), plain_word cs (and_right (nat_le 33 c) rest h))

@@ -116,7 +116,7 @@ pub declare_one : (prefix : Text) (outer these those x y : List Text) (a b : Lis
     Declares prefix outer those b → these ++ x ≡ those ++ y → (these ≡ those) × (a ≡ b)
 declare_one prefix outer these those x y a b d e same =
     let one : ◌≡◌ {A = Read} (record { variables = a; left = x }) (record { variables = b; left = y }) =
-        sym (read_is prefix outer these a x d) ∙ ap (read (begins prefix outer)) same ∙ read_is prefix outer those b y e in (
+    sym (read_is prefix outer these a x d) ∙ ap (read (begins prefix outer)) same ∙ read_is prefix outer those b y e in (
       append_cancel_right these those x (same ∙ ap (λ (r : Read). those ++ r.left) (sym one)),
       ap (λ (r : Read). r.variables) one,
     )

@@ -1,9 +1,8 @@
 -- What words tell, word by word: so they tell one list of items.
-use Rattle.std.proofs.Common.{◌≡◌, ℕ, Bool, true, false, if◌then◌else◌, ◌==◌, ◌&&◌, ◌||◌, List, [], ◌∷◌, ◌++◌, refl, ap, sym, ◌∙◌, inl, inr, arith}
+use Rattle.std.proofs.Common.{◌≡◌, ℕ, Bool, true, false, if◌then◌else◌, ◌==◌, ◌&&◌, ◌||◌, List, [], ◌∷◌, ◌++◌, refl, ap, sym, ◌∙◌, inl, inr}
 use Rattle.std.specs.Prelude.{codes}
 use Rattle.std.specs.Str.Parse.{digits_value}
-use Rattle.std.proofs.lemmas.Bool.{cases_Bool}
-use Rattle.std.proofs.lemmas.Bool.Decides.{nat_tests}
+use Rattle.std.proofs.lemmas.Bool.{cases_Bool, eqb-true}
 use Rattle.std.proofs.lemmas.Fmt.{digits_value-decimal}
 use Rattle.basis.proofs.Bools.{and_left, and_right}
 use Rattle.basis.proofs.Digits.{decimal_numerals}
@@ -17,14 +16,11 @@ same_text [] [] = true
 same_text (c ∷ cs) (d ∷ ds) = c == d && same_text cs ds
 same_text _ _ = false
 
-same_when : (c d : ℕ) → (c == d) ≡ true → c ≡ d
-same_when c d h = grind (arith, nat_tests)
-
 same_is : (a b : Text) → same_text a b ≡ true → a ≡ b
 same_is [] [] h = refl
 same_is [] (d ∷ ds) h = absurd cc
 same_is (c ∷ cs) [] h = absurd cc
-same_is (c ∷ cs) (d ∷ ds) h = λ i. same_when c d (and_left _ _ h) i ∷ same_is cs ds (and_right _ _ h) i
+same_is (c ∷ cs) (d ∷ ds) h = λ i. eqb-true c d (and_left _ _ h) i ∷ same_is cs ds (and_right _ _ h) i
 
 pub no_end : (word : Text) → IsNoEnd word → same_text word end_word ≡ false
 no_end word not_end = elim (cases_Bool (same_text word end_word)) [ inl same ↦ absurd (not_end (same_is word end_word same)) | inr other ↦ other ]
