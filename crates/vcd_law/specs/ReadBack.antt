@@ -36,7 +36,8 @@ ShowSlot marks items on slot = (n : ℕ) (v : Vector) → slice_get marks n ≡ 
 -- so of each, where the dump is on or off before the first
 abbrev pub ShowSlots : List Bool → List Item → Bool → List DumpSlot → Type 0
 ShowSlots marks items on [] = ⊤
-ShowSlots marks items on (slot ∷ slots) = ShowSlot marks items (on_after on slot.commands) slot × ShowSlots marks items (on_after on slot.commands) slots
+ShowSlots marks items on (slot ∷ slots) =
+    ShowSlot marks items (on_after on slot.commands) slot × ShowSlots marks items (on_after on slot.commands) slots
 
 -- What is written of slots, behind the header, tells items that show them.
 abbrev pub body_read : Type 0
