@@ -4,16 +4,13 @@ use Rattle.std.specs.Prelude.{nat_eq}
 use Rattle.std.specs.Cmp.Lexicographic.{pointwise}
 use Rattle.std.proofs.lemmas.Bool.{cases_eq, cases_lt}
 use Rattle.std.proofs.lemmas.List.{get_or_past}
-use Rattle.std.proofs.lemmas.Option.{slice_get_within}
+use Rattle.std.proofs.lemmas.Option.{same_Some, slice_get_within}
 use Rattle.basis.proofs.Bools.{and_false}
 use Rattle.vbits.specs.Vectors.{Vector}
 use Rattle.vcd_read.specs.Words.{Text}
 use Rattle.vcd_slots.specs.Slots.{vector_of}
 use Rattle.vcd_slots.specs.Following.{Puts, PutsEach, told_at}
 use Rattle.vcd_slots.specs.declared.column.Column.{Column}
-
-some_is : {A : Type 0} (x y : A) → Some x ≡ Some y → x ≡ y
-some_is x y p = cc
 
 put_none : (is_on : Bool) (some : Option Vector) (before : Option Vector) (same : Bool) → same ≡ false → (if is_on && same then some else before) ≡ before
 put_none is_on some before same other =
@@ -50,7 +47,7 @@ pub put_so : (watched : List Column) (is_on : Bool) (old new : List (Option Vect
 put_so watched is_on old new code digits place column after so lt here puts = record {
   matched = length-set new place after ∙ so.matched;
   below = λ k one k_lt at_k. elim (cases_eq k place) [
-    | inl same ↦ (let one_is : one ≡ column = some_is one column (sym at_k ∙ ap (slice_get watched) same ∙ here) in
+    | inl same ↦ (let one_is : one ≡ column = same_Some one column (sym at_k ∙ ap (slice_get watched) same ∙ here) in
         subst (λ (c : Column). Puts c is_on (told_at old k) (told_at (set new place after) k) code digits) (sym one_is)
         (subst (λ (i : ℕ). Puts column is_on (told_at old i) (told_at (set new place after) i) code digits) (sym same)
         (subst (λ (o : Option Vector). Puts column is_on o (told_at (set new place after) place) code digits) (so.above place (omega arith))

@@ -10,7 +10,7 @@ use Rattle.vcd_read.specs.Readers.{to_come}
 use Rattle.vcd_read.specs.declared.reader.VcdReader.{VcdReader}
 use Rattle.vcd_read.proofs.WordLemmas.{more_come, none_come}
 use Rattle.vcd_read.proofs.TellLemmas.{tell_then}
-use Rattle.vcd_slots.specs.Standing.{Advances, Behind, IsLater, IsReady, Leads, Reads, ReadsOn, Takes, TakesUpTo, pending}
+use Rattle.vcd_slots.specs.Standing.{Advances, Behind, IsLater, IsReady, Leads, ReadsOn, Takes, TakesUpTo, pending}
 use Rattle.vcd_slots.specs.declared.slots.DumpSlots.{DumpSlots}
 use Rattle.vcd_slots.specs.declared.columns.Columns.{Columns}
 use Rattle.vcd_slots.proofs.OrderLemmas.{behind_time, lead_nothing, lead_then}

@@ -1,5 +1,5 @@
 -- *internal*: What slots show is what the dump shows at their time.
-use Rattle.std.specs.Prelude.{◌≡◌, ℕ, ◌<◌, List, [], ◌∷◌, ◌++◌, Option, Some, None, slice_get, ⊤}
+use Rattle.std.specs.Prelude.{◌≡◌, ℕ, ◌<◌, List, [], ◌∷◌, ◌++◌, Some, None, slice_get, ⊤}
 use Rattle.vcd_read.specs.Commands.{Item, at, value, off, on}
 use Rattle.vcd_slots.specs.Slots.{DoNotFall, items_until, last_time, shown_at}
 use Rattle.vcd_slots.specs.Following.{told_at}

@@ -1,0 +1,11 @@
+mod DigitsBack
+mod WordsBack
+mod PartsBack
+mod CodesBack
+mod ValuesBack
+mod BodyBack
+mod SlotsBack
+mod LinesBack
+mod ScopesBack
+mod HeaderBack
+mod WholeBack
