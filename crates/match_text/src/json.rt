@@ -3,7 +3,6 @@
 use crate::told::{Departure, Found};
 use basis::NoMemory;
 use dump_match::Differing;
-use explore::RankedReason;
 use matching::{Cut, Explanation, Matching, Unexplained};
 use race_text::{Members, document, put_precision, put_value, statement_of, string_of};
 use serde_json::Value;
@@ -126,24 +125,14 @@ fn put_unexplained(
     }
     match found.beyond {
         None => Ok(()),
-        Some(cut) => members.text("beyond", cut_by(cut.reason, found.stopped_by)),
-    }
-}
-
-// By what the search was cut.
-fn cut_by(reason: RankedReason, stopped_by: &'static [u8]) -> &'static [u8] {
-    match reason {
-        RankedReason::Memory(_) => b"memory",
-        RankedReason::Entries => b"--entries",
-        RankedReason::Steps => b"--steps",
-        RankedReason::Stopped => stopped_by,
+        Some(cut) => members.text("beyond", found.cut_by(cut.reason)),
     }
 }
 
 // The search was cut.
 fn put_cut(members: &mut Members, found: &Found<'_>, cut: &Cut) -> Result<(), NoMemory> {
     members.text("status", b"cut")?;
-    members.text("cut_by", cut_by(cut.reason, found.stopped_by))?;
+    members.text("cut_by", found.cut_by(cut.reason))?;
     members.value("closed", Value::from(cut.closed))
 }
 

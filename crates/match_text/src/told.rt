@@ -3,6 +3,7 @@
 use basis::NoMemory;
 use cause::Cause;
 use dump_match::{Comparison, Differing};
+use explore::RankedReason;
 use matching::{Cut, Matching};
 use race_text::{Sources, log_text};
 use sched_core::Log;
@@ -25,7 +26,7 @@ pub struct Departure {
 /// allowed.
 /// `departures` are those of the run that explains the dump; `differing` is what differs in the nearest run, where none explains it.
 /// `is_top_named` says whether the top module was named in the call, and `stopped_by` by which option the search was stopped, where its
-/// watcher stopped it.
+/// watcher stopped it; `full_by` by which one there may be no more states.
 #[derive(Clone, Copy)]
 pub struct Found<'a> {
     pub machine: &'a Machine,
@@ -40,12 +41,23 @@ pub struct Found<'a> {
     pub differing: &'a [Differing],
     pub is_top_named: bool,
     pub stopped_by: &'static [u8],
+    pub full_by: &'static [u8],
 }
 
 impl<'a> Found<'a> {
     /// Whether no variable stands in both, so that nothing was compared.
     pub fn is_of_nothing(&self) -> bool {
         self.compared.pairs.is_empty()
+    }
+
+    /// By which option a search was cut; `memory` where a growth was refused.
+    pub fn cut_by(&self, reason: RankedReason) -> &'static [u8] {
+        match reason {
+            RankedReason::Memory(_) => b"memory",
+            RankedReason::Entries => self.full_by,
+            RankedReason::Steps => b"--steps",
+            RankedReason::Stopped => self.stopped_by,
+        }
     }
 
     /// The log as `vrace replay` takes it.

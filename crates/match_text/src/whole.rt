@@ -5,7 +5,6 @@ use crate::departures::put_departures;
 use crate::told::Found;
 use basis::NoMemory;
 use dump_match::Differing;
-use explore::RankedReason;
 use matching::{Cut, Explanation, Matching, Unexplained};
 use race_text::{
     put_all, put_count, put_files, put_number, put_option, put_time, put_value, put_word,
@@ -35,10 +34,8 @@ fn put_command(
     until: u64,
     steps: u32,
 ) -> Result<(), NoMemory> {
-    put_all(
-        text,
-        &[b"    vrace replay --trace --log ", &found.log(alloc, log)?],
-    )?;
+    text.extend_from_slice(b"    vrace replay --trace --log ")?;
+    text.extend_from_slice(&found.log(alloc, log)?)?;
     if found.is_top_named {
         text.extend_from_slice(b" --top")?;
         put_word(text, &found.machine.design().top)?;
@@ -159,16 +156,6 @@ fn put_unexplained(
     put_beyond(text, found)
 }
 
-// What cut the search.
-fn reason_words(reason: RankedReason, stopped_by: &'static [u8]) -> &'static [u8] {
-    match reason {
-        RankedReason::Memory(_) => b"want of memory",
-        RankedReason::Entries => b"the number of its states (--entries)",
-        RankedReason::Steps => b"the steps of a slot (--steps)",
-        RankedReason::Stopped => stopped_by,
-    }
-}
-
 // What cut the search with one departure more a slot.
 fn put_beyond(text: &mut Vec<u8>, found: &Found<'_>) -> Result<(), NoMemory> {
     let Some(cut) = found.beyond else {
@@ -176,7 +163,7 @@ fn put_beyond(text: &mut Vec<u8>, found: &Found<'_>) -> Result<(), NoMemory> {
     };
     text.extend_from_slice(b"With at most ")?;
     put_count(text, u64::from(found.most).saturating_add(1), b"departure")?;
-    let reason = reason_words(cut.reason, found.stopped_by);
+    let reason = found.cut_by(cut.reason);
     put_all(
         text,
         &[
@@ -193,7 +180,7 @@ fn put_cut(text: &mut Vec<u8>, found: &Found<'_>, cut: &Cut) -> Result<(), NoMem
         text,
         &[
             b"not decided: the search was cut by ",
-            reason_words(cut.reason, found.stopped_by),
+            found.cut_by(cut.reason),
             b".\n",
         ],
     )?;

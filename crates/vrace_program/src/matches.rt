@@ -64,18 +64,41 @@ fn open_dump<'m>(
     }
 }
 
-// The options of a search with so many departures a slot.
-fn options_of<'a>(
-    request: &Request<'a>,
-    words: &MatchWords<'_>,
-    most: u64,
-) -> Result<Options<'a>, Fault> {
+// How many bytes a state of the machine takes, as docs/LANGUAGE.md counts them.
+fn bytes_of(machine: &Machine) -> u64 {
+    let design = machine.design();
+    let variables = (design.variables.len() as u64).saturating_mul(24);
+    let processes = (design.processes.len() as u64).saturating_mul(88);
+    variables.saturating_add(processes).saturating_add(500)
+}
+
+// How many states of a slot there may be within the memory.
+fn states_within(words: &MatchWords<'_>, machine: &Machine) -> u64 {
+    let bytes = words
+        .allowance
+        .memory
+        .unwrap_or(u64::MAX)
+        .saturating_mul(1_000_000);
+    bytes.checked_div(bytes_of(machine)).unwrap_or(0).max(1)
+}
+
+// By which option the number of states is limited.
+fn full_by(words: &MatchWords<'_>, machine: &Machine) -> &'static [u8] {
+    if states_within(words, machine) < words.entries {
+        b"--memory"
+    } else {
+        b"--entries"
+    }
+}
+
+// The options of a search with so many departures a slot, and so many states.
+fn options_of<'a>(request: &Request<'a>, entries: u64, most: u64) -> Result<Options<'a>, Fault> {
     let mut options = Options::new(
         request.top.map(|name| name.as_bytes()),
         LAST_TIME,
         most,
         request.steps,
-        words.entries,
+        entries,
         request.grain,
     )?;
     options.look(request.departures, Looked::Values);
@@ -91,7 +114,8 @@ fn try_match<'m>(
     most: u64,
     meter: &mut Meter<'_, HostRuntime>,
 ) -> Result<Tried<'m>, Stop> {
-    let limits = options_of(request, words, most)?.limits;
+    let entries = words.entries.min(states_within(words, machine));
+    let limits = options_of(request, entries, most)?.limits;
     let mut reference = open_dump(rt, machine, words.dump)?;
     match match_dump(rt.alloc(), &mut reference, &limits, meter) {
         Ok(answer) => Ok(Tried {
@@ -262,6 +286,7 @@ fn tell_found(
         differing: &differing,
         is_top_named: request.top.is_some(),
         stopped_by: stopped_by(meter.spent()),
+        full_by: full_by(words, machine),
     };
     write_found(rt, &found, words.format)?;
     Ok(code_of(&tried))
@@ -275,7 +300,7 @@ fn match_texts(
     words: &MatchWords<'_>,
 ) -> Result<ExitCode, Stop> {
     words.allowance.check()?;
-    let options = options_of(request, words, words.slot_depart)?;
+    let options = options_of(request, words.entries, words.slot_depart)?;
     let placed = machine_of_files(rt.alloc(), texts, &options)?;
     tell_found(rt, texts, &placed, request, words)
 }

@@ -344,6 +344,7 @@ fn match_command<'a>(alloc: Global) -> Result<Command<'a>, NoMemory> {
         .arg(taking(alloc))?
         .arg(format)?
         .arg(seconds(alloc))?
+        .arg(number(alloc, "memory", MEMORY, "2000"))?
         .arg(progress(alloc))?
         .arg(files(alloc))?;
     Ok(command)
@@ -706,7 +707,7 @@ pub fn match_words_of<'a>(matches: &ArgMatches<'a>) -> MatchWords<'a> {
         entries: matches.get_one::<u64>("entries").unwrap_or(0),
         allowance: Allowance {
             seconds: matches.get_one::<u64>("seconds"),
-            memory: None,
+            memory: matches.get_one::<u64>("memory"),
             progress: matches.get_flag("progress"),
         },
         format: format_of(matches),
