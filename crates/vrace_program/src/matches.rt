@@ -145,8 +145,11 @@ fn find_match<'m>(
     meter: &mut Meter<'_, HostRuntime>,
 ) -> Result<Tried<'m>, Stop> {
     let mut tried = try_match(rt, machine, request, words, 0, meter)?;
-    while tried.most < words.slot_depart && is_unexplained(&tried.answer) {
-        let next = try_match(rt, machine, request, words, tried.most + 1, meter)?;
+    for most in 1..words.slot_depart.saturating_add(1) {
+        if !is_unexplained(&tried.answer) {
+            return Ok(tried);
+        }
+        let next = try_match(rt, machine, request, words, most, meter)?;
         if let Matching::Cut(cut) = next.answer {
             tried.beyond = Some(cut);
             return Ok(tried);
@@ -158,15 +161,18 @@ fn find_match<'m>(
 
 // The times before the steps at which the run under the log departs, in order.
 fn departed_times(alloc: Global, machine: &Machine, log: &Log) -> Result<Vec<u64>, NoMemory> {
+    let steps = match log.members().last() {
+        None => 0,
+        Some(member) => member.0.saturating_add(1),
+    };
     let mut times = Vec::new(alloc);
     let mut state = machine.opened()?;
-    let mut step = 0u32;
-    while times.len() < log.members().len() {
-        if log.members()[times.len()].0 == step {
+    for step in 0..steps {
+        let choice = choice_at(log.members(), step);
+        if choice > 0 {
             times.push(state.time())?;
         }
-        state.go(machine.design(), choice_at(log.members(), step))?;
-        step = step.saturating_add(1);
+        state.go(machine.design(), choice)?;
     }
     Ok(times)
 }
