@@ -198,10 +198,13 @@ fn departures_of(
     let mut checkpoints = Checkpoints::new(alloc, machine);
     let mut departures = Vec::new(alloc);
     for (place, time) in times.iter().enumerate() {
+        let Some(member) = run.log.members().get(place) else {
+            return Ok(departures);
+        };
         let front = front_of(alloc, &run.log, place.saturating_add(1))?;
         let cause = cause_of(alloc, &mut checkpoints, &front, u32::MAX)?;
         departures.push(Departure {
-            step: run.log.members()[place].0,
+            step: member.0,
             time: *time,
             cause,
         })?;
@@ -284,7 +287,7 @@ fn tell_found(
         sources: &sources,
         dump: words.dump,
         compared: tried.reference.comparison(),
-        most: tried.most as u32,
+        most: u32::try_from(tried.most).unwrap_or(u32::MAX),
         last: tried.reference.time(),
         answer: &tried.answer,
         beyond: tried.beyond,
