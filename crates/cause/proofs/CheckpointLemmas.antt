@@ -1,4 +1,4 @@
--- Checkpoints: what is kept of what was seen is enough, and the default run is that of each log up to its first member.
+-- Checkpoints: what is kept of what was seen is enough.
 use Rattle.std.proofs.Common.{◌≡◌, ℕ, zero, suc, ◌+◌, ◌<◌, ◌≤◌, ◌==◌, nat_lt, Bool, true, false, if◌then◌else◌, List, [], ◌∷◌, ◌++◌, Option, Some, None, slice_get, refl, sym, ap, subst, ◌∙◌, le_refl, add-one, arith, take, drop}
 use Rattle.std.specs.List.{remove}
 use Rattle.std.proofs.lemmas.Bool.Decides.{nat_tests}
@@ -18,7 +18,7 @@ use Rattle.vmodel.specs.RunProgress.{opening_is}
 use Rattle.vmodel.proofs.TimesLemmas.{time_never_falls}
 use Rattle.cause.specs.declared.checkpoint.Checkpoint.{Checkpoint}
 use Rattle.cause.specs.declared.visit.Posted.{Posted}
-use Rattle.cause.specs.Checkpoints.{due_from, Keeps, IsCheckpoint, AreCheckpoints}
+use Rattle.cause.specs.Checkpoints.{due_from, Keeps, IsCheckpoint, IsCheckpointOf, AreCheckpoints}
 use Rattle.cause.specs.Visits.{Seen, nothing_seen, is_due, due_at, place_by, acting_place, posted_by, with_visit, seen_by, seen_next, seen_after, choice_of, updates_after}
 
 -- ---- what is kept
@@ -86,19 +86,7 @@ keeps_on design s n state c effect kept seen time keeps later =
       visits = λ i. if nat_lt n s then keeps.visits i else with_visit design n c (same_place state kept seen c keeps i) effect (keeps.visits i);
     }
 
--- ---- the default run
-
-module _ (setting : Setting) (log : List (ℕ × ℕ)) (low : ℕ) (lawful : IsLogFrom low log) where
-  pub state_before : (n : ℕ) → n ≤ low → state_after setting log n ≡ state_after setting [] n
-  state_before zero le = refl
-  state_before (suc n) le =
-      ap (λ (s : State). (rules_of setting).after s (choice_at log n)) (state_before n (omega (arith, le)))
-      ∙ ap ((rules_of setting).after (state_after setting [] n)) (choice_below low n log (omega (arith, le)) lawful)
-
-  pub run_before : (n : ℕ) → n ≤ low → IsRun (rules_of setting) [] n → IsRun (rules_of setting) log n
-  run_before n le run k lt =
-      subst (λ (i : ℕ). i < (rules_of setting).width (state_after setting log k)) (sym (choice_below low k log (omega (arith, lt, le)) lawful))
-      (subst (λ (s : State). 0 < (rules_of setting).width s) (sym (state_before k (omega (arith, lt, le)))) (run k lt))
+-- ---- what is left of a log
 
 -- from where a log names its first step
 pub empty_from : (n : ℕ) (log : List (ℕ × ℕ)) → slice_get log 0 ≡ None → IsLogFrom n log
@@ -119,7 +107,7 @@ pub left_from : (n : ℕ) (log : List (ℕ × ℕ)) → IsLogFrom n log → IsLe
 left_from n log lawful = record { lawful = lawful; same = λ k le. refl; names = λ k le names. names; names_back = λ k names. names }
 
 -- before step s no visit is seen, and all else is seen alike
-early_next : (design : Design) (s t n : ℕ) (state : State) (c : Option Choice) (effect : Effect) (seen : Seen) → n < s → n < t →
+pub early_next : (design : Design) (s t n : ℕ) (state : State) (c : Option Choice) (effect : Effect) (seen : Seen) → n < s → n < t →
     seen_next design s n state c effect seen ≡ seen_next design t n state c effect seen
 early_next design s t n state None effect seen one other = refl
 early_next design s t n state (Some c) effect seen one other =
@@ -161,6 +149,15 @@ rest_same setting log s t (suc n) =
     rest_next setting.design s t n (state_after setting log n) (choice_of setting log n) (next setting.design (state_after setting log n) (choice_at log n)).effect
     (seen_after setting log s n) (seen_after setting log t n) before.0 before.1
 
+-- up to a step it is the same from whatever later step on visits are seen
+pub seen_early : (setting : Setting) (log : List (ℕ × ℕ)) (s t n : ℕ) → n ≤ s → n ≤ t → seen_after setting log s n ≡ seen_after setting log t n
+seen_early setting log s t zero one other = refl
+seen_early setting log s t (suc n) one other =
+    ap (seen_next setting.design s n (state_after setting log n) (choice_of setting log n)
+    (next setting.design (state_after setting log n) (choice_at log n)).effect) (seen_early setting log s t n (omega (arith, one)) (omega (arith, other)))
+    ∙ early_next setting.design s t n (state_after setting log n) (choice_of setting log n)
+    (next setting.design (state_after setting log n) (choice_at log n)).effect (seen_after setting log t n) (omega (arith, one)) (omega (arith, other))
+
 -- without its visits it is what is seen where they are looked for later
 pub keeps_none : (setting : Setting) (log : List (ℕ × ℕ)) (s t n time : ℕ) (kept : Seen) → Keeps time kept (seen_after setting log s n) → n ≤ t →
     Keeps time (record kept { visits = [] }) (seen_after setting log t n)
@@ -171,18 +168,8 @@ keeps_none setting log s t n time kept keeps le = record {
 }
 
 -- what is seen after a step, by where it is taken
-abbrev seen_at : Setting → ℕ → ℕ → State → ℕ → Seen → Seen
+abbrev pub seen_at : Setting → ℕ → ℕ → State → ℕ → Seen → Seen
 seen_at setting s n state index seen = seen_next setting.design s n state (slice_get (choices state) index) (next setting.design state index).effect seen
-
-pub seen_before : (setting : Setting) (log : List (ℕ × ℕ)) (low s t : ℕ) → IsLogFrom low log → (n : ℕ) → n ≤ low → n ≤ s → n ≤ t →
-    seen_after setting log s n ≡ seen_after setting [] t n
-seen_before setting log low s t lawful zero le one other = refl
-seen_before setting log low s t lawful (suc n) le one other =
-    ap (λ (state : State). seen_at setting s n state (choice_at log n) (seen_after setting log s n)) (state_before setting log low lawful n (omega (arith, le)))
-    ∙ ap (λ (index : ℕ). seen_at setting s n (state_after setting [] n) index (seen_after setting log s n)) (choice_below low n log (omega (arith, le)) lawful)
-    ∙ ap (seen_at setting s n (state_after setting [] n) 0) (seen_before setting log low s t lawful n (omega (arith, le)) (omega (arith, one)) (omega (arith, other)))
-    ∙ early_next setting.design s t n (state_after setting [] n) (slice_get (choices (state_after setting [] n)) 0)
-    (next setting.design (state_after setting [] n) 0).effect (seen_after setting [] t n) (omega (arith, one)) (omega (arith, other))
 
 -- ---- checkpoints
 
@@ -196,15 +183,16 @@ opened_is setting state seen at none = record {
   begins = λ k e. absurd (omega (arith, e));
 }
 
-pub copied_is : (setting : Setting) (checkpoint : Checkpoint) (state : State) (seen : Seen) → IsCheckpoint setting checkpoint → state ≡ checkpoint.state →
-    seen ≡ record checkpoint.seen { visits = [] } → IsCheckpoint setting (record { step = checkpoint.step; state = state; seen = seen })
-copied_is setting checkpoint state seen is same copied =
-    let P : State → Seen → Type 0 = λ t u. IsCheckpoint setting (record { step = checkpoint.step; state = t; seen = u }) in
+pub copied_is : (setting : Setting) (log : List (ℕ × ℕ)) (checkpoint : Checkpoint) (state : State) (seen : Seen) → IsCheckpointOf setting log checkpoint →
+    state ≡ checkpoint.state → seen ≡ record checkpoint.seen { visits = [] } →
+    IsCheckpointOf setting log (record { step = checkpoint.step; state = state; seen = seen })
+copied_is setting log checkpoint state seen is same copied =
+    let P : State → Seen → Type 0 = λ t u. IsCheckpointOf setting log (record { step = checkpoint.step; state = t; seen = u }) in
     let n : ℕ = checkpoint.step in
     let old : P checkpoint.state (record checkpoint.seen { visits = [] }) = record {
       run = is.run;
       state = is.state;
-      seen = record { due = is.seen.due; updates = is.seen.updates; visits = sym (no_visits setting [] n n (omega arith)) };
+      seen = record { due = is.seen.due; updates = is.seen.updates; visits = sym (no_visits setting log n n (omega arith)) };
       few = is.few;
       begins = is.begins;
     } in

@@ -16,7 +16,7 @@ no_choice [] k e = refl
 no_choice (m ∷ log) k e = absurd (omega (arith, e))
 
 -- before the last member both logs name the same
-same_choice : (log : List (ℕ × ℕ)) (n : ℕ) (last : ℕ × ℕ) (k : ℕ) → length log ≡ suc n → slice_get log n ≡ Some last → k < last.0 →
+pub same_choice : (log : List (ℕ × ℕ)) (n : ℕ) (last : ℕ × ℕ) (k : ℕ) → length log ≡ suc n → slice_get log n ≡ Some last → k < last.0 →
     choice_at log k ≡ choice_at (take n log) k
 same_choice [] n last k len e lt = absurd (omega (arith, len))
 same_choice (m ∷ log) zero last k len e lt =
@@ -26,17 +26,17 @@ same_choice (m ∷ log) zero last k len e lt =
 same_choice (m ∷ log) (suc n) last k len e lt =
     ap (λ (choice : ℕ). if m.0 == k then m.1 else choice) (same_choice log n last k (omega (arith, len)) e lt)
 
-module _ (setting : Setting) (log : List (ℕ × ℕ)) (last : ℕ × ℕ) (e : slice_get log (length log - 1) ≡ Some last) where
-  some_length : length log ≡ suc (length log - 1)
-  some_length = omega (arith, slice_get_within log (length log - 1) last e)
+pub some_length : (log : List (ℕ × ℕ)) (last : ℕ × ℕ) → slice_get log (length log - 1) ≡ Some last → length log ≡ suc (length log - 1)
+some_length log last e = omega (arith, slice_get_within log (length log - 1) last e)
 
+module _ (setting : Setting) (log : List (ℕ × ℕ)) (last : ℕ × ℕ) (e : slice_get log (length log - 1) ≡ Some last) where
   same_to : (n : ℕ) → n ≤ last.0 → state_after setting log n ≡ state_after setting (parent_of log) n
   same_to zero le = refl
   same_to (suc n) le =
       ap (λ (s : State). (rules_of setting).after s (choice_at log n)) (same_to n (omega (arith, le)))
-      ∙ ap ((rules_of setting).after (state_after setting (parent_of log) n)) (same_choice log (length log - 1) last n some_length e (omega (arith, le)))
+      ∙ ap ((rules_of setting).after (state_after setting (parent_of log) n)) (same_choice log (length log - 1) last n (some_length log last e) e (omega (arith, le)))
 
-named : (found : Option (ℕ × ℕ)) (s : ℕ) → step_named found ≡ Some s → (last : ℕ × ℕ) × (found ≡ Some last) × (s ≡ last.0)
+pub named : (found : Option (ℕ × ℕ)) (s : ℕ) → step_named found ≡ Some s → (last : ℕ × ℕ) × (found ≡ Some last) × (s ≡ last.0)
 named None s e = absurd cc
 named (Some last) s e = (last, refl, sym (same_Some last.0 s e))
 

@@ -1,12 +1,12 @@
 -- The visits of a slot, step by step.
 use Rattle.std.proofs.Common.{◌≡◌, ℕ, suc, ◌+◌, ◌-◌, ◌<◌, ◌≤◌, List, Option, Some, None, IfSome, IfNone, slice_get, length, Bool, true, false, inl, inr, refl, sym, ap, subst, ◌∙◌, le_refl, add-one, arith, take, [], ◌∷◌, zero}
 use Rattle.std.proofs.lemmas.Bool.{cases_lt}
-use Rattle.std.proofs.lemmas.Option.{slice_get_within}
+use Rattle.std.proofs.lemmas.Option.{same_Some, slice_get_within}
 use Rattle.basis.proofs.Bools.{clash}
 use Rattle.sched_core.specs.Logs.{IsLogFrom}
 use Rattle.sched_core.specs.Rules.{IsRun, choice_at, stands}
 use Rattle.sched_core.specs.Replay.{IsNextChoice}
-use Rattle.sched_core.proofs.RunLemmas.{choice_below, default_at_none, left_next, run_more}
+use Rattle.sched_core.proofs.RunLemmas.{IsLeft, left_next, run_more}
 use Rattle.vmodel.specs.declared.choice.Choice.{Choice}
 use Rattle.vmodel.specs.State.{State}
 use Rattle.vmodel.specs.Choices.{choices}
@@ -15,12 +15,13 @@ use Rattle.vmodel.specs.Run.{Setting, rules_of, state_after}
 use Rattle.vmodel.specs.RunProgress.{width_is, after_is}
 use Rattle.vmachine.specs.Inner.{IsAt}
 use Rattle.vmodel.specs.declared.effect.Effect.{Effect}
-use Rattle.cause.specs.Checkpoints.{Keeps, IsCheckpoint}
-use Rattle.cause.proofs.CheckpointLemmas.{keeps_none, keeps_on, keeps_then, left_from, rises, run_before, seen_before, state_before}
+use Rattle.cause.specs.Checkpoints.{Keeps, IsCheckpointOf}
+use Rattle.cause.proofs.CheckpointLemmas.{keeps_none, keeps_on, keeps_then, rises, seen_early}
 use Rattle.cause.specs.declared.visit.Visit.{Visit}
 use Rattle.cause.specs.declared.checkpoint.Checkpoint.{Checkpoint}
-use Rattle.cause.specs.Visits.{Seen, seen_by, seen_next, seen_after, choice_of, is_in_slot, IsBegin, IsSlot}
-use Rattle.cause.specs.Causes.{AreEarlier, AreVisits, HasNoSlot, parent_of}
+use Rattle.cause.specs.Visits.{Seen, seen_by, seen_next, seen_after, visits_to, choice_of, is_in_slot, IsBegin, IsSlot}
+use Rattle.cause.specs.Causes.{AreEarlier, AreVisits, HasNoCause, HasNoSlot, last_step, parent_of}
+use Rattle.cause.specs.Swaps.{HasNoSwap}
 use Rattle.cause.specs.Stands.{IsSeenSo, StandsBefore}
 
 -- what a clause says of what was found
@@ -41,6 +42,24 @@ one_end setting log s n m one other =
       ]
     ]
 
+-- where two slots have no swap, the log has no cause
+pub none_there : (setting : Setting) (log parent_log : List (ℕ × ℕ)) (step steps : ℕ) (run theirs : List Visit) → last_step log ≡ Some step →
+    parent_log ≡ parent_of log → AreVisits setting log step run → AreVisits setting parent_log step theirs → HasNoSwap run theirs → HasNoCause setting log steps
+none_there setting log parent_log step steps run theirs named is (n, slot, at) (m, other, at_other) none = λ s k l e lt here lt_other there.
+    let same : step ≡ s = same_Some step s (sym named ∙ e) in
+    let ours : run ≡ visits_to setting log s k =
+    at
+    ∙ ap (visits_to setting log step) (one_end setting log step n k slot (subst (λ t. IsSlot setting log t k) (sym same) here))
+    ∙ ap (λ (t : ℕ). visits_to setting log t k) same in
+    let there_so : IsSlot setting parent_log step l =
+    subst (λ (g : List (ℕ × ℕ)). IsSlot setting g step l) (sym is) (subst (λ t. IsSlot setting (parent_of log) t l) (sym same) there) in
+    let others : theirs ≡ visits_to setting (parent_of log) s l =
+    at_other
+    ∙ ap (visits_to setting parent_log step) (one_end setting parent_log step m l other there_so)
+    ∙ ap (λ (g : List (ℕ × ℕ)). visits_to setting g step l) is
+    ∙ ap (λ (t : ℕ). visits_to setting (parent_of log) t l) same in
+    subst (λ (visits : List Visit). HasNoSwap visits (visits_to setting (parent_of log) s l)) ours (subst (HasNoSwap run) others none)
+
 -- the front of a log is one
 pub log_front : (low k : ℕ) (log : List (ℕ × ℕ)) → IsLogFrom low log → IsLogFrom low (take k log)
 log_front low zero [] h = tt
@@ -57,17 +76,12 @@ some_within (x ∷ xs) zero lt e = cc
 some_within (x ∷ xs) (suc i) lt e = some_within xs i (omega (arith, lt)) e
 
 module _ (setting : Setting) (log : List (ℕ × ℕ)) (steps from : ℕ) where
-  -- a checkpoint is one of each log whose first member isn't before it
-  pub begun : (n : ℕ) (state : State) (seen : Seen) → IsCheckpoint setting (record { step = n; state = state; seen = seen }) → IsLogFrom n log → n ≤ from →
-      n ≤ steps → IsSeenSo setting log steps from log n state seen
-  begun n state seen is lawful le within = record {
-    here = record {
-      within = within;
-      left = left_from n log lawful;
-      run = run_before setting log n lawful n (le_refl n) is.run;
-      at = is.state ∙ sym (state_before setting log n lawful n (le_refl n));
-    };
-    is = subst (Keeps state.queue.time seen) (sym (seen_before setting log n from n lawful n (le_refl n) le (le_refl n))) is.seen;
+  -- from a checkpoint on
+  pub begun : (n : ℕ) (rest : List (ℕ × ℕ)) (state : State) (seen : Seen) → IsCheckpointOf setting log (record { step = n; state = state; seen = seen }) →
+      IsLeft log rest n → n ≤ from → n ≤ steps → IsSeenSo setting log steps from rest n state seen
+  begun n rest state seen is left le within = record {
+    here = record { within = within; left = left; run = is.run; at = is.state };
+    is = subst (Keeps state.queue.time seen) (seen_early setting log n from n (le_refl n) le) is.seen;
     few = is.few;
     within = λ k after lt. absurd (omega (arith, after, lt, le));
   }
@@ -161,17 +175,21 @@ module _ (setting : Setting) (log : List (ℕ × ℕ)) (steps from : ℕ) where
 -- ---- the visits of the slot before the step
 
 -- a checkpoint begins a slot
-pub begins : (setting : Setting) (log : List (ℕ × ℕ)) (checkpoint : Checkpoint) → IsCheckpoint setting checkpoint → IsLogFrom checkpoint.step log →
+pub begins : (setting : Setting) (log : List (ℕ × ℕ)) (checkpoint : Checkpoint) → IsCheckpointOf setting log checkpoint →
     IsBegin setting log checkpoint.step checkpoint.step
-begins setting log checkpoint is lawful = record {
+begins setting log checkpoint is = record {
   before = le_refl checkpoint.step;
   within = λ k after lt. absurd (omega (arith, after, lt));
-  begins = λ k e.
-      (let lt : k < checkpoint.step = omega (arith, e) in
-      ap (λ (s : State). is_in_slot (slice_get (choices s) (choice_at log k))) (state_before setting log checkpoint.step lawful k (omega (arith, lt)))
-      ∙ ap (λ (i : ℕ). is_in_slot (slice_get (choices (state_after setting [] k)) i)) (choice_below checkpoint.step k log lt lawful)
-      ∙ is.begins k e);
+  begins = is.begins;
 }
+
+-- a run that has no choice doesn't go on
+pub stops : (setting : Setting) (log rest later : List (ℕ × ℕ)) (to from n index : ℕ) (state : State) (seen : Seen) → IsSeenSo setting log to from rest n state seen →
+    IsNextChoice rest n index later → slice_get (choices state) index ≡ None → (m : ℕ) → n < m → IsRun (rules_of setting) log m → ⊥
+stops setting log rest later to from n index state seen so taken none m lt run =
+    some_within (choices (state_after setting log n)) (choice_at log n)
+    (omega (arith, run n lt, width_is setting (state_after setting log n)))
+    (sym (choice_is setting log to from rest n state seen so index later taken) ∙ none)
 
 -- where the run has ended before a step, that has no slot
 pub ended : (setting : Setting) (log rest later : List (ℕ × ℕ)) (from begin n index : ℕ) (state : State) (seen : Seen) →
@@ -273,32 +291,35 @@ pub are_earlier : (setting : Setting) (log rest : List (ℕ × ℕ)) (from : ℕ
     StandsBefore setting log from rest state seen → visits ≡ seen.visits → AreEarlier setting log from visits
 are_earlier setting log rest from state seen visits before is = (before.b, before.begin, is ∙ before.so.is.visits)
 
--- where the default run stands before the first step of a slot is a checkpoint
-pub checkpoint_there : (setting : Setting) (steps from n : ℕ) (state : State) (seen : Seen) → IsSeenSo setting [] steps from [] n state seen → n ≤ from →
-    ((k : ℕ) → suc k ≡ n → is_in_slot (choice_of setting [] k) ≡ false) → IsCheckpoint setting (record { step = n; state = state; seen = seen })
-checkpoint_there setting steps from n state seen so le begin = record {
+-- where a run stands before the first step of a slot is a checkpoint
+pub checkpoint_there : (setting : Setting) (log rest : List (ℕ × ℕ)) (steps from n : ℕ) (state : State) (seen : Seen) →
+    IsSeenSo setting log steps from rest n state seen → n ≤ from → ((k : ℕ) → suc k ≡ n → is_in_slot (choice_of setting log k) ≡ false) →
+    IsCheckpointOf setting log (record { step = n; state = state; seen = seen })
+checkpoint_there setting log rest steps from n state seen so le begin = record {
   run = so.here.run;
   state = so.here.at;
-  seen = subst (Keeps state.queue.time seen) (seen_before setting [] n from n tt n (le_refl n) le (le_refl n)) so.is;
+  seen = subst (Keeps state.queue.time seen) (seen_early setting log from n n le (le_refl n)) so.is;
   few = so.few;
   begins = begin;
 }
 
--- behind a step that ends its slot another begins
-pub begins_behind : (setting : Setting) (steps from n : ℕ) (state : State) (seen : Seen) (choice : Choice) → IsSeenSo setting [] steps from [] n state seen →
-    Some choice ≡ slice_get (choices state) 0 → is_in_slot (Some choice) ≡ false → (k : ℕ) → suc k ≡ n + 1 →
-    is_in_slot (choice_of setting [] k) ≡ false
-begins_behind setting steps from n state seen choice so found ends k e =
-    let same : k ≡ n = omega (arith, e) in
-    ap (λ (m : ℕ). is_in_slot (choice_of setting [] m)) same
-    ∙ ap is_in_slot (sym (found ∙ choice_is setting [] steps from [] n state seen so 0 [] (default_at_none n [] refl)))
-    ∙ ends
+module _ (setting : Setting) (log rest later : List (ℕ × ℕ)) (to n index : ℕ) (state after : State) (seen new : Seen) (choice : Choice)
+    (so : IsSeenSo setting log to to rest n state seen) (taken : IsNextChoice rest n index later) (lawful : IsLogFrom (n + 1) later)
+    (found : Some choice ≡ slice_get (choices state) index) (lt : n < to) (is : after ≡ (next setting.design state index).state)
+    (sees : Keeps after.queue.time new (seen_by setting.design to n state choice (next setting.design state index).effect seen)) (few : new.updates ≤ n + 1) where
+  -- the run goes on by a step
+  pub goes_on : IsSeenSo setting log to to later (n + 1) after new
+  goes_on =
+      let goes : to ≤ n → is_in_slot (Some choice) ≡ true = λ le. absurd (omega (arith, lt, le)) in
+      seen_on setting log to to rest n state seen so index later taken choice after new found lt lawful goes is sees few
 
--- the default run goes on by a step
-pub goes_on : (setting : Setting) (to n : ℕ) (state after : State) (seen new : Seen) (choice : Choice) → IsSeenSo setting [] to to [] n state seen → n < to →
-    Some choice ≡ slice_get (choices state) 0 → after ≡ (next setting.design state 0).state →
-    Keeps after.queue.time new (seen_by setting.design to n state choice (next setting.design state 0).effect seen) → new.updates ≤ n + 1 →
-    IsSeenSo setting [] to to [] (n + 1) after new
-goes_on setting to n state after seen new choice so lt found is sees few =
-    let goes : to ≤ n → is_in_slot (Some choice) ≡ true = λ le. absurd (omega (arith, lt, le)) in
-    seen_on setting [] to to [] n state seen so 0 [] (default_at_none n [] refl) choice after new found lt tt goes is sees few
+  -- behind a step that ends its slot another begins
+  pub begins_behind : is_in_slot (Some choice) ≡ false → IsCheckpointOf setting log (record { step = n + 1; state = after; seen = new })
+  begins_behind ends = checkpoint_there setting log later to to (n + 1) after new goes_on (omega (arith, lt)) begin
+    where
+      begin : (k : ℕ) → suc k ≡ n + 1 → is_in_slot (choice_of setting log k) ≡ false
+      begin k e =
+          let same : k ≡ n = omega (arith, e) in
+          ap (λ (m : ℕ). is_in_slot (choice_of setting log m)) same
+          ∙ ap is_in_slot (sym (found ∙ choice_is setting log to to rest n state seen so index later taken))
+          ∙ ends

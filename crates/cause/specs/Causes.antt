@@ -1,8 +1,9 @@
 -- *product rule*: Which two statements race (crates/cause/README.md): the first swap of a run and its parent, in the slot of the last step that
 -- the log names. Both stand in the same state before that step.
-use Rattle.std.specs.Prelude.{◌≡◌, ℕ, ◌+◌, ◌-◌, ◌<◌, if◌then◌else◌, List, [], ◌∷◌, ◌++◌, length, take, Option, Some, None, slice_get}
+use Rattle.std.specs.Prelude.{◌≡◌, ℕ, suc, ◌+◌, ◌-◌, ◌<◌, if◌then◌else◌, List, [], ◌∷◌, ◌++◌, length, take, Option, Some, None, slice_get}
 use Rattle.vdesign.specs.declared.action.Action.{Action}
-use Rattle.vmodel.specs.Run.{Setting, state_after}
+use Rattle.sched_core.specs.Rules.{IsRun, NamesBelow}
+use Rattle.vmodel.specs.Run.{Setting, rules_of, state_after}
 use Rattle.cause.specs.Footprints.{shared}
 use Rattle.cause.specs.Visits.{same_visit, visits_to, IsBegin, IsSlot}
 use Rattle.cause.specs.Behind.{statement_behind}
@@ -90,3 +91,14 @@ abbrev pub HasNoCause : Setting → List (ℕ × ℕ) → ℕ → Type 0
 HasNoCause setting log steps =
     (s n m : ℕ) → last_step log ≡ Some s → n < steps → IsSlot setting log s n → m < steps → IsSlot setting (parent_of log) s m →
     HasNoSwap (visits_to setting log s n) (visits_to setting (parent_of log) s m)
+
+-- what is told of a log: its cause, or that it has none
+abbrev pub IsTold : Setting → List (ℕ × ℕ) → ℕ → Option Cause → Type 0
+IsTold setting log steps (Some cause) = IsCause setting log cause
+IsTold setting log steps None = HasNoCause setting log steps
+
+-- what is told of the departures of a run, in order, each by the log up to its member: of all of them, unless the run under the log ends
+-- before a step that it names
+pub record AreCauses (setting : Setting) (log : List (ℕ × ℕ)) (steps : ℕ) (causes : List (Option Cause)) : Type 0 where
+  pub each : (k : ℕ) (told : Option Cause) → slice_get causes k ≡ Some told → IsTold setting (take (suc k) log) steps told
+  pub whole : (n : ℕ) → IsRun (rules_of setting) log n → NamesBelow log n → length causes ≡ length log

@@ -1,4 +1,4 @@
--- *internal*: States of the default run, from which runs under logs are gone through.
+-- *internal*: States of runs, from which runs under logs are gone through.
 use Rattle.std.specs.Prelude.{◌≡◌, ℕ, suc, ◌+◌, ◌≤◌, nat_lt, false, if◌then◌else◌, List, [], ◌∷◌}
 use Rattle.sched_core.specs.Rules.{IsRun}
 use Rattle.vmodel.specs.Run.{Setting, rules_of, state_after}
@@ -17,14 +17,18 @@ pub record Keeps (time : ℕ) (kept seen : Seen) : Type 0 where
   pub updates : kept.updates ≡ seen.updates
   pub visits : kept.visits ≡ seen.visits
 
--- a checkpoint: the state in which the default run, which is the run under the empty log, stands before the first step of a slot, and what
--- is kept of what was seen of it up to there
-pub record IsCheckpoint (setting : Setting) (checkpoint : Checkpoint) : Type 0 where
-  pub run : IsRun (rules_of setting) [] checkpoint.step
-  pub state : checkpoint.state ≡ state_after setting [] checkpoint.step
-  pub seen : Keeps checkpoint.state.queue.time checkpoint.seen (seen_after setting [] checkpoint.step checkpoint.step)
+-- a checkpoint of a run: the state in which the run under a log stands before the first step of a slot, and what is kept of what was seen of
+-- it up to there
+pub record IsCheckpointOf (setting : Setting) (log : List (ℕ × ℕ)) (checkpoint : Checkpoint) : Type 0 where
+  pub run : IsRun (rules_of setting) log checkpoint.step
+  pub state : checkpoint.state ≡ state_after setting log checkpoint.step
+  pub seen : Keeps checkpoint.state.queue.time checkpoint.seen (seen_after setting log checkpoint.step checkpoint.step)
   pub few : checkpoint.seen.updates ≤ checkpoint.step
-  pub begins : (k : ℕ) → suc k ≡ checkpoint.step → is_in_slot (choice_of setting [] k) ≡ false
+  pub begins : (k : ℕ) → suc k ≡ checkpoint.step → is_in_slot (choice_of setting log k) ≡ false
+
+-- one of the default run, which is the run under the empty log
+abbrev pub IsCheckpoint : Setting → Checkpoint → Type 0
+IsCheckpoint setting checkpoint = IsCheckpointOf setting [] checkpoint
 
 abbrev pub AreCheckpoints : Setting → List Checkpoint → Type 0
 AreCheckpoints setting [] = Unit {0}

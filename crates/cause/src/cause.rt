@@ -1,11 +1,13 @@
 // The cause of what a run has and its parent hasn't.
 
-ghost use Rattle.std.specs.Prelude.{◌≡◌, ◌<◌, length, IfOk, IfSome, IfNone, slice_get, Some};
+ghost use Rattle.std.specs.Prelude.{◌≡◌, ◌<◌, ◌≤◌, length, IfOk, IfSome, IfNone, slice_get, Some};
 ghost use Rattle.sched_core.specs.Logs.{IsLogFrom};
 ghost use Rattle.cause.specs.Causes as spec;
+ghost use Rattle.cause.specs.Checkpoints.{IsCheckpointOf};
 ghost use Rattle.cause.specs.Swaps.{HasNoSwap};
 
 use crate::behind::statement_behind;
+use crate::checkpoint::Checkpoint;
 use crate::checkpoints::Checkpoints;
 use crate::slot::{Slot, first_step, visits_of_slot};
 use crate::swap::first_swap;
@@ -15,6 +17,7 @@ use basis::NoMemory;
 use sched_core::{Log, Member};
 use std::alloc::Global;
 use vdesign::action::Action;
+use vmachine::Machine;
 
 /// One of the two visits: who makes it, the place of its action in the design's table, that of the statement behind it where its action is a
 /// port connection or an `assign`, else the same place, and which step it is in both runs, none where it doesn't come.
@@ -118,28 +121,32 @@ fn cause_in(
     }
 }
 
-// The cause, where the last member names this step.
+/// The cause, where the last member names this step; from a checkpoint on that isn't behind it.
 #[tactic(auto, using(crate::proofs::ParentLemmas::same_before))]
-fn cause_at(
+pub(crate) fn cause_from(
     alloc: Global,
-    checkpoints: &Checkpoints<'_>,
+    machine: &Machine,
+    start: Checkpoint,
     members: &[Member],
     step: u32,
     steps: u32,
 ) -> Result<Option<Cause>, NoMemory>
     requires lawful { IsLogFrom 0 members.now }
     requires named { spec.last_step members.now ≡ Some step }
-    ensures cause { IfOk result (λ told. IfSome told (spec.IsCause checkpoints.now members.now)) }
-    ensures none { IfOk result (λ told. IfNone told (spec.HasNoCause checkpoints.now members.now steps)) }
+    requires start { IsCheckpointOf machine.now members.now start }
+    requires before { start.step ≤ step }
+    ensures cause { IfOk result (λ told. IfSome told (spec.IsCause machine.now members.now)) }
+    ensures none { IfOk result (λ told. IfNone told (spec.HasNoCause machine.now members.now steps)) }
 {
-    let Some(run) = visits_of_slot(alloc, checkpoints, members, step, steps)? else {
+    let parent_start = start.copy(alloc)?;
+    let Some(run) = visits_of_slot(alloc, machine, start, members, step, steps)? else {
         return Ok(None);
     };
-    let Some(parent) = visits_of_slot(alloc, checkpoints, parent_of(members), step, steps)? else {
+    let parent_log = parent_of(members);
+    let Some(parent) = visits_of_slot(alloc, machine, parent_start, parent_log, step, steps)? else {
         return Ok(None);
     };
-    let actions = &checkpoints.machine().design().actions;
-    cause_in(alloc, actions, step, &run, &parent)
+    cause_in(alloc, &machine.design().actions, step, &run, &parent)
 }
 
 /// The cause of what the run under the log has, and the run under the log without its last member hasn't. None where no member is named,
@@ -159,6 +166,8 @@ pub fn cause_of(
     let Some(step) = last_step(members) else {
         return Ok(None);
     };
-    checkpoints.extend(alloc, first_step(members, step).min(steps))?;
-    cause_at(alloc, checkpoints, members, step, steps)
+    let first = first_step(members, step);
+    checkpoints.extend(alloc, first.min(steps))?;
+    let start = checkpoints.last_before(alloc, first)?;
+    cause_from(alloc, checkpoints.machine(), start, members, step, steps)
 }

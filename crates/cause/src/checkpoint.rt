@@ -1,8 +1,8 @@
-// A checkpoint of the default run.
+// A checkpoint of a run.
 
-ghost use Rattle.std.specs.Prelude.{◌≡◌, IfOk};
+ghost use Rattle.std.specs.Prelude.{◌≡◌, ℕ, List, IfOk};
 ghost use Rattle.vmodel.specs.Run.{Setting};
-ghost use Rattle.cause.specs.Checkpoints.{IsCheckpoint};
+ghost use Rattle.cause.specs.Checkpoints.{IsCheckpoint, IsCheckpointOf};
 
 use crate::visit::Seen;
 use basis::NoMemory;
@@ -10,8 +10,7 @@ use std::alloc::Global;
 use vmachine::Machine;
 use vmodel::State;
 
-/// The state in which the default run, the run under the empty log, stands before the first step of a slot, and what is kept of what was
-/// seen of it up to there.
+/// The state in which a run stands before the first step of a slot, and what is kept of what was seen of it up to there.
 #[derive(Drop)]
 pub(crate) struct Checkpoint {
     pub(crate) step: u32,
@@ -36,7 +35,8 @@ impl Checkpoint {
     /// The same.
     #[tactic(auto, using(crate::proofs::CheckpointLemmas::copied_is))]
     pub(crate) fn copy(&self, alloc: Global) -> Result<Checkpoint, NoMemory>
-        ensures is { IfOk result (λ copied. (setting : Setting) → IsCheckpoint setting self.now → IsCheckpoint setting copied) }
+        ensures is { IfOk result (λ copied. (setting : Setting) (log : List (ℕ × ℕ)) →
+            IsCheckpointOf setting log self.now → IsCheckpointOf setting log copied) }
         ensures step { IfOk result (λ copied. copied.step ≡ self.now.step) }
     {
         Ok(Checkpoint {

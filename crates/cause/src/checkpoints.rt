@@ -2,7 +2,7 @@
 
 ghost use Rattle.std.specs.Prelude.{◌≡◌, ◌≤◌, false, Some, IfOk, IfSome};
 ghost use Rattle.vmodel.specs.Run.{Setting};
-ghost use Rattle.cause.specs.Checkpoints.{IsCheckpoint};
+ghost use Rattle.cause.specs.Checkpoints.{IsCheckpoint, IsCheckpointOf};
 ghost use Rattle.cause.specs.Visits.{is_in_slot};
 ghost use Rattle.cause.specs.Checkpoints as spec;
 

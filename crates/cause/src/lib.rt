@@ -3,6 +3,7 @@
 // The law: what is told is the cause of specs/Causes.antt, of all swaps of the two runs the first.
 #![tactic(auto)]
 
+mod along;
 mod behind;
 mod cause;
 mod checkpoint;
@@ -16,6 +17,7 @@ mod swap;
 mod thing;
 mod visit;
 
+pub use along::causes_of;
 pub use cause::{Blamed, Cause, cause_of};
 pub use checkpoints::Checkpoints;
 pub use thing::{Thing, Things};

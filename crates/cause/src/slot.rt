@@ -2,17 +2,19 @@
 
 ghost use Rattle.std.specs.Prelude.{◌≡◌, ◌≤◌, ℕ, [], true, false, Some, IfOk, IfSome, IfNone};
 ghost use Rattle.sched_core.specs.Logs.{IsLogFrom};
+ghost use Rattle.sched_core.proofs.RunLemmas.{IsLeft};
 ghost use Rattle.cause.specs.Causes.{AreEarlier, AreVisits, HasNoSlot};
+ghost use Rattle.cause.specs.Checkpoints.{IsCheckpointOf};
 ghost use Rattle.cause.specs.Stands.{StandsBefore};
 ghost use Rattle.cause.specs.Visits as spec;
 
 use crate::checkpoint::Checkpoint;
-use crate::checkpoints::Checkpoints;
 use crate::step::take;
 use crate::visit::{Seen, Visit};
 use basis::NoMemory;
 use sched_core::{Member, next_choice};
 use std::alloc::Global;
+use vmachine::Machine;
 use vmodel::State;
 use vmodel::choice::Choice;
 
@@ -63,26 +65,43 @@ fn begin_after(alloc: Global, choice: Choice, begin: u32, next: u32, seen: &mut 
     }
 }
 
+// What the members name from a step on.
+#[tactic(auto, using(crate::proofs::RestLemmas::left_there, crate::proofs::RestLemmas::from_there, crate::proofs::RestLemmas::from_end))]
+pub(crate) fn left_at(members: &[Member], step: u32) -> &[Member]
+    requires { IsLogFrom 0 members.now }
+    ensures { IsLeft members.now result.now step }
+{
+    for place in 0..members.len() {
+        if step <= members[place].0 {
+            return members.split_at(place).1;
+        }
+    }
+    members.split_at(members.len()).1
+}
+
 // The state of the run under the log of these members before step `from`, what was seen of it, with the visits of its slot up to there, and
 // what is left of the log; none where there is no such run.
 fn before_step<'a>(
     alloc: Global,
-    checkpoints: &Checkpoints<'_>,
+    machine: &Machine,
+    start: Checkpoint,
     members: &'a [Member],
     from: u32,
 ) -> Result<Option<(State, Seen, &'a [Member])>, NoMemory>
-    requires { IsLogFrom 0 members.now }
+    requires lawful { IsLogFrom 0 members.now }
+    requires start { IsCheckpointOf machine.now members.now start }
+    requires before { start.step ≤ from }
     ensures some { IfOk result (λ told. IfSome told (λ found.
-        StandsBefore checkpoints.now members.now from found.2.now found.0 found.1)) }
-    ensures none { IfOk result (λ told. IfNone told ((steps : ℕ) → HasNoSlot checkpoints.now members.now from steps)) }
+        StandsBefore machine.now members.now from found.2.now found.0 found.1)) }
+    ensures none { IfOk result (λ told. IfNone told ((steps : ℕ) → HasNoSlot machine.now members.now from steps)) }
 {
-    let design = checkpoints.machine().design();
+    let design = machine.design();
     let Checkpoint {
         step: first,
         mut state,
         mut seen,
-    } = checkpoints.last_before(alloc, first_step(members, from))?;
-    let mut rest = members;
+    } = start;
+    let mut rest = left_at(members, first);
     let mut begin = first;
     for step in first..from {
         let (index, later) = next_choice(rest, step);
@@ -98,25 +117,28 @@ fn before_step<'a>(
     Ok(Some((state, seen, rest)))
 }
 
-/// The visits of the slot of step `from` in the run under the log of these members; none where the slot doesn't end before `steps` steps,
-/// or where there is no such run.
+/// The visits of the slot of step `from` in the run under the log of these members, from a checkpoint on that isn't behind that step; none
+/// where the slot doesn't end before `steps` steps, or where there is no such run.
 pub(crate) fn visits_of_slot(
     alloc: Global,
-    checkpoints: &Checkpoints<'_>,
+    machine: &Machine,
+    start: Checkpoint,
     members: &[Member],
     from: u32,
     steps: u32,
 ) -> Result<Option<Slot>, NoMemory>
-    requires { IsLogFrom 0 members.now }
-    ensures earlier { IfOk result (λ told. IfSome told (λ slot. AreEarlier checkpoints.now members.now from slot.earlier.items)) }
-    ensures visits { IfOk result (λ told. IfSome told (λ slot. AreVisits checkpoints.now members.now from slot.visits.items)) }
-    ensures none { IfOk result (λ told. IfNone told (HasNoSlot checkpoints.now members.now from steps)) }
+    requires lawful { IsLogFrom 0 members.now }
+    requires start { IsCheckpointOf machine.now members.now start }
+    requires before { start.step ≤ from }
+    ensures earlier { IfOk result (λ told. IfSome told (λ slot. AreEarlier machine.now members.now from slot.earlier.items)) }
+    ensures visits { IfOk result (λ told. IfSome told (λ slot. AreVisits machine.now members.now from slot.visits.items)) }
+    ensures none { IfOk result (λ told. IfNone told (HasNoSlot machine.now members.now from steps)) }
 {
     if from >= steps {
         return Ok(None);
     }
-    let design = checkpoints.machine().design();
-    let Some((mut state, kept, left)) = before_step(alloc, checkpoints, members, from)? else {
+    let design = machine.design();
+    let Some((mut state, kept, left)) = before_step(alloc, machine, start, members, from)? else {
         return Ok(None);
     };
     let (earlier, mut seen) = kept.apart(alloc);
