@@ -11,25 +11,12 @@ use std::alloc::Global;
 use std::env;
 use std::io::{self, Read};
 use std::process::ExitCode;
+use text_read::design_of;
 use vdesign::design::Design;
-use vhierarchy::elaborate;
-use vlex::tokens;
 use vmachine::Machine;
-use vparse::parse;
-use vsrc::expand;
 
 // How many steps a slot may end before.
 const STEPS: u32 = 100_000;
-
-// The design of a text; none where it has none, or memory was refused.
-fn design_of(alloc: Global, text: Vec<u8>, top: Option<&[u8]>) -> Option<Design> {
-    let mut files = Vec::new(alloc);
-    files.push(text).ok()?;
-    let source = expand(alloc, &files).ok()?;
-    let found = tokens(alloc, &source).ok()?;
-    let tree = parse(alloc, &found).ok()?;
-    elaborate(alloc, &found, &tree, top, source.timescale()).ok()
-}
 
 fn grain_of(word: &str) -> Grain {
     if word == "statement" {

@@ -10,22 +10,9 @@ use std::alloc::Global;
 use std::env;
 use std::io::{self, Read};
 use std::process::ExitCode;
+use text_read::design_of;
 use vcompile::compile;
 use vdesign::design::Design;
-use vhierarchy::elaborate;
-use vlex::tokens;
-use vparse::parse;
-use vsrc::expand;
-
-// The design of a text; none where it has none, or memory was refused.
-fn design_of(alloc: Global, text: Vec<u8>) -> Option<Design> {
-    let mut files = Vec::new(alloc);
-    files.push(text).ok()?;
-    let source = expand(alloc, &files).ok()?;
-    let found = tokens(alloc, &source).ok()?;
-    let tree = parse(alloc, &found).ok()?;
-    elaborate(alloc, &found, &tree, None, source.timescale()).ok()
-}
 
 // What is counted of its code, which is made so often.
 fn counts(alloc: Global, design: &Design, times: u64) -> Result<CodeCounts, NoMemory> {
@@ -48,7 +35,7 @@ fn main(rt: HostRuntime) -> io::Result<ExitCode> {
     let words = env::args(&rt)?.collect::<Vec<String>>(alloc)?;
     let mut text = Vec::new(alloc);
     rt.reader().read_to_end(&mut text)?;
-    let Some(design) = design_of(alloc, text) else {
+    let Some(design) = design_of(alloc, text, None) else {
         println!(rt; "no design")?;
         return Ok(ExitCode::from(2));
     };

@@ -3,3 +3,4 @@ mod NamedLemmas
 mod UnderWayLemmas
 mod ReadLemmas
 mod CountLemmas
+mod KnownLemmas

@@ -1,5 +1,5 @@
 -- Pairs, and the columns that they name.
-use Rattle.std.proofs.Common.{◌≡◌, ℕ, List, [], ◌∷◌, ◌++◌, length, Some, inl, inr, subst, sym}
+use Rattle.std.proofs.Common.{◌≡◌, ℕ, Bool, List, [], ◌∷◌, ◌++◌, Some, inl, inr, subst, sym}
 use Rattle.std.specs.Prelude.{slice_get}
 use Rattle.basis.proofs.Lists.{stands_in_front, last_or_before, stands_last}
 use Rattle.vdesign.specs.Design.{Variable}
@@ -11,9 +11,9 @@ use Rattle.dump_match.specs.declared.comparison.Pair.{Pair}
 use Rattle.dump_match.specs.Named.{AreNamedSo, IsDeclared, IsLike, IsNamedSo}
 
 -- a column more changes nothing of a pair
-still_named : (variables : List Variable) (declared : List VcdVariable) (watched : List Column) (column : Column) (pair : Pair) →
-    IsNamedSo variables declared watched pair → IsNamedSo variables declared (watched ++ column ∷ []) pair
-still_named variables declared watched column pair named = record {
+still_named : (wrapped : Bool) (variables : List Variable) (declared : List VcdVariable) (watched : List Column) (column : Column) (pair : Pair) →
+    IsNamedSo wrapped variables declared watched pair → IsNamedSo wrapped variables declared (watched ++ column ∷ []) pair
+still_named wrapped variables declared watched column pair named = record {
   told = named.told;
   like = named.like;
   in_dump = named.in_dump;
@@ -24,18 +24,18 @@ still_named variables declared watched column pair named = record {
 }
 
 -- and the pair of that column is named so, too
-pub named_more : (variables : List Variable) (declared : List VcdVariable) (old new : Columns) (told : VcdVariable) (variable place : ℕ) (pairs : List Pair) →
-    IsLike variables told variable → IsDeclared declared told → Follows old new told place →
-    AreNamedSo variables declared old.watched.items pairs →
-    AreNamedSo variables declared new.watched.items (pairs ++ (record { column = place; variable = variable }) ∷ [])
-named_more variables declared old new told variable place pairs like in_dump follows are i pair at =
-    subst (λ (watched : List Column). IsNamedSo variables declared watched pair) (sym follows.added)
+pub named_more : (wrapped : Bool) (variables : List Variable) (declared : List VcdVariable) (old new : Columns) (told : VcdVariable) (variable place : ℕ) (pairs : List Pair) →
+    IsLike wrapped variables told variable → IsDeclared declared told → Follows old new told place →
+    AreNamedSo wrapped variables declared old.watched.items pairs →
+    AreNamedSo wrapped variables declared new.watched.items (pairs ++ (record { column = place; variable = variable }) ∷ [])
+named_more wrapped variables declared old new told variable place pairs like in_dump follows are i pair at =
+    subst (λ (watched : List Column). IsNamedSo wrapped variables declared watched pair) (sym follows.added)
     (elim (last_or_before pairs (record { column = place; variable = variable }) i pair at) [
-      | inl before ↦ still_named variables declared old.watched.items follows.column pair (are i pair before)
-      | inr last ↦ subst (IsNamedSo variables declared (old.watched.items ++ follows.column ∷ [])) last.1 newest
+      | inl before ↦ still_named wrapped variables declared old.watched.items follows.column pair (are i pair before)
+      | inr last ↦ subst (IsNamedSo wrapped variables declared (old.watched.items ++ follows.column ∷ [])) last.1 newest
     ])
   where
-    newest : IsNamedSo variables declared (old.watched.items ++ follows.column ∷ []) (record { column = place; variable = variable })
+    newest : IsNamedSo wrapped variables declared (old.watched.items ++ follows.column ∷ []) (record { column = place; variable = variable })
     newest = record {
       told = told;
       like = like;
@@ -48,9 +48,10 @@ named_more variables declared old new told variable place pairs like in_dump fol
     }
 
 -- the same of what is the same
-pub named_at : (vs vs' : List Variable) (ds ds' : List VcdVariable) (ws ws' : List Column) (pairs : List Pair) → vs ≡ vs' → ds ≡ ds' → ws ≡ ws' →
-    AreNamedSo vs ds ws pairs → AreNamedSo vs' ds' ws' pairs
-named_at vs vs' ds ds' ws ws' pairs a b c are =
-    subst (λ (v : List Variable). AreNamedSo v ds' ws' pairs) a
-    (subst (λ (d : List VcdVariable). AreNamedSo vs d ws' pairs) b
-    (subst (λ (w : List Column). AreNamedSo vs ds w pairs) c are))
+pub named_at : (w w' : Bool) (vs vs' : List Variable) (ds ds' : List VcdVariable) (ws ws' : List Column) (pairs : List Pair) → w ≡ w' → vs ≡ vs' → ds ≡ ds' →
+    ws ≡ ws' → AreNamedSo w vs ds ws pairs → AreNamedSo w' vs' ds' ws' pairs
+named_at w w' vs vs' ds ds' ws ws' pairs o a b c are =
+    subst (λ (wrapped : Bool). AreNamedSo wrapped vs' ds' ws' pairs) o
+    (subst (λ (v : List Variable). AreNamedSo w v ds' ws' pairs) a
+    (subst (λ (d : List VcdVariable). AreNamedSo w vs d ws' pairs) b
+    (subst (λ (x : List Column). AreNamedSo w vs ds x pairs) c are)))

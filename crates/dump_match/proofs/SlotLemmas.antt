@@ -1,13 +1,12 @@
 -- The slots of a machine's runs are those of its setting's.
-use Rattle.std.proofs.Common.{◌≡◌, ℕ, suc, ◌<◌, ◌≤◌, true, false, List, length, refl, sym, ap, subst, ◌∙◌, arith}
-use Rattle.sched_core.specs.Rules.{IsRun, stands}
+use Rattle.std.proofs.Common.{◌≡◌, ℕ, suc, true, false, List, refl, sym, ◌∙◌, arith}
+use Rattle.sched_core.specs.Rules.{stands}
 use Rattle.vmodel.specs.State.{State}
-use Rattle.vmodel.specs.Choices.{choices}
 use Rattle.vmodel.specs.Run.{Setting, rules_of, is_mark, state_after}
 use Rattle.vmodel.specs.RunProgress.{width_is}
 use Rattle.vmodel.specs.RunLaws.{GoesOnOneWay, GoesOnLater, StaysInSlot}
 use Rattle.vmachine.specs.declared.machine_state.MachineState.{MachineState}
-use Rattle.vmachine.specs.Machines.{Stands, machine_rules, rank_of}
+use Rattle.vmachine.specs.Machines.{machine_rules, rank_of}
 use Rattle.vmachine.specs.MachineLaws.{HasSameWidth, HasSameMarks, HasTimeAsRank, RunsAsSetting, StandsThroughout}
 use Rattle.matching.specs.Explained.{EndsSlots}
 

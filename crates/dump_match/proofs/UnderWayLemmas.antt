@@ -1,5 +1,5 @@
 -- Slots that are under way are ready to be read on.
-use Rattle.std.proofs.Common.{◌≡◌, ℕ, ◌<◌, Option, Some, None, refl, sym, ◌∙◌, subst}
+use Rattle.std.proofs.Common.{◌≡◌, ℕ, ◌<◌, Option, Some, None, refl, subst}
 use Rattle.vcd_slots.specs.Standing.{IsLater, IsReady}
 use Rattle.vcd_slots.specs.declared.slots.DumpSlots.{DumpSlots}
 use Rattle.dump_match.specs.UnderWay.{IsUnderWay}

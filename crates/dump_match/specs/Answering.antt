@@ -19,8 +19,10 @@ ExplainsDump remaining most old new =
 abbrev pub RefutesDump : {R : Type 0} → (R → Option (List ℕ)) → ℕ → DumpReference R → DumpReference R → Unexplained MachineState → Type 0
 RefutesDump remaining most old new =
     Refutes (machine_rules old.machine.now) (rank_of old.machine.now) most (piece_in old) (λ pieces. Reads remaining old pieces new)
+    (new.slots.ahead)
 
 -- some run explains it up to the time that was closed
 abbrev pub ClosesDump : {R : Type 0} → (R → Option (List ℕ)) → ℕ → DumpReference R → DumpReference R → Cut → Type 0
 ClosesDump remaining most old new =
     ClosesTo (machine_rules old.machine.now) (rank_of old.machine.now) most (piece_in old) (λ pieces. Reads remaining old pieces new)
+    (new.slots.ahead)

@@ -2,7 +2,9 @@
 pub mod Comparison
 pub mod Pieces
 pub mod UnderWay
+pub mod Scopes
 pub mod Named
+pub mod Known
 pub mod Showing
 pub mod Opening
 pub mod Answering

@@ -1,5 +1,5 @@
 -- *product rule*: What a dump shows, time after time.
-use Rattle.std.specs.Prelude.{◌≡◌, ℕ, List, [], ◌∷◌, ◌++◌, Option, Some, None}
+use Rattle.std.specs.Prelude.{ℕ, List, [], ◌∷◌, ◌++◌, Option, Some, None}
 use Rattle.vbits.specs.Vectors.{Vector}
 use Rattle.vmodel.specs.Run.{Setting}
 use Rattle.vmachine.specs.declared.machine_state.MachineState.{MachineState}

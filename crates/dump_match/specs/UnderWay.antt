@@ -1,8 +1,7 @@
 -- *internal*: What a dump keeps that runs are compared with.
-use Rattle.std.specs.Prelude.{◌≡◌, ℕ, ◌<◌, Option, Some, None}
+use Rattle.std.specs.Prelude.{◌≡◌, ℕ, ◌<◌, Some, None}
 use Rattle.vcd_read.specs.Readers.{IsOpen}
 use Rattle.vcd_slots.specs.Following.{IsSound}
-use Rattle.vcd_slots.specs.Standing.{IsLater, IsReady}
 use Rattle.vcd_slots.specs.declared.slots.DumpSlots.{DumpSlots}
 
 -- it is ready to be read on, and where it shows nothing yet, its first time isn't 0

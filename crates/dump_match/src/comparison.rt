@@ -1,17 +1,19 @@
 // Which variables stand in the files and in a dump.
 
-ghost use Rattle.std.specs.Prelude.{◌≡◌, [], true, List, IfOk, OnOk};
+ghost use Rattle.std.specs.Prelude.{◌≡◌, [], true, Bool, List, IfOk, OnOk};
 ghost use Rattle.vdesign.specs.Design as design;
 ghost use Rattle.vcd_read.specs.declared.header.VcdVariable as header;
 ghost use Rattle.vcd_slots.specs.Following.{IsFresh, IsSound};
+ghost use Rattle.dump_match.specs.Scopes.{compared_name, is_wrapped};
 ghost use Rattle.dump_match.specs.Named.{AreNamedSo, IfSame, IsDeclared, IsLike, KeepsNamed};
 
+use crate::scopes::{behind_outermost, is_wrapped, scope_round};
 use basis::NoMemory;
 use std::alloc::Global;
 use std::collections::BTreeMap;
-use vcd_read::VcdVariable;
+use vcd_read::{VcdVariable, is_same};
 use vcd_slots::Columns;
-use vdesign::design::Variable;
+use vdesign::design::{Design, Variable};
 
 /// A variable that stands in both: its column of the dump, and its number in the design.
 #[derive(Drop)]
@@ -20,13 +22,17 @@ pub struct Pair {
     pub variable: usize,
 }
 
-/// What is compared: the variables that stand in both with one name and as many bits; and the names of the others.
+/// What is compared: the variables that stand in both with one name and as many bits; and the names of the others. A name of `repeated` is of
+/// a further variable of the dump that has the name of one that is compared. Where all names of the dump have a scope round the top module,
+/// that one was left out.
 #[derive(Drop)]
 pub struct Comparison {
     pub pairs: Vec<Pair>,
     pub only_in_dump: Vec<Vec<u8>>,
     pub only_in_files: Vec<Vec<u8>>,
     pub of_other_width: Vec<Vec<u8>>,
+    pub repeated: Vec<Vec<u8>>,
+    pub left_out: Option<Vec<u8>>,
 }
 
 // What a variable of the dump is to those of the files.
@@ -35,6 +41,14 @@ enum Likeness {
     Same(usize),
     OtherWidth(usize),
     Unknown,
+}
+
+// What was met of a variable of the files: none of the dump, one of another width, or one with which it is compared.
+#[derive(Clone, Copy, PartialEq, Eq)]
+enum Meeting {
+    Unmet,
+    OtherWidth,
+    Compared,
 }
 
 // The numbers of variables by their names.
@@ -46,16 +60,25 @@ fn numbers_of(alloc: Global, variables: &[Variable]) -> Result<BTreeMap<Vec<u8>,
     Ok(numbers)
 }
 
-// Whether the names are the same.
-fn is_same_name(name: &[u8], other: &[u8]) -> bool
-    ensures { result ≡ true → name.now ≡ other.now }
+// The name by which a variable of the dump is compared.
+fn compared_name(wrapped: bool, name: &[u8]) -> &[u8]
+    ensures { result.now ≡ compared_name wrapped name.now }
 {
-    name == other
+    if wrapped {
+        behind_outermost(name)
+    } else {
+        name
+    }
 }
 
 // Whether the variable of the files is that of the dump: it has its name and as many bits.
-fn likeness_of(variables: &[Variable], number: Option<usize>, told: &VcdVariable) -> Likeness
-    ensures { IfSame result (IsLike variables.now told.now) }
+fn likeness_of(
+    wrapped: bool,
+    variables: &[Variable],
+    number: Option<usize>,
+    told: &VcdVariable,
+) -> Likeness
+    ensures { IfSame result (IsLike wrapped variables.now told.now) }
 {
     let Some(number) = number else {
         return Likeness::Unknown;
@@ -63,7 +86,7 @@ fn likeness_of(variables: &[Variable], number: Option<usize>, told: &VcdVariable
     let Some(variable) = variables.get(number) else {
         return Likeness::Unknown;
     };
-    if !is_same_name(&told.name, &variable.name) {
+    if !is_same(compared_name(wrapped, &told.name), &variable.name) {
         return Likeness::Unknown;
     }
     if u64::from(variable.length) != told.width {
@@ -78,19 +101,34 @@ fn push_name(alloc: Global, names: &mut Vec<Vec<u8>>, name: &[u8]) -> Result<(),
     Ok(())
 }
 
-// Puts the names of the variables that weren't met.
-fn put_unmet(
+// Puts the names of the variables of which this was met.
+fn put_met(
     alloc: Global,
     names: &mut Vec<Vec<u8>>,
     variables: &[Variable],
-    met: &[bool],
+    met: &[Meeting],
+    meeting: Meeting,
 ) -> Result<(), NoMemory> {
     for (number, variable) in variables.iter().enumerate() {
-        if met.get(number) == Some(&false) {
+        if met.get(number) == Some(&meeting) {
             push_name(alloc, names, &variable.name)?;
         }
     }
     Ok(())
+}
+
+// The next variable of the dump that a variable of the files meets.
+fn meet(met: &mut [Meeting], number: usize, meeting: Meeting) -> Meeting {
+    match met.get_mut(number) {
+        None => Meeting::Compared,
+        Some(place) => {
+            let before = *place;
+            if before != Meeting::Compared {
+                *place = meeting;
+            }
+            before
+        }
+    }
 }
 
 impl Comparison {
@@ -103,6 +141,8 @@ impl Comparison {
             only_in_dump: Vec::new(alloc),
             only_in_files: Vec::new(alloc),
             of_other_width: Vec::new(alloc),
+            repeated: Vec::new(alloc),
+            left_out: None,
         }
     }
 
@@ -117,9 +157,9 @@ impl Comparison {
         requires { IsSound columns.old }
         ensures sound { OnOk result (IsSound columns.new) }
         ensures fresh { OnOk result (IsFresh columns.old → IsFresh columns.new) }
-        ensures named { (variables : List design.Variable) (declared : List header.VcdVariable) →
-            IsLike variables told.now variable → IsDeclared declared told.now →
-            OnOk result (KeepsNamed variables declared columns.old columns.new self.old.pairs.items self.new.pairs.items) }
+        ensures named { (wrapped : Bool) (variables : List design.Variable) (declared : List header.VcdVariable) →
+            IsLike wrapped variables told.now variable → IsDeclared declared told.now →
+            OnOk result (KeepsNamed wrapped variables declared columns.old columns.new self.old.pairs.items self.new.pairs.items) }
     {
         match columns.watch(alloc, told)? {
             None => push_name(alloc, &mut self.only_in_dump, &told.name),
@@ -137,36 +177,34 @@ impl Comparison {
         columns: &mut Columns,
         told: &VcdVariable,
         likeness: Likeness,
-        met: &mut [bool],
+        met: &mut [Meeting],
     ) -> Result<(), NoMemory>
         requires { IsSound columns.old }
         ensures sound { OnOk result (IsSound columns.new) }
         ensures fresh { OnOk result (IsFresh columns.old → IsFresh columns.new) }
-        ensures named { (variables : List design.Variable) (declared : List header.VcdVariable) →
-            IfSame likeness (IsLike variables told.now) → IsDeclared declared told.now →
-            OnOk result (KeepsNamed variables declared columns.old columns.new self.old.pairs.items self.new.pairs.items) }
+        ensures named { (wrapped : Bool) (variables : List design.Variable) (declared : List header.VcdVariable) →
+            IfSame likeness (IsLike wrapped variables told.now) → IsDeclared declared told.now →
+            OnOk result (KeepsNamed wrapped variables declared columns.old columns.new self.old.pairs.items self.new.pairs.items) }
     {
         match likeness {
             Likeness::Unknown => push_name(alloc, &mut self.only_in_dump, &told.name),
-            Likeness::OtherWidth(number) => {
-                if let Some(met) = met.get_mut(number) {
-                    *met = true;
-                }
-                push_name(alloc, &mut self.of_other_width, &told.name)
-            }
-            Likeness::Same(number) => match met.get_mut(number) {
-                Some(met) if !*met => {
-                    *met = true;
-                    self.follow(alloc, columns, told, number)
-                }
-                _ => Ok(()),
+            Likeness::OtherWidth(number) => match meet(met, number, Meeting::OtherWidth) {
+                Meeting::Compared => push_name(alloc, &mut self.repeated, &told.name),
+                Meeting::OtherWidth => Ok(()),
+                Meeting::Unmet => Ok(()),
+            },
+            Likeness::Same(number) => match meet(met, number, Meeting::Compared) {
+                Meeting::Compared => push_name(alloc, &mut self.repeated, &told.name),
+                Meeting::OtherWidth => self.follow(alloc, columns, told, number),
+                Meeting::Unmet => self.follow(alloc, columns, told, number),
             },
         }
     }
 
-    /// What is compared of these variables of the files and of a dump, of which those are followed.
-    pub(crate) fn new(
+    // What is compared of these variables of the files and of a dump, which are followed, where scopes round the top are left out or not.
+    fn among(
         alloc: Global,
+        wrapped: bool,
         variables: &[Variable],
         declared: &[VcdVariable],
         columns: &mut Columns,
@@ -176,17 +214,57 @@ impl Comparison {
         ensures sound { IfOk result (λ _. IsSound columns.new) }
         ensures fresh { IfOk result (λ _. IsFresh columns.new) }
         ensures named { IfOk result (λ comparison.
-            AreNamedSo variables.now declared.now columns.new.watched.items comparison.pairs.items) }
+            AreNamedSo wrapped variables.now declared.now columns.new.watched.items comparison.pairs.items) }
     {
         let numbers = numbers_of(alloc, variables)?;
         let mut met = Vec::new(alloc);
-        met.resize(variables.len(), false)?;
+        met.resize(variables.len(), Meeting::Unmet)?;
         let mut comparison = Comparison::none(alloc);
         for told in declared {
-            let likeness = likeness_of(variables, numbers.get(&told.name).copied(), told);
+            let number = numbers.get(compared_name(wrapped, &told.name)).copied();
+            let likeness = likeness_of(wrapped, variables, number, told);
             comparison.take(alloc, columns, told, likeness, &mut met)?;
         }
-        put_unmet(alloc, &mut comparison.only_in_files, variables, &met)?;
+        put_met(
+            alloc,
+            &mut comparison.only_in_files,
+            variables,
+            &met,
+            Meeting::Unmet,
+        )?;
+        put_met(
+            alloc,
+            &mut comparison.of_other_width,
+            variables,
+            &met,
+            Meeting::OtherWidth,
+        )?;
+        Ok(comparison)
+    }
+
+    /// What is compared of the variables of a design and of a dump, which are followed.
+    pub(crate) fn new(
+        alloc: Global,
+        design: &Design,
+        declared: &[VcdVariable],
+        columns: &mut Columns,
+    ) -> Result<Comparison, NoMemory>
+        requires sound { IsSound columns.old }
+        requires fresh { IsFresh columns.old }
+        ensures sound { IfOk result (λ _. IsSound columns.new) }
+        ensures fresh { IfOk result (λ _. IsFresh columns.new) }
+        ensures named { IfOk result (λ comparison. AreNamedSo (is_wrapped design.now.top declared.now) design.now.variables
+            declared.now columns.new.watched.items comparison.pairs.items) }
+    {
+        let wrapped = is_wrapped(&design.top, declared);
+        let mut comparison = Comparison::among(
+            alloc,
+            wrapped,
+            &design.variables,
+            declared,
+            columns,
+        )?;
+        comparison.left_out = scope_round(alloc, wrapped, &design.top, declared)?;
         Ok(comparison)
     }
 }

@@ -1,7 +1,7 @@
 // What differs in a state.
 
-ghost use Rattle.std.specs.Prelude.{◌≡◌, get_or, slice_get, None, if◌then◌else◌};
-ghost use Rattle.dump_match.specs.Comparison.{differing};
+ghost use Rattle.std.specs.Prelude.{◌≡◌, get_or, option_to_list, slice_get, None, if◌then◌else◌};
+ghost use Rattle.dump_match.specs.Comparison.{differing, told_apart};
 
 use crate::comparison::Pair;
 use std::io::Read;
@@ -43,7 +43,10 @@ pub(crate) fn differing_of<R: Read + Drop>(
     slots: &DumpSlots<R>,
     values: &[Vec4],
     pair: &Pair,
-) -> Option<Differing> {
+) -> Option<Differing>
+    ensures { option_to_list result ≡ told_apart pair.now.variable (get_or slots.now.columns.told.items pair.now.column None)
+        (slice_get values.now pair.now.variable) }
+{
     let told = slots.value(pair.column)?;
     let value = *values.get(pair.variable)?;
     if differs(Some(told), Some(value)) {

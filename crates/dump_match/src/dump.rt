@@ -7,12 +7,14 @@ use std::alloc::Global;
 use vcd_slots::DumpSlots;
 use vmachine::Machine;
 
-/// The dump that another simulator wrote of a machine's files, and what of it is compared. It is read as the search goes on, and not held.
+/// The dump that another simulator wrote of a machine's files, what of it is compared, and which of the pairs had a value in what was shown. It
+/// is read as the search goes on, and not held.
 #[derive(Drop)]
 pub struct DumpReference<'m, R> {
     pub(crate) alloc: Global,
     pub(crate) machine: &'m Machine,
     pub(crate) slots: DumpSlots<R>,
     pub(crate) comparison: Comparison,
+    pub(crate) known: Vec<bool>,
     ghost under_way: { IsUnderWay slots },
 }

@@ -7,7 +7,9 @@ mod comparison;
 mod differing;
 mod dump;
 mod find;
+mod known;
 mod reference;
+mod scopes;
 
 pub use comparison::{Comparison, Pair};
 pub use differing::Differing;

@@ -1,16 +1,19 @@
 // A dump as what runs are compared with.
 
-ghost use Rattle.std.specs.Prelude.{◌≡◌, None, IfOk};
+ghost use Rattle.std.specs.Prelude.{◌≡◌, ◌++◌, count_by, option_to_list, None, IfOk};
+ghost use Rattle.std.specs.Option.{unwrap_or};
 ghost use Rattle.vcd_slots.specs.Standing.{IsReady};
-ghost use Rattle.dump_match.specs.Comparison.{differ_from, differing_in};
-ghost use Rattle.dump_match.specs.Opening.{OpensDump};
+ghost use Rattle.vmachine.specs.Machines.{state_in};
+ghost use Rattle.dump_match.specs.Comparison.{all_told_apart, differ_from, differing_in};
+ghost use Rattle.dump_match.specs.Opening.{OpensDump, told_unit};
 ghost use Rattle.dump_match.specs.Pieces.{OpensFrom};
 ghost use Rattle.dump_match.specs.UnderWay.{IsUnderWay};
 
 use crate::comparison::{Comparison, Pair};
 use crate::differing::{Differing, differing_of, pair_differs};
 use crate::dump::DumpReference;
-use basis::{NoMemory, OrMemory};
+use crate::known::{mark_known, none_known};
+use basis::{NoMemory, OrMemory, Span, Timescale};
 use byte_sinks::Metered;
 use matching::Reference;
 use sched_core::Ranked;
@@ -20,6 +23,17 @@ use vbits::Vec4;
 use vcd_read::{VcdFault, VcdReader};
 use vcd_slots::{Columns, DumpSlots};
 use vmachine::{Machine, MachineState, machine_law};
+
+// The unit in which a dump that declares this one counts, where it isn't the files'.
+fn told_unit(scale: Timescale, unit: Option<Span>) -> Option<Span>
+    ensures { result ≡ told_unit scale unit }
+{
+    if scale.is_like(Timescale::usual()) {
+        None
+    } else {
+        unit
+    }
+}
 
 // How many of the pairs differ: what the dump tells, and the values.
 fn count_differing<R: Read + Drop>(slots: &DumpSlots<R>, values: &[Vec4], pairs: &[Pair]) -> usize
@@ -32,6 +46,35 @@ fn count_differing<R: Read + Drop>(slots: &DumpSlots<R>, values: &[Vec4], pairs:
         }
     }
     count
+}
+
+// With one more behind, if there is one.
+fn push_if(list: &mut Vec<Differing>, found: Option<Differing>) -> Result<(), NoMemory>
+    ensures { IfOk result (λ _. list.new.items ≡ list.old.items ++ option_to_list found) }
+{
+    match found {
+        None => Ok(()),
+        Some(differing) => {
+            list.push(differing)?;
+            Ok(())
+        }
+    }
+}
+
+// What differs of the pairs: what the dump tells, and the values.
+fn all_differing<R: Read + Drop>(
+    alloc: Global,
+    slots: &DumpSlots<R>,
+    values: &[Vec4],
+    pairs: &[Pair],
+) -> Result<Vec<Differing>, NoMemory>
+    ensures { IfOk result (λ list. list.items ≡ all_told_apart slots.now.columns.told.items values.now pairs.now) }
+{
+    let mut list = Vec::new(alloc);
+    for one in pairs {
+        push_if(&mut list, differing_of(slots, values, one))?;
+    }
+    Ok(list)
 }
 
 // Up to the first time, if that is 0: what stands there is shown then.
@@ -54,8 +97,8 @@ fn from_zero<R: Read + Drop>(
 }
 
 impl<'m, R: Read + Drop> DumpReference<'m, R> {
-    /// The dump of this reader, of which the declarations are read: which of its variables are those of the machine. E505 with its line
-    /// where it is no dump, E903 where the reader fails, E904, E901.
+    /// The dump of this reader, of which the declarations are read: which of its variables are those of the machine. Its times are shown in the
+    /// unit of the machine's; they count in that one, too, where its timescale is 1 ns / 1 ns, as it is of files that have none. E505 with its line where it is no dump, E903 where the reader fails, E904, E901.
     pub fn open(
         alloc: Global,
         machine: &'m Machine,
@@ -66,24 +109,32 @@ impl<'m, R: Read + Drop> DumpReference<'m, R> {
     {
         let dump = VcdReader::open(alloc, reader)?;
         let mut columns = Columns::new(alloc);
-        let comparison = Comparison::new(
-            alloc,
-            &machine.design().variables,
-            dump.variables(),
-            &mut columns,
-        )?;
-        let slots = from_zero(alloc, DumpSlots::begin(alloc, dump, columns)?)?;
+        let comparison = Comparison::new(alloc, machine.design(), dump.variables(), &mut columns)?;
+        let scale = machine.design().scale;
+        let unit = told_unit(scale, dump.unit());
+        let slots = DumpSlots::begin(alloc, dump, columns, unit, scale.precision)?;
+        let slots = from_zero(alloc, slots)?;
+        let mut known = none_known(alloc, &comparison.pairs)?;
+        mark_known(&slots, &comparison.pairs, &mut known);
         Ok(DumpReference {
             alloc,
             machine,
             slots,
             comparison,
+            known,
         })
     }
 
     /// What is compared.
     pub fn comparison(&self) -> &Comparison {
         &self.comparison
+    }
+
+    /// How many of the pairs have had a value at the end of a slot that was shown: none where nothing was compared.
+    pub fn compared_count(&self) -> usize
+        ensures { result ≡ count_by (λ known. known) self.now.known.items }
+    {
+        self.known.iter().filter(|known| **known).count()
     }
 
     /// The machine.
@@ -93,21 +144,28 @@ impl<'m, R: Read + Drop> DumpReference<'m, R> {
         self.machine
     }
 
+    /// The unit of times that the dump declares, if it declares one.
+    pub fn unit(&self) -> Option<Span>
+        ensures { result ≡ self.now.slots.dump.unit }
+    {
+        self.slots.unit()
+    }
+
     /// The time that is shown; 0 before the first.
-    pub fn time(&self) -> u64 {
+    pub fn time(&self) -> u64
+        ensures { result ≡ unwrap_or self.now.slots.time 0 }
+    {
         self.slots.time().unwrap_or(0)
     }
 
     /// What differs in the state from what is shown.
-    pub fn differing(&self, s: &MachineState) -> Result<Vec<Differing>, NoMemory> {
-        let mut list = Vec::new(self.alloc);
+    pub fn differing(&self, s: &MachineState) -> Result<Vec<Differing>, NoMemory>
+        ensures { IfOk result (λ list. list.items ≡ all_told_apart self.now.slots.columns.told.items
+            (state_in self.now.machine.now s.now).values self.now.comparison.pairs.items) }
+    {
+        machine_law();
         let values = self.machine.values(s);
-        for pair in &self.comparison.pairs {
-            if let Some(differing) = differing_of(&self.slots, values, pair) {
-                list.push(differing)?;
-            }
-        }
-        Ok(list)
+        all_differing(self.alloc, &self.slots, values, &self.comparison.pairs)
     }
 
     // How many differ in a state in which a slot ends, or in which the run was finished.
@@ -142,7 +200,9 @@ impl<'m, R: Read + Drop> Reference<MachineState> for DumpReference<'m, R> {
     }
 
     fn advance(&mut self) -> Result<(), OrMemory<VcdFault>> {
-        self.slots.advance(self.alloc)
+        self.slots.advance(self.alloc)?;
+        mark_known(&self.slots, &self.comparison.pairs, &mut self.known);
+        Ok(())
     }
 
     fn count_differences(&self, s: &MachineState) -> usize {

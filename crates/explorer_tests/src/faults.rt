@@ -38,9 +38,9 @@ const NUMBERS: [(Fault, &str); 27] = [
 
 #[test]
 fn faults_print_their_numbers(rt: HostRuntime) -> Result<(), Fail> {
-    for (fault, number) in NUMBERS {
+    for (fault, number) in &NUMBERS {
         let text = format!(in rt.alloc(); "{fault}")?;
-        assert!(rt; text.as_str() == number);
+        assert!(rt; text.as_str() == *number);
     }
     Ok(())
 }

@@ -6,12 +6,9 @@ use sched_core::setting::Grain;
 use statebook::Limits;
 use std::alloc::Global;
 use std::test::Fail;
+use text_read::design_of;
 use vbits::Vec4;
-use vhierarchy::elaborate;
-use vlex::tokens;
 use vmachine::Machine;
-use vparse::parse;
-use vsrc::expand;
 
 /// At time 1 both processes write `a`, at time 3 both write `b`, the later one last.
 pub const WRITTEN_TWICE: &[u8] = b"module tb; reg a, b;
@@ -38,12 +35,8 @@ impl Watcher for UpTo {
 
 /// The machine of the text, in grain process, up to time 100.
 pub fn machine(alloc: Global, text: &[u8]) -> Result<Machine, Fail> {
-    let mut files = Vec::new(alloc);
-    files.push(Vec::from_slice(alloc, text)?)?;
-    let source = expand(alloc, &files)?;
-    let found = tokens(alloc, &source)?;
-    let tree = parse(alloc, &found)?;
-    let design = elaborate(alloc, &found, &tree, None, source.timescale())?;
+    let text = Vec::from_slice(alloc, text)?;
+    let design = design_of(alloc, text, None).ok_or("a design")?;
     Ok(Machine::new(alloc, design, 100, Grain::Process)?)
 }
 

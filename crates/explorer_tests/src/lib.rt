@@ -7,6 +7,8 @@ mod books;
 #[cfg(test)]
 mod devices;
 #[cfg(test)]
+mod dump_slots;
+#[cfg(test)]
 mod dumps_read;
 #[cfg(test)]
 mod faults;

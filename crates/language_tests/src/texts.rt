@@ -7,20 +7,15 @@ use sched_core::setting::Grain;
 use sched_core::{Log, ReplayFault};
 use std::alloc::Global;
 use std::test::Fail;
-use vast::expression::{BinaryOperator, Expression};
-use vast::module::{ModuleItem, ModuleTree, TextTree};
-use vast::statement::{Delay, Statement};
-use vast::token::Token;
-use vast::{fits, spell};
+use text_read::{delays_fit, design_of, expression_at, tree_of};
 use vbits::Vec4;
 use vcd_text::DumpSink;
 use vdesign::design::Design;
-use vhierarchy::elaborate;
 use vlex::{TokenKind, Tokens, tokens};
 use vmachine::Machine;
 use vmodel::history::Item;
 use vmodel::{opening, slow_step, slow_width};
-use vparse::{SyntaxFault, parse, parse_expr};
+use vparse::SyntaxFault;
 use vsrc::{Expanded, Place, expand};
 
 fn source(alloc: Global, texts: &[&[u8]]) -> Result<Expanded, Fail> {
@@ -160,37 +155,23 @@ endmodule
 module last; endmodule
 ";
 
-fn words<'t>(alloc: Global, tokens: &Tokens<'t>) -> Result<Vec<&'t [u8]>, Fail> {
-    let mut words = Vec::new(alloc);
-    for index in 0..tokens.len() {
-        words.push(tokens.text(index))?;
-    }
-    Ok(words)
-}
-
 // A text with each construct of the grammar spells what was read.
 #[test]
 fn reads_each_statement(rt: HostRuntime) -> Result<(), Fail> {
     let source = source(rt.alloc(), &[EACH_STATEMENT])?;
     let found = tokens(rt.alloc(), &source)?;
-    let tree = parse(rt.alloc(), &found)?;
-    assert_eq!(rt; tree.modules.len(), 3);
-    assert_eq!(rt; tree.modules[0].items.len(), 11);
-    let words = words(rt.alloc(), &found)?;
-    assert!(rt; fits(&words, &tree));
-    let spelled = spell(rt.alloc(), &words, &tree)?;
-    assert_eq!(rt; spelled.len(), found.len());
-    for (index, word) in spelled.iter().enumerate() {
-        assert_eq!(rt; word.text, found.text(index));
-    }
+    let tree = tree_of(rt.alloc(), &found)?;
+    assert_eq!(rt; tree.modules, 3);
+    assert_eq!(rt; tree.items, 11);
+    assert!(rt; tree.fits);
+    assert_eq!(rt; tree.words, found.len());
+    assert_eq!(rt; tree.spelled, joined(rt.alloc(), &found)?);
     Ok(())
 }
 
 fn design(alloc: Global, text: &[u8]) -> Result<Design, Fail> {
-    let source = source(alloc, &[text])?;
-    let found = tokens(alloc, &source)?;
-    let tree = parse(alloc, &found)?;
-    Ok(elaborate(alloc, &found, &tree, None, source.timescale())?)
+    let text = Vec::from_slice(alloc, text)?;
+    Ok(design_of(alloc, text, None).ok_or("a design")?)
 }
 
 // The values of the slot that the last step ended.
@@ -245,35 +226,14 @@ fn history_of_a_run(rt: HostRuntime) -> Result<(), Fail> {
     Ok(())
 }
 
-fn delayed(alloc: Global, delays: u32) -> Result<TextTree, Fail> {
-    let mut statement = Statement::Empty;
-    for _ in 0..delays {
-        statement = Statement::Delayed {
-            at: 0,
-            delay: Delay::Number(Token { number: 0 }),
-            body: Box::new(alloc, statement)?,
-        };
-    }
-    let mut items = Vec::new(alloc);
-    items.push(ModuleItem::Initial { at: 0, statement })?;
-    let mut modules = Vec::new(alloc);
-    modules.push(ModuleTree {
-        name: Token { number: 1 },
-        parameters: None,
-        ports: None,
-        items,
-    })?;
-    Ok(TextTree { modules })
-}
-
 // An empty statement is one level deep, and each delay round it one more: 64 levels fit, 65 don't. A name that no word stands
 // for doesn't fit either.
 #[test]
 fn deepest_tree(rt: HostRuntime) -> Result<(), Fail> {
     let words = [b"1".as_slice(), b"tb".as_slice()];
-    assert!(rt; fits(&words, &delayed(rt.alloc(), 63)?));
-    assert!(rt; !fits(&words, &delayed(rt.alloc(), 64)?));
-    assert!(rt; !fits(&words[..1], &delayed(rt.alloc(), 63)?));
+    assert!(rt; delays_fit(rt.alloc(), &words, 63)?);
+    assert!(rt; !delays_fit(rt.alloc(), &words, 64)?);
+    assert!(rt; !delays_fit(rt.alloc(), &words[..1], 63)?);
     Ok(())
 }
 
@@ -291,33 +251,15 @@ const NONE_FROM: [(usize, bool, usize, usize); 5] = [
     (99, false, 5, 3),
 ];
 
-// The operators of `a + b * c`, the outer one first.
-fn is_sum_of_product(expression: &Expression) -> bool {
-    match expression {
-        Expression::Binary {
-            operator: BinaryOperator::Plus,
-            right,
-            ..
-        } => matches!(
-            &**right,
-            Expression::Binary {
-                operator: BinaryOperator::Times,
-                ..
-            }
-        ),
-        _ => false,
-    }
-}
-
 #[test]
 fn longest_expressions(rt: HostRuntime) -> Result<(), Fail> {
     let alloc = rt.alloc();
     let source = source(alloc, &[EXPRESSIONS])?;
     let words = tokens(alloc, &source)?;
-    let (sum, end) = parse_expr(alloc, &words, 0)?;
-    assert_eq!(rt; end, 5);
-    assert!(rt; is_sum_of_product(&sum));
-    assert_eq!(rt; parse_expr(alloc, &words, 2)?.1, 5);
+    let sum = expression_at(alloc, &words, 0)?;
+    assert_eq!(rt; sum.end, 5);
+    assert!(rt; sum.is_sum_of_product);
+    assert_eq!(rt; expression_at(alloc, &words, 2)?.end, 5);
     for (at, outside, line, column) in NONE_FROM {
         let place = place(1, line, column);
         let fault = if outside {
@@ -326,7 +268,7 @@ fn longest_expressions(rt: HostRuntime) -> Result<(), Fail> {
             SyntaxFault::NoTree { place }
         };
         assert!(rt;
-            parse_expr(alloc, &words, at).err() == Some(OrMemory::Fault(fault)),
+            expression_at(alloc, &words, at).err() == Some(OrMemory::Fault(fault)),
             "at {at}"
         );
     }
@@ -341,13 +283,13 @@ fn deepest_expressions(rt: HostRuntime) -> Result<(), Fail> {
     text.push(b'a')?;
     text.extend_from_slice(&[b')'; 63])?;
     let read = source(alloc, &[&text])?;
-    assert_eq!(rt; parse_expr(alloc, &tokens(alloc, &read)?, 0)?.1, 127);
+    assert_eq!(rt; expression_at(alloc, &tokens(alloc, &read)?, 0)?.end, 127);
     let deeper = source(alloc, &[b"(\n", &[b'('; 63]])?;
     let fault = SyntaxFault::TooDeep {
         place: place(2, 1, 62),
     };
     assert!(rt;
-        parse_expr(alloc, &tokens(alloc, &deeper)?, 0).err() == Some(OrMemory::Fault(fault))
+        expression_at(alloc, &tokens(alloc, &deeper)?, 0).err() == Some(OrMemory::Fault(fault))
     );
     Ok(())
 }

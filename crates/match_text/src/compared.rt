@@ -2,7 +2,7 @@
 
 use crate::told::Found;
 use basis::NoMemory;
-use race_text::{put_all, put_count};
+use race_text::{Piece, put, put_all};
 
 // How many names are told of a list.
 const NAMED: usize = 3;
@@ -12,28 +12,46 @@ fn put_names(text: &mut Vec<u8>, words: &[u8], names: &[Vec<u8>]) -> Result<(), 
     if names.is_empty() {
         return Ok(());
     }
-    text.extend_from_slice(words)?;
+    put(text, words)?;
     for (place, name) in names.iter().take(NAMED).enumerate() {
         let joint: &[u8] = if place == 0 { b" " } else { b", " };
-        put_all(text, &[joint, name])?;
+        put_all(text, &[Piece::Bytes(joint), Piece::Bytes(name)])?;
     }
     if names.len() > NAMED {
-        text.extend_from_slice(b" and ")?;
-        put_count(text, names.len().saturating_sub(NAMED) as u64, b"other")?;
+        let others = Piece::Count(names.len().saturating_sub(NAMED) as u64, b"other");
+        put_all(text, &[Piece::Bytes(b" and "), others])?;
     }
-    text.push(b'.')?;
-    Ok(())
+    put(text, b".")
+}
+
+// ` All of it stands in the scope TOP.`, where the dump has one around the top module.
+fn put_scope(text: &mut Vec<u8>, scope: Option<&[u8]>) -> Result<(), NoMemory> {
+    let Some(scope) = scope else {
+        return Ok(());
+    };
+    let name = Piece::Bytes(scope);
+    put_all(
+        text,
+        &[
+            Piece::Bytes(b" The dump's scope "),
+            name,
+            Piece::Bytes(b" is left out."),
+        ],
+    )
 }
 
 /// A line: how many variables were compared, and which stand in one of both alone, or in both with another width.
 pub fn put_compared(text: &mut Vec<u8>, found: &Found<'_>) -> Result<(), NoMemory> {
     let compared = found.compared;
-    text.extend_from_slice(b"Compared: ")?;
-    put_count(text, compared.pairs.len() as u64, b"variable")?;
-    text.push(b'.')?;
+    let count = Piece::Count(compared.pairs.len() as u64, b"variable");
+    put_all(
+        text,
+        &[Piece::Bytes(b"Compared: "), count, Piece::Bytes(b".")],
+    )?;
     put_names(text, b" In the dump alone:", &compared.only_in_dump)?;
     put_names(text, b" In the files alone:", &compared.only_in_files)?;
     put_names(text, b" Of another width:", &compared.of_other_width)?;
-    text.push(b'\n')?;
-    Ok(())
+    put_names(text, b" More than once in the dump:", &compared.repeated)?;
+    put_scope(text, compared.left_out.as_deref())?;
+    put(text, b"\n")
 }

@@ -2,64 +2,122 @@
 
 use crate::told::{Departure, Found};
 use basis::NoMemory;
-use race_text::{put_number, put_other_order, put_statements, put_time};
+use race_text::{Piece, put, put_all, put_other_order, put_statements, put_time};
 use std::alloc::Global;
 
-// `departure 1 at 5: line 12 first`, and the two statements.
-fn put_departure(
-    alloc: Global,
-    text: &mut Vec<u8>,
-    found: &Found<'_>,
-    number: u64,
-    departure: &Departure,
-    is_again: bool,
-) -> Result<(), NoMemory> {
-    text.extend_from_slice(b"departure ")?;
-    put_number(text, number)?;
-    text.extend_from_slice(b" at ")?;
-    put_time(text, found.machine, departure.time)?;
-    let Some(cause) = &departure.cause else {
-        text.extend_from_slice(b", at step ")?;
-        put_number(text, u64::from(departure.step))?;
-        text.push(b'\n')?;
-        return Ok(());
-    };
-    text.extend_from_slice(b": ")?;
-    put_other_order(text, found.sources, cause)?;
-    if is_again {
-        text.extend_from_slice(b", again\n")?;
-        return Ok(());
-    }
-    text.push(b'\n')?;
-    put_statements(alloc, text, found.machine.design(), found.sources, cause)
-}
-
-// Whether the departure takes the same two statements the same way as the one before.
-fn is_again(before: Option<&Departure>, departure: &Departure) -> bool {
-    let Some(before) = before else {
-        return false;
-    };
-    match (&before.cause, &departure.cause) {
+// Whether both take the same two statements the same way, or of both it isn't known which.
+fn is_alike(one: &Departure, other: &Departure) -> bool {
+    match (&one.cause, &other.cause) {
         (Some(one), Some(other)) => {
             one.first.place == other.first.place && one.second.place == other.second.place
         }
+        (None, None) => true,
         _ => false,
     }
 }
 
-/// Each departure of the run, in order. The two statements are shown again only where they aren't those of the departure before.
+// Whether one of these is like it.
+fn is_among(told: &[&Departure], departure: &Departure) -> bool {
+    for other in told {
+        if is_alike(other, departure) {
+            return true;
+        }
+    }
+    false
+}
+
+// How many of these are like it, and the last of them.
+fn count_alike<'d>(later: &'d [Departure], departure: &'d Departure) -> (u64, &'d Departure) {
+    let mut count = 0u64;
+    let mut last = departure;
+    for other in later {
+        if is_alike(other, departure) {
+            count = count.saturating_add(1);
+            last = other;
+        }
+    }
+    (count, last)
+}
+
+// `: line 12 first`, and the two statements; the step, where they aren't known.
+fn put_cause(
+    alloc: Global,
+    text: &mut Vec<u8>,
+    found: &Found<'_>,
+    departure: &Departure,
+) -> Result<(), NoMemory> {
+    let Some(cause) = &departure.cause else {
+        let step = Piece::Number(u64::from(departure.step));
+        return put_all(
+            text,
+            &[Piece::Bytes(b", at step "), step, Piece::Bytes(b"\n")],
+        );
+    };
+    put(text, b": ")?;
+    put_other_order(text, found.sources, cause)?;
+    put(text, b"\n")?;
+    put_statements(alloc, text, found.machine.design(), found.sources, cause)
+}
+
+// `    and so 27 times more, the last at 115ns`
+fn put_again(
+    text: &mut Vec<u8>,
+    found: &Found<'_>,
+    count: u64,
+    last: &Departure,
+) -> Result<(), NoMemory> {
+    if count == 0 {
+        return Ok(());
+    }
+    let times = Piece::Count(count, b"time");
+    put_all(
+        text,
+        &[
+            Piece::Bytes(b"    and so "),
+            times,
+            Piece::Bytes(b" more, the last at "),
+        ],
+    )?;
+    put_time(text, found.machine, last.time)?;
+    put(text, b"\n")
+}
+
+// `departure 1 at 5: line 12 first`, the two statements, and how often they are taken so later on.
+fn put_departure(
+    alloc: Global,
+    text: &mut Vec<u8>,
+    found: &Found<'_>,
+    place: usize,
+    departure: &Departure,
+) -> Result<(), NoMemory> {
+    let number = place.saturating_add(1);
+    let later = found.departures.get(number..).unwrap_or(&[]);
+    let (count, last) = count_alike(later, departure);
+    put_all(
+        text,
+        &[
+            Piece::Bytes(b"departure "),
+            Piece::Number(number as u64),
+            Piece::Bytes(b" at "),
+        ],
+    )?;
+    put_time(text, found.machine, departure.time)?;
+    put_cause(alloc, text, found, departure)?;
+    put_again(text, found, count, last)
+}
+
+/// The departures of the run, in order; those that take the same two statements the same way once, with how often they do.
 pub fn put_departures(
     alloc: Global,
     text: &mut Vec<u8>,
     found: &Found<'_>,
 ) -> Result<(), NoMemory> {
-    let mut number = 0u64;
-    let mut before = None;
-    for departure in found.departures {
-        number = number.saturating_add(1);
-        let again = is_again(before, departure);
-        put_departure(alloc, text, found, number, departure, again)?;
-        before = Some(departure);
+    let mut told = Vec::new(alloc);
+    for (place, departure) in found.departures.iter().enumerate() {
+        if !is_among(&told, departure) {
+            put_departure(alloc, text, found, place, departure)?;
+            told.push(departure)?;
+        }
     }
     Ok(())
 }

@@ -2,31 +2,35 @@
 
 use crate::told::{Departure, Found};
 use basis::NoMemory;
-use dump_match::Differing;
+use dump_match::{Comparison, Differing};
 use matching::{Cut, Explanation, Matching, Unexplained};
-use race_text::{Members, document, put_precision, put_value, statement_of, string_of};
+use race_text::{Items, Members, document, end_word, precision_of, statement_of, value_words};
 use serde_json::Value;
 use std::alloc::Global;
+use vdesign::design::Design;
 use vmachine::MachineState;
 
 // Names as strings.
-fn names_of(alloc: Global, names: &[Vec<u8>]) -> Result<Vec<Value>, NoMemory> {
-    let mut list = Vec::new(alloc);
+fn names_of(alloc: Global, names: &[Vec<u8>]) -> Result<Value, NoMemory> {
+    let mut list = Items::new(alloc);
     for name in names {
-        list.push(Value::String(string_of(alloc, name)?))?;
+        list.text(name);
     }
-    Ok(list)
+    list.whole()
 }
 
 // What was compared, and what stands in one of both alone.
-fn compared_of(alloc: Global, found: &Found<'_>) -> Result<Value, NoMemory> {
-    let compared = found.compared;
+fn compared_of(alloc: Global, compared: &Comparison) -> Result<Value, NoMemory> {
     let mut members = Members::new(alloc);
-    members.number("variables", compared.pairs.len() as u64)?;
-    members.list("only_in_dump", names_of(alloc, &compared.only_in_dump)?)?;
-    members.list("only_in_files", names_of(alloc, &compared.only_in_files)?)?;
-    members.list("other_width", names_of(alloc, &compared.of_other_width)?)?;
-    Ok(members.whole())
+    members.number("variables", compared.pairs.len() as u64);
+    members.made("only_in_dump", names_of(alloc, &compared.only_in_dump));
+    members.made("only_in_files", names_of(alloc, &compared.only_in_files));
+    members.made("other_width", names_of(alloc, &compared.of_other_width));
+    members.made("repeated", names_of(alloc, &compared.repeated));
+    if let Some(scope) = &compared.left_out {
+        members.text("left_out", scope);
+    }
+    members.whole()
 }
 
 // A departure: its step and time, and the two statements, the one first that comes first by default.
@@ -36,54 +40,45 @@ fn departure_of(
     departure: &Departure,
 ) -> Result<Value, NoMemory> {
     let mut members = Members::new(alloc);
-    members.number("step", u64::from(departure.step))?;
-    members.number("time", departure.time)?;
+    members.number("step", u64::from(departure.step));
+    members.number("time", departure.time);
     if let Some(cause) = &departure.cause {
         let (design, things) = (found.machine.design(), cause.things.as_slice());
-        let first = statement_of(alloc, design, found.sources, &cause.second, things)?;
-        members.value("first", first)?;
-        let second = statement_of(alloc, design, found.sources, &cause.first, things)?;
-        members.value("second", second)?;
+        let first = statement_of(alloc, design, found.sources, &cause.second, things);
+        members.made("first", first);
+        let second = statement_of(alloc, design, found.sources, &cause.first, things);
+        members.made("second", second);
     }
-    Ok(members.whole())
+    members.whole()
 }
 
 // The departures of the run.
-fn departures_of(alloc: Global, found: &Found<'_>) -> Result<Vec<Value>, NoMemory> {
-    let mut list = Vec::new(alloc);
+fn departures_of(alloc: Global, found: &Found<'_>) -> Result<Value, NoMemory> {
+    let mut list = Items::new(alloc);
     for departure in found.departures {
-        list.push(departure_of(alloc, found, departure)?)?;
+        list.made(departure_of(alloc, found, departure));
     }
-    Ok(list)
+    list.whole()
 }
 
 // A variable that differs.
-fn differing_of(
-    alloc: Global,
-    found: &Found<'_>,
-    differing: &Differing,
-) -> Result<Value, NoMemory> {
+fn differing_of(alloc: Global, design: &Design, differing: &Differing) -> Result<Value, NoMemory> {
     let mut members = Members::new(alloc);
-    let Some(variable) = found.machine.design().variables.get(differing.variable) else {
-        return Ok(members.whole());
-    };
-    members.text("name", &variable.name)?;
-    let mut told = Vec::new(alloc);
-    put_value(&mut told, variable, differing.told)?;
-    members.text("dump", &told)?;
-    let mut value = Vec::new(alloc);
-    put_value(&mut value, variable, differing.value)?;
-    members.text("run", &value)?;
-    Ok(members.whole())
+    if let Some(variable) = design.variables.get(differing.variable) {
+        members.text("name", &variable.name);
+        members.made_text("dump", value_words(alloc, variable, differing.told));
+        members.made_text("run", value_words(alloc, variable, differing.value));
+    }
+    members.whole()
 }
 
 // The variables that differ.
-fn all_differing(alloc: Global, found: &Found<'_>) -> Result<Vec<Value>, NoMemory> {
-    let mut list = Vec::new(alloc);
+fn all_differing(alloc: Global, found: &Found<'_>) -> Result<Value, NoMemory> {
+    let mut list = Items::new(alloc);
     for differing in found.differing {
-        list.push(differing_of(alloc, found, differing)?)?;
+        list.made(differing_of(alloc, found.machine.design(), differing));
     }
-    Ok(list)
+    list.whole()
 }
 
 // The log of a run.
@@ -92,9 +87,9 @@ fn put_log(
     members: &mut Members,
     found: &Found<'_>,
     run: &Explanation<MachineState>,
-) -> Result<(), NoMemory> {
-    members.text("log", &found.log(alloc, &run.log)?)?;
-    members.number("steps", u64::from(run.steps))
+) {
+    members.made_text("log", found.log(alloc, &run.log));
+    members.number("steps", u64::from(run.steps));
 }
 
 // A run has the values of the dump.
@@ -103,11 +98,11 @@ fn put_explained(
     members: &mut Members,
     found: &Found<'_>,
     run: &Explanation<MachineState>,
-) -> Result<(), NoMemory> {
-    members.text("status", b"explained")?;
-    members.number("time", found.last)?;
-    put_log(alloc, members, found, run)?;
-    members.list("departures", departures_of(alloc, found)?)
+) {
+    members.text("status", b"explained");
+    members.number("time", found.last);
+    put_log(alloc, members, found, run);
+    members.made("departures", departures_of(alloc, found));
 }
 
 // No run has.
@@ -116,30 +111,38 @@ fn put_unexplained(
     members: &mut Members,
     found: &Found<'_>,
     answer: &Unexplained<MachineState>,
-) -> Result<(), NoMemory> {
-    members.text("status", b"unexplained")?;
-    members.number("time", answer.time)?;
+) {
+    members.text("status", b"unexplained");
+    members.number("time", answer.time);
     if let Some(run) = &answer.nearest {
-        put_log(alloc, members, found, run)?;
-        members.list("differing", all_differing(alloc, found)?)?;
+        put_log(alloc, members, found, run);
+        members.made("differing", all_differing(alloc, found));
     }
-    match found.beyond {
-        None => Ok(()),
-        Some(cut) => members.text("beyond", found.cut_by(cut.reason)),
+    if let Some(end) = found.end {
+        members.number("ends_at", end.time);
+        members.text("ends_by", end_word(end.cause));
+    }
+    if let Some(cut) = found.beyond {
+        members.text("beyond", found.cut_by(cut.reason));
     }
 }
 
 // The search was cut.
-fn put_cut(members: &mut Members, found: &Found<'_>, cut: &Cut) -> Result<(), NoMemory> {
-    members.text("status", b"cut")?;
-    members.text("cut_by", found.cut_by(cut.reason))?;
-    members.value("closed", Value::from(cut.closed))
+fn put_cut(members: &mut Members, found: &Found<'_>, cut: &Cut) {
+    members.text("status", b"cut");
+    members.text("cut_by", found.cut_by(cut.reason));
+    members.value("closed", Value::from(cut.closed));
 }
 
 // The answer.
-fn put_answer(alloc: Global, members: &mut Members, found: &Found<'_>) -> Result<(), NoMemory> {
+fn put_answer(alloc: Global, members: &mut Members, found: &Found<'_>) {
+    if found.compared.pairs.is_empty() {
+        members.text("status", b"unrelated");
+        return;
+    }
     if found.is_of_nothing() {
-        return members.text("status", b"unrelated");
+        members.text("status", b"empty");
+        return;
     }
     match found.answer {
         Matching::Explained(run) => put_explained(alloc, members, found, run),
@@ -151,14 +154,12 @@ fn put_answer(alloc: Global, members: &mut Members, found: &Found<'_>) -> Result
 /// What was found, as a JSON document.
 pub fn match_json(alloc: Global, found: &Found<'_>) -> Result<Vec<u8>, NoMemory> {
     let mut members = Members::new(alloc);
-    members.number("version", 1)?;
-    members.text("dump", found.dump.as_bytes())?;
-    members.text("top", &found.machine.design().top)?;
-    let mut precision = Vec::new(alloc);
-    put_precision(&mut precision, found.machine)?;
-    members.text("precision", &precision)?;
-    members.number("slot_departures", u64::from(found.most))?;
-    members.value("compared", compared_of(alloc, found)?)?;
-    put_answer(alloc, &mut members, found)?;
-    document(alloc, &members.whole())
+    members.number("version", 1);
+    members.text("dump", found.dump.as_bytes());
+    members.text("top", &found.machine.design().top);
+    members.made_text("precision", precision_of(alloc, found.machine));
+    members.number("slot_departures", u64::from(found.most));
+    members.made("compared", compared_of(alloc, found.compared));
+    put_answer(alloc, &mut members, found);
+    document(alloc, &members.whole()?)
 }

@@ -7,6 +7,7 @@ use explore::RankedReason;
 use matching::{Cut, Matching};
 use race_text::{Sources, log_text};
 use sched_core::Log;
+use sched_core::end::End;
 use std::alloc::Global;
 use vmachine::{Machine, MachineState};
 
@@ -24,7 +25,8 @@ pub struct Departure {
 ///
 /// `beyond` is what cut the search with one departure more a slot, where no run explains the dump with `most` of them and more were
 /// allowed.
-/// `departures` are those of the run that explains the dump; `differing` is what differs in the nearest run, where none explains it.
+/// `departures` are those of the run that explains the dump; `differing` is what differs in the nearest run, where none explains it, and
+/// `end` where that run has ended. `told` is how many variables ever had a value in the dump, and `is_read` says that it was read to its end.
 /// `is_top_named` says whether the top module was named in the call, and `stopped_by` by which option the search was stopped, where its
 /// watcher stopped it; `full_by` by which one there may be no more states.
 #[derive(Clone, Copy)]
@@ -39,15 +41,18 @@ pub struct Found<'a> {
     pub beyond: Option<Cut>,
     pub departures: &'a [Departure],
     pub differing: &'a [Differing],
+    pub end: Option<End>,
+    pub told: usize,
+    pub is_read: bool,
     pub is_top_named: bool,
     pub stopped_by: &'static [u8],
     pub full_by: &'static [u8],
 }
 
 impl<'a> Found<'a> {
-    /// Whether no variable stands in both, so that nothing was compared.
+    /// Whether nothing was compared: no variable stands in both, or the dump has a value of none.
     pub fn is_of_nothing(&self) -> bool {
-        self.compared.pairs.is_empty()
+        self.told == 0
     }
 
     /// By which option a search was cut; `memory` where a growth was refused.

@@ -7,23 +7,31 @@ use basis::NoMemory;
 use dump_match::Differing;
 use matching::{Cut, Explanation, Matching, Unexplained};
 use race_text::{
-    put_all, put_count, put_files, put_number, put_option, put_time, put_value, put_word,
+    Piece, put, put_all, put_end, put_files, put_option, put_time, put_value, put_word,
 };
 use sched_core::Log;
+use sched_core::setting::Grain;
 use std::alloc::Global;
+use vdesign::design::Design;
 use vmachine::MachineState;
 
 // How many variables are told that differ.
 const NAMED: usize = 8;
 
-// Said where nothing was compared.
-const NOTHING: &[u8] =
+// How many departures a slot may have at most.
+const MOST: u32 = 4;
+
+// Said where no variable stands in both.
+const UNRELATED: &[u8] =
     b"not decided: no variable stands in both, with one name and as many bits.\n";
 
-// How far `vrace replay` goes where nothing is said: in units of the precision, and in steps.
-const REPLAY_UNTIL: u64 = 1_000_000;
+// Said where nothing is known of those that do.
+const EMPTY: &[u8] = b"not decided: the dump has a value of no variable that stands in both.\n";
 
+// How many steps `vrace replay` takes at most where nothing is said, and at all.
 const REPLAY_STEPS: u32 = 100_000;
+
+const ALL_STEPS: u32 = 1_000_000;
 
 // The command that shows the run, `    vrace replay --trace --log 6:1 tb.v`, up to this time.
 fn put_command(
@@ -34,33 +42,86 @@ fn put_command(
     until: u64,
     steps: u32,
 ) -> Result<(), NoMemory> {
-    text.extend_from_slice(b"    vrace replay --trace --log ")?;
-    text.extend_from_slice(&found.log(alloc, log)?)?;
+    let log = found.log(alloc, log)?;
+    put_all(
+        text,
+        &[
+            Piece::Bytes(b"    vrace replay --trace --log "),
+            Piece::Bytes(&log),
+        ],
+    )?;
     if found.is_top_named {
-        text.extend_from_slice(b" --top")?;
+        put(text, b" --top")?;
         put_word(text, &found.machine.design().top)?;
     }
     put_option(text, b" --until ", until)?;
     if steps > REPLAY_STEPS {
-        put_option(text, b" --steps ", u64::from(steps))?;
+        put_option(text, b" --steps ", u64::from(steps.min(ALL_STEPS)))?;
     }
     put_files(text, alloc, found.sources.names)?;
-    text.push(b'\n')?;
-    Ok(())
+    put(text, b"\n")
+}
+
+// The command that shows the run that explains the dump. Where it has more steps than `vrace replay` takes, the run is shown up to its last
+// departure, behind which it goes on by default.
+fn put_replay(
+    alloc: Global,
+    text: &mut Vec<u8>,
+    found: &Found<'_>,
+    run: &Explanation<MachineState>,
+) -> Result<(), NoMemory> {
+    if run.steps <= ALL_STEPS {
+        return put_command(alloc, text, found, &run.log, found.last, run.steps);
+    }
+    let until = match found.departures.last() {
+        None => 0,
+        Some(departure) => departure.time,
+    };
+    put_all(
+        text,
+        &[
+            Piece::Bytes(b"It has "),
+            Piece::Number(u64::from(run.steps)),
+            Piece::Bytes(b" steps, more than `vrace replay` takes. Up to its last departure:\n"),
+        ],
+    )?;
+    put_command(alloc, text, found, &run.log, until, run.steps)
 }
 
 // How many departures the run has.
-fn put_departed(text: &mut Vec<u8>, found: &Found<'_>) -> Result<(), NoMemory> {
-    if found.departures.is_empty() {
-        text.extend_from_slice(b"It is the default order.\n")?;
-        return Ok(());
+fn put_departed(text: &mut Vec<u8>, departures: usize, most: u32) -> Result<(), NoMemory> {
+    if departures == 0 {
+        return put(text, b"It is the default order.\n");
     }
-    text.extend_from_slice(b"It departs from the default order ")?;
-    put_count(text, found.departures.len() as u64, b"time")?;
-    text.extend_from_slice(b", at most ")?;
-    put_count(text, u64::from(found.most), b"time")?;
-    text.extend_from_slice(b" in a slot:\n")?;
-    Ok(())
+    put_all(
+        text,
+        &[
+            Piece::Bytes(b"It departs from the default order "),
+            Piece::Count(departures as u64, b"time"),
+            Piece::Bytes(b", at most "),
+            Piece::Count(u64::from(most), b"time"),
+            Piece::Bytes(b" in a slot:\n"),
+        ],
+    )
+}
+
+// Up to which time a run has the values of the dump, behind the words before.
+fn put_shown(
+    text: &mut Vec<u8>,
+    found: &Found<'_>,
+    words: &[u8],
+    time: u64,
+) -> Result<(), NoMemory> {
+    put(text, words)?;
+    put_time(text, found.machine, time)?;
+    put_all(
+        text,
+        &[
+            Piece::Bytes(b" "),
+            Piece::Bytes(found.dump.as_bytes()),
+            Piece::Bytes(b" shows what these files do in one of their orders.\n"),
+        ],
+    )
 }
 
 // A run has the values of the dump.
@@ -70,36 +131,56 @@ fn put_explained(
     found: &Found<'_>,
     run: &Explanation<MachineState>,
 ) -> Result<(), NoMemory> {
-    text.extend_from_slice(b"explained: up to ")?;
-    put_time(text, found.machine, found.last)?;
-    put_all(
-        text,
-        &[
-            b" ",
-            found.dump.as_bytes(),
-            b" shows what these files do in one of their orders.\n",
-        ],
-    )?;
-    put_departed(text, found)?;
+    put_shown(text, found, b"explained: up to ", found.last)?;
+    put_departed(text, found.departures.len(), found.most)?;
     put_departures(alloc, text, found)?;
-    put_command(alloc, text, found, &run.log, found.last, run.steps)
+    put_replay(alloc, text, found, run)
 }
 
-// `    tb.q  1 in the dump, 0 here`
+// `    tb.q is 1 in the dump, and 0 in this run`
 fn put_differing(
     text: &mut Vec<u8>,
-    found: &Found<'_>,
+    design: &Design,
     differing: &Differing,
 ) -> Result<(), NoMemory> {
-    let Some(variable) = found.machine.design().variables.get(differing.variable) else {
+    let Some(variable) = design.variables.get(differing.variable) else {
         return Ok(());
     };
-    put_all(text, &[b"    ", &variable.name, b" is "])?;
+    let name = Piece::Bytes(&variable.name);
+    put_all(text, &[Piece::Bytes(b"    "), name, Piece::Bytes(b" is ")])?;
     put_value(text, variable, differing.told)?;
-    text.extend_from_slice(b" in the dump, and ")?;
+    put(text, b" in the dump, and ")?;
     put_value(text, variable, differing.value)?;
-    text.extend_from_slice(b" in this run\n")?;
-    Ok(())
+    put(text, b" in this run\n")
+}
+
+// The variables that differ, and how many others there are.
+fn put_all_differing(
+    text: &mut Vec<u8>,
+    design: &Design,
+    all: &[Differing],
+) -> Result<(), NoMemory> {
+    for differing in all.iter().take(NAMED) {
+        put_differing(text, design, differing)?;
+    }
+    if all.len() <= NAMED {
+        return Ok(());
+    }
+    let others = Piece::Count(all.len().saturating_sub(NAMED) as u64, b"other variable");
+    put_all(
+        text,
+        &[Piece::Bytes(b"    and "), others, Piece::Bytes(b"\n")],
+    )
+}
+
+// Where the run has ended: `    It ends by $finish at 45.`
+fn put_ended(text: &mut Vec<u8>, found: &Found<'_>) -> Result<(), NoMemory> {
+    if found.end.is_none() {
+        return Ok(());
+    }
+    put(text, b"    it ends by ")?;
+    put_end(text, found.machine, found.end)?;
+    put(text, b"\n")
 }
 
 // What differs in the run that differs least.
@@ -110,21 +191,91 @@ fn put_nearest(
     time: u64,
     run: &Explanation<MachineState>,
 ) -> Result<(), NoMemory> {
-    text.extend_from_slice(b"The run that differs least:\n")?;
+    put(text, b"The run that differs least:\n")?;
     put_command(alloc, text, found, &run.log, time, run.steps)?;
-    for differing in found.differing.iter().take(NAMED) {
-        put_differing(text, found, differing)?;
+    put_ended(text, found)?;
+    put_all_differing(text, found.machine.design(), found.differing)
+}
+
+// `at 25 no order of these files gives what t.vcd shows, with at most 2 departures in a slot`
+fn put_refuted(text: &mut Vec<u8>, found: &Found<'_>, time: u64) -> Result<(), NoMemory> {
+    put(text, b"at ")?;
+    put_time(text, found.machine, time)?;
+    put_all(
+        text,
+        &[
+            Piece::Bytes(b" no order of these files gives what "),
+            Piece::Bytes(found.dump.as_bytes()),
+            Piece::Bytes(b" shows, with at most "),
+            Piece::Count(u64::from(found.most), b"departure"),
+            Piece::Bytes(b" in a slot"),
+        ],
+    )
+}
+
+// What cut the search with one departure more a slot.
+fn put_beyond(text: &mut Vec<u8>, most: u32, reason: &[u8]) -> Result<(), NoMemory> {
+    put_all(
+        text,
+        &[
+            Piece::Bytes(b", and with at most "),
+            Piece::Number(u64::from(most).saturating_add(1)),
+            Piece::Bytes(b" the search was cut by "),
+            Piece::Bytes(reason),
+        ],
+    )
+}
+
+// Whether no run has the values of the dump, or it isn't decided; and what of it is sure.
+fn put_verdict(text: &mut Vec<u8>, found: &Found<'_>, time: u64) -> Result<(), NoMemory> {
+    if let Some(cut) = found.beyond {
+        put(text, b"not decided: ")?;
+        put_refuted(text, found, time)?;
+        put_beyond(text, found.most, found.cut_by(cut.reason))?;
+    } else {
+        put(text, b"not explained: ")?;
+        put_refuted(text, found, time)?;
     }
-    if found.differing.len() > NAMED {
-        text.extend_from_slice(b"    and ")?;
-        put_count(
-            text,
-            found.differing.len().saturating_sub(NAMED) as u64,
-            b"other variable",
-        )?;
-        text.push(b'\n')?;
+    let before: &[u8] = if time > 0 {
+        b". Before that one does.\n"
+    } else {
+        b".\n"
+    };
+    put(text, before)
+}
+
+// What may be tried next where all that is allowed was tried: more departures, or the other grain.
+fn put_hints(text: &mut Vec<u8>, found: &Found<'_>) -> Result<(), NoMemory> {
+    let more = u64::from(found.most).saturating_add(1);
+    let is_coarse = found.machine.grain() == Grain::Process;
+    if found.beyond.is_some() || (found.most >= MOST && !is_coarse) {
+        return Ok(());
     }
-    Ok(())
+    put(text, b"Not tried:")?;
+    if found.most < MOST {
+        put_option(text, b" --slot-depart ", more)?;
+    }
+    if is_coarse {
+        put(text, b" --grain statement")?;
+    }
+    put(text, b"\n")
+}
+
+// Said where the dump ends at the time at which it isn't explained.
+fn put_short(text: &mut Vec<u8>, found: &Found<'_>, time: u64) -> Result<(), NoMemory> {
+    if !found.is_read || time != found.last {
+        return Ok(());
+    }
+    put(text, b"At ")?;
+    put_time(text, found.machine, time)?;
+    put_all(
+        text,
+        &[
+            Piece::Bytes(b" "),
+            Piece::Bytes(found.dump.as_bytes()),
+            Piece::Bytes(b" ends: it may have been cut short there.\n"),
+        ],
+    )
 }
 
 // No run has the values of the dump.
@@ -134,76 +285,32 @@ fn put_unexplained(
     found: &Found<'_>,
     answer: &Unexplained<MachineState>,
 ) -> Result<(), NoMemory> {
-    text.extend_from_slice(b"not explained: at ")?;
-    put_time(text, found.machine, answer.time)?;
-    put_all(
-        text,
-        &[
-            b" no order of these files gives what ",
-            found.dump.as_bytes(),
-            b" shows, with at most ",
-        ],
-    )?;
-    put_count(text, u64::from(found.most), b"departure")?;
-    text.extend_from_slice(b" in a slot.")?;
-    if answer.time > 0 {
-        text.extend_from_slice(b" Before that one does.")?;
-    }
-    text.push(b'\n')?;
+    put_verdict(text, found, answer.time)?;
     if let Some(run) = &answer.nearest {
         put_nearest(alloc, text, found, answer.time, run)?;
     }
-    put_beyond(text, found)
-}
-
-// What cut the search with one departure more a slot.
-fn put_beyond(text: &mut Vec<u8>, found: &Found<'_>) -> Result<(), NoMemory> {
-    let Some(cut) = found.beyond else {
-        return Ok(());
-    };
-    text.extend_from_slice(b"With at most ")?;
-    put_count(text, u64::from(found.most).saturating_add(1), b"departure")?;
-    let reason = found.cut_by(cut.reason);
-    put_all(
-        text,
-        &[
-            b" in a slot it isn't decided: the search was cut by ",
-            reason,
-            b".\n",
-        ],
-    )
+    put_short(text, found, answer.time)?;
+    put_hints(text, found)
 }
 
 // The search was cut.
 fn put_cut(text: &mut Vec<u8>, found: &Found<'_>, cut: &Cut) -> Result<(), NoMemory> {
-    put_all(
-        text,
-        &[
-            b"not decided: the search was cut by ",
-            found.cut_by(cut.reason),
-            b".\n",
-        ],
-    )?;
-    if let Some(time) = cut.closed {
-        put_all(text, &[b"Up to "])?;
-        put_time(text, found.machine, time)?;
-        put_all(
-            text,
-            &[
-                b" ",
-                found.dump.as_bytes(),
-                b" shows what these files do in one of their orders.\n",
-            ],
-        )?;
+    let reason = Piece::Bytes(found.cut_by(cut.reason));
+    let words = Piece::Bytes(b"not decided: the search was cut by ");
+    put_all(text, &[words, reason, Piece::Bytes(b".\n")])?;
+    match cut.closed {
+        None => Ok(()),
+        Some(time) => put_shown(text, found, b"Up to ", time),
     }
-    Ok(())
 }
 
 // The answer.
 fn put_answer(alloc: Global, text: &mut Vec<u8>, found: &Found<'_>) -> Result<(), NoMemory> {
+    if found.compared.pairs.is_empty() {
+        return put(text, UNRELATED);
+    }
     if found.is_of_nothing() {
-        text.extend_from_slice(NOTHING)?;
-        return Ok(());
+        return put(text, EMPTY);
     }
     match found.answer {
         Matching::Explained(run) => put_explained(alloc, text, found, run),

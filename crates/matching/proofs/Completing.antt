@@ -1,5 +1,6 @@
 -- Each explained run goes on from one that was explained up to a time before, by the next slot or none.
-use Rattle.std.proofs.Common.{◌≡◌, ℕ, ◌+◌, ◌-◌, ◌<◌, ◌≤◌, zero, suc, Bool, true, false, List, length, inl, inr, ◌⊎◌, arith, ap, refl, sym, ◌∙◌, subst}
+use Rattle.std.proofs.Common.{◌≡◌, ℕ, ◌+◌, ◌-◌, ◌<◌, ◌≤◌, zero, suc, Bool, true, false, List, length, inl, inr, ◌⊎◌, arith, ap, refl, sym}
+use Rattle.std.proofs.Common.{◌∙◌, subst}
 use Rattle.std.proofs.lemmas.Bool.{cases_lt}
 use Rattle.sched_core.specs.Ranks.{IsRanked}
 use Rattle.statebook.proofs.FrontierLemmas.{rank_rises}
@@ -21,7 +22,8 @@ either : (b : Bool) → (b ≡ true) ⊎ (b ≡ false)
 either true = inl refl
 either false = inr refl
 
-module _ {S : Type 0} (r : Rules S) (law : IsLawful r) (rank : S → ℕ) (ranked : IsRanked r rank) (slots : EndsSlots r rank) (shown : ℕ → S → ℕ) (most v w : ℕ) (log : List (ℕ × ℕ)) (k : ℕ) (e : IsExplained r rank shown most w log k) (le : v ≤ w) where
+module _ {S : Type 0} (r : Rules S) (law : IsLawful r) (rank : S → ℕ) (ranked : IsRanked r rank) (slots : EndsSlots r rank)
+    (shown : ℕ → S → ℕ) (most v w : ℕ) (log : List (ℕ × ℕ)) (k : ℕ) (e : IsExplained r rank shown most w log k) (le : v ≤ w) where
   -- the run ends before the time
   pub earlier : rank (stands r log k) ≤ v → IsExplained r rank shown most v log k
   earlier begun = record {
@@ -45,7 +47,8 @@ module _ {S : Type 0} (r : Rules S) (law : IsLawful r) (rank : S → ℕ) (ranke
     -- which is by choice 0
     pub goes_on : r.after (stands r log i) 0 ≡ stands r log (suc i)
     goes_on =
-        let none : 0 ≡ choice_at log i = omega (arith, e.run i lt, slots.one_way log i (run_front r log k i e.run (omega (arith, lt))) ends_there) in
+        let none : 0 ≡ choice_at log i = omega
+        (arith, e.run i lt, slots.one_way log i (run_front r log k i e.run (omega (arith, lt))) ends_there) in
         ap (r.after (stands r log i)) none
 
     front : List (ℕ × ℕ)
@@ -84,9 +87,11 @@ module _ {S : Type 0} (r : Rules S) (law : IsLawful r) (rank : S → ℕ) (ranke
           mark = sym (ap r.mark here) ∙ ends_there;
           begun = omega (arith, ap rank here, before);
           last = inr (subst P here (omega (arith, ap rank goes_on, behind)));
-          fits = λ j u at within. ap (shown u) (sym (front_same j at.within)) ∙ e.fits j u (at_end j u at within) (omega (arith, within, le));
+          fits = λ j u at within. ap (shown u) (sym (front_same j at.within)) ∙ e.fits j u (at_end j u at within)
+              (omega (arith, within, le));
           few = λ a b up within none.
-              (let whole : NoEndWithin r log a b = λ m ge less. (ap r.mark (front_same m (omega (arith, less, within))) ∙ none m ge less) in
+              (let whole : NoEndWithin r log a b = λ m ge less. (ap r.mark (front_same m (omega (arith, less, within))) ∙ none m ge less)
+              in
               omega (arith, front_within log i a b, e.few a b up (omega (arith, within, lt)) whole));
         }
 
@@ -102,14 +107,16 @@ module _ {S : Type 0} (r : Rules S) (law : IsLawful r) (rank : S → ℕ) (ranke
     ]
 
     -- the rest of the run is one of the next slot
-    pub rest : (start : S) → r.same start (stands r log (suc i)) ≡ true → w ≤ rank (stands r log (suc i)) → EndsSlot r start (between (suc i) k log) (k - suc i) (stands r log k)
+    pub rest : (start : S) → r.same start (stands r log (suc i)) ≡ true → w ≤ rank (stands r log (suc i)) →
+        EndsSlot r start (between (suc i) k log) (k - suc i) (stands r log k)
     rest start first due =
         let whole : suc i + (k - suc i) ≡ k = omega (arith, lt) in
         let P : ℕ → Type 0 = λ n. IsRun r log n in
         let N : ℕ → Type 0 = λ n. NoEndWithin r log (suc i) n in
         let M : ℕ → Type 0 = λ n. r.mark (stands r log n) ≡ true in
         let E : ℕ → Type 0 = λ n. EndsSlot r start (between (suc i) n log) (k - suc i) (stands r log n) in
-        subst E whole (stretch r law start log (suc i) (k - suc i) first (subst P (sym whole) e.run) (subst N (sym whole) (no_end due)) (subst M (sym whole) e.mark))
+        subst E whole (stretch r law start log (suc i) (k - suc i) first (subst P (sym whole) e.run) (subst N (sym whole) (no_end due))
+        (subst M (sym whole) e.mark))
 
     -- with few departures, and no more in both than in all
     pub rest_few : w ≤ rank (stands r log (suc i)) → length (between (suc i) k log) ≤ most
@@ -119,8 +126,10 @@ module _ {S : Type 0} (r : Rules S) (law : IsLawful r) (rank : S → ℕ) (ranke
     both_few = omega (arith, between_length log 0 i, between_length log (suc i) k, both_within log i (suc i) k (omega arith))
 
 -- the whole run is one of the first slot, where it ends at the rank that runs open with
-pub whole_slot : {S : Type 0} (r : Rules S) → IsLawful r → (rank : S → ℕ) → IsRanked r rank → EndsSlots r rank → (shown : ℕ → S → ℕ) (most : ℕ) (log : List (ℕ × ℕ)) (k : ℕ) → IsExplained r rank shown most (rank r.first) log k →
-    (start : S) → r.same start r.first ≡ true → EndsSlot r start (between 0 k log) k (stands r log k) × (length (between 0 k log) ≤ most) × (length (between 0 k log) ≤ length log)
+pub whole_slot : {S : Type 0} (r : Rules S) → IsLawful r → (rank : S → ℕ) → IsRanked r rank → EndsSlots r rank →
+    (shown : ℕ → S → ℕ) (most : ℕ) (log : List (ℕ × ℕ)) (k : ℕ) → IsExplained r rank shown most (rank r.first) log k →
+    (start : S) → r.same start r.first ≡ true →
+    EndsSlot r start (between 0 k log) k (stands r log k) × (length (between 0 k log) ≤ most) × (length (between 0 k log) ≤ length log)
 whole_slot {S} r law rank ranked slots shown most log k e start first =
     let none : NoEndWithin r log 0 k = λ m ge less. elim (either (r.mark (stands r log m))) [
       | inr not ↦ not
@@ -135,7 +144,8 @@ whole_slot {S} r law rank ranked slots shown most log k e start first =
     let N : ℕ → Type 0 = λ n. NoEndWithin r log 0 n in
     let M : ℕ → Type 0 = λ n. r.mark (stands r log n) ≡ true in
     let E : ℕ → Type 0 = λ n. EndsSlot r start (between 0 n log) k (stands r log n) in (
-      subst E whole (stretch r law start log 0 k first (subst P (sym whole) e.run) (subst N (sym whole) none) (subst M (sym whole) e.mark)),
+      subst E whole (stretch r law start log 0 k first (subst P (sym whole) e.run) (subst N (sym whole) none)
+          (subst M (sym whole) e.mark)),
       omega (arith, between_length log 0 k, e.few 0 k (omega arith) (omega arith) none),
       omega (arith, between_length log 0 k, both_within log 0 0 k (omega arith)),
     )

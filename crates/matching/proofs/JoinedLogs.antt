@@ -1,5 +1,6 @@
 -- The log of a run that goes on into a slot, and the members of a log between two steps.
-use Rattle.std.proofs.Common.{◌≡◌, ◌≢◌, ℕ, ◌+◌, ◌-◌, ◌<◌, ◌≤◌, ◌==◌, ◌&&◌, nat_le, nat_lt, Bool, true, false, if◌then◌else◌, List, [], ◌∷◌, ◌++◌, length, length-append, inl, inr, arith, ap, refl, ◌∙◌}
+use Rattle.std.proofs.Common.{◌≡◌, ◌≢◌, ℕ, ◌+◌, ◌-◌, ◌<◌, ◌≤◌, ◌==◌, ◌&&◌, nat_le, nat_lt, Bool, true, false, if◌then◌else◌, List, []}
+use Rattle.std.proofs.Common.{◌∷◌, ◌++◌, length, length-append, inl, inr, arith, ap, refl, ◌∙◌}
 use Rattle.std.proofs.lemmas.Bool.{cases_lt}
 use Rattle.std.proofs.lemmas.Bool.Decides.{nat_tests}
 use Rattle.sched_core.specs.Rules.{choice_at, NamesBelow}
@@ -33,7 +34,8 @@ pub joined_before : (log : List (ℕ × ℕ)) (n k : ℕ) (slot : List (ℕ × �
 joined_before [] n k slot lt = shifted_before n k slot lt
 joined_before (m ∷ log) n k slot lt = ap (λ c. if m.0 == k then m.1 else c) (joined_before log n k slot lt)
 
-pub joined_after : (log : List (ℕ × ℕ)) (n k : ℕ) (slot : List (ℕ × ℕ)) → NamesBelow log n → choice_at (log ++ shifted n slot) (n + k) ≡ choice_at slot k
+pub joined_after : (log : List (ℕ × ℕ)) (n k : ℕ) (slot : List (ℕ × ℕ)) → NamesBelow log n →
+    choice_at (log ++ shifted n slot) (n + k) ≡ choice_at slot k
 joined_after [] n k slot below = shifted_at n k slot
 joined_after (m ∷ log) n k slot below =
     let other : (m.0 == n + k) ≡ false = eq_no m.0 (n + k) (λ e. absurd (omega (arith, e, below.0))) in
@@ -54,7 +56,8 @@ names_shifted : (n c : ℕ) (slot : List (ℕ × ℕ)) → NamesBelow slot c →
 names_shifted n c [] below = tt
 names_shifted n c (m ∷ slot) below = (omega (arith, below.0), names_shifted n c slot below.1)
 
-pub names_joined : (log : List (ℕ × ℕ)) (n c : ℕ) (slot : List (ℕ × ℕ)) → NamesBelow log n → NamesBelow slot c → NamesBelow (log ++ shifted n slot) (n + c)
+pub names_joined : (log : List (ℕ × ℕ)) (n c : ℕ) (slot : List (ℕ × ℕ)) → NamesBelow log n → NamesBelow slot c →
+    NamesBelow (log ++ shifted n slot) (n + c)
 names_joined [] n c slot below also = names_shifted n c slot also
 names_joined (m ∷ log) n c slot below also = (omega (arith, below.0), names_joined log n c slot below.1 also)
 
@@ -97,13 +100,21 @@ within_joined (m ∷ a) b i j = omega (arith, within_joined a b i j)
 pub none_beyond : (log : List (ℕ × ℕ)) (n i j : ℕ) → NamesBelow log n → n ≤ i → departures_within log i j ≡ 0
 none_beyond [] n i j below le = refl
 none_beyond (m ∷ log) n i j below le =
-    omega (arith, none_of (nat_le i m.0 && nat_lt m.0 j) (outside_below i j m.0 (omega (arith, below.0, le))), none_beyond log n i j below.1 le)
+    omega (
+      arith,
+      none_of (nat_le i m.0 && nat_lt m.0 j) (outside_below i j m.0 (omega (arith, below.0, le))),
+      none_beyond log n i j below.1 le,
+    )
 
 -- nor below the step where the second log begins
 pub none_before : (slot : List (ℕ × ℕ)) (n i j : ℕ) → j ≤ n → departures_within (shifted n slot) i j ≡ 0
 none_before [] n i j le = refl
 none_before (m ∷ slot) n i j le =
-    omega (arith, none_of (nat_le i (n + m.0) && nat_lt (n + m.0) j) (outside_above i j (n + m.0) (omega (arith, le))), none_before slot n i j le)
+    omega (
+      arith,
+      none_of (nat_le i (n + m.0) && nat_lt (n + m.0) j) (outside_above i j (n + m.0) (omega (arith, le))),
+      none_before slot n i j le,
+    )
 
 -- the members of a stretch
 between_by : (i j : ℕ) (m : ℕ × ℕ) (log : List (ℕ × ℕ)) (b : Bool) → length (between i j log) ≡ departures_within log i j →
@@ -115,7 +126,8 @@ pub between_length : (log : List (ℕ × ℕ)) (i j : ℕ) → length (between i
 between_length [] i j = refl
 between_length (m ∷ log) i j = between_by i j m log (nat_le i m.0 && nat_lt m.0 j) (between_length log i j)
 
-between_names_by : (i j : ℕ) (m : ℕ × ℕ) (log : List (ℕ × ℕ)) (b : Bool) → (nat_le i m.0 && nat_lt m.0 j) ≡ b → NamesBelow (between i j log) (j - i) →
+between_names_by : (i j : ℕ) (m : ℕ × ℕ) (log : List (ℕ × ℕ)) (b : Bool) → (nat_le i m.0 && nat_lt m.0 j) ≡ b →
+    NamesBelow (between i j log) (j - i) →
     NamesBelow (if b then (m.0 - i, m.1) ∷ between i j log else between i j log) (j - i)
 between_names_by i j m log true is below =
     let lt : m.0 - i < j - i = grind (arith, nat_tests) in
@@ -126,14 +138,16 @@ pub between_names : (log : List (ℕ × ℕ)) (i j : ℕ) → NamesBelow (betwee
 between_names [] i j = tt
 between_names (m ∷ log) i j = between_names_by i j m log (nat_le i m.0 && nat_lt m.0 j) refl (between_names log i j)
 
-between_choice_by : (i j k : ℕ) (m : ℕ × ℕ) (log : List (ℕ × ℕ)) (b : Bool) → (nat_le i m.0 && nat_lt m.0 j) ≡ b → i + k < j → choice_at (between i j log) k ≡ choice_at log (i + k) →
+between_choice_by : (i j k : ℕ) (m : ℕ × ℕ) (log : List (ℕ × ℕ)) (b : Bool) → (nat_le i m.0 && nat_lt m.0 j) ≡ b → i + k < j →
+    choice_at (between i j log) k ≡ choice_at log (i + k) →
     choice_at (if b then (m.0 - i, m.1) ∷ between i j log else between i j log) k ≡ (if m.0 == i + k then m.1 else choice_at log (i + k))
 between_choice_by i j k m log true is lt e =
     let le : i ≤ m.0 = grind (arith, nat_tests) in
     let same : (m.0 - i == k) ≡ (m.0 == i + k) = grind (arith, nat_tests) in
     rw same (ap (λ c. if m.0 == i + k then m.1 else c) e)
 between_choice_by i j k m log false is lt e =
-    let other : (m.0 == i + k) ≡ false = eq_no m.0 (i + k) (λ s. absurd (grind (arith, nat_tests, inside i j m.0 (omega (arith, s)) (omega (arith, s, lt))))) in
+    let other : (m.0 == i + k) ≡ false = eq_no m.0 (i + k)
+    (λ s. absurd (grind (arith, nat_tests, inside i j m.0 (omega (arith, s)) (omega (arith, s, lt))))) in
     rw other e
 
 pub between_choice : (log : List (ℕ × ℕ)) (i j k : ℕ) → i + k < j → choice_at (between i j log) k ≡ choice_at log (i + k)
@@ -143,7 +157,11 @@ between_choice (m ∷ log) i j k lt = between_choice_by i j k m log (nat_le i m.
 -- two stretches that don't meet have no more departures than all
 both_by : (i j k : ℕ) (s : ℕ) → i ≤ j → one_if (nat_le 0 s && nat_lt s i) + one_if (nat_le j s && nat_lt s k) ≤ 1
 both_by i j k s le = elim (cases_lt s i) [
-  | inl lt ↦ omega (arith, none_of (nat_le j s && nat_lt s k) (outside_below j k s (omega (arith, lt, le))), one_most (nat_le 0 s && nat_lt s i))
+  | inl lt ↦ omega (
+    arith,
+    none_of (nat_le j s && nat_lt s k) (outside_below j k s (omega (arith, lt, le))),
+    one_most (nat_le 0 s && nat_lt s i),
+  )
   | inr ge ↦ omega (arith, none_of (nat_le 0 s && nat_lt s i) (outside_above 0 i s ge), one_most (nat_le j s && nat_lt s k))
 ]
 
@@ -153,7 +171,8 @@ both_within (m ∷ log) i j k le = omega (arith, both_by i j k m.0 le, both_with
 
 -- of the members before a step no more lie in a stretch than of all
 front_by : (i a b : ℕ) (m : ℕ × ℕ) (log : List (ℕ × ℕ)) (t : Bool) → departures_within (between 0 i log) a b ≤ departures_within log a b →
-    departures_within (if t then (m.0 - 0, m.1) ∷ between 0 i log else between 0 i log) a b ≤ one_if (nat_le a m.0 && nat_lt m.0 b) + departures_within log a b
+    departures_within (if t then (m.0 - 0, m.1) ∷ between 0 i log else between 0 i log) a b ≤ one_if (nat_le a m.0 && nat_lt m.0 b) +
+    departures_within log a b
 front_by i a b m log true le =
     let same : m.0 - 0 ≡ m.0 = omega arith in
     rw same (omega (arith, le))

@@ -1,5 +1,6 @@
 -- Looking among candidates, and putting one among them.
-use Rattle.std.proofs.Common.{◌≡◌, ℕ, ◌+◌, ◌<◌, ◌≤◌, zero, suc, Bool, true, List, [], ◌∷◌, length, slice_get, min, Option, Some, None, IfSome, IfNone, inl, inr, ◌⊎◌, arith, ap, refl, sym, ◌∙◌, subst}
+use Rattle.std.proofs.Common.{◌≡◌, ℕ, ◌+◌, ◌<◌, ◌≤◌, zero, suc, Bool, true, List, [], ◌∷◌, length, slice_get, min, Option, Some, None}
+use Rattle.std.proofs.Common.{IfSome, IfNone, inl, inr, ◌⊎◌, arith, ap, refl, sym, ◌∙◌, subst}
 use Rattle.std.specs.Cmp.{IsEquivalence}
 use Rattle.std.specs.List.{IsDistinct}
 use Rattle.std.specs.Map.{keys_of, lookup}
@@ -36,25 +37,31 @@ pub in_none : {X : Type 0} (left : List X) (y : X) → left ≡ [] → IsIn left
 in_none left y none at = none-some y (sym (ap (λ l. slice_get l at.0) none) ∙ at.1)
 
 -- what a look-up finds, and what it finds where keys are distinct
-pub no_longer : {S : Type 0} (eq : S → S → Bool) (entries : List (S × Way S)) (s : S) (way : Way S) (d : ℕ) → Some way ≡ lookup (eq s) entries → length way.log ≤ d → IsNoLonger eq entries s d
+pub no_longer : {S : Type 0} (eq : S → S → Bool) (entries : List (S × Way S)) (s : S) (way : Way S) (d : ℕ) →
+    Some way ≡ lookup (eq s) entries → length way.log ≤ d → IsNoLonger eq entries s d
 no_longer eq entries s way d e le =
     let x = place_from_lookup (eq s) entries way (sym e) in
     record { entry = (x.1, way); at = (x.0, x.2); equal = x.3; departures = le }
 
-looked_up : {S : Type 0} (eq : S → S → Bool) → IsEquivalence eq → (entries : List (S × Way S)) → IsDistinct eq (keys_of entries) → (s : S) (p : S × Way S) → IsIn entries p → eq s p.0 ≡ true → lookup (eq s) entries ≡ Some p.1
+looked_up : {S : Type 0} (eq : S → S → Bool) → IsEquivalence eq → (entries : List (S × Way S)) → IsDistinct eq (keys_of entries) →
+    (s : S) (p : S × Way S) → IsIn entries p → eq s p.0 ≡ true → lookup (eq s) entries ≡ Some p.1
 looked_up {S} eq laws entries apart s p at equal =
     let tests : eq s ≡ eq p.0 = λ n k. laws.congr s p.0 k equal n in
     ap (λ (t : S → Bool). lookup t entries) tests ∙ value_at eq laws entries apart at.0 p at.1
 
-pub longer : {S : Type 0} (eq : S → S → Bool) → IsEquivalence eq → (entries : List (S × Way S)) → IsDistinct eq (keys_of entries) → (s : S) (way : Way S) (d : ℕ) → Some way ≡ lookup (eq s) entries → d < length way.log → AreLonger eq entries s d
+pub longer : {S : Type 0} (eq : S → S → Bool) → IsEquivalence eq → (entries : List (S × Way S)) → IsDistinct eq (keys_of entries) →
+    (s : S) (way : Way S) (d : ℕ) → Some way ≡ lookup (eq s) entries → d < length way.log → AreLonger eq entries s d
 longer {S} eq laws entries apart s way d e more p at equal =
-    let count : length way.log ≡ length p.1.log = ap (λ (w : Way S). length w.log) (same_Some way p.1 (e ∙ looked_up eq laws entries apart s p at equal)) in
+    let count : length way.log ≡ length p.1.log = ap (λ (w : Way S). length w.log)
+    (same_Some way p.1 (e ∙ looked_up eq laws entries apart s p at equal)) in
     omega (arith, count, more)
 
-pub longer_none : {S : Type 0} (eq : S → S → Bool) → IsEquivalence eq → (entries : List (S × Way S)) → IsDistinct eq (keys_of entries) → (s : S) (d : ℕ) → None ≡ lookup (eq s) entries → AreLonger eq entries s d
+pub longer_none : {S : Type 0} (eq : S → S → Bool) → IsEquivalence eq → (entries : List (S × Way S)) → IsDistinct eq (keys_of entries) →
+    (s : S) (d : ℕ) → None ≡ lookup (eq s) entries → AreLonger eq entries s d
 longer_none eq laws entries apart s d e p at equal = absurd (none-some p.1 (e ∙ looked_up eq laws entries apart s p at equal))
 
-module _ {S : Type 0} (r : Rules S) (law : IsLawful r) (eq : S → S → Bool) (agree : (s t : S) → r.same s t ≡ eq s t) (s : S) (way : Way S) (old : List (S × Way S)) where
+module _ {S : Type 0} (r : Rules S) (law : IsLawful r) (eq : S → S → Bool) (agree : (s t : S) → r.same s t ≡ eq s t) (s : S)
+    (way : Way S) (old : List (S × Way S)) where
   -- an equal state is among them already, under a log with no more departures
   pub keeps_already : IsNoLonger eq old s (length way.log) → Keeps r s way old old
   keeps_already h = record {
@@ -69,7 +76,8 @@ module _ {S : Type 0} (r : Rules S) (law : IsLawful r) (eq : S → S → Bool) (
   }
 
   -- it was put among them
-  pub keeps_new : (new : List (S × Way S)) → IsDistinct eq (keys_of old) → AreLonger eq old s (length way.log) → new ≡ insert_entry eq old s way → Keeps r s way old new
+  pub keeps_new : (new : List (S × Way S)) → IsDistinct eq (keys_of old) → AreLonger eq old s (length way.log) →
+      new ≡ insert_entry eq old s way → Keeps r s way old new
   keeps_new new apart long is =
       let laws : IsEquivalence eq = equivalence r law eq agree in
       let I : List (S × Way S) → Type 0 = λ l. Inserted eq old s way l in
@@ -88,7 +96,12 @@ module _ {S : Type 0} (r : Rules S) (law : IsLawful r) (eq : S → S → Bool) (
               | inl there ↦ (
                   let count : length q.0.1.log ≡ length way.log = ap (λ (w : Way S). length w.log) there.1 in
                   let equal : eq s p.0 ≡ true = ap (eq s) (sym q.2) ∙ there.0 in
-                  record { entry = q.0; at = (i, q.1); same = same; departures = omega (arith, count, long p kept.at equal, kept.departures) })
+                  record {
+                    entry = q.0;
+                    at = (i, q.1);
+                    same = same;
+                    departures = omega (arith, count, long p kept.at equal, kept.departures);
+                  })
               | inr before ↦ (
                   let equal : eq q.0.0 p.0 ≡ true = ap (eq q.0.0) (sym q.2) ∙ laws.refl q.0.0 in
                   let value : q.0.1 ≡ p.1 = same_value eq laws old apart before.0 i q.0 p before.1 kept.at.1 equal in
@@ -109,7 +122,9 @@ pub record EarliestBefore {S : Type 0} (entries : List (S × Way S)) (place unti
   pub least : (i : ℕ) (e : S × Way S) (next : Onward S) → i < place → slice_get entries i ≡ Some e → e.1.next ≡ Some next → v ≤ next.rank
   pub some : (v ≡ until) ⊎ ((e : S × Way S) × (next : Onward S) × IsIn entries e × (e.1.next ≡ Some next) × (next.rank ≡ v))
 
-pub earliest_more : {S : Type 0} (entries : List (S × Way S)) (place until v w : ℕ) (p : S × Way S) → EarliestBefore entries place until v → slice_get entries place ≡ Some p → IsEarlier v p.1 w → EarliestBefore entries (place + 1) until w
+pub earliest_more : {S : Type 0} (entries : List (S × Way S)) (place until v w : ℕ) (p : S × Way S) →
+    EarliestBefore entries place until v → slice_get entries place ≡ Some p → IsEarlier v p.1 w →
+    EarliestBefore entries (place + 1) until w
 earliest_more {S} entries place until v w p h there e = record {
   within = omega (arith, h.within, e.within);
   least = λ i x next lt at is. elim (cases_lt i place) [
@@ -129,7 +144,8 @@ earliest_more {S} entries place until v w p h there e = record {
   ];
 }
 
-pub earliest_all : {S : Type 0} (entries : List (S × Way S)) (place until v : ℕ) → EarliestBefore entries place until v → length entries ≤ place → IsEarliest entries until v
+pub earliest_all : {S : Type 0} (entries : List (S × Way S)) (place until v : ℕ) → EarliestBefore entries place until v →
+    length entries ≤ place → IsEarliest entries until v
 earliest_all entries place until v h all = record {
   within = h.within;
   least = λ e next at is. h.least at.0 e next (omega (arith, all, slice_get_within entries at.0 e at.1)) at.1 is;
@@ -159,15 +175,19 @@ pub record IsShortestSoFar {S : Type 0} (entries left : List (S × Way S)) (best
   pub those : (e : S × Way S) → IsIn left e → IsIn entries e
   pub each : (e : S × Way S) → IsIn entries e → IsIn left e ⊎ IsNoLongerThan best e
 
-one_new : {S : Type 0} (entries : List (S × Way S)) (x : S × Way S) (new : Explanation S) → IsIn entries x → new.state ≡ x.0 → new.log ≡ x.1.log → new.steps ≡ x.1.steps → IsOneOf entries new
+one_new : {S : Type 0} (entries : List (S × Way S)) (x : S × Way S) (new : Explanation S) → IsIn entries x → new.state ≡ x.0 →
+    new.log ≡ x.1.log → new.steps ≡ x.1.steps → IsOneOf entries new
 one_new entries x new at s l n = record { entry = x; at = at; state = sym s; log = sym l; steps = sym n }
 
-none_longer : {S : Type 0} (x e : S × Way S) (new : Explanation S) → x ≡ e → length new.log ≤ length x.1.log → length new.log ≤ length e.1.log
+none_longer : {S : Type 0} (x e : S × Way S) (new : Explanation S) → x ≡ e → length new.log ≤ length x.1.log →
+    length new.log ≤ length e.1.log
 none_longer {S} x e new same le =
     let count : length x.1.log ≡ length e.1.log = ap (λ (y : S × Way S). length y.1.log) same in
     omega (arith, count, le)
 
-pub one_passed : {S : Type 0} (entries left rest : List (S × Way S)) (x : S × Way S) (best : Option (Explanation S)) (new : Explanation S) → IsShortestSoFar entries left best → left ≡ x ∷ rest → IsShorter best x.0 x.1 new → IsShortestSoFar entries rest (Some new)
+pub one_passed : {S : Type 0} (entries left rest : List (S × Way S)) (x : S × Way S) (best : Option (Explanation S))
+    (new : Explanation S) → IsShortestSoFar entries left best → left ≡ x ∷ rest → IsShorter best x.0 x.1 new →
+    IsShortestSoFar entries rest (Some new)
 one_passed {S} entries left rest x None new h first is =
     let le : length new.log ≤ length x.1.log = omega (arith, ap length is.1) in
     record {
@@ -210,7 +230,8 @@ one_passed {S} entries left rest x (Some old) new h first (inr is) =
       ];
     }
 
-pub all_passed : {S : Type 0} (entries left : List (S × Way S)) (best : Explanation S) → IsShortestSoFar entries left (Some best) → left ≡ [] → IsShortest entries best
+pub all_passed : {S : Type 0} (entries left : List (S × Way S)) (best : Explanation S) → IsShortestSoFar entries left (Some best) →
+    left ≡ [] → IsShortest entries best
 all_passed entries left best h none = record {
   entry = h.one.entry;
   at = h.one.at;
@@ -225,16 +246,19 @@ nothing_passed [] left h none = refl
 nothing_passed (e ∷ es) left h none = absurd (elim (h.each e (0, refl)) [ inl there ↦ in_none left e none there | inr never ↦ never ])
 
 -- whatever was passed in the end
-pub best_is : {S : Type 0} (entries left : List (S × Way S)) (best : Option (Explanation S)) → IsShortestSoFar entries left best → left ≡ [] → IfSome best (IsShortest entries)
+pub best_is : {S : Type 0} (entries left : List (S × Way S)) (best : Option (Explanation S)) → IsShortestSoFar entries left best →
+    left ≡ [] → IfSome best (IsShortest entries)
 best_is entries left None h none = tt
 best_is entries left (Some best) h none = all_passed entries left best h none
 
-pub best_none : {S : Type 0} (entries left : List (S × Way S)) (best : Option (Explanation S)) → IsShortestSoFar entries left best → left ≡ [] → IfNone best (entries ≡ [])
+pub best_none : {S : Type 0} (entries left : List (S × Way S)) (best : Option (Explanation S)) → IsShortestSoFar entries left best →
+    left ≡ [] → IfNone best (entries ≡ [])
 best_none entries left None h none = nothing_passed entries left h none
 best_none entries left (Some best) h none = tt
 
 -- the lesser of a time and the rank of the next slot
-pub earlier_of : {S : Type 0} (time : ℕ) (way : Way S) (next : Onward S) (v : ℕ) → way.next ≡ Some next → v ≡ min time next.rank → IsEarlier time way v
+pub earlier_of : {S : Type 0} (time : ℕ) (way : Way S) (next : Onward S) (v : ℕ) → way.next ≡ Some next → v ≡ min time next.rank →
+    IsEarlier time way v
 earlier_of {S} time way next v is least = record {
   within = omega (arith, least);
   least = λ other also. (

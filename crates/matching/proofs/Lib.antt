@@ -1,9 +1,13 @@
 pub mod JoinedLogs
 pub mod Segments
+pub mod BudgetedRuns
+pub mod FoundLemmas
 pub mod Explaining
 pub mod Completing
 pub mod PieceLemmas
 pub mod Matched
 pub mod Kept
+pub mod NearLemmas
 pub mod Ends
 pub mod Rounds
+pub mod Cuts

@@ -1,8 +1,10 @@
 -- A slot's runs are stretches of the space's runs, and the other way round.
-use Rattle.std.proofs.Common.{◌≡◌, ℕ, ◌+◌, ◌-◌, ◌<◌, ◌≤◌, zero, suc, Bool, true, false, if◌then◌else◌, List, arith, ap, refl, sym, ◌∙◌, subst}
+use Rattle.std.proofs.Common.{◌≡◌, ℕ, ◌+◌, ◌-◌, ◌<◌, ◌≤◌, zero, suc, Bool, true, false, if◌then◌else◌, List, arith, ap, refl, sym, ◌∙◌}
+use Rattle.std.proofs.Common.{subst}
 use Rattle.sched_core.specs.Rules.{Rules, IsLawful, stands, choice_at, IsRun, NamesBelow}
+use Rattle.matching.specs.Slots.{one_slot}
 use Rattle.matching.specs.Explained.{EndsSlots, NoEndWithin}
-use Rattle.matching.specs.Inner.Slots.{one_slot, EndsSlot}
+use Rattle.matching.specs.Inner.Slots.{EndsSlot}
 use Rattle.matching.proofs.JoinedLogs.{between, between_choice, between_names}
 
 -- The two logs choose alike below a step.
@@ -27,14 +29,16 @@ pub run_front : {S : Type 0} (r : Rules S) (log : List (ℕ × ℕ)) (n k : ℕ)
 run_front r log n k run le j lt = run j (omega (arith, lt, le))
 
 -- where no slot ends the rank stays
-pub rank_stays : {S : Type 0} (r : Rules S) (rank : S → ℕ) → EndsSlots r rank → (log : List (ℕ × ℕ)) (i c : ℕ) → IsRun r log (i + c) → NoEndWithin r log i (i + c) → rank (stands r log (i + c)) ≡ rank (stands r log i)
+pub rank_stays : {S : Type 0} (r : Rules S) (rank : S → ℕ) → EndsSlots r rank → (log : List (ℕ × ℕ)) (i c : ℕ) → IsRun r log (i + c) →
+    NoEndWithin r log i (i + c) → rank (stands r log (i + c)) ≡ rank (stands r log i)
 rank_stays r rank ends log i zero run none =
     let same : i + 0 ≡ i = omega arith in
     rw same refl
 rank_stays r rank ends log i (suc c) run none =
     let next : i + suc c ≡ suc (i + c) = omega arith in
     let whole : IsRun r log (suc (i + c)) = subst (λ n. IsRun r log n) next run in
-    let before = rank_stays r rank ends log i c (run_front r log (suc (i + c)) (i + c) whole (omega arith)) (λ m le lt. none m le (omega (arith, lt))) in
+    let before = rank_stays r rank ends log i c (run_front r log (suc (i + c)) (i + c) whole (omega arith))
+    (λ m le lt. none m le (omega (arith, lt))) in
     rw next (ends.stays log (i + c) whole (none (i + c) (omega arith) (omega arith)) ∙ before)
 
 -- The slot's log chooses as the log does from step n on.
@@ -50,7 +54,8 @@ pub width_of_open : (mark : Bool) (i w : ℕ) → mark ≡ false → i < w → i
 width_of_open true i w e h = absurd cc
 width_of_open false i w e h = h
 
-module _ {S : Type 0} (r : Rules S) (law : IsLawful r) (start : S) (slot log : List (ℕ × ℕ)) (n c : ℕ) (first : r.same start (stands r log n) ≡ true) (alike : ChoosesFrom slot log n c) where
+module _ {S : Type 0} (r : Rules S) (law : IsLawful r) (start : S) (slot log : List (ℕ × ℕ)) (n c : ℕ)
+    (first : r.same start (stands r log n) ≡ true) (alike : ChoosesFrom slot log n c) where
   -- a slot's run is a stretch
   pub along : IsRun (one_slot r start) slot c → (k : ℕ) → k ≤ c → r.same (stands (one_slot r start) slot k) (stands r log (n + k)) ≡ true
   along run zero le =
@@ -67,7 +72,8 @@ module _ {S : Type 0} (r : Rules S) (law : IsLawful r) (start : S) (slot log : L
   pub along_run : IsRun (one_slot r start) slot c → (k : ℕ) → k < c → choice_at log (n + k) < r.width (stands r log (n + k))
   along_run run k lt =
       let s : S = stands (one_slot r start) slot k in
-      let widths : r.width s ≡ r.width (stands r log (n + k)) = law.width_same s (stands r log (n + k)) (along run k (omega (arith, lt))) in
+      let widths : r.width s ≡ r.width (stands r log (n + k)) = law.width_same s (stands r log (n + k)) (along run k (omega (arith, lt)))
+      in
       omega (arith, (open_there (r.mark s) (choice_at slot k) (r.width s) (run k lt)).1, widths, alike k lt)
 
   -- no slot ends before
@@ -77,10 +83,12 @@ module _ {S : Type 0} (r : Rules S) (law : IsLawful r) (start : S) (slot log : L
       let short : m - n < c = omega (arith, le, lt) in
       let s : S = stands (one_slot r start) slot (m - n) in
       let P : ℕ → Type 0 = λ j. r.mark (stands r log j) ≡ false in
-      subst P whole (sym (law.mark_same s (stands r log (n + (m - n))) (along run (m - n) (omega (arith, short)))) ∙ (open_there (r.mark s) (choice_at slot (m - n)) (r.width s) (run (m - n) short)).0)
+      subst P whole (sym (law.mark_same s (stands r log (n + (m - n))) (along run (m - n) (omega (arith, short)))) ∙
+      (open_there (r.mark s) (choice_at slot (m - n)) (r.width s) (run (m - n) short)).0)
 
   -- and a stretch in which no slot ends is a slot's run
-  pub back : IsRun r log (n + c) → NoEndWithin r log n (n + c) → (k : ℕ) → k ≤ c → r.same (stands (one_slot r start) slot k) (stands r log (n + k)) ≡ true
+  pub back : IsRun r log (n + c) → NoEndWithin r log n (n + c) → (k : ℕ) → k ≤ c →
+      r.same (stands (one_slot r start) slot k) (stands r log (n + k)) ≡ true
   back run none zero le =
       let same : n + 0 ≡ n = omega arith in
       rw same first
@@ -104,11 +112,14 @@ module _ {S : Type 0} (r : Rules S) (law : IsLawful r) (start : S) (slot log : L
       width_of_open (r.mark s) (choice_at slot k) (r.width s) unmarked (omega (arith, run (n + k) (omega (arith, lt)), widths, alike k lt))
 
 -- the stretch of a run up to the next end of a slot, as that slot's run
-pub stretch : {S : Type 0} (r : Rules S) → IsLawful r → (start : S) (log : List (ℕ × ℕ)) (n c : ℕ) → r.same start (stands r log n) ≡ true → IsRun r log (n + c) → NoEndWithin r log n (n + c) → r.mark (stands r log (n + c)) ≡ true → EndsSlot r start (between n (n + c) log) c (stands r log (n + c))
+pub stretch : {S : Type 0} (r : Rules S) → IsLawful r → (start : S) (log : List (ℕ × ℕ)) (n c : ℕ) →
+    r.same start (stands r log n) ≡ true → IsRun r log (n + c) → NoEndWithin r log n (n + c) → r.mark (stands r log (n + c)) ≡ true →
+    EndsSlot r start (between n (n + c) log) c (stands r log (n + c))
 stretch r law start log n c first run none mark =
     let alike : ChoosesFrom (between n (n + c) log) log n c = λ k lt. between_choice log n (n + c) k (omega (arith, lt)) in
     let s = stands (one_slot r start) (between n (n + c) log) c in
-    let there : r.same s (stands r log (n + c)) ≡ true = back r law start (between n (n + c) log) log n c first alike run none c (omega arith) in
+    let there : r.same s (stands r log (n + c)) ≡ true = back r law start (between n (n + c) log) log n c first alike run none c
+    (omega arith) in
     let count : n + c - n ≡ c = omega arith in
     record {
       run = back_run r law start (between n (n + c) log) log n c first alike run none;

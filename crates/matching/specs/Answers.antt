@@ -1,8 +1,11 @@
 -- *product rule*: What an answer says of the runs of a space and of what a reference showed.
-use Rattle.std.specs.Prelude.{◌≡◌, ℕ, ◌-◌, ◌≤◌, ◌⊎◌, true, List, [], ◌∷◌, ◌++◌, length, IfSome}
+use Rattle.std.specs.Prelude.{◌≡◌, ℕ, ◌-◌, ◌<◌, ◌≤◌, ◌⊎◌, true, List, [], ◌∷◌, ◌++◌, length, Option}
+use Rattle.std.specs.Prelude.{Some, IfSome}
 use Rattle.sched_core.specs.Rules.{Rules, stands, IsRun, NamesBelow}
-use Rattle.explore.specs.declared.ranked_findings.RankedReason.TheVariants.{Stopped}
-use Rattle.matching.specs.Explained.{Piece, differ_at, last_time, IsExplained}
+use Rattle.explore.specs.declared.ranked_findings.RankedReason.TheVariants.{Entries, Steps, Stopped}
+use Rattle.statebook.specs.declared.limits.Limits.{Limits}
+use Rattle.matching.specs.Explained.{Piece, differ_at, latest_time, departures_within, IsAtEnd, IsExplained, NoEndWithin}
+use Rattle.matching.specs.Slots.{IsFull, IsTooLong}
 use Rattle.matching.specs.declared.answer.Explanation.{Explanation}
 use Rattle.matching.specs.declared.answer.Unexplained.{Unexplained as UnexplainedAt}
 use Rattle.matching.specs.declared.answer.Cut.{Cut as CutShort}
@@ -25,51 +28,79 @@ IfCut (Explained e) P = Unit {0}
 IfCut (Unexplained u) P = Unit {0}
 IfCut (Cut c) P = P c
 
+-- The next piece, if there is one, is later than the time.
+abbrev pub IsLater : Option ℕ → ℕ → Type 0
+IsLater next v = (t : ℕ) → next ≡ Some t → v < t
+
 -- Some run is explained up to the time.
 pub record SomeIsExplained {S : Type 0} (r : Rules S) (rank : S → ℕ) (shown : ℕ → S → ℕ) (most upto : ℕ) : Type 0 where
   pub log : List (ℕ × ℕ)
   pub steps : ℕ
   pub explained : IsExplained r rank shown most upto log steps
 
--- The run under the log takes so many steps, which reach all that the log names, and stands at the state.
-pub record Stands {S : Type 0} (r : Rules S) (s : S) (log : List (ℕ × ℕ)) (steps : ℕ) : Type 0 where
-  pub run : IsRun r log steps
-  pub names : NamesBelow log steps
-  pub at : r.same s (stands r log steps) ≡ true
-
 -- The reference was read to its end. The run under the log is explained up to the last time of a piece, and no other that is has fewer
 -- departures.
-pub record Explains {S : Type 0} (r : Rules S) (rank : S → ℕ) (most : ℕ) (first : Piece S) (Reads : List (Piece S) → Type 0) (Done : Type 0) (e : Explanation S) : Type 0 where
+pub record Explains {S : Type 0} (r : Rules S) (rank : S → ℕ) (most : ℕ) (first : Piece S) (Reads : List (Piece S) → Type 0)
+    (Done : Type 0) (e : Explanation S) : Type 0 where
   pub pieces : List (Piece S)
   pub read : Reads pieces
   pub done : Done
-  pub explained : IsExplained r rank (differ_at first pieces) most (last_time (rank r.first) pieces) e.log e.steps
+  pub explained : IsExplained r rank (differ_at first pieces) most (latest_time (rank r.first) pieces) e.log e.steps
   pub state : r.same e.state (stands r e.log e.steps) ≡ true
-  pub fewest : (log : List (ℕ × ℕ)) (k : ℕ) → IsExplained r rank (differ_at first pieces) most (last_time (rank r.first) pieces) log k → length e.log ≤ length log
+  pub fewest : (log : List (ℕ × ℕ)) (k : ℕ) →
+      IsExplained r rank (differ_at first pieces) most (latest_time (rank r.first) pieces) log k → length e.log ≤ length log
 
--- No run at all is explained up to the time, and no piece was read beyond it. It is the time at which runs open, or some run is
--- explained up to the time before. The nearest is a run that stands at the end of a slot.
-pub record Refutes {S : Type 0} (r : Rules S) (rank : S → ℕ) (most : ℕ) (first : Piece S) (Reads : List (Piece S) → Type 0) (u : UnexplainedAt S) : Type 0 where
+-- The run under the log shows what is shown at each time before this one. It stands at the end of a slot that has begun by then, and no
+-- slot has more departures than `most`.
+pub record ComesNear {S : Type 0} (r : Rules S) (rank : S → ℕ) (shown : ℕ → S → ℕ) (most time : ℕ)
+    (log : List (ℕ × ℕ)) (k : ℕ) : Type 0 where
+  pub run : IsRun r log k
+  pub names : NamesBelow log k
+  pub mark : r.mark (stands r log k) ≡ true
+  pub begun : rank (stands r log k) ≤ time
+  pub fits : (j v : ℕ) → IsAtEnd r rank log k j v → v < time → shown v (stands r log j) ≡ 0
+  pub few : (i j : ℕ) → i ≤ j → j ≤ k → NoEndWithin r log i j → departures_within log i j ≤ most
+
+-- So does a run, and it stands at the state.
+abbrev pub IsNearRun : {S : Type 0} → Rules S → (S → ℕ) → (ℕ → S → ℕ) → ℕ → ℕ → Explanation S → Type 0
+IsNearRun r rank shown most time e = ComesNear r rank shown most time e.log e.steps × (r.same e.state (stands r e.log e.steps) ≡ true)
+
+-- No run at all is explained up to the time. All pieces up to it were read, `next` is the time of the one that isn't, and none was read
+-- beyond it. It is the time at which runs open, or some run is explained up to the time before. The nearest is a run
+-- that shows what is shown before the time, with few departures in each slot.
+pub record Refutes {S : Type 0} (r : Rules S) (rank : S → ℕ) (most : ℕ) (first : Piece S) (Reads : List (Piece S) → Type 0)
+    (next : Option ℕ) (u : UnexplainedAt S) : Type 0 where
   pub pieces : List (Piece S)
   pub read : Reads pieces
   pub unexplained : (log : List (ℕ × ℕ)) (k : ℕ) → IsExplained r rank (differ_at first pieces) most u.time log k → ⊥
-  pub read_to : last_time (rank r.first) pieces ≤ u.time
+  pub read_to : latest_time (rank r.first) pieces ≤ u.time
+  pub ahead : IsLater next u.time
   pub reached : (u.time ≡ rank r.first) ⊎ SomeIsExplained r rank (differ_at first pieces) most (u.time - 1)
-  pub nearest : IfSome u.nearest (λ e. Stands r e.state e.log e.steps × (r.mark e.state ≡ true))
+  pub nearest : IfSome u.nearest (IsNearRun r rank (differ_at first pieces) most u.time)
 
--- Up to the time that was closed some run is explained.
-pub record ClosesTo {S : Type 0} (r : Rules S) (rank : S → ℕ) (most : ℕ) (first : Piece S) (Reads : List (Piece S) → Type 0) (c : CutShort) : Type 0 where
+-- Up to the time that was closed some run is explained, and all pieces up to it were read; `next` is the time of the one that isn't.
+pub record ClosesTo {S : Type 0} (r : Rules S) (rank : S → ℕ) (most : ℕ) (first : Piece S) (Reads : List (Piece S) → Type 0)
+    (next : Option ℕ) (c : CutShort) : Type 0 where
   pub pieces : List (Piece S)
   pub read : Reads pieces
   pub closed : IfSome c.closed (SomeIsExplained r rank (differ_at first pieces) most)
+  pub ahead : IfSome c.closed (IsLater next)
+
+-- that a limit was met is said only where it was
+abbrev pub TellsOfEntries : {S : Type 0} → Rules S → Limits → CutShort → Type 0
+TellsOfEntries r limits c = c.reason ≡ Entries → IsFull r limits
+
+abbrev pub TellsOfSteps : {S : Type 0} → Rules S → Limits → CutShort → Type 0
+TellsOfSteps r limits c = c.reason ≡ Steps → IsTooLong r limits
 
 -- that it was stopped is said only where the watcher said so
 abbrev pub TellsOfStop : Type 0 → CutShort → Type 0
 TellsOfStop IsStopped c = c.reason ≡ Stopped → IsStopped
 
 -- A further piece was read behind whatever was before.
-abbrev pub ReadsOn : {R S : Type 0} → (R → List (Piece S) → R → Type 0) → R → Piece S → R → Type 0
-ReadsOn {R} {S} reads old p new = (first : R) (pieces : List (Piece S)) → reads first pieces old → reads first (pieces ++ p ∷ []) new
+abbrev pub ReadsMore : {R S : Type 0} → (R → List (Piece S) → R → Type 0) → R → Piece S → R → Type 0
+ReadsMore {R} {S} reads old p new = (first : R) (pieces : List (Piece S)) → reads first pieces old →
+    reads first (pieces ++ p ∷ []) new
 
 -- States that are equal differ in as many.
 abbrev pub DiffersAlike : {S : Type 0} → (S → S → Type 0) → Piece S → Type 0

@@ -1,4 +1,5 @@
 -- *internal*: The list of these files; the first word of each says whether it has to be believed.
 pub mod Explained
+pub mod Slots
 pub mod Answers
 pub mod Inner

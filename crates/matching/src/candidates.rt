@@ -3,7 +3,8 @@
 ghost use Rattle.std.specs.Prelude.{◌≡◌, true, false, length, [], IfOk, OnOk, IfSome, IfNone};
 ghost use Rattle.basis.specs.Reasons.{IfFault};
 ghost use Rattle.indexmap.specs.IndexMap.{IsUnique};
-ghost use Rattle.matching.specs.Inner.Candidates.{GoesOn, IsEarliest, IsShortest, Keeps};
+ghost use Rattle.matching.specs.Inner.Candidates.{AreWays, GoesOn, IsAWay, IsEarliest, IsShortest, Keeps};
+ghost use Rattle.matching.specs.Inner.Searching.{IsReason};
 ghost use Rattle.matching.specs.Inner.Merging.{AreLonger, IsEarlier, IsNoLonger, IsShorter};
 
 use crate::answer::Explanation;
@@ -65,10 +66,14 @@ pub fn keep<P: Ranked>(
     state: P::State,
     way: Way<P::State>,
 ) -> Result<(), OrMemory<Halt>>
-    requires { IsUnique P.State.eq candidates.old }
+    requires unique { IsUnique P.State.eq candidates.old }
+    requires ways { AreWays (P.rules space.now) (P.ranks space.now) candidates.old.entries }
+    requires way { IsAWay (P.rules space.now) (P.ranks space.now) (state, way) }
     ensures unique { OnOk result (IsUnique P.State.eq candidates.new) }
+    ensures ways { OnOk result (AreWays (P.rules space.now) (P.ranks space.now) candidates.new.entries) }
     ensures keeps { OnOk result
         (Keeps (P.rules space.now) state way candidates.old.entries candidates.new.entries) }
+    ensures reason { IfFault result (IsReason (P.rules space.now) limits.now) }
     ensures why { IfFault result (λ halt. halt ≡ Halt.Stopped → ⊥) }
 {
     if is_kept(candidates, &state, way.log.members().len()) {

@@ -5,7 +5,9 @@
 #![tactic(auto)]
 
 mod answer;
+mod budgeted_slot;
 mod candidates;
+mod found_ends;
 mod halt;
 mod joined;
 mod matching_runs;

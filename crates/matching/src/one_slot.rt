@@ -11,7 +11,7 @@ pub struct OneSlot<'a, P: Space> {
 }
 
 impl<'a, P: Space> Space for OneSlot<'a, P> {
-    ghost use Rattle.matching.specs.Inner.Slots.{one_slot};
+    ghost use Rattle.matching.specs.Slots.{one_slot};
     ghost use Rattle.matching.specs.Inner.SlotLaws.{one_slot_is_lawful};
 
     type State = P::State;

@@ -2,7 +2,7 @@
 
 ghost use Rattle.std.specs.Prelude.{◌≡◌, ◌<◌, ℕ, true, List, [], Option, Some, IsSome, IfSome, IfNone, OnOk};
 ghost use Rattle.matching.specs.Explained.{Piece};
-ghost use Rattle.matching.specs.Answers.{DiffersAlike, ReadsOn};
+ghost use Rattle.matching.specs.Answers.{DiffersAlike, ReadsMore};
 
 use basis::OrMemory;
 
@@ -33,7 +33,7 @@ pub trait Reference<S: Eq> {
     fn advance(&mut self) -> Result<(), OrMemory<Self::Fault>>
         requires { IsSome (upcoming self.old) }
         ensures time { OnOk result (upcoming self.old ≡ Some (piece self.new).from) }
-        ensures reads { OnOk result (ReadsOn reads self.old (piece self.new) self.new) };
+        ensures reads { OnOk result (ReadsMore reads self.old (piece self.new) self.new) };
 
     /// How many of the things that are compared differ in the state.
     fn count_differences(&self, s: &S) -> usize

@@ -1,6 +1,6 @@
 // The waveforms of both runs round a slot, as SVG.
 
-use crate::html::{put, put_attribute, put_escaped, put_number};
+use crate::html::{Piece, put, put_all};
 use crate::lane::{HEIGHT, WIDTH, column_at, put_lane};
 use crate::shape::{Spot, put_rectangle, put_text};
 use crate::signals::Signals;
@@ -195,29 +195,35 @@ impl<'a> Figure<'a> {
 
 // The front of the picture, of this width and height.
 fn put_front(page: &mut Vec<u8>, width: u64, height: u64) -> Result<(), NoMemory> {
-    put(
+    put_all(
         page,
-        "<svg role=\"img\" aria-label=\"waveforms of both runs; the table below has the values of the marked slot\"",
-    )?;
-    put_attribute(page, "width", width)?;
-    put_attribute(page, "height", height)?;
-    put(page, ">\n")
+        &[
+            Piece::Mark(
+                "<figure tabindex=\"0\">\n<svg role=\"img\" aria-label=\"waveforms of both runs; ",
+            ),
+            Piece::Mark("the table below has the values of the marked slot\" width=\""),
+            Piece::Number(width),
+            Piece::Mark("\" height=\""),
+            Piece::Number(height),
+            Piece::Mark("\">\n"),
+        ],
+    )
 }
 
 // How many variables that differ aren't shown.
 fn put_left_out(page: &mut Vec<u8>, left_out: u64) -> Result<(), NoMemory> {
-    if left_out == 0 {
-        return Ok(());
-    }
-    put(page, "<p>")?;
-    put_number(page, left_out)?;
-    put(
+    let what = match left_out {
+        0 => return Ok(()),
+        1 => " more variable differs here and is left out.</p>\n",
+        _ => " more variables differ here and are left out.</p>\n",
+    };
+    put_all(
         page,
-        if left_out == 1 {
-            " more variable differs here and is left out.</p>\n"
-        } else {
-            " more variables differ here and are left out.</p>\n"
-        },
+        &[
+            Piece::Mark("<p>"),
+            Piece::Number(left_out),
+            Piece::Mark(what),
+        ],
     )
 }
 
@@ -238,22 +244,9 @@ pub(crate) fn put_figure(
     };
     let rows = SIGNAL.saturating_mul(signals.shown.len() as u64);
     let height = TOP.saturating_add(rows);
-    put(page, "<figure tabindex=\"0\">\n")?;
     put_front(page, column_at(left, runs.columns.len()), height)?;
     figure.put_times(page, height)?;
     figure.put_signals(page, &signals.shown)?;
     put(page, "</svg>\n</figure>\n")?;
     put_left_out(page, signals.left_out)
-}
-
-/// The name of the variable of this number.
-pub(crate) fn put_variable(
-    page: &mut Vec<u8>,
-    variables: &[Variable],
-    number: usize,
-) -> Result<(), NoMemory> {
-    match variables.get(number) {
-        None => Ok(()),
-        Some(variable) => put_escaped(page, &variable.name),
-    }
 }

@@ -5,14 +5,27 @@ use itoa::Buffer;
 use value_text::put_hexadecimal;
 use vbits::Vec4;
 
+/// A piece of a page.
+#[derive(Clone, Copy)]
+pub(crate) enum Piece<'a> {
+    /// Marks, and text that has none, as they are.
+    Mark(&'a str),
+    /// Bytes as text, in which nothing is a mark.
+    Text(&'a [u8]),
+    /// The same of the first so many bytes, and `..` where there are more.
+    Cut(&'a [u8], usize),
+    /// A number in decimal.
+    Number(u64),
+}
+
 /// The text as it is.
 pub(crate) fn put(page: &mut Vec<u8>, text: &str) -> Result<(), NoMemory> {
     page.extend_from_slice(text.as_bytes())?;
     Ok(())
 }
 
-/// The number in decimal.
-pub(crate) fn put_number(page: &mut Vec<u8>, n: u64) -> Result<(), NoMemory> {
+// The number in decimal.
+fn put_number(page: &mut Vec<u8>, n: u64) -> Result<(), NoMemory> {
     let mut digits = Buffer::new();
     put(page, digits.format(n))
 }
@@ -70,8 +83,8 @@ fn put_codes(page: &mut Vec<u8>, bytes: &[u8]) -> Result<(), NoMemory> {
     Ok(())
 }
 
-/// The bytes as text: what HTML would take for marks is written so that it doesn't, and control characters and what is no UTF-8 as `\x1b`.
-pub(crate) fn put_escaped(page: &mut Vec<u8>, bytes: &[u8]) -> Result<(), NoMemory> {
+// The bytes as text: what HTML would take for marks is written so that it doesn't, and control characters and what is no UTF-8 as `\x1b`.
+fn put_escaped(page: &mut Vec<u8>, bytes: &[u8]) -> Result<(), NoMemory> {
     for chunk in bytes.utf8_chunks() {
         put_bytes(page, chunk.valid().as_bytes())?;
         put_codes(page, chunk.invalid())?;
@@ -110,11 +123,20 @@ pub(crate) fn put_cut(page: &mut Vec<u8>, bytes: &[u8], most: usize) -> Result<(
     put(page, "..")
 }
 
-/// ` name="n"`
-pub(crate) fn put_attribute(page: &mut Vec<u8>, name: &str, n: u64) -> Result<(), NoMemory> {
-    put(page, " ")?;
-    put(page, name)?;
-    put(page, "=\"")?;
-    put_number(page, n)?;
-    put(page, "\"")
+// The piece.
+fn put_piece(page: &mut Vec<u8>, piece: Piece<'_>) -> Result<(), NoMemory> {
+    match piece {
+        Piece::Mark(mark) => put(page, mark),
+        Piece::Text(bytes) => put_escaped(page, bytes),
+        Piece::Cut(bytes, most) => put_cut(page, bytes, most),
+        Piece::Number(n) => put_number(page, n),
+    }
+}
+
+/// These pieces, one after another.
+pub(crate) fn put_all(page: &mut Vec<u8>, pieces: &[Piece<'_>]) -> Result<(), NoMemory> {
+    for piece in pieces {
+        put_piece(page, *piece)?;
+    }
+    Ok(())
 }

@@ -15,5 +15,6 @@ mod signals;
 mod source;
 mod style;
 mod table;
+mod time;
 
 pub use page::Page;

@@ -1,16 +1,14 @@
 // The steps of both runs, side by side.
 
-use crate::figure::put_variable;
 use crate::files::Files;
-use crate::html::{put, put_cut, put_escaped, put_number};
+use crate::html::{Piece, put, put_all, put_cut};
+use crate::time::put_at;
 use basis::NoMemory;
 use cause::Cause;
-use race_text::{port_of, put_port, put_time, put_value};
+use race_text::{port_of, put_port, put_value};
 use run_pair::{Change, Row, Runs, Seen, Steps};
 use sched_core::{LogHead, write_named_log};
 use std::alloc::Global;
-use vbits::Vec4;
-use vdesign::design::Variable;
 use vmachine::Machine;
 use vsrc::Place;
 
@@ -48,86 +46,88 @@ pub(crate) fn slot_of(runs: &Runs) -> Option<u64> {
     }
 }
 
-// The slot of this time; without one the run.
-fn put_slot(page: &mut Vec<u8>, machine: &Machine, time: Option<u64>) -> Result<(), NoMemory> {
+// The heading of the steps, with the slot of this time; without one they go to the end of the run.
+fn put_heading(page: &mut Vec<u8>, machine: &Machine, time: Option<u64>) -> Result<(), NoMemory> {
+    put(
+        page,
+        "<h3>The steps from where the runs part to the end of ",
+    )?;
     match time {
-        None => put(page, "the run"),
-        Some(time) => {
-            put(page, "the slot at ")?;
-            put_time(page, machine, time)
-        }
+        None => put(page, "the run</h3>\n"),
+        Some(time) => put_at(page, machine, "the slot at ", time, "</h3>\n"),
     }
 }
 
-/// `tb.v:10`
+/// `tb.v:10`, behind this mark.
 pub(crate) fn put_line_of(
     page: &mut Vec<u8>,
+    mark: &str,
     files: &Files<'_>,
     place: Place,
 ) -> Result<(), NoMemory> {
-    put_escaped(page, own_name(files.name(place.file).as_bytes()))?;
-    put(page, ":")?;
-    put_number(page, place.line as u64)
+    let name = own_name(files.name(place.file).as_bytes());
+    let line = Piece::Number(place.line as u64);
+    put(page, mark)?;
+    put_all(page, &[Piece::Text(name), Piece::Mark(":"), line])
 }
 
 // So many steps that aren't listed.
 fn put_gap(page: &mut Vec<u8>, gap: u64) -> Result<(), NoMemory> {
-    if gap == 0 {
-        return Ok(());
-    }
-    put(page, "<tr><td colspan=\"4\" class=\"gap\">")?;
-    put_number(page, gap)?;
-    put(
+    let what = match gap {
+        0 => return Ok(()),
+        1 => " step is left out</td></tr>\n",
+        _ => " steps are left out</td></tr>\n",
+    };
+    put_all(
         page,
-        if gap == 1 {
-            " step is left out"
-        } else {
-            " steps are left out"
-        },
-    )?;
-    put(page, "</td></tr>\n")
+        &[
+            Piece::Mark("<tr><td colspan=\"4\" class=\"gap\">"),
+            Piece::Number(gap),
+            Piece::Mark(what),
+        ],
+    )
 }
 
 impl<'a> Subject<'a> {
-    // The text of the value of a variable.
-    fn put_value(
-        &self,
-        page: &mut Vec<u8>,
-        variable: &Variable,
-        value: Vec4,
-    ) -> Result<(), NoMemory> {
-        let mut text = Vec::new(self.alloc);
-        put_value(&mut text, variable, value)?;
-        put_cut(page, &text, VALUE)
-    }
-
-    // `tb.a: 0 → 1`
-    fn put_change(&self, page: &mut Vec<u8>, change: &Change) -> Result<(), NoMemory> {
-        let variables = &self.machine.design().variables;
-        let Some(variable) = variables.get(change.variable) else {
+    // Behind this mark `tb.a: 0 → 1`.
+    fn put_change(&self, page: &mut Vec<u8>, mark: &str, change: &Change) -> Result<(), NoMemory> {
+        let Some(variable) = self.machine.design().variables.get(change.variable) else {
             return Ok(());
         };
-        put_variable(page, variables, change.variable)?;
-        put(page, ": ")?;
-        self.put_value(page, variable, change.before)?;
-        put(page, " → ")?;
-        self.put_value(page, variable, change.after)
+        let (mut before, mut after) = (Vec::new(self.alloc), Vec::new(self.alloc));
+        put_value(&mut before, variable, change.before)?;
+        put_value(&mut after, variable, change.after)?;
+        put_all(
+            page,
+            &[
+                Piece::Mark(mark),
+                Piece::Text(&variable.name),
+                Piece::Mark(": "),
+                Piece::Cut(&before, VALUE),
+                Piece::Mark(" → "),
+                Piece::Cut(&after, VALUE),
+            ],
+        )
     }
 
     // What the step changes.
     fn put_changes(&self, page: &mut Vec<u8>, row: &Row) -> Result<(), NoMemory> {
-        for (place, change) in row.changes.iter().enumerate() {
-            if place > 0 {
-                put(page, "<br>")?;
-            }
-            self.put_change(page, change)?;
+        let mut mark = "";
+        for change in &row.changes {
+            self.put_change(page, mark, change)?;
+            mark = "<br>";
         }
         if row.more == 0 {
             return Ok(());
         }
-        put(page, "<br>and ")?;
-        put_number(page, row.more)?;
-        put(page, " more")
+        put_all(
+            page,
+            &[
+                Piece::Mark("<br>and "),
+                Piece::Number(row.more),
+                Piece::Mark(" more"),
+            ],
+        )
     }
 
     // What the statement of the action says; of a port connection which port of which instance it is: `.d(q) of u1`.
@@ -150,8 +150,7 @@ impl<'a> Subject<'a> {
         let Some(place) = self.files.place(action) else {
             return put(page, "<td></td><td></td>");
         };
-        put(page, "<td class=\"line-of\">")?;
-        put_line_of(page, self.files, place)?;
+        put_line_of(page, "<td class=\"line-of\">", self.files, place)?;
         put(page, "</td><td>")?;
         self.put_source(page, action, place)?;
         put(page, "</td>")
@@ -170,17 +169,19 @@ impl<'a> Subject<'a> {
     // A step; one of the two that race is marked.
     fn put_row(&self, page: &mut Vec<u8>, row: &Row) -> Result<(), NoMemory> {
         put_gap(page, row.gap)?;
-        put(
+        let front = if self.races(row) {
+            "<tr class=\"races\"><td class=\"number\">"
+        } else {
+            "<tr><td class=\"number\">"
+        };
+        put_all(
             page,
-            if self.races(row) {
-                "<tr class=\"races\">"
-            } else {
-                "<tr>"
-            },
+            &[
+                Piece::Mark(front),
+                Piece::Number(u64::from(row.number)),
+                Piece::Mark("</td>"),
+            ],
         )?;
-        put(page, "<td class=\"number\">")?;
-        put_number(page, u64::from(row.number))?;
-        put(page, "</td>")?;
         self.put_statement(page, row.action)?;
         put(page, "<td>")?;
         self.put_changes(page, row)?;
@@ -195,39 +196,40 @@ impl<'a> Subject<'a> {
         Ok(())
     }
 
-    // The log of the run, as `--log` takes it.
-    fn put_log(&self, page: &mut Vec<u8>, seen: &Seen) -> Result<(), NoMemory> {
+    // The name of a run, its log as `--log` takes it, and what the columns of its steps are.
+    fn put_front(&self, page: &mut Vec<u8>, name: &str, seen: &Seen) -> Result<(), NoMemory> {
         let head = LogHead::Named(self.machine.grain(), self.machine.departures());
-        let text = write_named_log(self.alloc, head, &seen.log)?;
-        put_escaped(page, &text)
-    }
-
-    // The steps of a run, under its name.
-    fn put_run(&self, page: &mut Vec<u8>, name: &str, seen: &Seen) -> Result<(), NoMemory> {
+        let log = write_named_log(self.alloc, head, &seen.log)?;
         put(
             page,
             "<div class=\"wide\" tabindex=\"0\"><table>\n<caption>",
         )?;
         put(page, name)?;
-        put(page, ": <code>--log ")?;
-        self.put_log(page, seen)?;
-        put(
+        put_all(
             page,
-            "</code></caption>\n<tr><th scope=\"col\">step</th><th scope=\"col\">line</th><th scope=\"col\">statement</th>",
-        )?;
-        put(page, "<th scope=\"col\">changes</th></tr>\n")?;
+            &[
+                Piece::Mark(": <code>--log "),
+                Piece::Text(&log),
+                Piece::Mark(
+                    "</code></caption>\n<tr><th scope=\"col\">step</th><th scope=\"col\">line</th>",
+                ),
+                Piece::Mark(
+                    "<th scope=\"col\">statement</th><th scope=\"col\">changes</th></tr>\n",
+                ),
+            ],
+        )
+    }
+
+    // The steps of a run, under its name.
+    fn put_run(&self, page: &mut Vec<u8>, name: &str, seen: &Seen) -> Result<(), NoMemory> {
+        self.put_front(page, name, seen)?;
         self.put_steps(page, &seen.steps)?;
         put(page, "</table></div>\n")
     }
 
     /// The steps of both runs side by side, from the one at which they part to the end of its slot.
     pub(crate) fn put_listing(&self, page: &mut Vec<u8>, runs: &Runs) -> Result<(), NoMemory> {
-        put(
-            page,
-            "<h3>The steps from where the runs part to the end of ",
-        )?;
-        put_slot(page, self.machine, slot_of(runs))?;
-        put(page, "</h3>\n")?;
+        put_heading(page, self.machine, slot_of(runs))?;
         put(page, "<div class=\"runs\">\n")?;
         self.put_run(page, "default", &runs.parent)?;
         self.put_run(page, "departed", &runs.departed)?;

@@ -2,17 +2,18 @@
 
 use crate::figure::put_figure;
 use crate::files::Files;
-use crate::html::{put, put_escaped, put_number};
+use crate::html::{Piece, put, put_all};
 use crate::listing::{Subject, put_line_of, slot_of};
 use crate::printed::put_printed;
 use crate::signals::signals_of;
 use crate::source::{put_heading, put_sources};
 use crate::style::{END, HEAD};
 use crate::table::put_table;
+use crate::time::put_at;
 use basis::NoMemory;
 use cause::Cause;
 use race_groups::{Difference, Group};
-use race_text::{Findings, groups_texts, put_time, summary_text};
+use race_text::{Findings, groups_texts, summary_text};
 use run_pair::{Marked, Runs};
 use std::alloc::Global;
 
@@ -75,15 +76,6 @@ fn marked_in(cause: &Option<Cause>, in_run: bool) -> Marked {
     }
 }
 
-// A link to the race of this number.
-fn put_link(page: &mut Vec<u8>, number: u64, text: &[u8]) -> Result<(), NoMemory> {
-    put(page, "<a href=\"#race-")?;
-    put_number(page, number)?;
-    put(page, "\">")?;
-    put_escaped(page, text)?;
-    put(page, "</a>")
-}
-
 // `, tb.v:10 and tb.v:12`: the lines of both statements, where they are known.
 fn put_lines(page: &mut Vec<u8>, files: &Files<'_>, group: &Group) -> Result<(), NoMemory> {
     let Some(cause) = &group.cause else {
@@ -96,10 +88,30 @@ fn put_lines(page: &mut Vec<u8>, files: &Files<'_>, group: &Group) -> Result<(),
     let (Some(one), Some(other)) = places else {
         return Ok(());
     };
-    put(page, ", ")?;
-    put_line_of(page, files, one)?;
-    put(page, " and ")?;
-    put_line_of(page, files, other)
+    put_line_of(page, ", ", files, one)?;
+    put_line_of(page, " and ", files, other)
+}
+
+// A race in the list: a link to the race of this number, and the lines of both statements.
+fn put_item(
+    page: &mut Vec<u8>,
+    number: u64,
+    text: &[u8],
+    group: &Group,
+    files: &Files<'_>,
+) -> Result<(), NoMemory> {
+    put_all(
+        page,
+        &[
+            Piece::Mark("<li><a href=\"#race-"),
+            Piece::Number(number),
+            Piece::Mark("\">"),
+            Piece::Text(text),
+            Piece::Mark("</a>"),
+        ],
+    )?;
+    put_lines(page, files, group)?;
+    put(page, "</li>\n")
 }
 
 // The list of races, the first of which has this number: of each the first line that is told of it, as a link, and the lines of both
@@ -114,17 +126,23 @@ fn put_list(
     put(page, "<nav aria-label=\"races\">\n<ul>\n")?;
     for (place, group) in groups.iter().enumerate() {
         if let Some(words) = words.get(place) {
-            put(page, "<li>")?;
-            put_link(
-                page,
-                first.saturating_add(place as u64),
-                first_line(words).0,
-            )?;
-            put_lines(page, files, group)?;
-            put(page, "</li>\n")?;
+            let number = first.saturating_add(place as u64);
+            put_item(page, number, first_line(words).0, group, files)?;
         }
     }
     put(page, "</ul>\n</nav>\n")
+}
+
+// `<h1>Races of tb</h1>`, and the begin of what is told first.
+fn put_title(page: &mut Vec<u8>, top: &[u8]) -> Result<(), NoMemory> {
+    put_all(
+        page,
+        &[
+            Piece::Mark("<h1>Races of "),
+            Piece::Text(top),
+            Piece::Mark("</h1>\n<p>"),
+        ],
+    )
 }
 
 // What the names of the runs mean, and the shapes of the waveforms.
@@ -135,11 +153,16 @@ const NAMES: &str =
 // The heading of a race, as the first line of what is told of it, and the other lines.
 fn put_words(page: &mut Vec<u8>, words: &[u8]) -> Result<(), NoMemory> {
     let (head, rest) = first_line(words);
-    put(page, "<h2>")?;
-    put_escaped(page, head)?;
-    put(page, "</h2>\n<pre tabindex=\"0\">")?;
-    put_escaped(page, rest)?;
-    put(page, "</pre>\n")
+    put_all(
+        page,
+        &[
+            Piece::Mark("<h2>"),
+            Piece::Text(head),
+            Piece::Mark("</h2>\n<pre tabindex=\"0\">"),
+            Piece::Text(rest),
+            Piece::Mark("</pre>\n"),
+        ],
+    )
 }
 
 // What both runs do, as waveforms, as a table, and step by step.
@@ -153,9 +176,13 @@ fn put_runs(
 ) -> Result<(), NoMemory> {
     let variables = findings.machine.design().variables.len();
     let signals = signals_of(alloc, group, runs, variables)?;
-    put(page, "<h3>The waveforms round the slot at ")?;
-    put_time(page, findings.machine, runs.time)?;
-    put(page, "</h3>\n")?;
+    put_at(
+        page,
+        findings.machine,
+        "<h3>The waveforms round the slot at ",
+        runs.time,
+        "</h3>\n",
+    )?;
     put_figure(alloc, page, runs, findings.machine, &signals)?;
     put_table(alloc, page, runs, findings.machine, &signals.shown)?;
     put_printed(page, findings.machine, &group.first, runs)?;
@@ -203,9 +230,14 @@ impl Page {
         words: &[u8],
     ) -> Result<(), NoMemory> {
         self.races = self.races.saturating_add(1);
-        put(&mut self.text, "<section id=\"race-")?;
-        put_number(&mut self.text, self.races)?;
-        put(&mut self.text, "\">\n")?;
+        put_all(
+            &mut self.text,
+            &[
+                Piece::Mark("<section id=\"race-"),
+                Piece::Number(self.races),
+                Piece::Mark("\">\n"),
+            ],
+        )?;
         put_words(&mut self.text, words)?;
         let runs = self.runs_of(findings, group)?;
         if let Some(cause) = &group.cause {
@@ -226,16 +258,16 @@ impl Page {
         files: &Files<'_>,
         words: &[Vec<u8>],
     ) -> Result<(), NoMemory> {
-        put(&mut self.text, "<h1>Races of ")?;
-        put_escaped(&mut self.text, &findings.machine.design().top)?;
-        put(&mut self.text, "</h1>\n<p>")?;
-        put_escaped(&mut self.text, &summary_text(self.alloc, findings)?)?;
-        put(&mut self.text, "</p>\n")?;
+        let summary = summary_text(self.alloc, findings)?;
+        put_title(&mut self.text, &findings.machine.design().top)?;
+        put_all(
+            &mut self.text,
+            &[Piece::Text(&summary), Piece::Mark("</p>\n")],
+        )?;
         if words.is_empty() {
             return Ok(());
         }
-        put(&mut self.text, NAMES)?;
-        put(&mut self.text, LEGEND)?;
+        put_all(&mut self.text, &[Piece::Mark(NAMES), Piece::Mark(LEGEND)])?;
         let first = self.races.saturating_add(1);
         put_list(&mut self.text, first, words, &findings.races.groups, files)
     }

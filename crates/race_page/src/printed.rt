@@ -1,10 +1,10 @@
 // What both runs print in the slot in which their lines differ.
 
-use crate::html::{put, put_cut};
+use crate::html::{Piece, put, put_all};
+use crate::time::put_at;
 use basis::NoMemory;
 use explore::FoundMark;
 use race_groups::Difference;
-use race_text::put_time;
 use racebook::LineRace;
 use run_pair::Runs;
 use sched_core::Log;
@@ -58,15 +58,11 @@ fn are_same(one: Option<&Bag>, other: Option<&Bag>) -> bool {
 
 // The lines, one below the other.
 fn put_lines(page: &mut Vec<u8>, lines: &Bag) -> Result<(), NoMemory> {
-    let lines = lines.as_slice();
-    if lines.is_empty() {
-        put(page, "nothing")?;
-    }
-    for (place, line) in lines.iter().enumerate() {
-        if place > 0 {
-            put(page, "<br>")?;
-        }
-        put_cut(page, line.as_bytes().trim_ascii_end(), LINE)?;
+    let mut between = "";
+    for line in lines.as_slice() {
+        let shown = Piece::Cut(line.as_bytes().trim_ascii_end(), LINE);
+        put_all(page, &[Piece::Mark(between), shown])?;
+        between = "<br>";
     }
     Ok(())
 }
@@ -74,24 +70,31 @@ fn put_lines(page: &mut Vec<u8>, lines: &Bag) -> Result<(), NoMemory> {
 // These lines, if they are known, in a cell.
 fn put_cell(page: &mut Vec<u8>, lines: Option<&Bag>) -> Result<(), NoMemory> {
     put(page, "<td>")?;
-    if let Some(lines) = lines {
-        put_lines(page, lines)?;
+    match lines {
+        None => {}
+        Some(lines) if lines.as_slice().is_empty() => put(page, "nothing")?,
+        Some(lines) => put_lines(page, lines)?,
     }
     put(page, "</td>")
 }
 
-// In which slot it was printed.
-fn put_slot(
+// What stands behind the caption.
+const HEADS: &str =
+    "</caption>\n<tr><th scope=\"col\">default</th><th scope=\"col\">departed</th></tr>\n<tr class=\"differs\">";
+
+// The front of the table, with the slot in which the lines were printed.
+fn put_front(
     page: &mut Vec<u8>,
     machine: &Machine,
     difference: &Difference,
 ) -> Result<(), NoMemory> {
+    put(
+        page,
+        "<div class=\"wide\" tabindex=\"0\"><table>\n<caption>Printed in the ",
+    )?;
     match difference {
-        Difference::Lines(race) => {
-            put(page, "slot at ")?;
-            put_time(page, machine, race.time)
-        }
-        _ => put(page, "last slot"),
+        Difference::Lines(race) => put_at(page, machine, "slot at ", race.time, HEADS),
+        _ => put_all(page, &[Piece::Mark("last slot"), Piece::Mark(HEADS)]),
     }
 }
 
@@ -107,15 +110,7 @@ pub(crate) fn put_printed(
     if are_same(by_default, departed) {
         return Ok(());
     }
-    put(
-        page,
-        "<div class=\"wide\" tabindex=\"0\"><table>\n<caption>Printed in the ",
-    )?;
-    put_slot(page, machine, difference)?;
-    put(
-        page,
-        "</caption>\n<tr><th scope=\"col\">default</th><th scope=\"col\">departed</th></tr>\n<tr class=\"differs\">",
-    )?;
+    put_front(page, machine, difference)?;
     put_cell(page, by_default)?;
     put_cell(page, departed)?;
     put(page, "</tr>\n</table></div>\n")

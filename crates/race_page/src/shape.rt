@@ -1,6 +1,6 @@
 // Shapes of a figure.
 
-use crate::html::{put, put_attribute, put_cut, put_escaped};
+use crate::html::{Piece, put_all};
 use basis::NoMemory;
 
 /// Where a shape stands, and how wide it is.
@@ -18,14 +18,22 @@ pub(crate) fn put_rectangle(
     spot: Spot,
     height: u64,
 ) -> Result<(), NoMemory> {
-    put(page, "<rect class=\"")?;
-    put(page, class)?;
-    put(page, "\"")?;
-    put_attribute(page, "x", spot.x)?;
-    put_attribute(page, "y", spot.y)?;
-    put_attribute(page, "width", spot.width)?;
-    put_attribute(page, "height", height)?;
-    put(page, "/>")
+    put_all(
+        page,
+        &[
+            Piece::Mark("<rect class=\""),
+            Piece::Mark(class),
+            Piece::Mark("\" x=\""),
+            Piece::Number(spot.x),
+            Piece::Mark("\" y=\""),
+            Piece::Number(spot.y),
+            Piece::Mark("\" width=\""),
+            Piece::Number(spot.width),
+            Piece::Mark("\" height=\""),
+            Piece::Number(height),
+            Piece::Mark("\"/>"),
+        ],
+    )
 }
 
 // How many letters have room, of 7.3 units each.
@@ -34,11 +42,20 @@ fn letters_in(width: u64) -> usize {
     letters.min(1_000) as usize
 }
 
-// The whole text, as a title.
-fn put_title(page: &mut Vec<u8>, text: &[u8]) -> Result<(), NoMemory> {
-    put(page, "<title>")?;
-    put_escaped(page, text)?;
-    put(page, "</title>")
+// `<text class=".." x=".." y="..">`
+fn put_front(page: &mut Vec<u8>, class: &str, spot: Spot) -> Result<(), NoMemory> {
+    put_all(
+        page,
+        &[
+            Piece::Mark("<text class=\""),
+            Piece::Mark(class),
+            Piece::Mark("\" x=\""),
+            Piece::Number(spot.x),
+            Piece::Mark("\" y=\""),
+            Piece::Number(spot.y),
+            Piece::Mark("\">"),
+        ],
+    )
 }
 
 /// `<text class=".." x=".." y="..">..</text>`: as much of the text as has room there; where that isn't all, the whole is its title.
@@ -49,17 +66,18 @@ pub(crate) fn put_text(
     text: &[u8],
 ) -> Result<(), NoMemory> {
     let room = letters_in(spot.width);
-    put(page, "<text class=\"")?;
-    put(page, class)?;
-    put(page, "\"")?;
-    put_attribute(page, "x", spot.x)?;
-    put_attribute(page, "y", spot.y)?;
-    put(page, ">")?;
+    put_front(page, class, spot)?;
     if text.len() <= room {
-        put_escaped(page, text)?;
-    } else {
-        put_title(page, text)?;
-        put_cut(page, text, room.saturating_sub(2))?;
+        return put_all(page, &[Piece::Text(text), Piece::Mark("</text>")]);
     }
-    put(page, "</text>")
+    put_all(
+        page,
+        &[
+            Piece::Mark("<title>"),
+            Piece::Text(text),
+            Piece::Mark("</title>"),
+            Piece::Cut(text, room.saturating_sub(2)),
+            Piece::Mark("</text>"),
+        ],
+    )
 }

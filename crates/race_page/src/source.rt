@@ -1,10 +1,10 @@
 // The two statements that race in their files, with the lines round them.
 
 use crate::files::Files;
-use crate::html::{put, put_cut, put_escaped, put_number};
+use crate::html::{Piece, put, put_all, put_cut};
+use crate::time::put_at;
 use basis::NoMemory;
 use cause::{Blamed, Cause};
-use race_text::put_time;
 use std::alloc::Global;
 use vmachine::Machine;
 use vsrc::Place;
@@ -115,11 +115,16 @@ fn put_marked(page: &mut Vec<u8>, text: &[u8], column: usize, end: usize) -> Res
     let Some((before, statement)) = front.split_at_checked(column) else {
         return put_cut(page, text, LINE);
     };
-    put_cut(page, before, LINE)?;
-    put(page, "<mark>")?;
-    put_cut(page, statement.trim_ascii_end(), LINE)?;
-    put(page, "</mark>")?;
-    put_cut(page, behind, LINE)
+    put_all(
+        page,
+        &[
+            Piece::Cut(before, LINE),
+            Piece::Mark("<mark>"),
+            Piece::Cut(statement.trim_ascii_end(), LINE),
+            Piece::Mark("</mark>"),
+            Piece::Cut(behind, LINE),
+        ],
+    )
 }
 
 // The text of a line.
@@ -141,9 +146,14 @@ fn put_line(
     if text.is_none() && block.column(line).is_none() {
         return Ok(());
     }
-    put(page, "<span class=\"line\">")?;
-    put_number(page, line as u64)?;
-    put(page, "</span>")?;
+    put_all(
+        page,
+        &[
+            Piece::Mark("<span class=\"line\">"),
+            Piece::Number(line as u64),
+            Piece::Mark("</span>"),
+        ],
+    )?;
     match text {
         None => put(page, "<mark>the file has no such line</mark>")?,
         Some(text) => put_text(page, block, line, text)?,
@@ -153,9 +163,14 @@ fn put_line(
 
 // The lines of a block, under the name of the file.
 fn put_block(page: &mut Vec<u8>, files: &Files<'_>, block: &Block) -> Result<(), NoMemory> {
-    put(page, "<p class=\"file\">")?;
-    put_escaped(page, files.name(block.file).as_bytes())?;
-    put(page, "</p>\n<pre class=\"source\" tabindex=\"0\">")?;
+    put_all(
+        page,
+        &[
+            Piece::Mark("<p class=\"file\">"),
+            Piece::Text(files.name(block.file).as_bytes()),
+            Piece::Mark("</p>\n<pre class=\"source\" tabindex=\"0\">"),
+        ],
+    )?;
     for line in block.first..block.last.saturating_add(1) {
         put_line(page, files, block, line)?;
     }
@@ -206,12 +221,14 @@ pub(crate) fn put_heading(
     machine: &Machine,
     slot: Option<u64>,
 ) -> Result<(), NoMemory> {
-    put(page, "<h3>The two statements")?;
-    if let Some(time) = slot {
-        put(page, ", in the slot at ")?;
-        put_time(page, machine, time)?;
+    let words = "<h3>The two statements";
+    match slot {
+        None => put_all(page, &[Piece::Mark(words), Piece::Mark("</h3>\n")]),
+        Some(time) => {
+            put(page, words)?;
+            put_at(page, machine, ", in the slot at ", time, "</h3>\n")
+        }
     }
-    put(page, "</h3>\n")
 }
 
 /// Both statements of the cause in their files, in the order of the parent's run, each with the port connection or the `assign` that it

@@ -1,8 +1,9 @@
 // The values of both runs at the end of the slot that the race is told of, as a table.
 
-use crate::html::{put, put_escaped};
+use crate::html::{Piece, put, put_all};
+use crate::time::put_at;
 use basis::NoMemory;
-use race_text::{put_time, put_value};
+use race_text::put_value;
 use run_pair::{Runs, Waves};
 use std::alloc::Global;
 use vdesign::design::Variable;
@@ -17,16 +18,19 @@ fn put_cell(
     number: usize,
     time: u64,
 ) -> Result<(), NoMemory> {
-    put(page, "<td>")?;
-    match waves.value_at(number, time) {
-        None => put(page, "the run has ended")?,
-        Some(value) => {
-            let mut text = Vec::new(alloc);
-            put_value(&mut text, variable, value)?;
-            put_escaped(page, &text)?;
-        }
-    }
-    put(page, "</td>")
+    let Some(value) = waves.value_at(number, time) else {
+        return put(page, "<td>the run has ended</td>");
+    };
+    let mut text = Vec::new(alloc);
+    put_value(&mut text, variable, value)?;
+    put_all(
+        page,
+        &[
+            Piece::Mark("<td>"),
+            Piece::Text(&text),
+            Piece::Mark("</td>"),
+        ],
+    )
 }
 
 // The row of the variable, marked where its values differ.
@@ -38,18 +42,19 @@ fn put_row(
     number: usize,
 ) -> Result<(), NoMemory> {
     let time = runs.time;
-    let differs = runs.differs(number, time);
-    put(
+    let front = if runs.differs(number, time) {
+        "<tr class=\"differs\"><th scope=\"row\">"
+    } else {
+        "<tr><th scope=\"row\">"
+    };
+    put_all(
         page,
-        if differs {
-            "<tr class=\"differs\">"
-        } else {
-            "<tr>"
-        },
+        &[
+            Piece::Mark(front),
+            Piece::Text(&variable.name),
+            Piece::Mark("</th>"),
+        ],
     )?;
-    put(page, "<th scope=\"row\">")?;
-    put_escaped(page, &variable.name)?;
-    put(page, "</th>")?;
     put_cell(alloc, page, &runs.parent.waves, variable, number, time)?;
     put_cell(alloc, page, &runs.departed.waves, variable, number, time)?;
     put(page, "</tr>\n")
@@ -63,13 +68,11 @@ pub(crate) fn put_table(
     machine: &Machine,
     shown: &[usize],
 ) -> Result<(), NoMemory> {
-    put(
+    put_at(
         page,
+        machine,
         "<div class=\"wide\" tabindex=\"0\"><table>\n<caption>At the end of the slot at ",
-    )?;
-    put_time(page, machine, runs.time)?;
-    put(
-        page,
+        runs.time,
         "</caption>\n<tr><th scope=\"col\">variable</th><th scope=\"col\">default</th><th scope=\"col\">departed</th></tr>\n",
     )?;
     for number in shown {

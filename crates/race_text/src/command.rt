@@ -1,6 +1,6 @@
 // The command that replays a run, as a shell takes it.
 
-use crate::pieces::put_number;
+use crate::pieces::{Piece, put, put_all};
 use crate::replayed::is_longer;
 use crate::summary::Findings;
 use basis::NoMemory;
@@ -37,32 +37,29 @@ fn is_plain_word(word: &[u8]) -> bool {
 
 // The word in quotes.
 fn put_quoted(text: &mut Vec<u8>, word: &[u8]) -> Result<(), NoMemory> {
-    text.push(b'\'')?;
+    put(text, b"'")?;
     for byte in word {
         if *byte == b'\'' {
-            text.extend_from_slice(b"'\\''")?;
+            put(text, b"'\\''")?;
         } else {
-            text.push(*byte)?;
+            put(text, &[*byte])?;
         }
     }
-    text.push(b'\'')?;
-    Ok(())
+    put(text, b"'")
 }
 
 /// The word behind a blank, in quotes where a shell would take it for something else.
 pub fn put_word(text: &mut Vec<u8>, word: &[u8]) -> Result<(), NoMemory> {
-    text.push(b' ')?;
+    put(text, b" ")?;
     if is_plain_word(word) {
-        text.extend_from_slice(word)?;
-        return Ok(());
+        return put(text, word);
     }
     put_quoted(text, word)
 }
 
 /// An option whose value is a number.
 pub fn put_option(text: &mut Vec<u8>, name: &[u8], n: u64) -> Result<(), NoMemory> {
-    text.extend_from_slice(name)?;
-    put_number(text, n)
+    put_all(text, &[Piece::Bytes(name), Piece::Number(n)])
 }
 
 // The latest time at which a difference is told.
@@ -99,10 +96,15 @@ fn takes_steps(findings: &Findings<'_>) -> Result<bool, NoMemory> {
 pub fn put_files(text: &mut Vec<u8>, alloc: Global, names: &[&str]) -> Result<(), NoMemory> {
     for name in names {
         let mut word = Vec::new(alloc);
-        if name.as_bytes().starts_with(b"-") {
-            word.extend_from_slice(b"./")?;
-        }
-        word.extend_from_slice(name.as_bytes())?;
+        let folder: &[u8] = if name.as_bytes().starts_with(b"-") {
+            b"./"
+        } else {
+            b""
+        };
+        put_all(
+            &mut word,
+            &[Piece::Bytes(folder), Piece::Bytes(name.as_bytes())],
+        )?;
         put_word(text, &word)?;
     }
     Ok(())
@@ -112,7 +114,7 @@ pub fn put_files(text: &mut Vec<u8>, alloc: Global, names: &[&str]) -> Result<()
 pub fn behind_log(alloc: Global, findings: &Findings<'_>) -> Result<Vec<u8>, NoMemory> {
     let mut text = Vec::new(alloc);
     if findings.told.is_top_named {
-        text.extend_from_slice(b" --top")?;
+        put(&mut text, b" --top")?;
         put_word(&mut text, &findings.machine.design().top)?;
     }
     if let Some(until) = until_of(findings) {

@@ -1,5 +1,6 @@
 // Port connections: which port of which instance one is of (IEEE 1364-2005, 12.3.9.2).
 
+use crate::pieces::{Piece, put_all};
 use crate::place::Sources;
 use basis::{NoMemory, begins_name, is_in_name};
 use vdesign::action::Action;
@@ -131,11 +132,15 @@ pub fn port_of<'a>(design: &'a Design, sources: &Sources<'a>, action: usize) -> 
 
 /// `.d(q) of u1`
 pub fn put_port(text: &mut Vec<u8>, port: Port<'_>) -> Result<(), NoMemory> {
-    text.push(b'.')?;
-    text.extend_from_slice(port.name)?;
-    text.push(b'(')?;
-    text.extend_from_slice(port.other.unwrap_or(b".."))?;
-    text.extend_from_slice(b") of ")?;
-    text.extend_from_slice(port.instance)?;
-    Ok(())
+    put_all(
+        text,
+        &[
+            Piece::Bytes(b"."),
+            Piece::Bytes(port.name),
+            Piece::Bytes(b"("),
+            Piece::Bytes(port.other.unwrap_or(b"..")),
+            Piece::Bytes(b") of "),
+            Piece::Bytes(port.instance),
+        ],
+    )
 }

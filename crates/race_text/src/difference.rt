@@ -2,7 +2,7 @@
 
 use crate::apart::Foremost;
 use crate::facts::Facts;
-use crate::pieces::{put_cut, put_padded};
+use crate::pieces::{Piece, put, put_all};
 use crate::place::Sources;
 use crate::statements::{put_other_order, put_usual_order};
 use crate::time::put_time;
@@ -44,15 +44,12 @@ pub struct Subject<'a> {
 fn put_lines(text: &mut Vec<u8>, lines: &Bag) -> Result<(), NoMemory> {
     let lines = lines.as_slice();
     if lines.is_empty() {
-        text.extend_from_slice(b"nothing")?;
+        return put(text, b"nothing");
     }
     for (place, line) in lines.iter().enumerate() {
-        if place > 0 {
-            text.extend_from_slice(b" and ")?;
-        }
-        text.push(b'"')?;
-        put_cut(text, line.as_bytes().trim_ascii_end(), LINE)?;
-        text.push(b'"')?;
+        let opening: &[u8] = if place > 0 { b" and \"" } else { b"\"" };
+        let cut = Piece::Cut(line.as_bytes().trim_ascii_end(), LINE);
+        put_all(text, &[Piece::Bytes(opening), cut, Piece::Bytes(b"\"")])?;
     }
     Ok(())
 }
@@ -69,25 +66,25 @@ pub fn cause_words(cause: Cause) -> &'static [u8] {
 
 // ` at 5`
 fn put_at(text: &mut Vec<u8>, machine: &Machine, time: u64) -> Result<(), NoMemory> {
-    text.extend_from_slice(b" at ")?;
+    put(text, b" at ")?;
     put_time(text, machine, time)
 }
 
-// `$finish at 10`
-fn put_end(text: &mut Vec<u8>, machine: &Machine, end: Option<End>) -> Result<(), NoMemory> {
+/// `$finish at 10`
+pub fn put_end(text: &mut Vec<u8>, machine: &Machine, end: Option<End>) -> Result<(), NoMemory> {
     let Some(end) = end else {
         return Ok(());
     };
-    text.extend_from_slice(cause_words(end.cause))?;
+    put(text, cause_words(end.cause))?;
     put_at(text, machine, end.time)
 }
 
 /// The name of the variable of this number.
-pub fn put_variable(text: &mut Vec<u8>, design: &Design, number: usize) -> Result<(), NoMemory> {
-    if let Some(variable) = design.variables.get(number) {
-        text.extend_from_slice(&variable.name)?;
+pub fn name_of(design: &Design, number: usize) -> &[u8] {
+    match design.variables.get(number) {
+        None => b"",
+        Some(variable) => &variable.name,
     }
-    Ok(())
 }
 
 /// Whether the second log is the first without its last member.
@@ -104,10 +101,9 @@ fn put_order(text: &mut Vec<u8>, subject: Subject<'_>, log: &Log) -> Result<(), 
     match &group.cause {
         None => {
             if log.members().is_empty() {
-                text.extend_from_slice(b"the default order:")?;
-                return Ok(());
+                return put(text, b"the default order:");
             }
-            text.extend_from_slice(b"another order")?;
+            put(text, b"another order")?;
         }
         Some(cause) => {
             if log.members() == group.log.members() {
@@ -115,15 +111,14 @@ fn put_order(text: &mut Vec<u8>, subject: Subject<'_>, log: &Log) -> Result<(), 
             } else if is_parent(&group.log, log) {
                 put_usual_order(text, sources, cause)?;
             } else {
-                text.extend_from_slice(b"another order")?;
+                put(text, b"another order")?;
             }
         }
     }
     if log.members().is_empty() {
-        text.extend_from_slice(b" (the default order)")?;
+        put(text, b" (the default order)")?;
     }
-    text.push(b':')?;
-    Ok(())
+    put(text, b":")
 }
 
 // The text of the log with the name of the setting, so that steps of each run have as many choices.
@@ -262,18 +257,27 @@ pub fn rows_of(alloc: Global, subject: Subject<'_>) -> Result<Vec<Row>, NoMemory
     Ok(rows)
 }
 
+// What comes before the side at this place of so many.
+fn joint(place: usize, count: usize) -> &'static [u8] {
+    if place == 0 {
+        b""
+    } else if place.saturating_add(1) == count {
+        b" or "
+    } else {
+        b", "
+    }
+}
+
 // What is so in the sides: `1 or 0`; `1, 0 or x`.
 fn put_joined(text: &mut Vec<u8>, rows: &[Row]) -> Result<(), NoMemory> {
     for (place, row) in rows.iter().enumerate() {
-        if place > 0 {
-            let joint: &[u8] = if place.saturating_add(1) == rows.len() {
-                b" or "
-            } else {
-                b", "
-            };
-            text.extend_from_slice(joint)?;
-        }
-        text.extend_from_slice(&row.value)?;
+        put_all(
+            text,
+            &[
+                Piece::Bytes(joint(place, rows.len())),
+                Piece::Bytes(&row.value),
+            ],
+        )?;
     }
     Ok(())
 }
@@ -287,9 +291,15 @@ fn put_where(
     let Some(end) = end_in(machine, ends) else {
         return Ok(());
     };
-    text.extend_from_slice(b" where ")?;
-    text.extend_from_slice(cause_words(end.cause))?;
-    text.extend_from_slice(b" ends the run")?;
+    let cause = Piece::Bytes(cause_words(end.cause));
+    put_all(
+        text,
+        &[
+            Piece::Bytes(b" where "),
+            cause,
+            Piece::Bytes(b" ends the run"),
+        ],
+    )?;
     put_at(text, machine, end.time)
 }
 
@@ -308,13 +318,13 @@ fn put_ends(
     let machine = subject.machine;
     match subject.facts.foremost() {
         Foremost::End => {
-            text.extend_from_slice(b"the run ends by ")?;
+            put(text, b"the run ends by ")?;
             return put_joined(text, rows);
         }
-        Foremost::Lines => text.extend_from_slice(b"what is printed")?,
-        Foremost::Variable(number) => put_variable(text, machine.design(), number)?,
+        Foremost::Lines => put(text, b"what is printed")?,
+        Foremost::Variable(number) => put(text, name_of(machine.design(), number))?,
     }
-    text.extend_from_slice(b" is ")?;
+    put(text, b" is ")?;
     put_joined(text, rows)?;
     put_where(text, machine, ends)
 }
@@ -329,15 +339,15 @@ pub fn put_difference(
     let machine = subject.machine;
     match &subject.group.first {
         Difference::Values(race) => {
-            put_variable(text, machine.design(), race.variable)?;
-            text.extend_from_slice(b" is ")?;
+            let name = Piece::Bytes(name_of(machine.design(), race.variable));
+            put_all(text, &[name, Piece::Bytes(b" is ")])?;
             put_joined(text, rows)?;
             put_at(text, machine, race.time)
         }
         Difference::Lines(race) => {
-            text.extend_from_slice(b"what is printed")?;
+            put(text, b"what is printed")?;
             put_at(text, machine, race.time)?;
-            text.extend_from_slice(b" is ")?;
+            put(text, b" is ")?;
             put_joined(text, rows)
         }
         Difference::Ends(ends) => put_ends(text, subject, rows, ends),
@@ -346,10 +356,11 @@ pub fn put_difference(
 
 /// A difference by its name: `tb.c at 6`, `lines at 6`.
 pub fn put_name(text: &mut Vec<u8>, machine: &Machine, name: &Name) -> Result<(), NoMemory> {
-    match name.variable {
-        None => text.extend_from_slice(b"lines")?,
-        Some(number) => put_variable(text, machine.design(), number)?,
-    }
+    let words: &[u8] = match name.variable {
+        None => b"lines",
+        Some(number) => name_of(machine.design(), number),
+    };
+    put(text, words)?;
     put_at(text, machine, name.time)
 }
 
@@ -367,9 +378,8 @@ fn put_left(text: &mut Vec<u8>, subject: Subject<'_>) -> Result<(), NoMemory> {
     let Some(variable) = variable_of(subject) else {
         return Ok(());
     };
-    put_variable(text, subject.machine.design(), variable)?;
-    text.extend_from_slice(b" = ")?;
-    Ok(())
+    let name = Piece::Bytes(name_of(subject.machine.design(), variable));
+    put_all(text, &[name, Piece::Bytes(b" = ")])
 }
 
 // The greatest width of orders, and of values.
@@ -413,26 +423,36 @@ fn shown_by_replay(subject: Subject<'_>) -> &'static [u8] {
 }
 
 /// A line for each side: the order in which it comes about, what is so then, and the command that replays it, which ends so.
-pub fn put_sides(
+pub fn put_sides<'x>(
     text: &mut Vec<u8>,
     subject: Subject<'_>,
-    rows: &[Row],
-    behind: &[u8],
+    rows: &'x [Row],
+    behind: &'x [u8],
 ) -> Result<(), NoMemory> {
     let (order, value) = widths_of(rows);
     let shown = shown_by_replay(subject);
     for row in rows {
-        text.extend_from_slice(b"    ")?;
-        put_padded(text, &row.order, order)?;
-        text.extend_from_slice(b"  ")?;
+        put_all(
+            text,
+            &[
+                Piece::Bytes(b"    "),
+                Piece::Padded(&row.order, order),
+                Piece::Bytes(b"  "),
+            ],
+        )?;
         put_left(text, subject)?;
-        put_padded(text, &row.value, value)?;
-        text.extend_from_slice(b"  vrace replay")?;
-        text.extend_from_slice(shown)?;
-        text.extend_from_slice(b" --log ")?;
-        text.extend_from_slice(&row.log)?;
-        text.extend_from_slice(behind)?;
-        text.push(b'\n')?;
+        put_all(
+            text,
+            &[
+                Piece::Padded(&row.value, value),
+                Piece::Bytes(b"  vrace replay"),
+                Piece::Bytes(shown),
+                Piece::Bytes(b" --log "),
+                Piece::Bytes(&row.log),
+                Piece::Bytes(behind),
+                Piece::Bytes(b"\n"),
+            ],
+        )?;
     }
     Ok(())
 }

@@ -4,7 +4,7 @@ use crate::connection::port_of;
 use crate::difference::Subject;
 use crate::facts::Facts;
 use crate::json_side::{first_difference, next_difference};
-use crate::members::Members;
+use crate::members::{Items, Members};
 use crate::pieces::put_cut;
 use crate::place::Sources;
 use crate::statements::{SOURCE, verb};
@@ -17,54 +17,46 @@ use explore::{RankedReason, RankedStatus};
 use serde_json::Value;
 use std::alloc::Global;
 use vdesign::design::Design;
+use vmachine::Machine;
 
 // Which port of which instance it connects, if it is a port connection.
-fn put_connected(
-    members: &mut Members,
-    design: &Design,
-    sources: &Sources<'_>,
-    action: usize,
-) -> Result<(), NoMemory> {
-    match port_of(design, sources, action) {
-        None => Ok(()),
-        Some(port) => {
-            members.text("instance", port.instance)?;
-            members.text("port", port.name)
-        }
+fn put_connected(members: &mut Members, design: &Design, sources: &Sources<'_>, action: usize) {
+    if let Some(port) = port_of(design, sources, action) {
+        members.text("instance", port.instance);
+        members.text("port", port.name);
     }
 }
 
+// What the source says, cut where it is long.
+fn cut_source(alloc: Global, source: &[u8]) -> Result<Vec<u8>, NoMemory> {
+    let mut cut = Vec::new(alloc);
+    put_cut(&mut cut, source.trim_ascii_end(), SOURCE)?;
+    Ok(cut)
+}
+
 // Where the statement of an action stands, and what it says, if that is known.
-fn place_of(
-    alloc: Global,
-    design: &Design,
-    sources: &Sources<'_>,
-    action: usize,
-) -> Result<Members, NoMemory> {
+fn place_of(alloc: Global, design: &Design, sources: &Sources<'_>, action: usize) -> Members {
     let mut members = Members::new(alloc);
-    let Some(place) = sources.place(action) else {
-        return Ok(members);
-    };
-    let mut source = Vec::new(alloc);
-    put_cut(&mut source, sources.source(place).trim_ascii_end(), SOURCE)?;
-    members.text("file", sources.name(place.file).as_bytes())?;
-    members.number("line", place.line as u64)?;
-    members.number("column", (place.column as u64).saturating_add(1))?;
-    members.text("source", &source)?;
-    put_connected(&mut members, design, sources, action)?;
-    Ok(members)
+    if let Some(place) = sources.place(action) {
+        members.text("file", sources.name(place.file).as_bytes());
+        members.number("line", place.line as u64);
+        members.number("column", (place.column as u64).saturating_add(1));
+        members.made_text("source", cut_source(alloc, sources.source(place)));
+        put_connected(&mut members, design, sources, action);
+    }
+    members
 }
 
 // What the visit does to one thing. An event has no name.
 fn deed(alloc: Global, design: &Design, blamed: &Blamed, thing: Thing) -> Result<Value, NoMemory> {
     let mut members = Members::new(alloc);
-    members.text("verb", verb(design, blamed, thing))?;
+    members.text("verb", verb(design, blamed, thing));
     if let Thing::Variable(number) = thing {
         if let Some(variable) = design.variables.get(number as usize) {
-            members.text("name", &variable.name)?;
+            members.text("name", &variable.name);
         }
     }
-    Ok(members.whole())
+    members.whole()
 }
 
 // Whether the thing stands among the first so many.
@@ -81,14 +73,14 @@ fn deeds(
     design: &Design,
     blamed: &Blamed,
     things: &[Thing],
-) -> Result<Vec<Value>, NoMemory> {
-    let mut list = Vec::new(alloc);
+) -> Result<Value, NoMemory> {
+    let mut list = Items::new(alloc);
     for (place, thing) in things.iter().enumerate() {
         if !is_among_first(things, place, thing) {
-            list.push(deed(alloc, design, blamed, *thing)?)?;
+            list.made(deed(alloc, design, blamed, *thing));
         }
     }
-    Ok(list)
+    list.whole()
 }
 
 /// One of the two statements, as JSON.
@@ -99,69 +91,57 @@ pub fn statement_of(
     blamed: &Blamed,
     things: &[Thing],
 ) -> Result<Value, NoMemory> {
-    let mut statement = place_of(alloc, design, sources, blamed.statement)?;
+    let mut statement = place_of(alloc, design, sources, blamed.statement);
     if blamed.statement != blamed.place {
-        let connection = place_of(alloc, design, sources, blamed.place)?;
-        statement.value("connection", connection.whole())?;
+        let connection = place_of(alloc, design, sources, blamed.place);
+        statement.made("connection", connection.whole());
     }
-    statement.list("does", deeds(alloc, design, blamed, things)?)?;
-    Ok(statement.whole())
+    statement.made("does", deeds(alloc, design, blamed, things));
+    statement.whole()
 }
 
 // The two statements, in the order of the parent's run, and when they race; or the one that ends the run.
-fn put_cause(
-    alloc: Global,
-    members: &mut Members,
-    subject: Subject<'_>,
-    cause: &Cause,
-) -> Result<(), NoMemory> {
+fn put_cause(alloc: Global, members: &mut Members, subject: Subject<'_>, cause: &Cause) {
     let (design, sources) = (subject.machine.design(), subject.sources);
     let things = cause.things.as_slice();
-    let first = statement_of(alloc, design, sources, &cause.second, things)?;
-    members.value("first", first)?;
-    let second = statement_of(alloc, design, sources, &cause.first, things)?;
-    members.value("second", second)?;
-    match subject.facts.slot {
-        None => Ok(()),
-        Some(slot) => members.number("slot", slot),
+    members.made(
+        "first",
+        statement_of(alloc, design, sources, &cause.second, things),
+    );
+    members.made(
+        "second",
+        statement_of(alloc, design, sources, &cause.first, things),
+    );
+    if let Some(slot) = subject.facts.slot {
+        members.number("slot", slot);
     }
 }
 
 // The two statements; or the one that ends the run.
-fn put_statements(
-    alloc: Global,
-    members: &mut Members,
-    subject: Subject<'_>,
-) -> Result<(), NoMemory> {
+fn put_statements(alloc: Global, members: &mut Members, subject: Subject<'_>) {
     if let Some(cause) = &subject.group.cause {
-        return put_cause(alloc, members, subject, cause);
-    }
-    match subject.facts.ending {
-        None => Ok(()),
-        Some(action) => {
-            let design = subject.machine.design();
-            let ending = place_of(alloc, design, subject.sources, action)?;
-            members.value("ending", ending.whole())
-        }
+        put_cause(alloc, members, subject, cause);
+    } else if let Some(action) = subject.facts.ending {
+        let ending = place_of(alloc, subject.machine.design(), subject.sources, action);
+        members.made("ending", ending.whole());
     }
 }
 
 // The group's differences that are told.
-fn differences(alloc: Global, subject: Subject<'_>, named: usize) -> Result<Vec<Value>, NoMemory> {
-    let mut list = Vec::new(alloc);
-    list.push(first_difference(alloc, subject)?)?;
+fn differences(alloc: Global, subject: Subject<'_>, named: usize) -> Result<Value, NoMemory> {
+    let mut list = Items::new(alloc);
+    list.made(first_difference(alloc, subject));
     for name in subject.group.next.iter().take(named) {
-        list.push(next_difference(alloc, subject.machine.design(), name)?)?;
+        list.made(next_difference(alloc, subject.machine.design(), name));
     }
-    Ok(list)
+    list.whole()
 }
 
 // Whether it is waived, and why.
-fn put_waiver(members: &mut Members, waiver: Option<&Waiver<'_>>) -> Result<(), NoMemory> {
-    members.flag("waived", waiver.is_some())?;
-    match waiver {
-        None => Ok(()),
-        Some(waiver) => members.text("reason", waiver.reason),
+fn put_waiver(members: &mut Members, waiver: Option<&Waiver<'_>>) {
+    members.flag("waived", waiver.is_some());
+    if let Some(waiver) = waiver {
+        members.text("reason", waiver.reason);
     }
 }
 
@@ -174,25 +154,25 @@ fn group_of(
 ) -> Result<Value, NoMemory> {
     let (machine, group) = (subject.machine, subject.group);
     let mut members = Members::new(alloc);
-    put_waiver(&mut members, waiver)?;
-    members.number("time", group.first.time(machine))?;
-    put_statements(alloc, &mut members, subject)?;
-    members.list("differences", differences(alloc, subject, named)?)?;
-    members.number("count", group.more.saturating_add(1))?;
-    members.number("last", group.last)?;
-    Ok(members.whole())
+    put_waiver(&mut members, waiver);
+    members.number("time", group.first.time(machine));
+    put_statements(alloc, &mut members, subject);
+    members.made("differences", differences(alloc, subject, named));
+    members.number("count", group.more.saturating_add(1));
+    members.number("last", group.last);
+    members.whole()
 }
 
 // The causes.
-fn groups(alloc: Global, findings: &Findings<'_>) -> Result<Vec<Value>, NoMemory> {
-    let mut list = Vec::new(alloc);
+fn groups(alloc: Global, findings: &Findings<'_>) -> Result<Value, NoMemory> {
+    let mut list = Items::new(alloc);
     for (place, group) in findings.races.groups.iter().enumerate() {
         let facts = Facts::new(alloc, findings.machine, group)?;
         let subject = findings.subject(group, &facts);
         let waiver = findings.waiver(place);
-        list.push(group_of(alloc, subject, findings.told.named(), waiver)?)?;
+        list.value(group_of(alloc, subject, findings.told.named(), waiver)?);
     }
-    Ok(list)
+    list.whole()
 }
 
 // By what the search was cut.
@@ -205,59 +185,65 @@ fn cut_by(reason: RankedReason, stopped_by: &'static [u8]) -> &'static [u8] {
     }
 }
 
-// What was looked at.
-fn put_seen(members: &mut Members, findings: &Findings<'_>) -> Result<(), NoMemory> {
-    let (races, told) = (findings.races, findings.told);
-    match races.search.status {
-        RankedStatus::Exhausted => members.text("status", b"exhausted")?,
+// Whether the search went to its end, or by what it was cut.
+fn put_status(members: &mut Members, status: RankedStatus, stopped_by: &'static [u8]) {
+    match status {
+        RankedStatus::Exhausted => members.text("status", b"exhausted"),
         RankedStatus::Cut(reason) => {
-            members.text("status", b"cut")?;
-            members.text("cut_by", cut_by(reason, told.stopped_by))?;
+            members.text("status", b"cut");
+            members.text("cut_by", cut_by(reason, stopped_by));
         }
     }
-    members.value("closed", Value::from(races.search.closed))?;
-    members.number("departures", u64::from(told.departures))?;
-    members.number("states", told.states)?;
-    members.flag("cut_runs", races.cut_runs)?;
+}
+
+// What was looked at.
+fn put_seen(members: &mut Members, findings: &Findings<'_>) {
+    let (races, told) = (findings.races, findings.told);
+    put_status(members, races.search.status, told.stopped_by);
+    members.value("closed", Value::from(races.search.closed));
+    members.number("departures", u64::from(told.departures));
+    members.number("states", told.states);
+    members.flag("cut_runs", races.cut_runs);
     if races.cut_runs {
-        members.number("until", findings.machine.until())?;
+        members.number("until", findings.machine.until());
     }
-    members.number("from", told.from)?;
-    members.number("ignored", races.ignored)
+    members.number("from", told.from);
+    members.number("ignored", races.ignored);
+}
+
+/// The precision of times.
+pub fn precision_of(alloc: Global, machine: &Machine) -> Result<Vec<u8>, NoMemory> {
+    let mut text = Vec::new(alloc);
+    put_precision(&mut text, machine)?;
+    Ok(text)
 }
 
 /// What was found of a top module.
 pub fn top_of(alloc: Global, findings: &Findings<'_>) -> Result<Value, NoMemory> {
     let mut members = Members::new(alloc);
-    members.text("top", &findings.machine.design().top)?;
-    let mut precision = Vec::new(alloc);
-    put_precision(&mut precision, findings.machine)?;
-    members.text("precision", &precision)?;
-    put_seen(&mut members, findings)?;
-    members.list("causes", groups(alloc, findings)?)?;
-    Ok(members.whole())
+    members.text("top", &findings.machine.design().top);
+    members.made_text("precision", precision_of(alloc, findings.machine));
+    put_seen(&mut members, findings);
+    members.made("causes", groups(alloc, findings));
+    members.whole()
 }
 
 // A waiver, with how many causes it matched.
 fn waiver_of(alloc: Global, waiver: &Waiver<'_>, matched: u64) -> Result<Value, NoMemory> {
     let mut members = Members::new(alloc);
-    members.number("line", waiver.line)?;
-    members.text("reason", waiver.reason)?;
-    members.number("matched", matched)?;
-    Ok(members.whole())
+    members.number("line", waiver.line);
+    members.text("reason", waiver.reason);
+    members.number("matched", matched);
+    members.whole()
 }
 
 // The waivers.
-fn waivers_of(
-    alloc: Global,
-    waivers: &[Waiver<'_>],
-    matched: &[u64],
-) -> Result<Vec<Value>, NoMemory> {
-    let mut list = Vec::new(alloc);
+fn waivers_of(alloc: Global, waivers: &[Waiver<'_>], matched: &[u64]) -> Result<Value, NoMemory> {
+    let mut list = Items::new(alloc);
     for (place, waiver) in waivers.iter().enumerate() {
-        list.push(waiver_of(alloc, waiver, matched_at(matched, place))?)?;
+        list.made(waiver_of(alloc, waiver, matched_at(matched, place)));
     }
-    Ok(list)
+    list.whole()
 }
 
 /// The value as a text, its members a line each, with a line feed at its end.
@@ -270,13 +256,13 @@ pub fn document(alloc: Global, value: &Value) -> Result<Vec<u8>, NoMemory> {
 /// What was found of each top module, and what waivers matched in all of them, as one JSON document.
 pub fn json_of(
     alloc: Global,
-    tops: Vec<Value>,
+    tops: Items,
     waivers: &[Waiver<'_>],
     matched: &[u64],
 ) -> Result<Vec<u8>, NoMemory> {
     let mut members = Members::new(alloc);
-    members.number("version", 1)?;
-    members.list("tops", tops)?;
-    members.list("waivers", waivers_of(alloc, waivers, matched)?)?;
-    document(alloc, &members.whole())
+    members.number("version", 1);
+    members.made("tops", tops.whole());
+    members.made("waivers", waivers_of(alloc, waivers, matched));
+    document(alloc, &members.whole()?)
 }

@@ -1,20 +1,20 @@
 // Differences as JSON: of a group's first one each side, of those that follow their names.
 
 use crate::apart::Apart;
-use crate::difference::{Subject, is_parent, put_value_in, put_variable};
-use crate::members::Members;
-use crate::pieces::string_of;
+use crate::difference::{Subject, is_parent, name_of, put_value_in};
+use crate::members::{Items, Members};
 use crate::value::put_value;
 use basis::NoMemory;
 use explore::FoundMark;
 use race_groups::{Difference, Name};
-use racebook::{LineRace, Race};
+use racebook::{LineRace, Race, Side, Witness};
 use sched_core::bag::Bag;
 use sched_core::end::Cause;
 use sched_core::{Log, LogHead, write_named_log};
 use serde_json::Value;
 use std::alloc::Global;
-use vdesign::design::Design;
+use vbits::Vec4;
+use vdesign::design::{Design, Variable};
 use vmachine::{Machine, MachineState};
 
 // Which of the two statements comes earlier in the run under the log, where one of both orders is its.
@@ -44,67 +44,79 @@ pub fn log_text(alloc: Global, machine: &Machine, log: &Log) -> Result<Vec<u8>, 
 }
 
 // The side under this log, of which it is still to be said what is so.
-fn side_of(alloc: Global, subject: Subject<'_>, log: &Log) -> Result<Members, NoMemory> {
+fn side_of(alloc: Global, subject: Subject<'_>, log: &Log) -> Members {
     let mut side = Members::new(alloc);
-    side.text("log", &log_text(alloc, subject.machine, log)?)?;
+    side.made_text("log", log_text(alloc, subject.machine, log));
     if let Some(statement) = earlier(subject, log) {
-        side.text("earlier", statement)?;
+        side.text("earlier", statement);
     }
-    Ok(side)
+    side
+}
+
+/// A value of the variable.
+pub fn value_words(alloc: Global, variable: &Variable, value: Vec4) -> Result<Vec<u8>, NoMemory> {
+    let mut text = Vec::new(alloc);
+    put_value(&mut text, variable, value)?;
+    Ok(text)
+}
+
+// The side of a value of the variable.
+fn value_side(
+    alloc: Global,
+    subject: Subject<'_>,
+    variable: &Variable,
+    witness: &Witness,
+) -> Result<Value, NoMemory> {
+    let mut side = side_of(alloc, subject, &witness.log);
+    side.made_text("value", value_words(alloc, variable, witness.value));
+    side.whole()
 }
 
 // The sides of the default run, or the others, of a variable.
-fn push_values(
-    alloc: Global,
-    sides: &mut Vec<Value>,
-    subject: Subject<'_>,
-    race: &Race,
-    default: bool,
-) -> Result<(), NoMemory> {
+fn push_values(alloc: Global, sides: &mut Items, subject: Subject<'_>, race: &Race, default: bool) {
     let Some(variable) = subject.machine.design().variables.get(race.variable) else {
-        return Ok(());
+        return;
     };
     for witness in &race.values {
         if witness.log.members().is_empty() == default {
-            let mut side = side_of(alloc, subject, &witness.log)?;
-            let mut value = Vec::new(alloc);
-            put_value(&mut value, variable, witness.value)?;
-            side.text("value", &value)?;
-            sides.push(side.whole())?;
+            sides.made(value_side(alloc, subject, variable, witness));
         }
     }
-    Ok(())
 }
 
 // The lines, each a string.
-fn lines_of(alloc: Global, lines: &Bag) -> Result<Vec<Value>, NoMemory> {
-    let mut list = Vec::new(alloc);
+fn lines_of(alloc: Global, lines: &Bag) -> Result<Value, NoMemory> {
+    let mut list = Items::new(alloc);
     for line in lines.as_slice() {
-        list.push(Value::String(string_of(alloc, line.as_bytes())?))?;
+        list.text(line.as_bytes());
     }
-    Ok(list)
+    list.whole()
+}
+
+// A side of printed lines.
+fn lines_side(alloc: Global, subject: Subject<'_>, found: &Side) -> Result<Value, NoMemory> {
+    let mut side = side_of(alloc, subject, &found.log);
+    side.made("lines", lines_of(alloc, &found.lines));
+    side.whole()
 }
 
 // The same of printed lines.
 fn push_lines(
     alloc: Global,
-    sides: &mut Vec<Value>,
+    sides: &mut Items,
     subject: Subject<'_>,
     race: &LineRace,
     default: bool,
-) -> Result<(), NoMemory> {
+) {
     for found in &race.sides {
         if found.log.members().is_empty() == default {
-            let mut side = side_of(alloc, subject, &found.log)?;
-            side.list("lines", lines_of(alloc, &found.lines)?)?;
-            sides.push(side.whole())?;
+            sides.made(lines_side(alloc, subject, found));
         }
     }
-    Ok(())
 }
 
-// The word for why a run ends (docs/FORMATS.md, "Reports").
-fn end_word(cause: Cause) -> &'static [u8] {
+/// The word for why a run ends (docs/FORMATS.md, "Reports").
+pub fn end_word(cause: Cause) -> &'static [u8] {
     match cause {
         Cause::Finish => b"finish",
         Cause::Stop => b"stop",
@@ -113,31 +125,39 @@ fn end_word(cause: Cause) -> &'static [u8] {
     }
 }
 
+// The value of a variable in a state.
+fn value_in(
+    alloc: Global,
+    machine: &Machine,
+    state: &MachineState,
+    number: usize,
+) -> Result<Vec<u8>, NoMemory> {
+    let mut value = Vec::new(alloc);
+    put_value_in(&mut value, machine, state, number)?;
+    Ok(value)
+}
+
 // The values of these variables in a state.
 fn values_in(
     alloc: Global,
     machine: &Machine,
     variables: &[usize],
     state: &MachineState,
-) -> Result<Vec<Value>, NoMemory> {
-    let mut list = Vec::new(alloc);
+) -> Result<Value, NoMemory> {
+    let mut list = Items::new(alloc);
     for number in variables {
-        let mut value = Vec::new(alloc);
-        put_value_in(&mut value, machine, state, *number)?;
-        list.push(Value::String(string_of(alloc, &value)?))?;
+        list.made_text(value_in(alloc, machine, state, *number));
     }
-    Ok(list)
+    list.whole()
 }
 
 // The names of these variables.
-fn names_of(alloc: Global, design: &Design, variables: &[usize]) -> Result<Vec<Value>, NoMemory> {
-    let mut list = Vec::new(alloc);
+fn names_of(alloc: Global, design: &Design, variables: &[usize]) -> Result<Value, NoMemory> {
+    let mut list = Items::new(alloc);
     for number in variables {
-        let mut name = Vec::new(alloc);
-        put_variable(&mut name, design, *number)?;
-        list.push(Value::String(string_of(alloc, &name)?))?;
+        list.text(name_of(design, *number));
     }
-    Ok(list)
+    list.whole()
 }
 
 // What is so in the state of an end, of all that ends differ in.
@@ -147,16 +167,14 @@ fn put_apart(
     machine: &Machine,
     apart: &Apart,
     state: &MachineState,
-) -> Result<(), NoMemory> {
+) {
     if !apart.variables.is_empty() {
-        side.list(
-            "values",
-            values_in(alloc, machine, &apart.variables, state)?,
-        )?;
+        side.made("values", values_in(alloc, machine, &apart.variables, state));
     }
-    match machine.printed(state) {
-        Some(lines) if apart.in_lines => side.list("lines", lines_of(alloc, lines)?),
-        _ => Ok(()),
+    if let Some(lines) = machine.printed(state) {
+        if apart.in_lines {
+            side.made("lines", lines_of(alloc, lines));
+        }
     }
 }
 
@@ -167,40 +185,34 @@ fn end_side(
     found: &FoundMark<MachineState>,
 ) -> Result<Value, NoMemory> {
     let machine = subject.machine;
-    let mut side = side_of(alloc, subject, &found.log)?;
+    let mut side = side_of(alloc, subject, &found.log);
     if let Some(end) = machine.end_of(&found.state) {
-        side.text("end", end_word(end.cause))?;
-        side.number("time", end.time)?;
+        side.text("end", end_word(end.cause));
+        side.number("time", end.time);
     }
     if let Some(apart) = &subject.facts.apart {
-        put_apart(alloc, &mut side, machine, apart, &found.state)?;
+        put_apart(alloc, &mut side, machine, apart, &found.state);
     }
-    Ok(side.whole())
+    side.whole()
 }
 
 // The same of ends.
 fn push_ends(
     alloc: Global,
-    sides: &mut Vec<Value>,
+    sides: &mut Items,
     subject: Subject<'_>,
     ends: &[FoundMark<MachineState>],
     default: bool,
-) -> Result<(), NoMemory> {
+) {
     for found in ends {
         if found.log.members().is_empty() == default {
-            sides.push(end_side(alloc, subject, found)?)?;
+            sides.made(end_side(alloc, subject, found));
         }
     }
-    Ok(())
 }
 
 // The sides of the default run, or the others.
-fn push_sides(
-    alloc: Global,
-    sides: &mut Vec<Value>,
-    subject: Subject<'_>,
-    default: bool,
-) -> Result<(), NoMemory> {
+fn push_sides(alloc: Global, sides: &mut Items, subject: Subject<'_>, default: bool) {
     match &subject.group.first {
         Difference::Values(race) => push_values(alloc, sides, subject, race, default),
         Difference::Lines(race) => push_lines(alloc, sides, subject, race, default),
@@ -208,39 +220,37 @@ fn push_sides(
     }
 }
 
+// The sides, that of the default run first, if one is its.
+fn sides_of(alloc: Global, subject: Subject<'_>) -> Result<Value, NoMemory> {
+    let mut sides = Items::new(alloc);
+    push_sides(alloc, &mut sides, subject, true);
+    push_sides(alloc, &mut sides, subject, false);
+    sides.whole()
+}
+
 // A difference by its name: of this variable, or of lines.
-fn named(
-    alloc: Global,
-    design: &Design,
-    variable: Option<usize>,
-    time: u64,
-) -> Result<Members, NoMemory> {
+fn named(alloc: Global, design: &Design, variable: Option<usize>, time: u64) -> Members {
     let mut difference = Members::new(alloc);
-    difference.number("time", time)?;
+    difference.number("time", time);
     let Some(number) = variable else {
-        difference.text("kind", b"lines")?;
-        return Ok(difference);
+        difference.text("kind", b"lines");
+        return difference;
     };
-    difference.text("kind", b"variable")?;
+    difference.text("kind", b"variable");
     if let Some(variable) = design.variables.get(number) {
-        difference.text("name", &variable.name)?;
+        difference.text("name", &variable.name);
     }
-    Ok(difference)
+    difference
 }
 
 // What ends differ in.
-fn put_ends_apart(
-    alloc: Global,
-    difference: &mut Members,
-    subject: Subject<'_>,
-) -> Result<(), NoMemory> {
-    difference.text("kind", b"ends")?;
-    match &subject.facts.apart {
-        Some(apart) if !apart.variables.is_empty() => {
+fn put_ends_apart(alloc: Global, difference: &mut Members, subject: Subject<'_>) {
+    difference.text("kind", b"ends");
+    if let Some(apart) = &subject.facts.apart {
+        if !apart.variables.is_empty() {
             let design = subject.machine.design();
-            difference.list("variables", names_of(alloc, design, &apart.variables)?)
+            difference.made("variables", names_of(alloc, design, &apart.variables));
         }
-        _ => Ok(()),
     }
 }
 
@@ -251,18 +261,15 @@ pub fn first_difference(alloc: Global, subject: Subject<'_>) -> Result<Value, No
         Difference::Values(race) => Some(race.variable),
         _ => None,
     };
-    let mut difference = named(alloc, machine.design(), variable, first.time(machine))?;
+    let mut difference = named(alloc, machine.design(), variable, first.time(machine));
     if let Difference::Ends(_) = first {
-        put_ends_apart(alloc, &mut difference, subject)?;
+        put_ends_apart(alloc, &mut difference, subject);
     }
-    let mut sides = Vec::new(alloc);
-    push_sides(alloc, &mut sides, subject, true)?;
-    push_sides(alloc, &mut sides, subject, false)?;
-    difference.list("sides", sides)?;
-    Ok(difference.whole())
+    difference.made("sides", sides_of(alloc, subject));
+    difference.whole()
 }
 
 /// A difference that follows.
 pub fn next_difference(alloc: Global, design: &Design, name: &Name) -> Result<Value, NoMemory> {
-    Ok(named(alloc, design, name.variable, name.time)?.whole())
+    named(alloc, design, name.variable, name.time).whole()
 }

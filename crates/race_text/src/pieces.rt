@@ -5,52 +5,62 @@ use std::alloc::Global;
 use value_text::{put_hexadecimal, put_short_decimal};
 use vbits::Vec4;
 
+/// A piece of a text.
+#[derive(Clone, Copy)]
+pub enum Piece<'a> {
+    /// These bytes.
+    Bytes(&'a [u8]),
+    /// A number in decimal.
+    Number(u64),
+    /// So many of something: `1 race`, `2 races`.
+    Count(u64, &'a [u8]),
+    /// The bytes, and blanks up to this width.
+    Padded(&'a [u8], usize),
+    /// The first so many bytes as a terminal may be shown them, and `..` where there are more.
+    Cut(&'a [u8], usize),
+}
+
+/// These bytes.
+pub fn put(text: &mut Vec<u8>, bytes: &[u8]) -> Result<(), NoMemory> {
+    text.extend_from_slice(bytes)?;
+    Ok(())
+}
+
 /// The number in decimal.
 pub fn put_number(text: &mut Vec<u8>, n: u64) -> Result<(), NoMemory> {
     put_short_decimal(text, Vec4::from_u64(64, n))
 }
 
-/// The bytes of each of these, one behind another.
-pub fn put_all(text: &mut Vec<u8>, pieces: &[&[u8]]) -> Result<(), NoMemory> {
-    for piece in pieces {
-        text.extend_from_slice(piece)?;
-    }
-    Ok(())
-}
-
 /// So many of something: `1 race`, `2 races`.
 pub fn put_count(text: &mut Vec<u8>, n: u64, word: &[u8]) -> Result<(), NoMemory> {
     put_number(text, n)?;
-    text.push(b' ')?;
-    text.extend_from_slice(word)?;
-    if n != 1 {
-        text.push(b's')?;
-    }
-    Ok(())
+    put(text, b" ")?;
+    put(text, word)?;
+    if n == 1 { Ok(()) } else { put(text, b"s") }
 }
 
 /// The bytes, and blanks up to this width.
 pub fn put_padded(text: &mut Vec<u8>, bytes: &[u8], width: usize) -> Result<(), NoMemory> {
-    text.extend_from_slice(bytes)?;
+    put(text, bytes)?;
     for _ in bytes.len()..width {
-        text.push(b' ')?;
+        put(text, b" ")?;
     }
     Ok(())
 }
 
 // `\x1b`: the byte by its two hexadecimal digits.
 fn put_escape(text: &mut Vec<u8>, byte: u8) -> Result<(), NoMemory> {
-    text.extend_from_slice(b"\\x")?;
+    put(text, b"\\x")?;
     put_hexadecimal(text, Vec4::from_u64(8, u64::from(byte)))
 }
 
 // A byte, as `\x1b` where a terminal would take it for a command.
 fn put_shown(text: &mut Vec<u8>, byte: u8) -> Result<(), NoMemory> {
     if byte >= b' ' && byte != 127 {
-        text.push(byte)?;
-        return Ok(());
+        put(text, &[byte])
+    } else {
+        put_escape(text, byte)
     }
-    put_escape(text, byte)
 }
 
 /// The first so many bytes as a terminal may be shown them, and `..` where there are more.
@@ -59,7 +69,27 @@ pub fn put_cut(text: &mut Vec<u8>, bytes: &[u8], most: usize) -> Result<(), NoMe
         put_shown(text, *byte)?;
     }
     if bytes.len() > most {
-        text.extend_from_slice(b"..")?;
+        put(text, b"..")
+    } else {
+        Ok(())
+    }
+}
+
+// The piece.
+fn put_piece(text: &mut Vec<u8>, piece: Piece<'_>) -> Result<(), NoMemory> {
+    match piece {
+        Piece::Bytes(bytes) => put(text, bytes),
+        Piece::Number(n) => put_number(text, n),
+        Piece::Count(n, word) => put_count(text, n, word),
+        Piece::Padded(bytes, width) => put_padded(text, bytes, width),
+        Piece::Cut(bytes, most) => put_cut(text, bytes, most),
+    }
+}
+
+/// The pieces, one after another.
+pub fn put_all(text: &mut Vec<u8>, pieces: &[Piece<'_>]) -> Result<(), NoMemory> {
+    for piece in pieces {
+        put_piece(text, *piece)?;
     }
     Ok(())
 }

@@ -3,8 +3,8 @@
 use crate::difference::{Subject, put_difference, rows_of};
 use crate::facts::Facts;
 use crate::json::document;
-use crate::members::Members;
-use crate::pieces::put_count;
+use crate::members::{Items, Members};
+use crate::pieces::{Piece, put, put_all};
 use crate::sarif_place::{Locations, fingerprint, location_of_end, locations_of, put_deeds};
 use crate::summary::{Findings, matched_at, put_matched, put_seen, put_top};
 use crate::time::put_time;
@@ -28,12 +28,12 @@ const RULE_MEANS: &[u8] =
 // An object that has a text alone, as messages and descriptions are.
 fn text_object(alloc: Global, text: &[u8]) -> Result<Value, NoMemory> {
     let mut members = Members::new(alloc);
-    members.text("text", text)?;
-    Ok(members.whole())
+    members.text("text", text);
+    members.whole()
 }
 
-/// A message. A brace in a message is written twice (SARIF 2.1.0, 3.11.5).
-pub fn message(alloc: Global, text: &[u8]) -> Result<Value, NoMemory> {
+// The bytes, each brace twice.
+fn doubled(alloc: Global, text: &[u8]) -> Result<Vec<u8>, NoMemory> {
     let mut doubled = Vec::new(alloc);
     for byte in text {
         doubled.push(*byte)?;
@@ -41,39 +41,54 @@ pub fn message(alloc: Global, text: &[u8]) -> Result<Value, NoMemory> {
             doubled.push(*byte)?;
         }
     }
-    text_object(alloc, &doubled)
+    Ok(doubled)
+}
+
+/// A message. A brace in a message is written twice (SARIF 2.1.0, 3.11.5).
+pub fn message(alloc: Global, text: &[u8]) -> Result<Value, NoMemory> {
+    text_object(alloc, &doubled(alloc, text)?)
 }
 
 // The rule, as the tool describes it.
 fn rule(alloc: Global) -> Result<Value, NoMemory> {
     let mut members = Members::new(alloc);
-    members.text("id", RULE)?;
-    members.value("shortDescription", text_object(alloc, RULE_MEANS)?)?;
-    Ok(members.whole())
+    members.text("id", RULE);
+    members.made("shortDescription", text_object(alloc, RULE_MEANS));
+    members.whole()
 }
 
-// The tool, with its rule.
-fn tool(alloc: Global, version: &str) -> Result<Value, NoMemory> {
-    let mut rules = Vec::new(alloc);
-    rules.push(rule(alloc)?)?;
-    let mut driver = Members::new(alloc);
-    driver.text("name", b"vrace")?;
-    driver.text("version", version.as_bytes())?;
-    driver.list("rules", rules)?;
+// The rules of the tool.
+fn rules(alloc: Global) -> Result<Value, NoMemory> {
+    let mut rules = Items::new(alloc);
+    rules.made(rule(alloc));
+    rules.whole()
+}
+
+// What runs, with its rules.
+fn driver(alloc: Global, version: &str) -> Result<Value, NoMemory> {
     let mut members = Members::new(alloc);
-    members.value("driver", driver.whole())?;
-    Ok(members.whole())
+    members.text("name", b"vrace");
+    members.text("version", version.as_bytes());
+    members.made("rules", rules(alloc));
+    members.whole()
+}
+
+// The tool.
+fn tool(alloc: Global, version: &str) -> Result<Value, NoMemory> {
+    let mut members = Members::new(alloc);
+    members.made("driver", driver(alloc, version));
+    members.whole()
 }
 
 // What the two statements do: `; late.v:3 writes tb.a, late.v:4 reads tb.a`, and when, if it shows later: `, both at 0`.
 fn put_cause(text: &mut Vec<u8>, subject: Subject<'_>, cause: &Cause) -> Result<(), NoMemory> {
-    text.extend_from_slice(b"; ")?;
+    put(text, b"; ")?;
     put_deeds(text, subject, cause, &cause.second)?;
-    text.extend_from_slice(b", ")?;
+    put(text, b", ")?;
     put_deeds(text, subject, cause, &cause.first)?;
     match subject.facts.slot {
         Some(slot) if slot != subject.group.first.time(subject.machine) => {
-            text.extend_from_slice(b", both at ")?;
+            put(text, b", both at ")?;
             put_time(text, subject.machine, slot)
         }
         _ => Ok(()),
@@ -90,39 +105,58 @@ fn group_text(alloc: Global, subject: Subject<'_>) -> Result<Vec<u8>, NoMemory> 
         put_cause(&mut text, subject, cause)?;
     }
     if group.more > 0 {
-        text.extend_from_slice(b"; ")?;
-        put_count(&mut text, group.more, b"more difference")?;
-        text.extend_from_slice(b", up to ")?;
+        let more = Piece::Count(group.more, b"more difference");
+        put_all(
+            &mut text,
+            &[Piece::Bytes(b"; "), more, Piece::Bytes(b", up to ")],
+        )?;
         put_time(&mut text, subject.machine, group.last)?;
     }
     Ok(text)
+}
+
+// What the group is known by from one run to the next.
+fn prints(alloc: Global, subject: Subject<'_>, cause: &Cause) -> Result<Value, NoMemory> {
+    let mut members = Members::new(alloc);
+    members.made_text("causeStatements/v1", fingerprint(alloc, subject, cause));
+    members.whole()
 }
 
 // The group's places, and what it is known by from one run to the next; where no two statements are known, the place of the one that ends
 // the run, or the beginning of the first file.
 fn put_places(alloc: Global, members: &mut Members, subject: Subject<'_>) -> Result<(), NoMemory> {
     let Some(cause) = &subject.group.cause else {
-        return members.list("locations", location_of_end(alloc, subject)?);
+        members.made("locations", location_of_end(alloc, subject));
+        return Ok(());
     };
     let Locations { first, others } = locations_of(alloc, subject, cause)?;
-    members.list("locations", first)?;
-    members.list("relatedLocations", others)?;
-    let mut prints = Members::new(alloc);
-    prints.text("causeStatements/v1", &fingerprint(alloc, subject, cause)?)?;
-    members.value("partialFingerprints", prints.whole())
+    members.made("locations", first.whole());
+    members.made("relatedLocations", others.whole());
+    members.made("partialFingerprints", prints(alloc, subject, cause));
+    Ok(())
+}
+
+// That the result is waived.
+fn suppression(alloc: Global, waiver: &Waiver<'_>) -> Result<Value, NoMemory> {
+    let mut members = Members::new(alloc);
+    members.text("kind", b"external");
+    members.text("status", b"accepted");
+    members.text("justification", waiver.reason);
+    members.whole()
 }
 
 // That the result is waived, if it is. A list stands in each result, as SARIF asks where it stands in one (3.27.23).
-fn suppressions(alloc: Global, waiver: Option<&Waiver<'_>>) -> Result<Vec<Value>, NoMemory> {
-    let mut list = Vec::new(alloc);
+fn suppressions(alloc: Global, waiver: Option<&Waiver<'_>>) -> Result<Value, NoMemory> {
+    let mut list = Items::new(alloc);
     if let Some(waiver) = waiver {
-        let mut members = Members::new(alloc);
-        members.text("kind", b"external")?;
-        members.text("status", b"accepted")?;
-        members.text("justification", waiver.reason)?;
-        list.push(members.whole())?;
+        list.made(suppression(alloc, waiver));
     }
-    Ok(list)
+    list.whole()
+}
+
+// What is said of a group, as a message.
+fn group_message(alloc: Global, subject: Subject<'_>) -> Result<Value, NoMemory> {
+    message(alloc, &group_text(alloc, subject)?)
 }
 
 // One result.
@@ -132,26 +166,25 @@ fn result_of(
     waiver: Option<&Waiver<'_>>,
 ) -> Result<Value, NoMemory> {
     let mut members = Members::new(alloc);
-    members.text("ruleId", RULE)?;
-    members.number("ruleIndex", 0)?;
-    members.text("level", b"warning")?;
-    let text = group_text(alloc, subject)?;
-    members.value("message", message(alloc, &text)?)?;
+    members.text("ruleId", RULE);
+    members.number("ruleIndex", 0);
+    members.text("level", b"warning");
+    members.made("message", group_message(alloc, subject));
     put_places(alloc, &mut members, subject)?;
-    members.list("suppressions", suppressions(alloc, waiver)?)?;
-    Ok(members.whole())
+    members.made("suppressions", suppressions(alloc, waiver));
+    members.whole()
 }
 
 /// Puts a result for each race of a top module.
 pub fn push_results(
     alloc: Global,
-    list: &mut Vec<Value>,
+    list: &mut Items,
     findings: &Findings<'_>,
 ) -> Result<(), NoMemory> {
     for (place, group) in findings.races.groups.iter().enumerate() {
         let facts = Facts::new(alloc, findings.machine, group)?;
         let subject = findings.subject(group, &facts);
-        list.push(result_of(alloc, subject, findings.waiver(place))?)?;
+        list.value(result_of(alloc, subject, findings.waiver(place))?);
     }
     Ok(())
 }
@@ -159,9 +192,9 @@ pub fn push_results(
 // A notification of the tool.
 fn notification(alloc: Global, level: &[u8], text: &[u8]) -> Result<Value, NoMemory> {
     let mut members = Members::new(alloc);
-    members.text("level", level)?;
-    members.value("message", message(alloc, text)?)?;
-    Ok(members.whole())
+    members.text("level", level);
+    members.made("message", message(alloc, text));
+    members.whole()
 }
 
 // What was left unseen, behind the name of the top module where several are told.
@@ -171,79 +204,87 @@ fn unseen(alloc: Global, findings: &Findings<'_>, is_headed: bool) -> Result<Vec
         put_top(&mut text, findings)?;
     }
     put_seen(&mut text, findings)?;
-    text.push(b'.')?;
+    put(&mut text, b".")?;
     Ok(text)
 }
 
+// A notification of what was left unseen.
+fn warning(alloc: Global, findings: &Findings<'_>, is_headed: bool) -> Result<Value, NoMemory> {
+    let text = unseen(alloc, findings, is_headed)?;
+    notification(alloc, b"warning", text.trim_ascii_start())
+}
+
 /// Puts a notification where something of a top module was left unseen.
-pub fn push_unseen(
-    alloc: Global,
-    list: &mut Vec<Value>,
-    findings: &Findings<'_>,
-    is_headed: bool,
-) -> Result<(), NoMemory> {
+pub fn push_unseen(alloc: Global, list: &mut Items, findings: &Findings<'_>, is_headed: bool) {
     let races = findings.races;
     if races.cut_runs || races.search.status != RankedStatus::Exhausted {
-        let text = unseen(alloc, findings, is_headed)?;
-        list.push(notification(alloc, b"warning", text.trim_ascii_start())?)?;
+        list.made(warning(alloc, findings, is_headed));
     }
-    Ok(())
+}
+
+// A notification that the waiver matched nothing.
+fn note(alloc: Global, waiver: &Waiver<'_>) -> Result<Value, NoMemory> {
+    let mut text = Vec::new(alloc);
+    put_matched(&mut text, waiver, 0)?;
+    notification(alloc, b"note", &text)
 }
 
 /// Puts a notification for each waiver that matched nothing.
-pub fn push_unmatched(
-    alloc: Global,
-    list: &mut Vec<Value>,
-    waivers: &[Waiver<'_>],
-    matched: &[u64],
-) -> Result<(), NoMemory> {
+pub fn push_unmatched(alloc: Global, list: &mut Items, waivers: &[Waiver<'_>], matched: &[u64]) {
     for (place, waiver) in waivers.iter().enumerate() {
         if matched_at(matched, place) == 0 {
-            let mut text = Vec::new(alloc);
-            put_matched(&mut text, waiver, 0)?;
-            list.push(notification(alloc, b"note", &text)?)?;
+            list.made(note(alloc, waiver));
         }
     }
-    Ok(())
 }
 
 // The call of the tool.
-fn invocation(alloc: Global, notifications: Vec<Value>) -> Result<Value, NoMemory> {
+fn invocation(alloc: Global, notifications: Items) -> Result<Value, NoMemory> {
     let mut members = Members::new(alloc);
-    members.flag("executionSuccessful", true)?;
-    members.list("toolExecutionNotifications", notifications)?;
-    Ok(members.whole())
+    members.flag("executionSuccessful", true);
+    members.made("toolExecutionNotifications", notifications.whole());
+    members.whole()
+}
+
+// The calls of the tool.
+fn invocations(alloc: Global, notifications: Items) -> Result<Value, NoMemory> {
+    let mut list = Items::new(alloc);
+    list.made(invocation(alloc, notifications));
+    list.whole()
 }
 
 // The run of the tool.
 fn run(
     alloc: Global,
-    results: Vec<Value>,
-    notifications: Vec<Value>,
+    results: Items,
+    notifications: Items,
     version: &str,
 ) -> Result<Value, NoMemory> {
-    let mut invocations = Vec::new(alloc);
-    invocations.push(invocation(alloc, notifications)?)?;
     let mut members = Members::new(alloc);
-    members.value("tool", tool(alloc, version)?)?;
-    members.text("columnKind", b"unicodeCodePoints")?;
-    members.list("invocations", invocations)?;
-    members.list("results", results)?;
-    Ok(members.whole())
+    members.made("tool", tool(alloc, version));
+    members.text("columnKind", b"unicodeCodePoints");
+    members.made("invocations", invocations(alloc, notifications));
+    members.made("results", results.whole());
+    members.whole()
+}
+
+// The log of one run.
+fn log_of(alloc: Global, runs: Items) -> Result<Value, NoMemory> {
+    let mut members = Members::new(alloc);
+    members.text("$schema", SCHEMA);
+    members.text("version", b"2.1.0");
+    members.made("runs", runs.whole());
+    members.whole()
 }
 
 /// The results and the notifications as a SARIF 2.1.0 log; the version is that of the program.
 pub fn sarif_of(
     alloc: Global,
-    results: Vec<Value>,
-    notifications: Vec<Value>,
+    results: Items,
+    notifications: Items,
     version: &str,
 ) -> Result<Vec<u8>, NoMemory> {
-    let mut runs = Vec::new(alloc);
-    runs.push(run(alloc, results, notifications, version)?)?;
-    let mut members = Members::new(alloc);
-    members.text("$schema", SCHEMA)?;
-    members.text("version", b"2.1.0")?;
-    members.list("runs", runs)?;
-    document(alloc, &members.whole())
+    let mut runs = Items::new(alloc);
+    runs.made(run(alloc, results, notifications, version));
+    document(alloc, &log_of(alloc, runs)?)
 }

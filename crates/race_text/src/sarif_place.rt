@@ -1,8 +1,8 @@
 // Where statements stand, as SARIF has it: files by their URIs, columns by code points.
 
 use crate::difference::Subject;
-use crate::members::Members;
-use crate::pieces::{put_cut, put_number};
+use crate::members::{Items, Members};
+use crate::pieces::{Piece, put, put_all};
 use crate::sarif::message;
 use crate::statements::{SOURCE, put_verbs};
 use basis::NoMemory;
@@ -14,8 +14,8 @@ use vsrc::Place;
 /// The location of a result, and those that go with it.
 #[derive(Drop)]
 pub struct Locations {
-    pub first: Vec<Value>,
-    pub others: Vec<Value>,
+    pub first: Items,
+    pub others: Items,
 }
 
 // A digit of an escape in a URI.
@@ -65,20 +65,27 @@ fn code_points(bytes: &[u8]) -> u64 {
 fn region(alloc: Global, subject: Subject<'_>, place: Place) -> Result<Value, NoMemory> {
     let before = subject.sources.before(place);
     let mut members = Members::new(alloc);
-    members.number("startLine", place.line as u64)?;
-    members.number("startColumn", code_points(before).saturating_add(1))?;
-    Ok(members.whole())
+    members.number("startLine", place.line as u64);
+    members.number("startColumn", code_points(before).saturating_add(1));
+    members.whole()
+}
+
+// A file.
+fn artifact(alloc: Global, name: &str) -> Result<Value, NoMemory> {
+    let mut members = Members::new(alloc);
+    members.made_text("uri", uri_of(alloc, name.as_bytes()));
+    members.whole()
 }
 
 // A place of a file.
 fn physical(alloc: Global, subject: Subject<'_>, place: Place) -> Result<Value, NoMemory> {
-    let name = subject.sources.name(place.file);
-    let mut artifact = Members::new(alloc);
-    artifact.text("uri", &uri_of(alloc, name.as_bytes())?)?;
     let mut members = Members::new(alloc);
-    members.value("artifactLocation", artifact.whole())?;
-    members.value("region", region(alloc, subject, place)?)?;
-    Ok(members.whole())
+    members.made(
+        "artifactLocation",
+        artifact(alloc, subject.sources.name(place.file)),
+    );
+    members.made("region", region(alloc, subject, place));
+    members.whole()
 }
 
 // A place, with what is said of it. Each has a number of its own.
@@ -90,25 +97,24 @@ fn location(
     text: &[u8],
 ) -> Result<Value, NoMemory> {
     let mut members = Members::new(alloc);
-    members.number("id", number)?;
-    members.value("physicalLocation", physical(alloc, subject, place)?)?;
-    members.value("message", message(alloc, text)?)?;
-    Ok(members.whole())
+    members.number("id", number);
+    members.made("physicalLocation", physical(alloc, subject, place));
+    members.made("message", message(alloc, text));
+    members.whole()
 }
 
 // Puts the place of the action, if it is known, with what is said of it.
 fn push_location(
     alloc: Global,
-    list: &mut Vec<Value>,
+    list: &mut Items,
     subject: Subject<'_>,
     action: usize,
     number: u64,
     text: &[u8],
-) -> Result<(), NoMemory> {
+) {
     if let Some(place) = subject.sources.place(action) {
-        list.push(location(alloc, subject, place, number, text)?)?;
+        list.made(location(alloc, subject, place, number, text));
     }
-    Ok(())
 }
 
 // The place of an action, if it is known.
@@ -116,54 +122,66 @@ fn place_of(subject: Subject<'_>, action: Option<usize>) -> Option<Place> {
     subject.sources.place(action?)
 }
 
-/// Where no two statements are known: the place of the action that ends the run or, where that isn't known, the first line of the first
-/// file, as code hosts ask for a place.
-pub fn location_of_end(alloc: Global, subject: Subject<'_>) -> Result<Vec<Value>, NoMemory> {
-    let mut list = Vec::new(alloc);
+// The place of the action that ends the run or, where that isn't known, the first line of the first file.
+fn place_of_end(alloc: Global, subject: Subject<'_>) -> Result<Value, NoMemory> {
     let first = Place {
         file: 1,
         line: 1,
         column: 0,
     };
-    list.push(match place_of(subject, subject.facts.ending) {
+    match place_of(subject, subject.facts.ending) {
         None => location(
             alloc,
             subject,
             first,
             1,
             b"which statements race was not found",
-        )?,
-        Some(place) => location(alloc, subject, place, 1, b"ends the run")?,
-    })?;
-    Ok(list)
+        ),
+        Some(place) => location(alloc, subject, place, 1, b"ends the run"),
+    }
+}
+
+/// Where no two statements are known: the place of the action that ends the run or, where that isn't known, the first line of the first
+/// file, as code hosts ask for a place.
+pub fn location_of_end(alloc: Global, subject: Subject<'_>) -> Result<Value, NoMemory> {
+    let mut list = Items::new(alloc);
+    list.made(place_of_end(alloc, subject));
+    list.whole()
+}
+
+// What the statement does to what both touch.
+fn verbs(
+    alloc: Global,
+    subject: Subject<'_>,
+    cause: &Cause,
+    blamed: &Blamed,
+) -> Result<Vec<u8>, NoMemory> {
+    let mut verbs = Vec::new(alloc);
+    let things = cause.things.as_slice();
+    put_verbs(&mut verbs, subject.machine.design(), blamed, things)?;
+    Ok(verbs)
 }
 
 // Puts a statement into the first list and, where it drives a port connection or an `assign`, that one into the second.
 fn push_statement(
     alloc: Global,
-    statements: &mut Vec<Value>,
-    connections: &mut Vec<Value>,
+    statements: &mut Items,
+    connections: &mut Items,
     subject: Subject<'_>,
     cause: &Cause,
     blamed: &Blamed,
     number: u64,
 ) -> Result<(), NoMemory> {
-    let mut verbs = Vec::new(alloc);
-    let things = cause.things.as_slice();
-    put_verbs(&mut verbs, subject.machine.design(), blamed, things)?;
-    if blamed.statement == blamed.place {
-        return push_location(alloc, statements, subject, blamed.statement, number, &verbs);
+    let verbs = verbs(alloc, subject, cause, blamed)?;
+    let (statement, place) = (blamed.statement, blamed.place);
+    if statement == place {
+        push_location(alloc, statements, subject, statement, number, &verbs);
+    } else {
+        let (drives, next) = (b"drives a connection", number.saturating_add(1));
+        push_location(alloc, statements, subject, statement, number, drives);
+        push_location(alloc, connections, subject, place, next, &verbs);
     }
-    push_location(
-        alloc,
-        statements,
-        subject,
-        blamed.statement,
-        number,
-        b"drives a connection",
-    )?;
-    let next = number.saturating_add(1);
-    push_location(alloc, connections, subject, blamed.place, next, &verbs)
+    Ok(())
 }
 
 /// The place of the statement that comes first in the parent's run; and those of the other one, and of connections between them.
@@ -172,40 +190,28 @@ pub fn locations_of(
     subject: Subject<'_>,
     cause: &Cause,
 ) -> Result<Locations, NoMemory> {
-    let (mut first, mut others) = (Vec::new(alloc), Vec::new(alloc));
-    let mut ways = Vec::new(alloc);
-    push_statement(
-        alloc,
-        &mut first,
-        &mut ways,
-        subject,
-        cause,
-        &cause.second,
-        1,
-    )?;
-    push_statement(
-        alloc,
-        &mut others,
-        &mut ways,
-        subject,
-        cause,
-        &cause.first,
-        3,
-    )?;
-    for way in ways {
-        others.push(way)?;
-    }
+    let (mut first, mut others) = (Items::new(alloc), Items::new(alloc));
+    let mut ways = Items::new(alloc);
+    let (earlier, later) = (&cause.second, &cause.first);
+    push_statement(alloc, &mut first, &mut ways, subject, cause, earlier, 1)?;
+    push_statement(alloc, &mut others, &mut ways, subject, cause, later, 3)?;
+    others.append(ways);
     Ok(Locations { first, others })
 }
 
 // `late.v:3`, if the place of the action is known.
 fn put_line(text: &mut Vec<u8>, subject: Subject<'_>, action: usize) -> Result<(), NoMemory> {
-    if let Some(place) = subject.sources.place(action) {
-        text.extend_from_slice(subject.sources.name(place.file).as_bytes())?;
-        text.push(b':')?;
-        put_number(text, place.line as u64)?;
+    match subject.sources.place(action) {
+        None => Ok(()),
+        Some(place) => put_all(
+            text,
+            &[
+                Piece::Bytes(subject.sources.name(place.file).as_bytes()),
+                Piece::Bytes(b":"),
+                Piece::Number(place.line as u64),
+            ],
+        ),
     }
-    Ok(())
 }
 
 /// What the statement does: `late.v:3 writes tb.a`; by a connection `late.v:3 through late.v:5 writes tb.u.a`.
@@ -217,10 +223,10 @@ pub fn put_deeds(
 ) -> Result<(), NoMemory> {
     put_line(text, subject, blamed.statement)?;
     if blamed.statement != blamed.place {
-        text.extend_from_slice(b" through ")?;
+        put(text, b" through ")?;
         put_line(text, subject, blamed.place)?;
     }
-    text.push(b' ')?;
+    put(text, b" ")?;
     let things = cause.things.as_slice();
     put_verbs(text, subject.machine.design(), blamed, things)
 }
@@ -233,10 +239,15 @@ fn put_known_by(
     blamed: &Blamed,
 ) -> Result<(), NoMemory> {
     if let Some(place) = subject.sources.place(blamed.statement) {
-        text.extend_from_slice(subject.sources.name(place.file).as_bytes())?;
-        text.extend_from_slice(b": ")?;
-        put_cut(text, subject.sources.source(place).trim_ascii_end(), SOURCE)?;
-        text.push(b' ')?;
+        put_all(
+            text,
+            &[
+                Piece::Bytes(subject.sources.name(place.file).as_bytes()),
+                Piece::Bytes(b": "),
+                Piece::Cut(subject.sources.source(place).trim_ascii_end(), SOURCE),
+                Piece::Bytes(b" "),
+            ],
+        )?;
     }
     let things = cause.things.as_slice();
     put_verbs(text, subject.machine.design(), blamed, things)
@@ -256,7 +267,6 @@ pub fn fingerprint(
     } else {
         (other, one)
     };
-    text.extend_from_slice(b" | ")?;
-    text.extend_from_slice(&last)?;
+    put_all(&mut text, &[Piece::Bytes(b" | "), Piece::Bytes(&last)])?;
     Ok(text)
 }

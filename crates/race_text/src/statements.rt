@@ -1,7 +1,7 @@
 // The two statements that race: where they stand, what they say, and what they do to what both touch.
 
 use crate::connection::{port_of, put_port};
-use crate::pieces::{put_cut, put_number, put_padded};
+use crate::pieces::{Piece, put, put_all, put_cut};
 use crate::place::Sources;
 use basis::NoMemory;
 use cause::{Actor, Blamed, Cause, Thing};
@@ -71,16 +71,28 @@ pub fn verb(design: &Design, blamed: &Blamed, thing: Thing) -> &'static [u8] {
 }
 
 // The name of a variable; events have none in a design.
-fn put_thing(text: &mut Vec<u8>, design: &Design, thing: Thing) -> Result<(), NoMemory> {
+fn thing_words(design: &Design, thing: Thing) -> &[u8] {
     match thing {
-        Thing::Event(_) => text.extend_from_slice(b"a named event")?,
-        Thing::Variable(number) => {
-            if let Some(variable) = design.variables.get(number as usize) {
-                text.extend_from_slice(&variable.name)?;
-            }
-        }
+        Thing::Event(_) => b"a named event",
+        Thing::Variable(number) => match design.variables.get(number as usize) {
+            None => b"",
+            Some(variable) => &variable.name,
+        },
     }
-    Ok(())
+}
+
+// `writes tb.a`
+fn put_verb(
+    text: &mut Vec<u8>,
+    design: &Design,
+    blamed: &Blamed,
+    thing: Thing,
+) -> Result<(), NoMemory> {
+    let (verb, words) = (verb(design, blamed, thing), thing_words(design, thing));
+    put_all(
+        text,
+        &[Piece::Bytes(verb), Piece::Bytes(b" "), Piece::Bytes(words)],
+    )
 }
 
 // The first thing that isn't this one.
@@ -103,16 +115,12 @@ pub fn put_verbs(
     let Some(first) = things.first() else {
         return Ok(());
     };
-    text.extend_from_slice(verb(design, blamed, *first))?;
-    text.push(b' ')?;
-    put_thing(text, design, *first)?;
+    put_verb(text, design, blamed, *first)?;
     let Some(second) = other_thing(things, *first) else {
         return Ok(());
     };
-    text.extend_from_slice(b", ")?;
-    text.extend_from_slice(verb(design, blamed, second))?;
-    text.push(b' ')?;
-    put_thing(text, design, second)
+    put(text, b", ")?;
+    put_verb(text, design, blamed, second)
 }
 
 // A row of the list of statements: where one stands, what it says, and what it does.
@@ -126,14 +134,18 @@ struct Row {
 // `FILE:LINE:COLUMN`, the column from 1; `-` where that isn't known.
 fn put_place(text: &mut Vec<u8>, sources: &Sources<'_>, action: usize) -> Result<(), NoMemory> {
     let Some(place) = sources.place(action) else {
-        text.push(b'-')?;
-        return Ok(());
+        return put(text, b"-");
     };
-    text.extend_from_slice(sources.name(place.file).as_bytes())?;
-    text.push(b':')?;
-    put_number(text, place.line as u64)?;
-    text.push(b':')?;
-    put_number(text, (place.column as u64).saturating_add(1))
+    put_all(
+        text,
+        &[
+            Piece::Bytes(sources.name(place.file).as_bytes()),
+            Piece::Bytes(b":"),
+            Piece::Number(place.line as u64),
+            Piece::Bytes(b":"),
+            Piece::Number((place.column as u64).saturating_add(1)),
+        ],
+    )
 }
 
 // What stands at the place of an action: a port connection as `.d(q) of u1`, any other as its source.
@@ -181,7 +193,7 @@ fn push_rows(
 ) -> Result<(), NoMemory> {
     let mut row = row_of(alloc, design, sources, blamed.statement)?;
     if blamed.statement != blamed.place {
-        row.verbs.extend_from_slice(b"drives:")?;
+        put(&mut row.verbs, b"drives:")?;
         rows.push(row)?;
         row = row_of(alloc, design, sources, blamed.place)?;
     }
@@ -200,17 +212,27 @@ fn widths_of(rows: &[Row]) -> (usize, usize) {
     (place, source)
 }
 
+// A line for a row, with places and sources so wide.
+fn put_row(text: &mut Vec<u8>, row: &Row, place: usize, source: usize) -> Result<(), NoMemory> {
+    put_all(
+        text,
+        &[
+            Piece::Bytes(b"    "),
+            Piece::Padded(&row.place, place),
+            Piece::Bytes(b"  "),
+            Piece::Padded(&row.source, source),
+            Piece::Bytes(b"  "),
+            Piece::Bytes(&row.verbs),
+            Piece::Bytes(b"\n"),
+        ],
+    )
+}
+
 // A line for each row.
 fn put_rows(text: &mut Vec<u8>, rows: &[Row]) -> Result<(), NoMemory> {
     let (place, source) = widths_of(rows);
     for row in rows {
-        text.extend_from_slice(b"    ")?;
-        put_padded(text, &row.place, place)?;
-        text.extend_from_slice(b"  ")?;
-        put_padded(text, &row.source, source)?;
-        text.extend_from_slice(b"  ")?;
-        text.extend_from_slice(&row.verbs)?;
-        text.push(b'\n')?;
+        put_row(text, row, place, source)?;
     }
     Ok(())
 }
@@ -240,7 +262,7 @@ pub fn put_ending(
     action: usize,
 ) -> Result<(), NoMemory> {
     let mut row = row_of(alloc, design, sources, action)?;
-    row.verbs.extend_from_slice(b"ends the run")?;
+    put(&mut row.verbs, b"ends the run")?;
     let mut rows = Vec::new(alloc);
     rows.push(row)?;
     put_rows(text, &rows)
@@ -253,18 +275,18 @@ fn put_first_place(
     here: Place,
     there: Place,
 ) -> Result<(), NoMemory> {
+    let (line, column) = (here.line as u64, (here.column as u64).saturating_add(1));
     if here.file != there.file {
-        text.extend_from_slice(sources.name(here.file).as_bytes())?;
-        text.push(b':')?;
-        put_number(text, here.line as u64)?;
+        let name = sources.name(here.file).as_bytes();
+        put_all(
+            text,
+            &[Piece::Bytes(name), Piece::Bytes(b":"), Piece::Number(line)],
+        )
     } else if here.line != there.line {
-        text.extend_from_slice(b"line ")?;
-        put_number(text, here.line as u64)?;
+        put_all(text, &[Piece::Bytes(b"line "), Piece::Number(line)])
     } else {
-        text.extend_from_slice(b"column ")?;
-        put_number(text, (here.column as u64).saturating_add(1))?;
+        put_all(text, &[Piece::Bytes(b"column "), Piece::Number(column)])
     }
-    Ok(())
 }
 
 // Which of the two comes first: `line 10`; where both stand in one line `column 24`, where they stand in two files `tb.v:10`; and where
@@ -278,10 +300,9 @@ fn put_first(
 ) -> Result<(), NoMemory> {
     match (sources.place(one.statement), sources.place(other.statement)) {
         (Some(here), Some(there)) if here != there => put_first_place(text, sources, here, there)?,
-        _ => text.extend_from_slice(listed)?,
+        _ => put(text, listed)?,
     }
-    text.extend_from_slice(b" first")?;
-    Ok(())
+    put(text, b" first")
 }
 
 /// That the one comes first which does so in the parent's run.

@@ -2,7 +2,7 @@
 
 use crate::difference::Subject;
 use crate::facts::Facts;
-use crate::pieces::{put_count, put_number};
+use crate::pieces::{Piece, put, put_all, put_count};
 use crate::place::Sources;
 use crate::time::put_time;
 use crate::waived::Waived;
@@ -75,10 +75,11 @@ impl<'a> Findings<'a> {
 
 /// `top tb:`
 pub fn put_top(text: &mut Vec<u8>, findings: &Findings<'_>) -> Result<(), NoMemory> {
-    text.extend_from_slice(b"top ")?;
-    text.extend_from_slice(&findings.machine.design().top)?;
-    text.push(b':')?;
-    Ok(())
+    let top = &findings.machine.design().top;
+    put_all(
+        text,
+        &[Piece::Bytes(b"top "), Piece::Bytes(top), Piece::Bytes(b":")],
+    )
 }
 
 // How many differences there are in all.
@@ -95,17 +96,20 @@ fn put_counts(text: &mut Vec<u8>, groups: &[Group], waived: u64) -> Result<(), N
     let (races, differences) = (groups.len() as u64, difference_count(groups));
     put_count(text, races, b"race")?;
     if differences > races {
-        text.extend_from_slice(b" (")?;
-        put_count(text, differences, b"difference")?;
-        text.push(b')')?;
+        let count = Piece::Count(differences, b"difference");
+        put_all(text, &[Piece::Bytes(b" ("), count, Piece::Bytes(b")")])?;
     }
     if waived > 0 {
-        text.extend_from_slice(b", ")?;
-        put_number(text, waived)?;
-        text.extend_from_slice(b" waived")?;
+        put_all(
+            text,
+            &[
+                Piece::Bytes(b", "),
+                Piece::Number(waived),
+                Piece::Bytes(b" waived"),
+            ],
+        )?;
     }
-    text.push(b'.')?;
-    Ok(())
+    put(text, b".")
 }
 
 // How many races there are; where there is none, and something wasn't looked at, so much is said.
@@ -114,13 +118,11 @@ fn put_found(text: &mut Vec<u8>, findings: &Findings<'_>) -> Result<(), NoMemory
     if !groups.is_empty() {
         return put_counts(text, groups, findings.waived.waived());
     }
-    let words: &[u8] = if findings.is_partial() {
-        b"No race was found in what was looked at."
+    if findings.is_partial() {
+        put(text, b"No race was found in what was looked at.")
     } else {
-        b"No race."
-    };
-    text.extend_from_slice(words)?;
-    Ok(())
+        put(text, b"No race.")
+    }
 }
 
 // That a run was too long.
@@ -132,31 +134,25 @@ fn put_reason(
     reason: RankedReason,
     stopped_by: &'static [u8],
 ) -> Result<(), NoMemory> {
-    let words: &[u8] = match reason {
-        RankedReason::Memory(_) => b"for want of memory (a clock without end needs --until)",
-        RankedReason::Entries => b"by the number of its states",
-        RankedReason::Steps => STEPS,
-        RankedReason::Stopped => {
-            text.extend_from_slice(b"by ")?;
-            stopped_by
-        }
-    };
-    text.extend_from_slice(words)?;
-    Ok(())
+    match reason {
+        RankedReason::Memory(_) => put(
+            text,
+            b"for want of memory (a clock without end needs --until)",
+        ),
+        RankedReason::Entries => put(text, b"by the number of its states"),
+        RankedReason::Steps => put(text, STEPS),
+        RankedReason::Stopped => put_all(text, &[Piece::Bytes(b"by "), Piece::Bytes(stopped_by)]),
+    }
 }
 
 // How far the search came.
 fn put_closed(text: &mut Vec<u8>, machine: &Machine, closed: Option<u64>) -> Result<(), NoMemory> {
     match closed {
-        None => {
-            text.extend_from_slice(b": nothing was looked at whole")?;
-            Ok(())
-        }
+        None => put(text, b": nothing was looked at whole"),
         Some(time) => {
-            text.extend_from_slice(b": everything up to ")?;
+            put(text, b": everything up to ")?;
             put_time(text, machine, time)?;
-            text.extend_from_slice(b" was looked at")?;
-            Ok(())
+            put(text, b" was looked at")
         }
     }
 }
@@ -170,48 +166,60 @@ pub fn put_seen(text: &mut Vec<u8>, findings: &Findings<'_>) -> Result<(), NoMem
         ..
     } = *findings;
     if let RankedStatus::Cut(reason) = races.search.status {
-        text.extend_from_slice(b" The search was cut ")?;
+        put(text, b" The search was cut ")?;
         put_reason(text, reason, told.stopped_by)?;
         return put_closed(text, machine, races.search.closed);
     }
-    text.extend_from_slice(b" Nothing was missed within ")?;
-    put_count(text, u64::from(told.departures), b"departure")?;
-    if races.cut_runs {
-        text.extend_from_slice(b" up to ")?;
-        put_time(text, machine, machine.until())?;
-        text.extend_from_slice(b", where --until cut runs: what comes later was not seen")?;
-    } else {
-        text.extend_from_slice(b", up to the end of all runs")?;
+    let departures = Piece::Count(u64::from(told.departures), b"departure");
+    put_all(
+        text,
+        &[Piece::Bytes(b" Nothing was missed within "), departures],
+    )?;
+    if !races.cut_runs {
+        return put(text, b", up to the end of all runs");
     }
-    Ok(())
+    put(text, b" up to ")?;
+    put_time(text, machine, machine.until())?;
+    put(
+        text,
+        b", where --until cut runs: what comes later was not seen",
+    )
 }
 
 // ` (17 states, 0.01 s).`
 fn put_cost(text: &mut Vec<u8>, told: &Told) -> Result<(), NoMemory> {
-    text.extend_from_slice(b" (")?;
-    put_count(text, told.states, b"state")?;
-    text.extend_from_slice(b", ")?;
-    put_number(text, told.milliseconds / 1_000)?;
-    text.push(b'.')?;
-    let hundredths = told.milliseconds % 1_000 / 10;
-    if hundredths < 10 {
-        text.push(b'0')?;
-    }
-    put_number(text, hundredths)?;
-    text.extend_from_slice(b" s).\n")?;
-    Ok(())
+    let (seconds, hundredths) = (told.milliseconds / 1_000, told.milliseconds % 1_000 / 10);
+    let point: &[u8] = if hundredths < 10 { b".0" } else { b"." };
+    put_all(
+        text,
+        &[
+            Piece::Bytes(b" ("),
+            Piece::Count(told.states, b"state"),
+            Piece::Bytes(b", "),
+            Piece::Number(seconds),
+            Piece::Bytes(point),
+            Piece::Number(hundredths),
+            Piece::Bytes(b" s).\n"),
+        ],
+    )
 }
 
 /// What a waiver matched: `waiver at line 3 matched 1 race`, or `nothing`.
 pub fn put_matched(text: &mut Vec<u8>, waiver: &Waiver<'_>, count: u64) -> Result<(), NoMemory> {
-    text.extend_from_slice(b"waiver at line ")?;
-    put_number(text, waiver.line)?;
-    text.extend_from_slice(b" matched ")?;
-    if count == 0 {
-        text.extend_from_slice(b"nothing")?;
-        return Ok(());
-    }
-    put_count(text, count, b"race")
+    let matched = if count == 0 {
+        Piece::Bytes(b"nothing")
+    } else {
+        Piece::Count(count, b"race")
+    };
+    put_all(
+        text,
+        &[
+            Piece::Bytes(b"waiver at line "),
+            Piece::Number(waiver.line),
+            Piece::Bytes(b" matched "),
+            matched,
+        ],
+    )
 }
 
 /// The number at this place of what waivers matched.
@@ -227,7 +235,7 @@ pub fn put_waivers(
 ) -> Result<(), NoMemory> {
     for (place, waiver) in waivers.iter().enumerate() {
         put_matched(text, waiver, matched_at(matched, place))?;
-        text.push(b'\n')?;
+        put(text, b"\n")?;
     }
     Ok(())
 }
@@ -238,11 +246,15 @@ fn put_ignored(text: &mut Vec<u8>, findings: &Findings<'_>) -> Result<(), NoMemo
     if ignored == 0 {
         return Ok(());
     }
-    put_count(text, ignored, b"difference")?;
-    text.extend_from_slice(b" before ")?;
+    put_all(
+        text,
+        &[
+            Piece::Count(ignored, b"difference"),
+            Piece::Bytes(b" before "),
+        ],
+    )?;
     put_time(text, findings.machine, findings.told.from)?;
-    text.extend_from_slice(b" passed over.\n")?;
-    Ok(())
+    put(text, b" passed over.\n")
 }
 
 /// What was passed over, how many races there are, and what wasn't looked at.

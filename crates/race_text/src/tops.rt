@@ -1,13 +1,14 @@
 // What is told of top modules, one after another, in one format.
 
 use crate::json::{json_of, top_of};
+use crate::members::Items;
+use crate::pieces::put;
 use crate::sarif::{push_results, push_unmatched, push_unseen, sarif_of};
 use crate::summary::{Findings, matched_at, put_top, put_waivers};
 use crate::waived::Waived;
 use crate::waivers::Waiver;
 use crate::whole::put_races;
 use basis::NoMemory;
-use serde_json::Value;
 use std::alloc::Global;
 
 /// How races are written.
@@ -28,8 +29,8 @@ pub struct Tops<'w> {
     waivers: &'w [Waiver<'w>],
     matched: Vec<u64>,
     text: Vec<u8>,
-    values: Vec<Value>,
-    notifications: Vec<Value>,
+    values: Items,
+    notifications: Items,
 }
 
 // What waivers matched so far, and matched now.
@@ -61,8 +62,8 @@ impl<'w> Tops<'w> {
             waivers,
             matched: Vec::new(alloc),
             text: Vec::new(alloc),
-            values: Vec::new(alloc),
-            notifications: Vec::new(alloc),
+            values: Items::new(alloc),
+            notifications: Items::new(alloc),
         }
     }
 
@@ -70,7 +71,7 @@ impl<'w> Tops<'w> {
     fn put_part(&mut self, findings: &Findings<'_>) -> Result<(), NoMemory> {
         if self.is_headed {
             put_top(&mut self.text, findings)?;
-            self.text.push(b'\n')?;
+            put(&mut self.text, b"\n")?;
         }
         put_races(self.alloc, &mut self.text, findings)
     }
@@ -81,7 +82,7 @@ impl<'w> Tops<'w> {
         match self.format {
             Format::Text => self.put_part(findings),
             Format::Json => {
-                self.values.push(top_of(self.alloc, findings)?)?;
+                self.values.made(top_of(self.alloc, findings));
                 Ok(())
             }
             Format::Sarif => {
@@ -91,7 +92,8 @@ impl<'w> Tops<'w> {
                     &mut self.notifications,
                     findings,
                     self.is_headed,
-                )
+                );
+                Ok(())
             }
         }
     }
@@ -115,7 +117,7 @@ impl<'w> Tops<'w> {
             }
             Format::Json => json_of(alloc, values, waivers, &matched),
             Format::Sarif => {
-                push_unmatched(alloc, &mut notifications, waivers, &matched)?;
+                push_unmatched(alloc, &mut notifications, waivers, &matched);
                 sarif_of(alloc, values, notifications, version)
             }
         }

@@ -1,8 +1,8 @@
 // Waivers of what was found, as a file that `--waive` reads.
 
 use crate::apart::apart_of;
-use crate::difference::put_variable;
-use crate::pieces::put_number;
+use crate::difference::name_of;
+use crate::pieces::{Piece, put, put_all};
 use crate::place::Sources;
 use crate::summary::Findings;
 use basis::NoMemory;
@@ -28,9 +28,8 @@ fn put_spot(text: &mut Vec<u8>, sources: &Sources<'_>, blamed: &Blamed) -> Resul
         return Ok(false);
     };
     let name = sources.name(place.file).as_bytes();
-    text.extend_from_slice(name)?;
-    text.push(b':')?;
-    put_number(text, place.line as u64)?;
+    let line = Piece::Number(place.line as u64);
+    put_all(text, &[Piece::Bytes(name), Piece::Bytes(b":"), line])?;
     Ok(is_word(name))
 }
 
@@ -42,9 +41,9 @@ fn line_of_cause(
 ) -> Result<Option<Vec<u8>>, NoMemory> {
     let mut line = Vec::new(alloc);
     let one = put_spot(&mut line, sources, &cause.second)?;
-    line.push(b' ')?;
+    put(&mut line, b" ")?;
     let other = put_spot(&mut line, sources, &cause.first)?;
-    line.extend_from_slice(b" # todo")?;
+    put(&mut line, b" # todo")?;
     Ok(if one && other { Some(line) } else { None })
 }
 
@@ -60,15 +59,19 @@ fn line_of_ends(
     let Some((number, others)) = apart.variables.split_first() else {
         return Ok(None);
     };
-    let mut name = Vec::new(alloc);
-    put_variable(&mut name, machine.design(), *number)?;
-    if apart.in_end || apart.in_lines || !others.is_empty() || !is_word(&name) {
+    let name = name_of(machine.design(), *number);
+    if apart.in_end || apart.in_lines || !others.is_empty() || !is_word(name) {
         return Ok(None);
     }
     let mut line = Vec::new(alloc);
-    line.extend_from_slice(b"variable ")?;
-    line.extend_from_slice(&name)?;
-    line.extend_from_slice(b" # todo")?;
+    put_all(
+        &mut line,
+        &[
+            Piece::Bytes(b"variable "),
+            Piece::Bytes(name),
+            Piece::Bytes(b" # todo"),
+        ],
+    )?;
     Ok(Some(line))
 }
 
@@ -88,11 +91,16 @@ fn waiver_line(
 // The remark that stands for a waiver of the group, where none can be written.
 fn remark(alloc: Global, findings: &Findings<'_>, number: u64) -> Result<Vec<u8>, NoMemory> {
     let mut line = Vec::new(alloc);
-    line.extend_from_slice(b"# race ")?;
-    put_number(&mut line, number)?;
-    line.extend_from_slice(b" of ")?;
-    line.extend_from_slice(&findings.machine.design().top)?;
-    line.extend_from_slice(b" has no two lines that a waiver can name")?;
+    put_all(
+        &mut line,
+        &[
+            Piece::Bytes(b"# race "),
+            Piece::Number(number),
+            Piece::Bytes(b" of "),
+            Piece::Bytes(&findings.machine.design().top),
+            Piece::Bytes(b" has no two lines that a waiver can name"),
+        ],
+    )?;
     Ok(line)
 }
 
@@ -155,8 +163,7 @@ impl WaiverLines {
         let WaiverLines { alloc, lines } = self;
         let mut text = Vec::new(alloc);
         for line in lines {
-            text.extend_from_slice(&line)?;
-            text.push(b'\n')?;
+            put_all(&mut text, &[Piece::Bytes(&line), Piece::Bytes(b"\n")])?;
         }
         Ok(text)
     }

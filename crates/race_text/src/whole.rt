@@ -3,10 +3,10 @@
 use crate::apart::Foremost;
 use crate::command::behind_log;
 use crate::difference::{
-    Row, Subject, cause_words, end_in, put_difference, put_name, put_sides, put_variable, rows_of,
+    Row, Subject, cause_words, end_in, name_of, put_difference, put_name, put_sides, rows_of,
 };
 use crate::facts::Facts;
-use crate::pieces::{put_count, put_cut, put_number};
+use crate::pieces::{Piece, put, put_all};
 use crate::statements::{put_ending, put_statements};
 use crate::summary::{Findings, NAMED, Told, put_summary};
 use crate::time::put_time;
@@ -28,10 +28,7 @@ fn put_cause(alloc: Global, text: &mut Vec<u8>, subject: Subject<'_>) -> Result<
     match (&group.cause, facts.ending) {
         (Some(cause), _) => put_statements(alloc, text, machine.design(), sources, cause),
         (None, Some(action)) => put_ending(alloc, text, machine.design(), sources, action),
-        (None, None) => {
-            text.extend_from_slice(b"    which statements race was not found\n")?;
-            Ok(())
-        }
+        (None, None) => put(text, b"    which statements race was not found\n"),
     }
 }
 
@@ -41,9 +38,9 @@ fn put_slot(text: &mut Vec<u8>, subject: Subject<'_>) -> Result<(), NoMemory> {
         return Ok(());
     };
     if slot != subject.group.first.time(subject.machine) {
-        text.extend_from_slice(b"    both at ")?;
+        put(text, b"    both at ")?;
         put_time(text, subject.machine, slot)?;
-        text.push(b'\n')?;
+        put(text, b"\n")?;
     }
     Ok(())
 }
@@ -51,7 +48,7 @@ fn put_slot(text: &mut Vec<u8>, subject: Subject<'_>) -> Result<(), NoMemory> {
 // The first names, in one line.
 fn put_names(text: &mut Vec<u8>, machine: &Machine, names: &[Name]) -> Result<(), NoMemory> {
     for (place, name) in names.iter().take(NAMED).enumerate() {
-        text.extend_from_slice(joint(place))?;
+        put(text, joint(place))?;
         put_name(text, machine, name)?;
     }
     Ok(())
@@ -65,9 +62,9 @@ fn joint(place: usize) -> &'static [u8] {
 // All names, a line each.
 fn put_all_names(text: &mut Vec<u8>, machine: &Machine, names: &[Name]) -> Result<(), NoMemory> {
     for name in names {
-        text.extend_from_slice(b"        ")?;
+        put(text, b"        ")?;
         put_name(text, machine, name)?;
-        text.push(b'\n')?;
+        put(text, b"\n")?;
     }
     Ok(())
 }
@@ -82,17 +79,18 @@ fn put_more(
     if group.more == 0 {
         return Ok(());
     }
-    text.extend_from_slice(b"    and ")?;
-    put_count(text, group.more, b"more difference")?;
-    text.extend_from_slice(b", up to ")?;
+    let more = Piece::Count(group.more, b"more difference");
+    put_all(
+        text,
+        &[Piece::Bytes(b"    and "), more, Piece::Bytes(b", up to ")],
+    )?;
     put_time(text, machine, group.last)?;
     if all {
-        text.push(b'\n')?;
+        put(text, b"\n")?;
         return put_all_names(text, machine, &group.next);
     }
     put_names(text, machine, &group.next)?;
-    text.push(b'\n')?;
-    Ok(())
+    put(text, b"\n")
 }
 
 // The names of the first variables, in one line.
@@ -103,8 +101,13 @@ fn put_variables(
     most: usize,
 ) -> Result<(), NoMemory> {
     for (place, number) in variables.iter().take(most).enumerate() {
-        text.extend_from_slice(joint(place))?;
-        put_variable(text, design, *number)?;
+        put_all(
+            text,
+            &[
+                Piece::Bytes(joint(place)),
+                Piece::Bytes(name_of(design, *number)),
+            ],
+        )?;
     }
     Ok(())
 }
@@ -122,11 +125,10 @@ fn put_others(text: &mut Vec<u8>, subject: Subject<'_>, most: usize) -> Result<(
         Foremost::Lines => b"variable",
         _ => b"more variable",
     };
-    text.extend_from_slice(b"    and ")?;
-    put_count(text, others.len() as u64, word)?;
+    let count = Piece::Count(others.len() as u64, word);
+    put_all(text, &[Piece::Bytes(b"    and "), count])?;
     put_variables(text, subject.machine.design(), others, most)?;
-    text.push(b'\n')?;
-    Ok(())
+    put(text, b"\n")
 }
 
 // How a race at time 0 is mostly cured.
@@ -137,7 +139,8 @@ fn put_start_cure(text: &mut Vec<u8>, subject: Subject<'_>) -> Result<(), NoMemo
         .unwrap_or(subject.group.first.time(subject.machine))
         == 0
     {
-        text.extend_from_slice(
+        put(
+            text,
             b"    at time 0: read it after a delay, as in `#1`, or at an edge that comes later; a value in a declaration is an `initial`, too\n",
         )?;
     }
@@ -146,14 +149,18 @@ fn put_start_cure(text: &mut Vec<u8>, subject: Subject<'_>) -> Result<(), NoMemo
 
 // How ends that differ in their slot alone are cured.
 fn put_end_cure(text: &mut Vec<u8>, word: &[u8]) -> Result<(), NoMemory> {
-    text.extend_from_slice(b"    ")?;
-    text.extend_from_slice(word)?;
-    text.extend_from_slice(
-        b" cuts its slot short: what else is to run then, has run or not; put it where nothing else happens, a unit of time later: `#1 ",
-    )?;
-    text.extend_from_slice(word)?;
-    text.extend_from_slice(b"`\n")?;
-    Ok(())
+    put_all(
+        text,
+        &[
+            Piece::Bytes(b"    "),
+            Piece::Bytes(word),
+            Piece::Bytes(
+                b" cuts its slot short: what else is to run then, has run or not; put it where nothing else happens, a unit of time later: `#1 ",
+            ),
+            Piece::Bytes(word),
+            Piece::Bytes(b"`\n"),
+        ],
+    )
 }
 
 // How the race is mostly cured, if that can be said.
@@ -174,10 +181,11 @@ fn put_waiver(text: &mut Vec<u8>, waiver: Option<&Waiver<'_>>) -> Result<(), NoM
     let Some(waiver) = waiver else {
         return Ok(());
     };
-    text.extend_from_slice(b"    waived: ")?;
-    put_cut(text, waiver.reason, usize::MAX)?;
-    text.push(b'\n')?;
-    Ok(())
+    let reason = Piece::Cut(waiver.reason, usize::MAX);
+    put_all(
+        text,
+        &[Piece::Bytes(b"    waived: "), reason, Piece::Bytes(b"\n")],
+    )
 }
 
 // What differs in the race of this place, whether it is waived, and which two statements race.
@@ -189,11 +197,10 @@ fn put_head(
     place: usize,
     rows: &[Row],
 ) -> Result<(), NoMemory> {
-    text.extend_from_slice(b"race ")?;
-    put_number(text, (place as u64).saturating_add(1))?;
-    text.extend_from_slice(b": ")?;
+    let number = Piece::Number((place as u64).saturating_add(1));
+    put_all(text, &[Piece::Bytes(b"race "), number, Piece::Bytes(b": ")])?;
     put_difference(text, subject, rows)?;
-    text.push(b'\n')?;
+    put(text, b"\n")?;
     put_waiver(text, waiver)?;
     put_cause(alloc, text, subject)?;
     put_slot(text, subject)
@@ -246,7 +253,7 @@ pub fn put_races(
     findings: &Findings<'_>,
 ) -> Result<(), NoMemory> {
     for told in groups_texts(alloc, findings)? {
-        text.extend_from_slice(&told)?;
+        put(text, &told)?;
     }
     put_summary(text, findings)
 }

@@ -5,20 +5,12 @@ use basis::NoMemory;
 use sched_core::Space;
 use sched_core::setting::Grain;
 use std::alloc::Global;
-use vhierarchy::elaborate;
-use vlex::tokens;
+use text_read::design_of;
 use vmachine::Machine;
-use vparse::parse;
-use vsrc::expand;
 
 /// The machine of this text in grain process, up to the time 1,000,000; none where it has no design, or memory was refused.
 pub fn machine_of(alloc: Global, text: &[u8]) -> Option<Machine> {
-    let mut files = Vec::new(alloc);
-    files.push(Vec::from_slice(alloc, text).ok()?).ok()?;
-    let source = expand(alloc, &files).ok()?;
-    let found = tokens(alloc, &source).ok()?;
-    let tree = parse(alloc, &found).ok()?;
-    let design = elaborate(alloc, &found, &tree, None, source.timescale()).ok()?;
+    let design = design_of(alloc, Vec::from_slice(alloc, text).ok()?, None)?;
     Machine::new(alloc, design, 1_000_000, Grain::Process).ok()
 }
 

@@ -7,7 +7,8 @@ use Rattle.vbits.specs.declared.bit4.Bit4.TheVariants.{Zero, One, X, Z}
 use Rattle.vbits.specs.Vectors.{Vector}
 use Rattle.value_text.specs.ValueText.{binary, binary_digit}
 use Rattle.vcd_read.specs.Words.{Text}
-use Rattle.vcd_slots.specs.Slots.{extension, letter_of, put_digits, vector_by, vector_of}
+use Rattle.vcd_slots.specs.Slots.{extension, letter_of, put_digits, vector_by, vector_of, whole_vector}
+use Rattle.vcd_slots.proofs.DigitLemmas.{none_counted}
 use Rattle.vcd_text.specs.DumpText.{short_digits}
 use Rattle.vcd_text.specs.Readers.{full_digits, left_fill}
 use Rattle.vcd_text.proofs.ShortLemmas.{digits_back}
@@ -88,9 +89,12 @@ extended width c cs =
 fits : (width c : ℕ) (cs : Text) (v : Vector) → length (binary v) ≡ width → full_digits width (c ∷ cs) ≡ binary v →
     vector_of width (c ∷ cs) ≡ Some (unsigned v)
 fits width c cs v long back =
+    let short : length (c ∷ cs) ≤ width = shorter width (c ∷ cs) (binary v) long back in
+    let none : length (c ∷ cs) - width ≡ 0 = omega arith in
     let letters : (vector_by (width - length (c ∷ cs)) c cs).letters ≡ v.letters =
     sym (extended width c cs) ∙ ap (put_digits []) back ∙ put_reversed v.letters [] ∙ append-nil v.letters in
-    ap (λ (b : Bool). if b then Some (vector_by (width - length (c ∷ cs)) c cs) else None) (le-leb (length (c ∷ cs)) width (shorter width (c ∷ cs) (binary v) long back))
+    ap (whole_vector width) (none_counted (length (c ∷ cs) - width) (c ∷ cs) none)
+    ∙ ap (λ (b : Bool). if b then Some (vector_by (width - length (c ∷ cs)) c cs) else None) (le-leb (length (c ∷ cs)) width short)
     ∙ (λ i. Some (record { letters = letters i; signed = false }))
 
 back_by : (v : Vector) (digits : Text) → length (binary v) ≡ length v.letters → binary v ≡ digits → 0 < length digits → vector_of (length v.letters) (short_digits (binary v)) ≡ Some (unsigned v)

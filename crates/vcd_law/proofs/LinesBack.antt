@@ -1,11 +1,12 @@
 -- The words of the lines of a header.
-use Rattle.std.proofs.Common.{◌≡◌, ℕ, suc, ◌<◌, ◌≤◌, ◌^◌, true, List, [], ◌∷◌, ◌++◌, length, get_or, Option, Some, None, refl, ap, sym, ◌∙◌, subst, inl, inr, arith, append_assoc}
+use Rattle.std.proofs.Common.{◌≡◌, ℕ, suc, ◌<◌, ◌≤◌, ◌^◌, true, List, [], ◌∷◌, ◌++◌, length, get_or, Option, Some, None, refl, ap, sym, ◌∙◌, subst, arith, append_assoc}
 use Rattle.std.specs.Prelude.{codes, decimal, nat_le}
 use Rattle.std.specs.Char.{is_ascii_digit}
 use Rattle.std.specs.Str.{all_ascii_digits}
+use Rattle.std.specs.Str.Parse.{digits_value}
 use Rattle.std.proofs.lemmas.Bool.{leb-true}
 use Rattle.basis.proofs.Bools.{and_left}
-use Rattle.std.proofs.lemmas.Fmt.{decimal_nonempty}
+use Rattle.std.proofs.lemmas.Fmt.{decimal-digits_value, decimal_nonempty}
 use Rattle.basis.specs.declared.timescale.Span.{Span}
 use Rattle.basis.specs.declared.timescale.Count.{Count}
 use Rattle.basis.specs.declared.timescale.Count.TheVariants.{One, Ten, Hundred}
@@ -13,16 +14,18 @@ use Rattle.basis.specs.declared.timescale.Unit.{Unit as TimeUnit}
 use Rattle.basis.specs.declared.timescale.Unit.TheVariants.{Second, Millisecond, Microsecond, Nanosecond, Picosecond, Femtosecond}
 use Rattle.basis.specs.Timescales.{count_number, unit_word}
 use Rattle.basis.proofs.Decimals.{decimal_digits}
+use Rattle.basis.proofs.Digits.{decimal_numerals}
 use Rattle.vdesign.specs.declared.expression.Bounds.{Bounds}
 use Rattle.vdesign.specs.declared.design.Kind.{Kind}
 use Rattle.vdesign.specs.declared.design.Kind.TheVariants.{Reg, Integer, Wire}
 use Rattle.vdesign.specs.Design.{Variable}
 use Rattle.vcd_read.specs.Words.{Text, words_of}
-use Rattle.vcd_read.specs.Declarations.{HaveNoEnd, declared, end_word, Declares, done, note, scope, upscope, variable}
+use Rattle.vcd_read.specs.Timescale.{count_of, spanned, unit_of}
+use Rattle.vcd_read.specs.Declarations.{HaveNoEnd, declared, end_word, Declares, note, scope, timescale, upscope, variable}
 use Rattle.vcd_read.specs.Declarations as declarations
 use Rattle.vcd_text.specs.DumpText.{bounds_text, closings, code, kind_word, line, scope_line, timescale_line, variable_line, variable_lines}
 use Rattle.vcd_law.specs.Headers.{AreNamed, AreSmall, IsNamed, IsWord, Plain, all_seen, inmost, inner, own_name, seen}
-use Rattle.vcd_law.proofs.WordsBack.{plain_code, plain_numbers, plain_word, word_comes}
+use Rattle.vcd_law.proofs.WordsBack.{decimal_is, plain_code, plain_numbers, plain_word, word_comes}
 use Rattle.vcd_law.proofs.PartsBack.{code_some}
 
 -- ---- words
@@ -139,38 +142,46 @@ abbrev pub outer : List Text → List Text
 outer [] = []
 outer (prefix ∷ prefixes) = inmost prefixes ∷ outer prefixes
 
--- the text is declarations that lead from these open scopes to those, and declare these variables
-pub record Leads (old new : List Text) (text : List ℕ) (variables : List declarations.Variable) : Type 0 where
+-- the text is declarations that lead from one unit of times to another, and from these open scopes to those, and declare these variables
+pub record LeadsBy (from to : Option Span) (old new : List Text) (text : List ℕ) (variables : List declarations.Variable) : Type 0 where
   pub words : List Text
   pub are : AreOf text words
-  pub goes_on : (rest : List Text) (more : List declarations.Variable) → Declares (inmost new) (outer new) rest more →
-      Declares (inmost old) (outer old) (words ++ rest) (variables ++ more)
+  pub goes_on : (rest : List Text) (unit : Option Span) (more : List declarations.Variable) → Declares to (inmost new) (outer new) rest unit more →
+      Declares from (inmost old) (outer old) (words ++ rest) unit (variables ++ more)
+
+-- whatever the unit is
+abbrev pub Leads : List Text → List Text → List ℕ → List declarations.Variable → Type 0
+Leads old new text variables = (unit : Option Span) → LeadsBy unit unit old new text variables
 
 pub lead_none : (open_now : List Text) → Leads open_now open_now [] []
-lead_none open_now = record { words = []; are = λ rest. refl; goes_on = λ rest more d. d }
+lead_none open_now unit = record { words = []; are = λ rest. refl; goes_on = λ rest unit more d. d }
 
-pub lead_then : (a b c : List Text) (s t : List ℕ) (us vs : List declarations.Variable) → Leads a b s us → Leads b c t vs → Leads a c (s ++ t) (us ++ vs)
-lead_then a b c s t us vs x y = record {
+pub lead_by : (o p q : Option Span) (a b c : List Text) (s t : List ℕ) (us vs : List declarations.Variable) → LeadsBy o p a b s us → LeadsBy p q b c t vs →
+    LeadsBy o q a c (s ++ t) (us ++ vs)
+lead_by o p q a b c s t us vs x y = record {
   words = x.words ++ y.words;
   are = words_then s t x.words y.words x.are y.are;
-  goes_on = λ rest more d.
-      subst (λ (ws : List Text). Declares (inmost a) (outer a) ws ((us ++ vs) ++ more)) (sym (append_assoc x.words y.words rest))
-      (subst (λ (list : List declarations.Variable). Declares (inmost a) (outer a) (x.words ++ (y.words ++ rest)) list) (sym (append_assoc us vs more))
-      (x.goes_on (y.words ++ rest) (vs ++ more) (y.goes_on rest more d)));
+  goes_on = λ rest unit more d.
+      subst (λ (ws : List Text). Declares o (inmost a) (outer a) ws unit ((us ++ vs) ++ more)) (sym (append_assoc x.words y.words rest))
+      (subst (λ (list : List declarations.Variable). Declares o (inmost a) (outer a) (x.words ++ (y.words ++ rest)) unit list) (sym (append_assoc us vs more))
+      (x.goes_on (y.words ++ rest) unit (vs ++ more) (y.goes_on rest unit more d)));
 }
+
+pub lead_then : (a b c : List Text) (s t : List ℕ) (us vs : List declarations.Variable) → Leads a b s us → Leads b c t vs → Leads a c (s ++ t) (us ++ vs)
+lead_then a b c s t us vs x y unit = lead_by unit unit unit a b c s t us vs (x unit) (y unit)
 
 pub lead_closings : (shut left : List Text) → Leads (shut ++ left) left (closings (length shut)) []
 lead_closings [] left = lead_none left
 lead_closings (prefix ∷ shut) left =
     lead_then (prefix ∷ (shut ++ left)) (shut ++ left) left (line (codes "$upscope $end")) (closings (length shut)) [] []
-    (record {
+    (λ before. record {
       words = codes "$upscope" ∷ end_word ∷ [];
       are = λ rest. refl;
-      goes_on = λ rest more d. upscope (inmost (shut ++ left)) prefix (outer (shut ++ left)) rest more d;
+      goes_on = λ rest unit more d. upscope before unit (inmost (shut ++ left)) prefix (outer (shut ++ left)) rest more d;
     }) (lead_closings shut left)
 
 pub lead_scope : (prefixes : List Text) (name : Text) → IsWord name → Leads prefixes (inner prefixes name ∷ prefixes) (scope_line name) []
-lead_scope prefixes name word =
+lead_scope prefixes name word before =
     let form = word_form name word in
     record {
       words = codes "$scope" ∷ codes "module" ∷ name ∷ end_word ∷ [];
@@ -180,21 +191,23 @@ lead_scope prefixes name word =
           ∙ append_assoc (codes "$scope module " ++ name) (codes " $end") (10 ∷ rest)
           ∙ append_assoc (codes "$scope module ") name (codes " $end" ++ 10 ∷ rest) in
           ap words_of text ∙ ap (λ (ws : List Text). codes "$scope" ∷ codes "module" ∷ ws) (tail_words name form.0 form.1 None form.2 (word_plain name word) tt rest);
-      goes_on = λ rest more d. scope (inmost prefixes) (outer prefixes) (codes "module") name rest more d;
+      goes_on = λ rest unit more d. scope before unit (inmost prefixes) (outer prefixes) (codes "module") name rest more d;
     }
 
 lead_variable : (prefixes : List Text) (n : ℕ) (v : Variable) → IsNamed (inmost prefixes) v → Leads prefixes prefixes (variable_line n v) (seen n v ∷ [])
-lead_variable prefixes n v named = record {
+lead_variable prefixes n v named before = record {
   words = variable_words n v;
   are = variable_of n (inmost prefixes) v named;
-  goes_on = λ rest more d.
+  goes_on = λ rest unit more d.
       let range : List Text = range_words v.bounds in
       let name : inmost prefixes ++ declarations.before_range (own_name v) ≡ v.name = ap (λ (own : Text). inmost prefixes ++ own) named.whole ∙ sym named.name in
-      subst (λ (text : Text). Declares (inmost prefixes) (outer prefixes) (variable_words n v ++ rest) (record { name = text; width = v.length; code = code n } ∷ more)) name
-      (subst (λ (ws : List Text). Declares (inmost prefixes) (outer prefixes) (codes "$var" ∷ kind_word v.kind ∷ decimal v.length ∷ code n ∷ own_name v ∷ ws)
+      subst (λ (text : Text). Declares before (inmost prefixes) (outer prefixes) (variable_words n v ++ rest) unit
+      (record { name = text; width = v.length; code = code n } ∷ more)) name
+      (subst (λ (ws : List Text). Declares before (inmost prefixes) (outer prefixes)
+      (codes "$var" ∷ kind_word v.kind ∷ decimal v.length ∷ code n ∷ own_name v ∷ ws) unit
       (declared (inmost prefixes) (own_name v) v.length (code n) ∷ more)) (sym (append_assoc range (end_word ∷ []) rest))
-      (variable (inmost prefixes) (outer prefixes) (kind_word v.kind) (decimal v.length) (code n) (own_name v) range rest v.length more (named.length, refl)
-      (no_end_range v.bounds) d));
+      (variable before unit (inmost prefixes) (outer prefixes) (kind_word v.kind) (decimal v.length) (code n) (own_name v) range rest v.length more
+      (decimal_is v.length named.length) (no_end_range v.bounds) d));
 }
 
 pub lead_variables : (prefixes : List Text) (n : ℕ) (vs : List Variable) → AreNamed (inmost prefixes) vs → Leads prefixes prefixes (variable_lines n vs) (all_seen n vs)
@@ -206,10 +219,10 @@ lead_variables prefixes n (v ∷ vs) named =
 -- ---- notes
 
 pub lead_version : Leads [] [] (line (codes "$version vrace $end")) []
-lead_version = record {
+lead_version before = record {
   words = codes "$version" ∷ codes "vrace" ∷ end_word ∷ [];
   are = λ rest. refl;
-  goes_on = λ rest more d. note [] [] (codes "$version") (codes "vrace" ∷ []) rest more (inr (inr (inl refl)))
+  goes_on = λ rest unit more d. note before unit [] [] (codes "$version") (codes "vrace" ∷ []) rest more refl
       (λ same. let first : 118 ≡ 36 = ap (λ (w : Text). get_or w 0 0) same in omega arith, tt) d;
 }
 
@@ -242,7 +255,34 @@ count_fine : (count : Count) → get_or (decimal (count_number count)) 0 0 ≡ 3
 count_fine count =
     digits_fine (decimal (count_number count)) (decimal_digits (count_number count) (count_small count)) (decimal_nonempty (count_number count) (count_small count))
 
-pub lead_timescale : (span : Span) → Leads [] [] (timescale_line span) []
+-- the decimal of what digits are worth
+decimal_of : (ds : Text) → all_ascii_digits ds ≡ true → 0 < length ds → (get_or ds 0 0 ≡ 48 → ⊥) → digits_value 10 ds < 2 ^ 64 → decimal (digits_value 10 ds) ≡ ds
+decimal_of ds digits some first small = decimal-digits_value decimal_numerals ds digits some (λ is. absurd (first is)) small
+
+-- its number and its unit are read
+count_back : (count : Count) → count_of (decimal (count_number count)) ≡ Some count
+count_back One =
+    let some : 0 < 1 = omega arith in
+    let small : 1 < 2 ^ 64 = omega arith in
+    ap count_of (decimal_of (49 ∷ []) refl some (λ (first : 49 ≡ 48). omega arith) small)
+count_back Ten =
+    let some : 0 < 2 = omega arith in
+    let small : 10 < 2 ^ 64 = omega arith in
+    ap count_of (decimal_of (49 ∷ 48 ∷ []) refl some (λ (first : 49 ≡ 48). omega arith) small)
+count_back Hundred =
+    let some : 0 < 3 = omega arith in
+    let small : 100 < 2 ^ 64 = omega arith in
+    ap count_of (decimal_of (49 ∷ 48 ∷ 48 ∷ []) refl some (λ (first : 49 ≡ 48). omega arith) small)
+
+unit_back : (unit : TimeUnit) → unit_of (unit_word unit) ≡ Some unit
+unit_back Second = refl
+unit_back Millisecond = refl
+unit_back Microsecond = refl
+unit_back Nanosecond = refl
+unit_back Picosecond = refl
+unit_back Femtosecond = refl
+
+pub lead_timescale : (span : Span) → LeadsBy None (Some span) [] [] (timescale_line span) []
 lead_timescale span =
     let number : Text = decimal (count_number span.count) in
     let word : Text = unit_word span.unit in
@@ -258,6 +298,7 @@ lead_timescale span =
           ∙ append_assoc head word (codes " $end" ++ 10 ∷ rest) in
           ap words_of text ∙ one (word ++ (codes " $end" ++ 10 ∷ rest))
           ∙ ap (λ (ws : List Text). codes "$timescale" ∷ number ∷ ws) (tail_words word fine.2.0 fine.2.1 None fine.2.2 fine.1 tt rest);
-      goes_on = λ rest more d. note [] [] (codes "$timescale") (number ∷ word ∷ []) rest more (inr (inr (inr refl)))
-          (λ same. count_fine span.count (ap (λ (w : Text). get_or w 0 0) same), (λ same. fine.0 (ap (λ (w : Text). get_or w 0 0) same), tt)) d;
+      goes_on = λ rest unit more d. timescale unit [] [] (number ∷ word ∷ []) rest span more
+          (λ same. count_fine span.count (ap (λ (w : Text). get_or w 0 0) same), (λ same. fine.0 (ap (λ (w : Text). get_or w 0 0) same), tt))
+          (λ i. spanned (count_back span.count i) (unit_back span.unit i)) d;
     }

@@ -1,5 +1,5 @@
 -- A dump is read back.
-use Rattle.std.proofs.Common.{◌≡◌, ℕ, zero, suc, ◌+◌, ◌<◌, ◌^◌, Bool, true, false, if◌then◌else◌, List, [], ◌∷◌, ◌++◌, length, take, drop, replicate, refl, ap, sym, ◌∙◌, subst, arith}
+use Rattle.std.proofs.Common.{◌≡◌, ℕ, zero, suc, ◌+◌, ◌<◌, ◌^◌, Bool, true, false, if◌then◌else◌, List, [], ◌∷◌, ◌++◌, Some, None, length, take, drop, replicate, refl, ap, sym, ◌∙◌, subst, arith}
 use Rattle.vdesign.specs.Design.{Variable, Scope, Design}
 use Rattle.vmodel.specs.History.{History}
 use Rattle.vcd_read.specs.Words.{words_of}
@@ -54,7 +54,8 @@ whole_told read design history first later slots nested rise small have =
       words_of text,
       told.0,
       ap (λ (list : List DumpSlot). words_of (dump_of design list history.end.time)) slots ∙ head.1 text,
-      subst (λ (list : List declarations.Variable). Declares [] [] head.0 list) (seen_spread 0 (scope_marks design first.commands) design.scopes design.variables) head.2,
+      subst (λ (list : List declarations.Variable). Declares None [] [] head.0 (Some design.scale.precision) list)
+          (seen_spread 0 (scope_marks design first.commands) design.scopes design.variables) head.2,
       told.1,
       told.2,
       told.3,

@@ -5,10 +5,13 @@ use Rattle.std.specs.Char.{is_ascii_digit, is_ascii_whitespace}
 use Rattle.std.specs.List.{list_all}
 use Rattle.std.specs.Str.{all_ascii_digits}
 use Rattle.std.proofs.lemmas.Bool.{leb-true, lt-leb}
+use Rattle.std.proofs.lemmas.Fmt.{decimal_nonempty, digits_value-decimal}
 use Rattle.std.proofs.lemmas.List.Elements.{All-head, All-tail}
 use Rattle.basis.proofs.Bools.{and_left, and_right}
 use Rattle.basis.proofs.Decimals.{decimal_digits}
+use Rattle.basis.proofs.Digits.{decimal_numerals}
 use Rattle.vcd_read.specs.Words.{Text, closed, words_behind, words_of}
+use Rattle.vcd_read.specs.Numbers.{IsDecimal}
 use Rattle.vcd_read.specs.Commands.{Item, Tells, at, time}
 use Rattle.vcd_read.specs.Telling.{Tell}
 use Rattle.vcd_law.specs.Headers.{Plain}
@@ -83,10 +86,19 @@ pub plain_numbers : (ds : Text) → all_ascii_digits ds ≡ true → Plain ds
 plain_numbers [] h = tt
 plain_numbers (c ∷ cs) h = (low_digit c (and_left (is_ascii_digit c) (all_ascii_digits cs) h), plain_numbers cs (and_right (is_ascii_digit c) (all_ascii_digits cs) h))
 
+-- the decimal of a number is read
+pub decimal_is : (n : ℕ) → n < 2 ^ 64 → IsDecimal (decimal n) n
+decimal_is n small = record {
+  some = decimal_nonempty n small;
+  digits = decimal_digits n small;
+  value = digits_value-decimal decimal_numerals n small;
+  small = small;
+}
+
 pub time_told : (t : ℕ) → t < 2 ^ 64 → TellsText false false (time_line t) (at t ∷ [])
 time_told t small =
     line_of_one false false 35 (decimal t) (at t ∷ []) (omega arith, plain_numbers (decimal t) (decimal_digits t small))
-    (λ rest more d. time (decimal t) t rest more (small, refl) d)
+    (λ rest more d. time (decimal t) t rest more (decimal_is t small) d)
 
 plain_code_digits : (ds : Text) → All IsDigit ds → Plain ds
 plain_code_digits [] all = tt

@@ -75,8 +75,9 @@ seen_in n [] (s ∷ scopes) variables = []
 seen_in n (mark ∷ marks) (s ∷ scopes) variables =
     (if mark then all_seen n (take s.variables variables) else []) ++ seen_in (n + s.variables) marks scopes (drop s.variables variables)
 
--- What is written before the body declares the variables of the scopes that are marked: its words end where the body's begin.
+-- What is written before the body declares the precision as the unit of times, and the variables of the scopes that are marked: its words end
+-- where the body's begin.
 abbrev pub header_read : Type 0
 header_read = (design : Design) (marks : List Bool) → AreNested [] design.scopes design.variables →
     (words : List Text) × ((rest : List ℕ) → words_of (header design marks ++ rest) ≡ words ++ words_of rest)
-    × Declares [] [] words (seen_in 0 marks design.scopes design.variables)
+    × Declares None [] [] words (Some design.scale.precision) (seen_in 0 marks design.scopes design.variables)

@@ -1,5 +1,5 @@
 -- *internal*: A dump is read back.
-use Rattle.std.specs.Prelude.{◌≡◌, ℕ, suc, ◌<◌, ◌^◌, length, Bool, true, false, if◌then◌else◌, List, [], ◌∷◌, ◌++◌, None}
+use Rattle.std.specs.Prelude.{◌≡◌, ℕ, suc, ◌<◌, ◌^◌, length, Bool, true, false, if◌then◌else◌, List, [], ◌∷◌, ◌++◌, Some, None}
 use Rattle.vdesign.specs.Design.{Variable, Design}
 use Rattle.vmodel.specs.History.{History}
 use Rattle.vcd_read.specs.Words.{Text, words_of}
@@ -17,12 +17,13 @@ seen_marked n marks [] = []
 seen_marked n [] (v ∷ vs) = []
 seen_marked n (mark ∷ marks) (v ∷ vs) = if mark then seen n v ∷ seen_marked (suc n) marks vs else seen_marked (suc n) marks vs
 
--- What the dump of a design and a history says, in slots of which the first starts it: its words declare the variables that are selected,
--- and tell items that show each slot's values.
+-- What the dump of a design and a history says, in slots of which the first starts it: its words declare the precision as the unit of times,
+-- and the variables that are selected, and tell items that show each slot's values.
 abbrev pub IsReadBack : Design → History → DumpSlot → List DumpSlot → Type 0
 IsReadBack design history first later =
     (words rest : List Text) × (items : List Item) × (words_of (vcd design history) ≡ words ++ rest)
-    × Declares [] [] words (seen_marked 0 (variable_marks design first.commands) design.variables) × Tells false rest items
+    × Declares None [] [] words (Some design.scale.precision) (seen_marked 0 (variable_marks design first.commands) design.variables)
+    × Tells false rest items
     × DoNotFall None items × ShowSlots (variable_marks design first.commands) items true (first ∷ later)
 
 abbrev pub dump_read : Type 0

@@ -1,36 +1,19 @@
 -- What words tell, word by word: so they tell one list of items.
-use Rattle.std.proofs.Common.{◌≡◌, ℕ, Bool, true, false, if◌then◌else◌, ◌==◌, ◌&&◌, ◌||◌, List, [], ◌∷◌, ◌++◌, refl, ap, sym, ◌∙◌, inl, inr, arith}
+use Rattle.std.proofs.Common.{◌≡◌, ℕ, Bool, true, false, if◌then◌else◌, ◌==◌, ◌||◌, List, [], ◌∷◌, ◌++◌, refl, ap, sym, ◌∙◌, inl, inr}
 use Rattle.std.specs.Prelude.{codes}
+use Rattle.std.specs.Cmp.Lexicographic.{bytes_decides}
+use Rattle.std.specs.Str.{bytes_eq}
 use Rattle.std.specs.Str.Parse.{digits_value}
 use Rattle.std.proofs.lemmas.Bool.{cases_Bool}
-use Rattle.std.proofs.lemmas.Bool.Decides.{nat_tests}
-use Rattle.std.proofs.lemmas.Fmt.{digits_value-decimal}
-use Rattle.basis.proofs.Bools.{and_left, and_right}
-use Rattle.basis.proofs.Digits.{decimal_numerals}
-use Rattle.basis.specs.Numerals.{IsNumber}
 use Rattle.vcd_read.specs.Words.{Text}
 use Rattle.vcd_read.specs.Declarations.{HaveNoEnd, IsNoEnd, end_word}
 use Rattle.vcd_read.specs.Commands.{Item, at, value, off, on, Tells, done, time, bit, vector, real, comment, vars, all, stops, goes_on, ends, IsReal, IsVector, is_digit}
 
-abbrev pub same_text : Text → Text → Bool
-same_text [] [] = true
-same_text (c ∷ cs) (d ∷ ds) = c == d && same_text cs ds
-same_text _ _ = false
-
-same_when : (c d : ℕ) → (c == d) ≡ true → c ≡ d
-same_when c d h = grind (arith, nat_tests)
-
-same_is : (a b : Text) → same_text a b ≡ true → a ≡ b
-same_is [] [] h = refl
-same_is [] (d ∷ ds) h = absurd cc
-same_is (c ∷ cs) [] h = absurd cc
-same_is (c ∷ cs) (d ∷ ds) h = λ i. same_when c d (and_left _ _ h) i ∷ same_is cs ds (and_right _ _ h) i
-
-pub no_end : (word : Text) → IsNoEnd word → same_text word end_word ≡ false
-no_end word not_end = elim (cases_Bool (same_text word end_word)) [ inl same ↦ absurd (not_end (same_is word end_word same)) | inr other ↦ other ]
-
-pub number_is : (digits : Text) (n : ℕ) → IsNumber digits n → digits_value 10 digits ≡ n
-number_is digits n number = ap (digits_value 10) number.1 ∙ digits_value-decimal decimal_numerals n number.0
+pub no_end : (word : Text) → IsNoEnd word → bytes_eq word end_word ≡ false
+no_end word not_end = elim (cases_Bool (bytes_eq word end_word)) [
+  | inl same ↦ absurd (not_end ((bytes_decides word end_word).0 same))
+  | inr other ↦ other
+]
 
 -- what comes next: a command or a value, the code of digits, that of a real number, or words of a comment
 data Mode : Type 0 where
@@ -45,22 +28,22 @@ opened (c ∷ cs) =
     if is_digit c then free
     else if c == 98 || c == 66 then coded cs
     else if c == 114 || c == 82 then passed
-    else if same_text (c ∷ cs) (codes "$comment") then noted
+    else if bytes_eq (c ∷ cs) (codes "$comment") then noted
     else free
 
 abbrev mode_after : Mode → Text → Mode
 mode_after free word = opened word
 mode_after (coded digits) word = free
 mode_after passed word = free
-mode_after noted word = if same_text word end_word then free else noted
+mode_after noted word = if bytes_eq word end_word then free else noted
 
 abbrev begun : Text → List Item
 begun [] = []
 begun (c ∷ cs) =
     if is_digit c then value cs (c ∷ []) ∷ []
     else if c == 35 then at (digits_value 10 cs) ∷ []
-    else if same_text (c ∷ cs) (codes "$dumpoff") then off ∷ []
-    else if same_text (c ∷ cs) (codes "$dumpon") then on ∷ []
+    else if bytes_eq (c ∷ cs) (codes "$dumpoff") then off ∷ []
+    else if bytes_eq (c ∷ cs) (codes "$dumpon") then on ∷ []
     else []
 
 abbrev told_by : Mode → Text → List Item
@@ -93,7 +76,7 @@ real_told letter number code rest (inr is) = rw is
 told_is : (inside : Bool) (words : List Text) (items : List Item) → Tells inside words items → told free words ≡ items
 told_is inside words items done = refl
 told_is inside words items (time digits t rest more number d) =
-    λ i. at (number_is digits t number i) ∷ told_is false rest more d i
+    λ i. at (number.value i) ∷ told_is false rest more d i
 told_is inside words items (bit _ digit code rest more is d) =
     bit_told digit code rest is ∙ ap (λ (list : List Item). value code (digit ∷ []) ∷ list) (told_is inside rest more d)
 told_is inside words items (vector _ letter digits code rest more is are d) =

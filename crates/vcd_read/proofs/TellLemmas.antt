@@ -2,13 +2,13 @@
 use Rattle.std.proofs.Common.{◌≡◌, ℕ, Bool, true, false, List, [], ◌∷◌, ◌++◌, sym, subst, append_assoc, append-nil}
 use Rattle.std.specs.Prelude.{codes}
 use Rattle.std.specs.List.{list_all}
-use Rattle.basis.specs.Numerals.{IsNumber}
 use Rattle.vcd_read.specs.Words.{Text}
+use Rattle.vcd_read.specs.Numbers.{IsDecimal}
 use Rattle.vcd_read.specs.Declarations.{HaveNoEnd, end_word}
 use Rattle.vcd_read.specs.Commands.{Item, at, value, off, on, Tells, done, time, bit, vector, real, comment, vars, all, stops, goes_on, ends, IsReal, IsVector, is_digit}
 use Rattle.vcd_read.specs.Telling.{Tell, Opens}
 
-pub tell_time : (inside : Bool) (digits : Text) (t : ℕ) → IsNumber digits t → inside ≡ false → Tell ((35 ∷ digits) ∷ []) inside inside (at t ∷ [])
+pub tell_time : (inside : Bool) (digits : Text) (t : ℕ) → IsDecimal digits t → inside ≡ false → Tell ((35 ∷ digits) ∷ []) inside inside (at t ∷ [])
 tell_time inside digits t number outside =
     subst (λ (b : Bool). Tell ((35 ∷ digits) ∷ []) b b (at t ∷ [])) (sym outside) (λ rest more d. time digits t rest more number d)
 

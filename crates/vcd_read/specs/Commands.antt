@@ -1,8 +1,8 @@
--- *trusted*: What a value change dump tells behind its declarations (IEEE 1364-2005, 18.2.1).
+-- *trusted*: What a value change dump tells behind its declarations (IEEE 1364-2005, 18.2.1, 18.2.3).
 use Rattle.std.specs.Prelude.{◌≡◌, ℕ, Bool, true, false, ◌==◌, ◌||◌, List, [], ◌∷◌, ◌++◌, codes, ◌⊎◌}
 use Rattle.std.specs.List.{list_all}
-use Rattle.basis.specs.Numerals.{IsNumber}
 use Rattle.vcd_read.specs.Words.{Text}
+use Rattle.vcd_read.specs.Numbers.{IsDecimal}
 use Rattle.vcd_read.specs.Declarations.{HaveNoEnd, end_word}
 
 -- what a dump tells: a time, the value of a variable by its code and its digits, and where values are no longer known, and known again
@@ -23,11 +23,11 @@ IsVector c = (c ≡ 98) ⊎ (c ≡ 66)
 abbrev pub IsReal : ℕ → Type 0
 IsReal c = (c ≡ 114) ⊎ (c ≡ 82)
 
--- The words tell these items. Inside of a block, which one of the four keywords opens, stand values alone, up to its end. Real numbers and
--- comments tell nothing.
+-- The words tell these items. Inside of a block, which one of the four keywords opens ($dumpall 18.2.3.9, $dumpoff 18.2.3.10, $dumpon
+-- 18.2.3.11, $dumpvars 18.2.3.12), stand values alone, up to its end. Real numbers and comments (18.2.3.1) tell nothing.
 pub data Tells : Bool → List Text → List Item → Type 0 where
   done : Tells false [] []
-  time : (digits : Text) (t : ℕ) (rest : List Text) (items : List Item) → IsNumber digits t → Tells false rest items →
+  time : (digits : Text) (t : ℕ) (rest : List Text) (items : List Item) → IsDecimal digits t → Tells false rest items →
       Tells false ((35 ∷ digits) ∷ rest) (at t ∷ items)
   bit : (inside : Bool) (digit : ℕ) (code : Text) (rest : List Text) (items : List Item) → is_digit digit ≡ true → Tells inside rest items →
       Tells inside ((digit ∷ code) ∷ rest) (value code (digit ∷ []) ∷ items)

@@ -1,8 +1,11 @@
 -- *trusted*: What a value change dump declares (IEEE 1364-2005, 18.2.3).
-use Rattle.std.specs.Prelude.{◌≡◌, ℕ, Bool, not, take, ◌==◌, List, [], ◌∷◌, ◌++◌, codes, ◌⊎◌, ⊤}
+use Rattle.std.specs.Prelude.{◌≡◌, ℕ, Bool, true, not, ◌&&◌, ◌||◌, if◌then◌else◌, take, ◌==◌, get_or, List, [], ◌∷◌, ◌++◌, Option, Some, None, codes, ⊤}
 use Rattle.std.specs.List.{prefix_len}
-use Rattle.basis.specs.Numerals.{IsNumber}
+use Rattle.std.specs.Str.{bytes_eq}
+use Rattle.basis.specs.declared.timescale.Span.{Span}
 use Rattle.vcd_read.specs.Words.{Text}
+use Rattle.vcd_read.specs.Numbers.{IsDecimal}
+use Rattle.vcd_read.specs.Timescale.{span_in}
 
 -- a variable: its name with those of its scopes, its bits, and the code that stands for it
 pub record Variable : Type 0 where
@@ -13,13 +16,25 @@ pub record Variable : Type 0 where
 abbrev pub end_word : Text
 end_word = codes "$end"
 
--- with these declarations end (18.2.3)
+-- with these declarations end (18.2.3.3)
 abbrev pub last_words : List Text
 last_words = codes "$enddefinitions" ∷ end_word ∷ []
 
--- these are passed over, with the words up to their end (18.2.3.1 to 18.2.3.3, 18.2.3.6, 18.2.3.8)
-abbrev pub IsNote : Text → Type 0
-IsNote word = (word ≡ codes "$comment") ⊎ ((word ≡ codes "$date") ⊎ ((word ≡ codes "$version") ⊎ (word ≡ codes "$timescale")))
+-- keywords of declarations that tell something, and of what comes behind them
+abbrev pub is_declaring : Text → Bool
+is_declaring word =
+    bytes_eq word (codes "$scope") || (bytes_eq word (codes "$upscope") || (bytes_eq word (codes "$var")
+    || (bytes_eq word (codes "$timescale") || bytes_eq word (codes "$enddefinitions"))))
+
+abbrev pub is_telling : Text → Bool
+is_telling word =
+    bytes_eq word end_word || (bytes_eq word (codes "$dumpvars") || (bytes_eq word (codes "$dumpall")
+    || (bytes_eq word (codes "$dumpoff") || bytes_eq word (codes "$dumpon"))))
+
+-- Other keywords are passed over, with the words up to their end: $comment (18.2.3.1), $date (18.2.3.2), $version (18.2.3.7), and those that
+-- the standard doesn't have (own).
+abbrev pub is_note : Text → Bool
+is_note word = get_or word 0 0 == 36 && (not (is_declaring word) && not (is_telling word))
 
 abbrev pub IsNoEnd : Text → Type 0
 IsNoEnd word = word ≡ end_word → ⊥
@@ -29,32 +44,37 @@ abbrev pub HaveNoEnd : List Text → Type 0
 HaveNoEnd [] = ⊤
 HaveNoEnd (word ∷ words) = IsNoEnd word × HaveNoEnd words
 
--- a reference has its name before its range
+-- A reference has its name before its range. One that begins with a backslash is an escaped identifier, and all of it is the name (3.7.1).
 abbrev pub is_no_bracket : ℕ → Bool
 is_no_bracket c = not (c == 91)
 
 abbrev pub before_range : Text → Text
-before_range reference = take (prefix_len is_no_bracket reference) reference
+before_range reference = if get_or reference 0 0 == 92 then reference else take (prefix_len is_no_bracket reference) reference
 
 -- what is declared by this reference, where names begin so
 abbrev pub declared : Text → Text → ℕ → Text → Variable
 declared prefix reference width code = record { name = prefix ++ before_range reference; width = width; code = code }
 
--- The words declare these variables, where the names of variables begin with the first prefix, and outside of the open scope with the
--- other ones.
-pub data Declares : Text → List Text → List Text → List Variable → Type 0 where
-  done : (prefix : Text) (outer : List Text) → Declares prefix outer last_words []
-  note : (prefix : Text) (outer : List Text) (keyword : Text) (words rest : List Text) (variables : List Variable) → IsNote keyword →
-      HaveNoEnd words → Declares prefix outer rest variables → Declares prefix outer (keyword ∷ (words ++ end_word ∷ rest)) variables
+-- The words declare this unit of times, if they declare one, and these variables, where the unit before was declared before them, and where
+-- the names of variables begin with the prefix, and outside of the open scope with the outer ones.
+pub data Declares : Option Span → Text → List Text → List Text → Option Span → List Variable → Type 0 where
+  done : (unit : Option Span) (prefix : Text) (outer : List Text) → Declares unit prefix outer last_words unit []
+  note : (before unit : Option Span) (prefix : Text) (outer : List Text) (keyword : Text) (words rest : List Text) (variables : List Variable) →
+      is_note keyword ≡ true → HaveNoEnd words → Declares before prefix outer rest unit variables →
+      Declares before prefix outer (keyword ∷ (words ++ end_word ∷ rest)) unit variables
   -- 18.2.3.4
-  scope : (prefix : Text) (outer : List Text) (kind name : Text) (rest : List Text) (variables : List Variable) →
-      Declares (prefix ++ (name ++ 46 ∷ [])) (prefix ∷ outer) rest variables →
-      Declares prefix outer (codes "$scope" ∷ kind ∷ name ∷ end_word ∷ rest) variables
-  -- 18.2.3.7
-  upscope : (prefix inner : Text) (outer : List Text) (rest : List Text) (variables : List Variable) →
-      Declares prefix outer rest variables → Declares inner (prefix ∷ outer) (codes "$upscope" ∷ end_word ∷ rest) variables
-  -- 18.2.3.5: a range, if there is one, may stand behind the name or be a word of its own
-  variable : (prefix : Text) (outer : List Text) (kind size code reference : Text) (range rest : List Text) (width : ℕ) (variables : List Variable) →
-      IsNumber size width → HaveNoEnd range → Declares prefix outer rest variables →
-      Declares prefix outer (codes "$var" ∷ kind ∷ size ∷ code ∷ reference ∷ (range ++ end_word ∷ rest))
+  scope : (before unit : Option Span) (prefix : Text) (outer : List Text) (kind name : Text) (rest : List Text) (variables : List Variable) →
+      Declares before (prefix ++ (name ++ 46 ∷ [])) (prefix ∷ outer) rest unit variables →
+      Declares before prefix outer (codes "$scope" ∷ kind ∷ name ∷ end_word ∷ rest) unit variables
+  -- 18.2.3.5: it stands once at most
+  timescale : (unit : Option Span) (prefix : Text) (outer : List Text) (words rest : List Text) (span : Span) (variables : List Variable) →
+      HaveNoEnd words → span_in words ≡ Some span → Declares (Some span) prefix outer rest unit variables →
+      Declares None prefix outer (codes "$timescale" ∷ (words ++ end_word ∷ rest)) unit variables
+  -- 18.2.3.6
+  upscope : (before unit : Option Span) (prefix inner : Text) (outer : List Text) (rest : List Text) (variables : List Variable) →
+      Declares before prefix outer rest unit variables → Declares before inner (prefix ∷ outer) (codes "$upscope" ∷ end_word ∷ rest) unit variables
+  -- 18.2.3.8: a range, if there is one, may stand behind the name or be a word of its own
+  variable : (before unit : Option Span) (prefix : Text) (outer : List Text) (kind size code reference : Text) (range rest : List Text) (width : ℕ)
+      (variables : List Variable) → IsDecimal size width → HaveNoEnd range → Declares before prefix outer rest unit variables →
+      Declares before prefix outer (codes "$var" ∷ kind ∷ size ∷ code ∷ reference ∷ (range ++ end_word ∷ rest)) unit
       (declared prefix reference width code ∷ variables)

@@ -1,5 +1,6 @@
 -- *internal*: How far declarations have come.
-use Rattle.std.specs.Prelude.{◌≡◌, List, ◌++◌, map, reverse}
+use Rattle.std.specs.Prelude.{◌≡◌, List, ◌++◌, Option, map, reverse}
+use Rattle.basis.specs.declared.timescale.Span.{Span}
 use Rattle.vcd_read.specs.Words.{Text}
 use Rattle.vcd_read.specs.Declarations.{Variable, Declares}
 use Rattle.vcd_read.specs.declared.header.Header.{Header}
@@ -20,5 +21,5 @@ outer_of h = reverse (map (λ prefix. prefix.items) h.outer.items)
 pub record Lead (words : List Text) (old new : Header) : Type 0 where
   pub variables : List Variable
   pub added : all_seen new.variables.items ≡ all_seen old.variables.items ++ variables
-  pub goes_on : (rest : List Text) (more : List Variable) → Declares new.prefix.items (outer_of new) rest more →
-      Declares old.prefix.items (outer_of old) (words ++ rest) (variables ++ more)
+  pub goes_on : (rest : List Text) (unit : Option Span) (more : List Variable) → Declares new.unit new.prefix.items (outer_of new) rest unit more →
+      Declares old.unit old.prefix.items (outer_of old) (words ++ rest) unit (variables ++ more)

@@ -1,4 +1,4 @@
--- *trusted*: The words of a value change dump (IEEE 1364-2005, 18.2.1): blanks, tabs and ends of lines divide them.
+-- *trusted*: The words of a value change dump (IEEE 1364-2005, 18.2.1): blanks, tabs, ends of lines and of pages divide them.
 use Rattle.std.specs.Prelude.{ℕ, if◌then◌else◌, List, [], ◌∷◌, ◌++◌}
 use Rattle.std.specs.Char.{is_ascii_whitespace}
 

@@ -8,10 +8,12 @@ ghost use Rattle.vcd_read.specs.Commands.{IsReal, IsVector, Tells, is_digit};
 ghost use Rattle.vcd_read.specs.Faults.{IsNoDump};
 ghost use Rattle.vcd_read.specs.Telling.{Tell, Opens, item_of, items_of};
 
-use crate::fault::VcdFault;
+use crate::fault::{VcdFault, VcdFlaw};
 use crate::item::VcdItem;
+use crate::numbers::decimal_in;
+use crate::same::is_same;
 use crate::words::WordReader;
-use basis::{NoMemory, OrMemory, number_in};
+use basis::{NoMemory, OrMemory};
 use std::alloc::Global;
 use std::io::Read;
 
@@ -48,13 +50,6 @@ fn bit(alloc: Global, digit: u8, code: &[u8]) -> Result<VcdItem, NoMemory>
     Ok(VcdItem::Value { code: name, digits })
 }
 
-// Whether the word is the other one.
-fn is_same(word: &[u8], other: &[u8]) -> bool
-    ensures { result ≡ true → word.now ≡ other.now }
-{
-    word == other
-}
-
 // What a keyword tells that opens a block, if it is one.
 fn opened_by(word: &[u8]) -> Option<Option<VcdItem>>
     ensures { IfSome result (λ item. Opens word.now (items_of item)) }
@@ -84,11 +79,11 @@ impl<R: Read + Drop> Commands<R> {
         }
     }
 
-    /// The text is no dump, as the last word shows.
-    pub(crate) fn no_dump(&self) -> OrMemory<VcdFault>
-        ensures { IsNoDump result }
+    /// The text is no dump, for this reason, as the last word shows.
+    pub(crate) fn no_dump(&self, flaw: VcdFlaw) -> OrMemory<VcdFault>
+        ensures { IsNoDump flaw result }
     {
-        self.words.no_dump()
+        self.words.no_dump(flaw)
     }
 
     // A time, of which the digits have come.
@@ -96,9 +91,10 @@ impl<R: Read + Drop> Commands<R> {
         ensures same { self.new ≡ self.old }
         ensures tell { IfOk result (λ item. Tell ((35 ∷ digits.now) ∷ []) self.old.inside self.new.inside (items_of (Some item))) }
     {
-        match number_in(digits) {
+        match decimal_in(digits) {
             Some(time) if !self.inside => Ok(VcdItem::Time(time)),
-            _ => Err(self.words.no_dump()),
+            Some(_) => Err(self.words.no_dump(VcdFlaw::Block)),
+            None => Err(self.words.no_dump(VcdFlaw::Number)),
         }
     }
 
@@ -112,7 +108,7 @@ impl<R: Read + Drop> Commands<R> {
     {
         let code = self.words.take(alloc)?;
         if !are_digits(digits) {
-            return Err(self.words.no_dump());
+            return Err(self.words.no_dump(VcdFlaw::Digit));
         }
         let mut kept = Vec::new(alloc);
         kept.extend_from_slice(digits)?;
@@ -137,7 +133,7 @@ impl<R: Read + Drop> Commands<R> {
         ensures inside { IfOk result (λ _. (self.old.inside ≡ not inside) × (self.new.inside ≡ inside)) }
     {
         if self.inside == inside {
-            return Err(self.words.no_dump());
+            return Err(self.words.no_dump(VcdFlaw::Block));
         }
         self.inside = inside;
         Ok(())
@@ -152,7 +148,7 @@ impl<R: Read + Drop> Commands<R> {
         ensures budget { IfOk result (λ _. self.new.words.bytes.budget < self.old.words.bytes.budget) }
     {
         if self.inside {
-            return Err(self.words.no_dump());
+            return Err(self.words.no_dump(VcdFlaw::Block));
         }
         self.words.pass()?;
         Ok(())
@@ -175,7 +171,7 @@ impl<R: Read + Drop> Commands<R> {
             return Ok(None);
         }
         let Some(item) = opened_by(word) else {
-            return Err(self.words.no_dump());
+            return Err(self.words.no_dump(VcdFlaw::Word));
         };
         self.turn(true)?;
         Ok(item)
@@ -190,7 +186,7 @@ impl<R: Read + Drop> Commands<R> {
         ensures budget { IfOk result (λ _. self.new.words.bytes.budget ≤ self.old.words.bytes.budget) }
     {
         let Some((first, rest)) = word.split_first() else {
-            return Err(self.words.no_dump());
+            return Err(self.words.no_dump(VcdFlaw::Word));
         };
         match *first {
             b'#' => Ok(Some(self.time(rest)?)),
@@ -217,7 +213,7 @@ impl<R: Read + Drop> Commands<R> {
         'commands: loop {
             if !self.words.next()? {
                 return if self.inside {
-                    Err(self.words.no_dump())
+                    Err(self.words.no_dump(VcdFlaw::Ends))
                 } else {
                     Ok(None)
                 };

@@ -1,20 +1,23 @@
 // Declarations: the variables of a dump, with the names of their scopes.
 
-ghost use Rattle.std.specs.Prelude.{◌≡◌, ◌∷◌, ◌++◌, [], ◌<◌, ◌≤◌, true, false, codes, List, length, IfOk};
+ghost use Rattle.std.specs.Prelude.{◌≡◌, ◌∷◌, ◌++◌, [], ◌<◌, ◌≤◌, ◌==◌, true, false, codes, get_or, List, length, None, IfOk};
 ghost use Rattle.std.specs.List.{prefix_len};
 ghost use Rattle.vcd_read.specs.Words.{Text};
 ghost use Rattle.vcd_read.specs.Bytes.{left, IsReady, Come, Takes};
 ghost use Rattle.vcd_read.specs.Declaring.{Lead, all_seen, outer_of, seen};
-ghost use Rattle.vcd_read.specs.Declarations.{Declares, IsNote, declared, is_no_bracket, last_words};
+ghost use Rattle.vcd_read.specs.Declarations.{Declares, declared, before_range, is_declaring, is_no_bracket, is_note, is_telling, last_words};
 
-use crate::fault::VcdFault;
+use crate::fault::{VcdFault, VcdFlaw};
+use crate::numbers::decimal_in;
+use crate::same::is_same;
+use crate::timescale::read_span;
 use crate::words::WordReader;
-use basis::{NoMemory, OrMemory, number_in};
+use basis::{NoMemory, OrMemory, Span};
 use std::alloc::Global;
 use std::io::Read;
 use std::mem;
 
-/// A variable of a dump: its name with those of its scopes, as `tb.u.q`, how many bits it has, and the code that stands for it (18.2.3.5).
+/// A variable of a dump: its name with those of its scopes, as `tb.u.q`, how many bits it has, and the code that stands for it (18.2.3.8).
 #[derive(Drop)]
 pub struct VcdVariable {
     pub name: Vec<u8>,
@@ -22,12 +25,13 @@ pub struct VcdVariable {
     pub code: Vec<u8>,
 }
 
-/// The variables so far, with what names begin with in the open scope, and in those round it.
+/// The variables so far, with what names begin with in the open scope, and in those round it; and the unit of times, if it was declared.
 #[derive(Drop)]
 pub(crate) struct Header {
     prefix: Vec<u8>,
     outer: Vec<Vec<u8>>,
-    variables: Vec<VcdVariable>,
+    pub(crate) unit: Option<Span>,
+    pub(crate) variables: Vec<VcdVariable>,
 }
 
 // How deep scopes nest at most, and how many variables there are at most.
@@ -55,6 +59,27 @@ fn name_len(reference: &[u8]) -> usize
     reference.len()
 }
 
+// Whether the word begins with this letter.
+fn begins_with(word: &[u8], letter: u8) -> bool
+    requires { 0 < letter }
+    ensures { result ≡ (get_or word.now 0 0 == letter) }
+{
+    match word.split_first() {
+        None => false,
+        Some((first, _)) => *first == letter,
+    }
+}
+
+// The name of a reference.
+fn name_of(reference: &[u8]) -> &[u8]
+    ensures { result.now ≡ before_range reference.now }
+{
+    if begins_with(reference, b'\\') {
+        return reference;
+    }
+    reference.split_at(name_len(reference)).0
+}
+
 // The variable of this reference, where names begin so.
 fn variable_of(
     prefix: &Vec<u8>,
@@ -65,18 +90,37 @@ fn variable_of(
     ensures { IfOk result (λ v. seen v ≡ declared prefix.now.items reference.now width code.items) }
 {
     let mut name = prefix.clone()?;
-    name.extend_from_slice(&reference[..name_len(reference)])?;
+    name.extend_from_slice(name_of(reference))?;
     Ok(VcdVariable { name, width, code })
 }
 
-// Whether words with this keyword are passed over.
-fn is_note(keyword: &[u8]) -> bool
-    ensures { result ≡ true → IsNote keyword.now }
+// Whether it is a keyword of declarations that tell something.
+fn is_declaring(word: &[u8]) -> bool
+    ensures { result ≡ is_declaring word.now }
 {
-    keyword == b"$comment".as_slice()
-        || keyword == b"$date".as_slice()
-        || keyword == b"$version".as_slice()
-        || keyword == b"$timescale".as_slice()
+    is_same(word, b"$scope")
+        || is_same(word, b"$upscope")
+        || is_same(word, b"$var")
+        || is_same(word, b"$timescale")
+        || is_same(word, b"$enddefinitions")
+}
+
+// Whether it is one of what comes behind the declarations, or an end.
+fn is_telling(word: &[u8]) -> bool
+    ensures { result ≡ is_telling word.now }
+{
+    is_same(word, b"$end")
+        || is_same(word, b"$dumpvars")
+        || is_same(word, b"$dumpall")
+        || is_same(word, b"$dumpoff")
+        || is_same(word, b"$dumpon")
+}
+
+// Whether words with this keyword are passed over.
+fn is_note(word: &[u8]) -> bool
+    ensures { result ≡ is_note word.now }
+{
+    begins_with(word, b'$') && !is_declaring(word) && !is_telling(word)
 }
 
 impl Header {
@@ -84,11 +128,13 @@ impl Header {
     pub(crate) fn new(alloc: Global) -> Header
         ensures prefix { result.prefix.items ≡ [] }
         ensures outer { result.outer.items ≡ [] }
+        ensures unit { result.unit ≡ None }
         ensures variables { result.variables.items ≡ [] }
     {
         Header {
             prefix: Vec::new(alloc),
             outer: Vec::new(alloc),
+            unit: None,
             variables: Vec::new(alloc),
         }
     }
@@ -97,6 +143,7 @@ impl Header {
     fn enter(&mut self, name: &[u8]) -> Result<(), NoMemory>
         ensures prefix { IfOk result (λ _. self.new.prefix.items ≡ self.old.prefix.items ++ (name.now ++ 46 ∷ [])) }
         ensures outer { IfOk result (λ _. outer_of self.new ≡ self.old.prefix.items ∷ outer_of self.old) }
+        ensures unit { IfOk result (λ _. self.new.unit ≡ self.old.unit) }
         ensures variables { IfOk result (λ _. self.new.variables.items ≡ self.old.variables.items) }
     {
         let mut prefix = self.prefix.clone()?;
@@ -109,6 +156,7 @@ impl Header {
     // Out of the innermost scope; false where none is open.
     fn leave(&mut self) -> bool
         ensures outer { result ≡ true → outer_of self.old ≡ self.new.prefix.items ∷ outer_of self.new }
+        ensures unit { self.new.unit ≡ self.old.unit }
         ensures variables { self.new.variables.items ≡ self.old.variables.items }
     {
         match self.outer.pop() {
@@ -124,6 +172,7 @@ impl Header {
     fn add(&mut self, reference: &[u8], width: u64, code: Vec<u8>) -> Result<(), NoMemory>
         ensures prefix { IfOk result (λ _. self.new.prefix.items ≡ self.old.prefix.items) }
         ensures outer { IfOk result (λ _. outer_of self.new ≡ outer_of self.old) }
+        ensures unit { IfOk result (λ _. self.new.unit ≡ self.old.unit) }
         ensures variables { IfOk result (λ _. all_seen self.new.variables.items
             ≡ all_seen self.old.variables.items ++ declared self.old.prefix.items reference.now width code.items ∷ []) }
     {
@@ -148,7 +197,7 @@ impl Header {
         let name = words.take(alloc)?;
         words.expect(b"$end")?;
         if self.outer.len() >= DEEPEST {
-            return Err(words.no_dump());
+            return Err(words.no_dump(VcdFlaw::Limit));
         }
         self.enter(&name)?;
         Ok(())
@@ -166,8 +215,31 @@ impl Header {
         if self.leave() {
             Ok(())
         } else {
-            Err(words.no_dump())
+            Err(words.no_dump(VcdFlaw::Scope))
         }
+    }
+
+    // The unit of times: a number and a unit, the end.
+    fn time<R: Read + Drop>(
+        &mut self,
+        alloc: Global,
+        words: &mut WordReader<R>,
+    ) -> Result<(), OrMemory<VcdFault>>
+        requires { IsReady words.old.bytes }
+        ensures ready { IsReady words.new.bytes }
+        ensures lead { IfOk result (λ _. Takes R.remaining words.old words.new
+            (λ list. Lead (codes "$timescale" ∷ list) self.old self.new)) }
+        ensures budget { IfOk result (λ _. words.new.bytes.budget < words.old.bytes.budget) }
+    {
+        if self.unit.is_some() {
+            return Err(words.no_dump(VcdFlaw::Timescale));
+        }
+        let Some(unit) = read_span(alloc, words)? else {
+            return Err(words.no_dump(VcdFlaw::Timescale));
+        };
+        words.expect(b"$end")?;
+        self.unit = Some(unit);
+        Ok(())
     }
 
     // A variable: its kind, its size, its code, its name, perhaps a range, the end.
@@ -184,14 +256,14 @@ impl Header {
     {
         words.must()?;
         words.must()?;
-        let Some(width) = number_in(words.word()) else {
-            return Err(words.no_dump());
+        let Some(width) = decimal_in(words.word()) else {
+            return Err(words.no_dump(VcdFlaw::Number));
         };
         let code = words.take(alloc)?;
         let reference = words.take(alloc)?;
         words.pass()?;
         if self.variables.len() >= MOST {
-            return Err(words.no_dump());
+            return Err(words.no_dump(VcdFlaw::Limit));
         }
         self.add(&reference, width, code)?;
         Ok(())
@@ -205,9 +277,10 @@ impl Header {
     ) -> Result<bool, OrMemory<VcdFault>>
         requires { IsReady words.old.bytes }
         ensures ready { IsReady words.new.bytes }
-        ensures more { IfOk result (λ more. more ≡ true → Takes R.remaining words.old words.new (λ list. Lead list self.old self.new)) }
-        ensures last { IfOk result (λ more. more ≡ false → Come last_words (left R.remaining words.old.bytes) (left R.remaining words.new.bytes)
-            × (self.new ≡ self.old)) }
+        ensures more { IfOk result (λ more. more ≡ true →
+            Takes R.remaining words.old words.new (λ list. Lead list self.old self.new)) }
+        ensures last { IfOk result (λ more. more ≡ false →
+            Come last_words (left R.remaining words.old.bytes) (left R.remaining words.new.bytes) × (self.new ≡ self.old)) }
         ensures budget { IfOk result (λ _. words.new.bytes.budget < words.old.bytes.budget) }
     {
         words.must()?;
@@ -218,13 +291,15 @@ impl Header {
             self.close(words)?;
         } else if keyword == b"$var".as_slice() {
             self.declare(alloc, words)?;
+        } else if keyword == b"$timescale".as_slice() {
+            self.time(alloc, words)?;
         } else if is_note(keyword) {
             words.pass()?;
         } else if keyword == b"$enddefinitions".as_slice() {
             words.expect(b"$end")?;
             return Ok(false);
         } else {
-            return Err(words.no_dump());
+            return Err(words.no_dump(VcdFlaw::Word));
         }
         Ok(true)
     }
@@ -233,16 +308,16 @@ impl Header {
     pub(crate) fn read<R: Read + Drop>(
         alloc: Global,
         words: &mut WordReader<R>,
-    ) -> Result<Vec<VcdVariable>, OrMemory<VcdFault>>
+    ) -> Result<Header, OrMemory<VcdFault>>
         requires { IsReady words.old.bytes }
         ensures ready { IsReady words.new.bytes }
-        ensures declared { IfOk result (λ variables. Takes R.remaining words.old words.new (λ list.
-            Declares [] [] list (all_seen variables.items))) }
+        ensures declared { IfOk result (λ header. Takes R.remaining words.old words.new (λ list.
+            Declares None [] [] list header.unit (all_seen header.variables.items))) }
     {
         let mut header = Header::new(alloc);
         'declarations: loop {
             if !header.go_on(alloc, words)? {
-                return Ok(header.variables);
+                return Ok(header);
             }
         }
     }

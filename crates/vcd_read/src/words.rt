@@ -7,7 +7,7 @@ ghost use Rattle.vcd_read.specs.Declarations.{end_word, IsNoEnd, HaveNoEnd};
 ghost use Rattle.vcd_read.specs.Faults.{IsNoDump};
 
 use crate::bytes::ByteReader;
-use crate::fault::VcdFault;
+use crate::fault::{VcdFault, VcdFlaw};
 use basis::OrMemory;
 use std::alloc::Global;
 use std::io::Read;
@@ -45,11 +45,14 @@ impl<R: Read + Drop> WordReader<R> {
         &self.word
     }
 
-    /// The text is no dump, as the last word shows.
-    pub(crate) fn no_dump(&self) -> OrMemory<VcdFault>
-        ensures { IsNoDump result }
+    /// The text is no dump, for this reason, as the last word shows.
+    pub(crate) fn no_dump(&self, flaw: VcdFlaw) -> OrMemory<VcdFault>
+        ensures { IsNoDump flaw result }
     {
-        OrMemory::Fault(VcdFault::NoDump { line: self.line })
+        OrMemory::Fault(VcdFault::NoDump {
+            line: self.line,
+            flaw,
+        })
     }
 
     /// The next word; false at the end.
@@ -72,7 +75,7 @@ impl<R: Read + Drop> WordReader<R> {
             }
             if !byte.is_ascii_whitespace() {
                 if self.word.len() >= MOST {
-                    return Err(self.no_dump());
+                    return Err(self.no_dump(VcdFlaw::Limit));
                 }
                 self.line = self.next_line;
                 self.word.push(byte)?;
@@ -93,7 +96,7 @@ impl<R: Read + Drop> WordReader<R> {
         if self.next()? {
             Ok(())
         } else {
-            Err(self.no_dump())
+            Err(self.no_dump(VcdFlaw::Ends))
         }
     }
 
@@ -108,7 +111,7 @@ impl<R: Read + Drop> WordReader<R> {
         if self.word.as_slice() == word {
             Ok(())
         } else {
-            Err(self.no_dump())
+            Err(self.no_dump(VcdFlaw::Word))
         }
     }
 
@@ -137,6 +140,21 @@ impl<R: Read + Drop> WordReader<R> {
         ensures no { result ≡ false → IsNoEnd self.now.word.items }
     {
         self.word.as_slice() == b"$end".as_slice()
+    }
+
+    /// The next word, which there must be, and which isn't `$end`, to keep.
+    pub(crate) fn take_inner(&mut self, alloc: Global) -> Result<Vec<u8>, OrMemory<VcdFault>>
+        requires { IsReady self.old.bytes }
+        ensures ready { IsReady self.new.bytes }
+        ensures word { IfOk result (λ word. IsNextWord word.items (left R.remaining self.old.bytes) (left R.remaining self.new.bytes)) }
+        ensures inner { IfOk result (λ word. IsNoEnd word.items) }
+        ensures budget { IfOk result (λ _. self.new.bytes.budget < self.old.bytes.budget) }
+    {
+        self.must()?;
+        if self.is_end() {
+            return Err(self.no_dump(VcdFlaw::Word));
+        }
+        Ok(self.taken(alloc))
     }
 
     /// The words up to the next `$end`, with it.

@@ -5,7 +5,7 @@ use Rattle.std.proofs.lemmas.List.{length-replicate}
 use Rattle.vbits.specs.declared.bit4.Bit4.{Bit4}
 use Rattle.vbits.specs.Vectors.{Vector, concat, filled, single}
 use Rattle.vcd_read.specs.Words.{Text}
-use Rattle.vcd_slots.specs.Slots.{extension, letter_of, put_digits}
+use Rattle.vcd_slots.specs.Slots.{counted, extension, letter_of, put_digits}
 use Rattle.vcd_slots.specs.Digits.{begun, put_all}
 
 pub begun_alone : (letter : Bit4) (more : ℕ) → more ≡ 0 → single letter ≡ begun letter more
@@ -32,6 +32,10 @@ pub put_more : (letters : List Bit4) (digits : Text) (i digit : ℕ) → i < len
 put_more letters digits i digit lt is =
     ap (put_digits letters) (drop-cons digits i 0 lt)
     ∙ (λ k. put_digits (letter_of (sym is k) ∷ letters) (drop (sym (add-one i) k) digits))
+
+-- where there are no more digits than bits all of them count
+pub none_counted : (more : ℕ) (digits : Text) → more ≡ 0 → counted more digits ≡ digits
+none_counted more digits none = ap (λ (m : ℕ). counted m digits) none
 
 pub left_letters : (count : ℕ) (letter : Bit4) (v : Vector) → v ≡ filled count letter → length v.letters ≡ count
 unfolding filled

@@ -53,7 +53,7 @@ taken_time columns shown item time Told is so =
     subst (λ (one : Item). Leads columns columns shown (one ∷ [])) (sym is) (lead_again columns shown time so)
 taken_time columns shown item time (Next next) is so =
     (is ∙ ap at (sym so.0), subst (λ (t : ℕ). IsLater shown (Some t)) (sym so.0) so.1, refl)
-taken_time columns shown item time Refused is so = tt
+taken_time columns shown item time (Refused flaw) is so = tt
 
 later_order : (shown : Option ℕ) (time : ℕ) → IsLater shown (Some time) → DoNotFall shown (at time ∷ [])
 later_order None time later = (tt, tt)

@@ -1,5 +1,6 @@
 -- *trusted*: What a value change dump shows from time to time (IEEE 1364-2005, 18.1.3, 18.2.1, 18.2.2).
-use Rattle.std.specs.Prelude.{◌≡◌, ℕ, ◌-◌, ◌≤◌, ◌==◌, ◌&&◌, ◌||◌, nat_eq, nat_le, nat_lt, length, replicate, Bool, true, false, if◌then◌else◌, List, [], ◌∷◌, Option, Some, None, option_and_then, ⊤}
+use Rattle.std.specs.Prelude.{◌≡◌, ℕ, ◌-◌, ◌≤◌, ◌==◌, ◌&&◌, ◌||◌, nat_eq, nat_le, nat_lt, length, replicate, take, drop, Bool, true, false, if◌then◌else◌, List, [], ◌∷◌, Option, Some, None, option_and_then, ⊤}
+use Rattle.std.specs.List.{list_all}
 use Rattle.std.specs.Cmp.Lexicographic.{pointwise}
 use Rattle.vbits.specs.declared.bit4.Bit4.{Bit4}
 use Rattle.vbits.specs.declared.bit4.Bit4.TheVariants.{Zero, One, X, Z}
@@ -57,9 +58,19 @@ abbrev pub vector_by : ℕ → ℕ → Text → Vector
 vector_by more c cs = record { letters = put_digits (letter_of c ∷ replicate more (extension (letter_of c))) cs; signed = false }
 
 -- the value of a variable of so many bits, if the digits are some and no more
+abbrev pub whole_vector : ℕ → Text → Option Vector
+whole_vector width [] = None
+whole_vector width (c ∷ cs) = if nat_le (length (c ∷ cs)) width then Some (vector_by (width - length (c ∷ cs)) c cs) else None
+
+-- where there are more digits, those in front may be 0, and don't count (own)
+abbrev pub is_zero : ℕ → Bool
+is_zero c = c == 48
+
+abbrev pub counted : ℕ → Text → Text
+counted more digits = if list_all is_zero (take more digits) then drop more digits else digits
+
 abbrev pub vector_of : ℕ → Text → Option Vector
-vector_of width [] = None
-vector_of width (c ∷ cs) = if nat_le (length (c ∷ cs)) width then Some (vector_by (width - length (c ∷ cs)) c cs) else None
+vector_of width digits = whole_vector width (counted (length digits - width) digits)
 
 -- what a variable of this code and of so many bits is worth behind items, if that is known
 abbrev pub shown : List Item → Text → ℕ → Option Vector

@@ -7,6 +7,8 @@ use Rattle.vcd_read.specs.Telling.{Tell}
 use Rattle.vcd_read.specs.Readers.{IsOpen, to_come}
 use Rattle.vcd_read.specs.declared.reader.VcdReader.{VcdReader}
 use Rattle.vcd_slots.specs.Slots.{DoNotFall, last_time}
+use Rattle.vcd_slots.specs.Units.{AreInUnit}
+use Rattle.vcd_slots.specs.declared.units.Units.{Units}
 use Rattle.vcd_slots.specs.Following.{IsSound, Show}
 use Rattle.vcd_slots.specs.declared.columns.Columns.{Columns}
 use Rattle.vcd_slots.specs.declared.slots.DumpSlots.{DumpSlots}
@@ -41,24 +43,27 @@ abbrev pub pending : Option ℕ → List Item
 pending None = []
 pending (Some time) = at time ∷ []
 
--- the words that are taken tell these items and the next time; or they are all, and tell these items
-abbrev pub TakesUpTo : {R : Type 0} → (R → Option (List ℕ)) → VcdReader R → VcdReader R → Option ℕ → List Item → Type 0
-TakesUpTo remaining old new (Some time) items = (words : List Text) × Come words (to_come remaining old) (to_come remaining new)
-    × Tell words old.commands.inside new.commands.inside (items ++ at time ∷ [])
-TakesUpTo remaining old new None items = (words : List Text) × AreAll words (to_come remaining old) (to_come remaining new)
-    × Tells old.commands.inside words items
+-- The words that are taken tell items that are these ones and the next time, in the unit that is shown; or they are all, and tell these.
+abbrev pub TakesUpTo : {R : Type 0} → (R → Option (List ℕ)) → Units → VcdReader R → VcdReader R → Option ℕ → List Item → Type 0
+TakesUpTo remaining units old new (Some time) items = (words : List Text) × (told : List Item) × Come words (to_come remaining old) (to_come remaining new)
+    × Tell words old.commands.inside new.commands.inside told × AreInUnit units told (items ++ at time ∷ [])
+TakesUpTo remaining units old new None items = (words : List Text) × (told : List Item) × AreAll words (to_come remaining old) (to_come remaining new)
+    × Tells old.commands.inside words told × AreInUnit units told items
 
 abbrev pub Takes : {R : Type 0} → (R → Option (List ℕ)) → VcdReader R → DumpSlots R → List Item → Type 0
-Takes remaining old new items = TakesUpTo remaining old new.dump new.ahead items
+Takes remaining old new items = TakesUpTo remaining new.units old new.dump new.ahead items
 
 -- of a dump that was read up to the end of its declarations: these items were taken, and the slots stand behind them
 abbrev pub Reads : {R : Type 0} → (R → Option (List ℕ)) → VcdReader R → DumpSlots R → Type 0
 Reads remaining dump slots = (items : List Item) × Takes remaining dump slots items × Stands slots items
 
--- The next slot is shown: these items were taken, and whatever came before, they come behind it and their time.
-abbrev pub Advances : {R : Type 0} → (R → Option (List ℕ)) → DumpSlots R → DumpSlots R → List Item → Type 0
-Advances remaining old new items = Takes remaining old.dump new items
-    × ((before : List Item) → Stands old before → Stands new (before ++ pending old.ahead ++ items))
+-- The next slot is shown, of the same columns and in the same unit: these items were taken, and whatever came before, they come behind it and
+-- their time.
+pub record Advances {R : Type 0} (remaining : R → Option (List ℕ)) (old new : DumpSlots R) (items : List Item) : Type 0 where
+  pub takes : Takes remaining old.dump new items
+  pub stands : (before : List Item) → Stands old before → Stands new (before ++ pending old.ahead ++ items)
+  pub watched : new.columns.watched ≡ old.columns.watched
+  pub units : new.units ≡ old.units
 
 -- whatever dump it is of, and whatever was read of it before: this was read behind that
 abbrev pub ReadsOn : {R : Type 0} → (R → Option (List ℕ)) → DumpSlots R → DumpSlots R → Type 0

@@ -21,10 +21,10 @@ IsTimeOf (Some time) item = item ≡ at time
 abbrev pub IsTaken : Option ℕ → Taken → ℕ → Type 0
 IsTaken shown Told time = shown ≡ Some time
 IsTaken shown (Next next) time = (next ≡ time) × IsLater shown (Some time)
-IsTaken shown Refused time = ⊤
+IsTaken shown (Refused flaw) time = ⊤
 
 -- an item is told to the columns, or it is a later time and changes nothing
 abbrev pub TakenSo : Columns → Columns → Option ℕ → Item → Taken → Type 0
 TakenSo old new shown item Told = Leads old new shown (item ∷ [])
 TakenSo old new shown item (Next time) = (item ≡ at time) × IsLater shown (Some time) × (new ≡ old)
-TakenSo old new shown item Refused = ⊤
+TakenSo old new shown item (Refused flaw) = ⊤

@@ -1,24 +1,17 @@
 // A variable that is followed.
 
-ghost use Rattle.std.specs.Prelude.{◌≡◌, ◌≤◌, nat_eq, if◌then◌else◌, Some, IfSome};
-ghost use Rattle.std.specs.Cmp.Lexicographic.{pointwise};
+ghost use Rattle.std.specs.Prelude.{◌≡◌, ◌≤◌, if◌then◌else◌, Some, IfSome};
 ghost use Rattle.vcd_slots.specs.Following.{Puts};
 
 use crate::digits::vector_of;
 use vbits::Vec4;
+use vcd_read::is_same;
 
 /// The code of a variable, and how many bits it has.
 #[derive(Drop)]
 pub(crate) struct Column {
     code: Vec<u8>,
     width: u32,
-}
-
-// Whether the codes are the same.
-fn is_same(code: &[u8], other: &[u8]) -> bool
-    ensures { result ≡ pointwise nat_eq code.now other.now }
-{
-    code == other
 }
 
 // What is known, where this was known before.

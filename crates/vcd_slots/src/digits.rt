@@ -2,7 +2,8 @@
 
 ghost use Rattle.std.specs.Prelude.{◌≡◌, ◌+◌, ◌≤◌, ◌∷◌, length, replicate, false};
 ghost use Rattle.vbits.specs.Vectors.{filled, single};
-ghost use Rattle.vcd_slots.specs.Slots.{extension, letter_of, vector_of};
+ghost use Rattle.std.specs.List.{list_all};
+ghost use Rattle.vcd_slots.specs.Slots.{counted, extension, is_zero, letter_of, vector_of, whole_vector};
 ghost use Rattle.vcd_slots.specs.Digits.{begun, put_all};
 
 use vbits::{Bit4, Vec4};
@@ -61,10 +62,36 @@ fn put_all(start: Vec4, digits: &[u8]) -> Vec4
     vector
 }
 
-/// The value of a variable of so many bits, if the digits are some and no more.
-pub(crate) fn vector_of(width: u32, digits: &[u8]) -> Option<Vec4>
+// Whether the digit is 0.
+fn is_zero(digit: u8) -> bool
+    ensures { result ≡ is_zero digit }
+{
+    digit == b'0'
+}
+
+// Whether all are 0.
+fn are_zeros(digits: &[u8]) -> bool
+    ensures { result ≡ list_all is_zero digits.now }
+{
+    digits.iter().all(|digit| is_zero(*digit))
+}
+
+// Without so many in front, if these are 0.
+fn counted(more: usize, digits: &[u8]) -> &[u8]
+    requires { more ≤ length digits.now }
+    ensures { result.now ≡ counted more digits.now }
+{
+    if are_zeros(digits.split_at(more).0) {
+        digits.split_at(more).1
+    } else {
+        digits
+    }
+}
+
+// The value of a variable of so many bits, if the digits are some and no more.
+fn whole_vector(width: u32, digits: &[u8]) -> Option<Vec4>
     requires { width ≤ 64 }
-    ensures { result ≡ vector_of width digits.now }
+    ensures { result ≡ whole_vector width digits.now }
 {
     let (first, rest) = digits.split_first()?;
     if digits.len() > width as usize {
@@ -72,4 +99,15 @@ pub(crate) fn vector_of(width: u32, digits: &[u8]) -> Option<Vec4>
     }
     let more = width - digits.len() as u32;
     Some(put_all(begun(letter_of(*first), more), rest))
+}
+
+/// The value of a variable of so many bits, if the digits are some and no more, but zeros in front.
+pub(crate) fn vector_of(width: u32, digits: &[u8]) -> Option<Vec4>
+    requires { width ≤ 64 }
+    ensures { result ≡ vector_of width digits.now }
+{
+    if digits.len() <= width as usize {
+        return whole_vector(width, digits);
+    }
+    whole_vector(width, counted(digits.len() - width as usize, digits))
 }

@@ -181,8 +181,8 @@ const EXPLANATIONS: [Explanation; 34] = [
     },
     Explanation {
         number: 505,
-        meaning: "the file of --vcd stops being a value change dump; at 3 is the number of the line, from 1",
-        example: "a dump that was cut short; a time that is lower than the one before",
+        meaning: "the file of --vcd stops being a value change dump; at 3 is the number of the line, from 1, and the words behind say what is wrong there",
+        example: "a dump that was cut short; a time that is lower than the one before; a change of a variable that isn't declared",
         advice: "have the other simulator write it anew; docs/FORMATS.md says under Dumps of other simulators what is read",
     },
     Explanation {

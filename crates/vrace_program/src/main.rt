@@ -5,6 +5,7 @@
 #![tactic(auto)]
 
 mod complaints;
+mod dump_flaws;
 mod explanations;
 mod matches;
 mod meter;
@@ -21,6 +22,7 @@ use complaints::{
     TOO_LONG_TOGETHER, ask_for_words, limits_text, needless_in, unopened_text, unread_text,
     value_of, waiver_text,
 };
+use dump_flaws::flaw_words;
 use explanations::{explanation_of, show, show_advice, show_all};
 use matches::tell_match;
 use meter::{Allowance, Meter};
@@ -34,6 +36,7 @@ use std::process::ExitCode;
 use std::sync::Wait;
 use std::thread::Threads;
 use std::{env, io};
+use vcd_read::VcdFlaw;
 use vrace::{
     Allowed, Fault, Options, Outcome, Status, Timed, check_text, detailed_trace_text, explore_text,
     explore_text_alone, explore_text_in_time, read_text, replay_text, trace_text,
@@ -114,7 +117,7 @@ enum Stop {
     // The line of this number, from 1, is no waiver.
     BadWaiver(u64),
     // In the line of this number, from 1, the text of the dump stops being one.
-    BadDump(u64),
+    BadDump(u64, VcdFlaw),
     Refused(Fault),
     // The same, with what is told of it in words.
     Told(Fault, Vec<u8>),
@@ -608,11 +611,12 @@ fn say_waiver(rt: &HostRuntime, words: &[String], line: u64) {
 }
 
 // What is said of a line at which a text stops being a dump.
-fn say_dump(rt: &HostRuntime, words: &[String], line: u64) {
+fn say_dump(rt: &HostRuntime, words: &[String], line: u64, flaw: VcdFlaw) {
     let Some(name) = value_of(words, "--vcd") else {
         return;
     };
-    let _ = eprintln!(rt; "{name}:{line}: no value change dump (IEEE 1364-2005, 18.2)");
+    let reason = flaw_words(flaw);
+    let _ = eprintln!(rt; "{name}:{line}: no value change dump (IEEE 1364-2005, 18.2): {reason}");
 }
 
 // What is said behind the line of a refusal.
@@ -630,7 +634,7 @@ fn say_more(rt: &HostRuntime, words: &[String], stop: &Stop) {
             let _ = eprintln!(rt; "{reason}");
         }
         Stop::BadWaiver(line) => say_waiver(rt, words, *line),
-        Stop::BadDump(line) => say_dump(rt, words, *line),
+        Stop::BadDump(line, flaw) => say_dump(rt, words, *line, *flaw),
         Stop::Refused(fault) => say_fault(rt, words, *fault),
         Stop::Told(fault, text) => {
             if text.is_empty() {
@@ -658,7 +662,7 @@ fn say_line(rt: &HostRuntime, stop: &Stop) -> ExitCode {
             let _ = eprintln!(rt; "vrace: E506 at {line}");
             ExitCode::from(2)
         }
-        Stop::BadDump(line) => {
+        Stop::BadDump(line, _) => {
             let _ = eprintln!(rt; "vrace: E505 at {line}");
             ExitCode::from(2)
         }

@@ -8,12 +8,13 @@ use crate::words::{MatchWords, Request};
 use crate::{Stop, refused_file, texts};
 use basis::{NoMemory, OrMemory};
 use byte_sinks::Metered;
-use cause::{Checkpoints, cause_of};
+use cause::causes_of;
 use dump_match::{Comparison, Differing, DumpReference, match_dump};
 use match_text::{Departure, Found, match_json, match_words};
-use matching::{Cut, Explanation, Matching};
+use matching::{Cut, Explanation, Matching, Reference};
 use race_text::{Format, Sources};
 use sched_core::Log;
+use sched_core::end::End;
 use sched_core::setting::{Departures, Looked};
 use std::alloc::Global;
 use std::fs::File;
@@ -39,7 +40,7 @@ struct Tried<'m> {
 fn refused_dump(fault: OrMemory<VcdFault>) -> Stop {
     match fault {
         OrMemory::Memory(_) => Stop::NoMemory,
-        OrMemory::Fault(VcdFault::NoDump { line }) => Stop::BadDump(line),
+        OrMemory::Fault(VcdFault::NoDump { line, flaw }) => Stop::BadDump(line, flaw),
         OrMemory::Fault(VcdFault::TooLong) => Stop::Refused(Fault::TooLong),
         OrMemory::Fault(VcdFault::Read) => Stop::Refused(Fault::Read),
     }
@@ -177,17 +178,6 @@ fn departed_times(alloc: Global, machine: &Machine, log: &Log) -> Result<Vec<u64
     Ok(times)
 }
 
-// The first so many members of the log.
-fn front_of(alloc: Global, log: &Log, count: usize) -> Result<Log, NoMemory> {
-    let mut front = Log::new(alloc);
-    for member in log.members().iter().take(count) {
-        if front.takes(*member) {
-            front.push(member.0, member.1)?;
-        }
-    }
-    Ok(front)
-}
-
 // Each departure of the run, with its cause.
 fn departures_of(
     alloc: Global,
@@ -195,14 +185,12 @@ fn departures_of(
     run: &Explanation<MachineState>,
 ) -> Result<Vec<Departure>, NoMemory> {
     let times = departed_times(alloc, machine, &run.log)?;
-    let mut checkpoints = Checkpoints::new(alloc, machine);
+    let causes = causes_of(alloc, machine, &run.log, u32::MAX)?;
     let mut departures = Vec::new(alloc);
-    for (place, time) in times.iter().enumerate() {
-        let Some(member) = run.log.members().get(place) else {
+    for (place, cause) in causes.into_iter().enumerate() {
+        let (Some(member), Some(time)) = (run.log.members().get(place), times.get(place)) else {
             return Ok(departures);
         };
-        let front = front_of(alloc, &run.log, place.saturating_add(1))?;
-        let cause = cause_of(alloc, &mut checkpoints, &front, u32::MAX)?;
         departures.push(Departure {
             step: member.0,
             time: *time,
@@ -224,14 +212,27 @@ fn told_departures(
     }
 }
 
-// What differs in the nearest run, where no run has the values of the dump.
+// The run that comes nearest, where no run has the values of the dump.
+fn nearest_of(answer: &Matching<MachineState>) -> Option<&Explanation<MachineState>> {
+    match answer {
+        Matching::Unexplained(answer) => answer.nearest.as_ref(),
+        _ => None,
+    }
+}
+
+// What differs in the run that comes nearest.
 fn told_differing(alloc: Global, tried: &Tried<'_>) -> Result<Vec<Differing>, NoMemory> {
-    match &tried.answer {
-        Matching::Unexplained(answer) => match &answer.nearest {
-            Some(run) => tried.reference.differing(&run.state),
-            None => Ok(Vec::new(alloc)),
-        },
-        _ => Ok(Vec::new(alloc)),
+    match nearest_of(&tried.answer) {
+        Some(run) => tried.reference.differing(&run.state),
+        None => Ok(Vec::new(alloc)),
+    }
+}
+
+// Where the run that comes nearest has ended.
+fn told_end(machine: &Machine, tried: &Tried<'_>) -> Option<End> {
+    match nearest_of(&tried.answer) {
+        Some(run) => machine.end_of(&run.state),
+        None => None,
     }
 }
 
@@ -245,7 +246,7 @@ fn stopped_by(spent: Spent) -> &'static [u8] {
 
 // The exit status.
 fn code_of(tried: &Tried<'_>) -> ExitCode {
-    if tried.reference.comparison().pairs.is_empty() {
+    if tried.reference.compared_count() == 0 {
         return ExitCode::from(3);
     }
     match &tried.answer {
@@ -273,7 +274,7 @@ fn tell_found(
     words: &MatchWords<'_>,
 ) -> Result<ExitCode, Stop> {
     let machine = &placed.machine;
-    let mut meter = Meter::new(rt, words.allowance);
+    let mut meter = Meter::of_slots(rt, words.allowance);
     let tried = find_match(rt, machine, request, words, &mut meter)?;
     let departures = told_departures(rt.alloc(), machine, &tried.answer)?;
     let differing = told_differing(rt.alloc(), &tried)?;
@@ -293,6 +294,9 @@ fn tell_found(
         beyond: tried.beyond,
         departures: &departures,
         differing: &differing,
+        end: told_end(machine, &tried),
+        told: tried.reference.compared_count(),
+        is_read: tried.reference.next_time().is_none(),
         is_top_named: request.top.is_some(),
         stopped_by: stopped_by(meter.spent()),
         full_by: full_by(words, machine),

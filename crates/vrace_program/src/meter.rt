@@ -7,6 +7,17 @@ use vrace::{Budget, Fault, Progress, Spent, Watcher};
 // The clock is looked at once in so many entries.
 const ENTRIES_A_LOOK: u64 = 256;
 
+// The same in a search that goes from slot to slot, which is asked less often.
+const STATES_A_LOOK: u64 = 16;
+
+// What is shown on the way: of a search for races how many it has, of one that compares slots with a dump how many of its runs have the
+// dump's values.
+#[derive(Clone, Copy)]
+enum Counted {
+    Races,
+    Runs,
+}
+
 // Milliseconds between two lines on standard error.
 const SHOWN_APART: u64 = 500;
 
@@ -43,6 +54,7 @@ impl Allowance {
 pub struct Meter<'r, R> {
     rt: &'r R,
     allowance: Allowance,
+    counted: Counted,
     begun: Option<Instant>,
     entry_bytes: u64,
     asked: u64,
@@ -54,11 +66,22 @@ pub struct Meter<'r, R> {
 }
 
 impl<'r, R: Clock + Eprint> Meter<'r, R> {
-    /// From now on.
+    /// Of a search for races or ends, from now on.
     pub fn new(rt: &'r R, allowance: Allowance) -> Meter<'r, R> {
+        Meter::of(rt, allowance, Counted::Races)
+    }
+
+    /// Of a search that compares slots with a dump, from now on. What it tells of its progress is of the slot that it is at.
+    pub fn of_slots(rt: &'r R, allowance: Allowance) -> Meter<'r, R> {
+        Meter::of(rt, allowance, Counted::Runs)
+    }
+
+    // From now on.
+    fn of(rt: &'r R, allowance: Allowance, counted: Counted) -> Meter<'r, R> {
         Meter {
             rt,
             allowance,
+            counted,
             begun: Instant::now(rt).ok(),
             entry_bytes: 0,
             asked: 0,
@@ -105,15 +128,23 @@ impl<'r, R: Clock + Eprint> Meter<'r, R> {
         }
     }
 
+    // Whether the clock is looked at now.
+    fn is_to_look(&mut self) -> bool {
+        let asked = self.asked;
+        self.asked = asked.wrapping_add(1);
+        match self.counted {
+            Counted::Races => asked % ENTRIES_A_LOOK == 0,
+            Counted::Runs => asked % STATES_A_LOOK == 0,
+        }
+    }
+
     // Whether all is spent that it may take: memory, of which each entry is asked, or time, after some entries.
     fn has_spent(&mut self, progress: &Progress) -> bool {
         if self.is_full(progress) {
             self.spent = Spent::Memory;
             return true;
         }
-        let asked = self.asked;
-        self.asked = asked.wrapping_add(1);
-        if asked % ENTRIES_A_LOOK != 0 {
+        if !self.is_to_look() {
             return false;
         }
         let passed = self.passed();
@@ -130,7 +161,8 @@ impl<'r, R: Clock + Eprint> Meter<'r, R> {
 
     // Shows so at once where races were found since it last looked.
     fn show_found(&mut self, progress: &Progress) {
-        if self.allowance.progress && progress.found > self.found {
+        let counts_races = matches!(self.counted, Counted::Races);
+        if self.allowance.progress && counts_races && progress.found > self.found {
             self.found = progress.found;
             let passed = self.passed();
             self.show_now(passed, progress);
@@ -140,15 +172,24 @@ impl<'r, R: Clock + Eprint> Meter<'r, R> {
     // A line on standard error.
     fn show_now(&mut self, passed: u64, progress: &Progress) {
         self.shown = passed;
-        let states = progress.entries_opened as u64;
+        let states = match self.counted {
+            Counted::Races => progress.entries_opened as u64,
+            Counted::Runs => self.asked,
+        };
         let pace = states
             .saturating_mul(1_000)
             .checked_div(passed)
             .unwrap_or(0);
-        let _ = eprintln!(self.rt;
-            "at time {}: {} states, {} a second, races so far: {}",
-            progress.rank, states, pace, progress.found
-        );
+        let _ = match self.counted {
+            Counted::Races => eprintln!(self.rt;
+                "at time {}: {} states, {} a second, races so far: {}",
+                progress.rank, states, pace, progress.found
+            ),
+            Counted::Runs => eprintln!(self.rt;
+                "at time {}: {} states, {} a second, runs with the dump's values: {}",
+                progress.rank, states, pace, progress.found
+            ),
+        };
     }
 }
 

@@ -11,7 +11,7 @@ use vrace::Show;
 const PAGES: &str =
     "Pages, in the folder docs: LANGUAGE.md (what is read, commands, limits), SCHEDULING.md (steps, choices, logs), RACES.md (races, reports), CI.md (statuses, waivers), FORMATS.md (dumps, lines, logs, reports, JSON, SARIF), FAULTS.md (numbers)
 
-Exit status: 0 where all was done, of races and explore where nothing was missed and no race was found; 1 where races or explore found a race (of races one that isn't waived), or something in a report isn't true; 2 where the call was refused, with one line on standard error (vrace explain NUMBER says what it means); 3 where races or explore found none and something was left unseen. Of several top modules races tells the worst: 2, then 1, then 3, then 0";
+Exit status: 0 where all was done, of races and explore where nothing was missed and no race was found, of match where an order has the dump's values; 1 where races or explore found a race (of races one that isn't waived), no order has the dump's values, or something in a report isn't true; 2 where the call was refused, with one line on standard error (vrace explain NUMBER says what it means); 3 where races or explore found none and something was left unseen, or match didn't decide. Of several top modules races tells the worst: 2, then 1, then 3, then 0";
 
 /// The version of the program.
 pub const VERSION: &str = "0.1.0";
@@ -30,42 +30,351 @@ pub struct Request<'a> {
     pub files: Vec<&'a str>,
 }
 
-fn option<'a>(alloc: Global, name: &'a str, value: &'a str, help: &'a str) -> Arg<'a> {
-    Arg::new(alloc, name)
-        .long(name)
-        .value_name(value)
-        .action(ArgAction::Set)
-        .help(help)
+// What an option takes.
+#[derive(Clone, Copy)]
+enum Takes {
+    /// Nothing: it is there or it isn't.
+    Nothing,
+    /// A word, which help calls so.
+    Word(&'static str),
+    /// The same; it may be given more than once.
+    Words(&'static str),
+    /// A word that has to be given.
+    Needed(&'static str),
+    /// One of these words.
+    One(&'static str, &'static [&'static str]),
+    Number,
 }
 
-fn grain<'a>(alloc: Global) -> Arg<'a> {
-    option(alloc, "grain", "G", "How finely processes take turns")
-        .value_parser(["process", "statement"].as_slice())
-        .default_value("process")
+// An option, what it stands for where it isn't given, and what help says of it.
+#[derive(Clone, Copy)]
+struct Row {
+    name: &'static str,
+    takes: Takes,
+    default: Option<&'static str>,
+    help: &'static str,
 }
 
-// An option without a value.
-fn flag<'a>(alloc: Global, name: &'a str, help: &'a str) -> Arg<'a> {
-    Arg::new(alloc, name)
-        .long(name)
-        .action(ArgAction::SetTrue)
-        .help(help)
+const TOP: Row = Row {
+    name: "top",
+    takes: Takes::Word("N"),
+    default: None,
+    help: "The top module",
+};
+
+const UNTIL: Row = Row {
+    name: "until",
+    takes: Takes::Number,
+    default: Some("1000000"),
+    help: "The latest time, in units of the precision",
+};
+
+const DEPART: Row = Row {
+    name: "depart",
+    takes: Takes::Number,
+    default: Some("1"),
+    help: "The most departures from the default order, 0 to 4",
+};
+
+const GRAIN: Row = Row {
+    name: "grain",
+    takes: Takes::One("G", &["process", "statement"]),
+    default: Some("process"),
+    help: "How finely processes take turns",
+};
+
+const HOLD: Row = Row {
+    name: "hold",
+    takes: Takes::Nothing,
+    default: None,
+    help: "Departures may also hold back the processes that stand before the one that is taken",
+};
+
+const TAKING: Row = Row {
+    name: "taking",
+    takes: Takes::Nothing,
+    default: None,
+    help: "Departures only take a process; none holds back those that stand before it",
+};
+
+const IN_WORDS: Row = Row {
+    name: "words",
+    takes: Takes::Nothing,
+    default: None,
+    help: "Says in words what is refused, where, and what to write in its place",
+};
+
+const SECONDS: Row = Row {
+    name: "seconds",
+    takes: Takes::Number,
+    default: None,
+    help: "The most seconds before the search is cut; it then goes by time, and what it reports is whole up to where it came",
+};
+
+const PROGRESS: Row = Row {
+    name: "progress",
+    takes: Takes::Nothing,
+    default: None,
+    help: "Shows on standard error how far such a search has come",
+};
+
+// Help on `--memory`.
+const MEMORY: &str =
+    "The most megabytes that states take, as the program counts them, before such a search is cut";
+
+const REPLAY: [Row; 10] = [
+    TOP,
+    UNTIL,
+    Row {
+        name: "steps",
+        takes: Takes::Number,
+        default: Some("100000"),
+        help: "The most steps of the run",
+    },
+    GRAIN,
+    HOLD,
+    Row {
+        name: "log",
+        takes: Takes::Word("L"),
+        default: Some("-"),
+        help: "The departures, as step:index joined by commas, or - for none; process/ or statement/ before it names the grain; \
+            process-holding/ or statement-holding/ also says that departures may hold back",
+    },
+    Row {
+        name: "lines",
+        takes: Takes::Nothing,
+        default: None,
+        help: "Prints the lines of $display, $strobe and $monitor, in place of the dump",
+    },
+    Row {
+        name: "trace",
+        takes: Takes::Nothing,
+        default: None,
+        help: "Prints the steps of the run, a line each, in place of the dump",
+    },
+    Row {
+        name: "details",
+        takes: Takes::Nothing,
+        default: None,
+        help: "With --trace: what each step reads, whom it wakes, and where the <= of an update stands",
+    },
+    IN_WORDS,
+];
+
+const EXPLORE: [Row; 13] = [
+    TOP,
+    UNTIL,
+    DEPART,
+    Row {
+        name: "steps",
+        takes: Takes::Number,
+        default: Some("100000"),
+        help: "The most steps of one run",
+    },
+    Row {
+        name: "entries",
+        takes: Takes::Number,
+        default: None,
+        help: "The most states that are visited before the search is cut; where nothing is said 100000, or any number where it \
+            goes by time",
+    },
+    Row {
+        name: "workers",
+        takes: Takes::Number,
+        default: Some("1"),
+        help: "How many threads explore, 1 to 64",
+    },
+    GRAIN,
+    HOLD,
+    Row {
+        name: "lines",
+        takes: Takes::Nothing,
+        default: None,
+        help: "Compares the lines that slots print, too, in whichever order",
+    },
+    SECONDS,
+    Row {
+        name: "memory",
+        takes: Takes::Number,
+        default: None,
+        help: MEMORY,
+    },
+    PROGRESS,
+    IN_WORDS,
+];
+
+const RACES: [Row; 17] = [
+    Row {
+        name: "top",
+        takes: Takes::Words("N"),
+        default: None,
+        help: "The top module; where it is given more than once, each is searched on its own",
+    },
+    Row {
+        name: "until",
+        takes: Takes::Word("TIME"),
+        default: None,
+        help: "The latest time with its unit, one of s, ms, us, ns, ps and fs, as 10us; where nothing is said there is none",
+    },
+    DEPART,
+    Row {
+        name: "steps",
+        takes: Takes::Number,
+        default: Some("1000000"),
+        help: "The most steps of one run",
+    },
+    GRAIN,
+    TAKING,
+    Row {
+        name: "values",
+        takes: Takes::Nothing,
+        default: None,
+        help: "Compares values alone, and not the lines that slots print",
+    },
+    Row {
+        name: "ignore-before",
+        takes: Takes::Word("TIME"),
+        default: None,
+        help: "The time with its unit, as 10us, before which differences are only counted",
+    },
+    Row {
+        name: "all",
+        takes: Takes::Nothing,
+        default: None,
+        help: "Names all differences of each race",
+    },
+    Row {
+        name: "format",
+        takes: Takes::One("F", &["text", "json", "sarif"]),
+        default: Some("text"),
+        help: "How what was found is written",
+    },
+    Row {
+        name: "waive",
+        takes: Takes::Word("FILE"),
+        default: None,
+        help: "A file of waivers: races that may stay, which don't count for the exit status",
+    },
+    Row {
+        name: "write-waivers",
+        takes: Takes::Word("FILE"),
+        default: None,
+        help: "Writes a file of waivers of the races that were found, for --waive",
+    },
+    Row {
+        name: "html",
+        takes: Takes::Word("FILE"),
+        default: None,
+        help: "Writes a page for a browser: each race with the waveforms of both runs and the two statements",
+    },
+    Row {
+        name: "vcd",
+        takes: Takes::Word("FILE"),
+        default: None,
+        help: "Writes a value change dump of both runs of the first race, under the scopes default and departed",
+    },
+    SECONDS,
+    Row {
+        name: "memory",
+        takes: Takes::Number,
+        default: Some("2000"),
+        help: MEMORY,
+    },
+    PROGRESS,
+];
+
+const MATCH: [Row; 11] = [
+    Row {
+        name: "vcd",
+        takes: Takes::Needed("DUMP"),
+        default: None,
+        help: "The value change dump that another simulator wrote of these files",
+    },
+    Row {
+        name: "slot-depart",
+        takes: Takes::Number,
+        default: Some("2"),
+        help: "The most departures in a slot, 0 to 4",
+    },
+    TOP,
+    Row {
+        name: "steps",
+        takes: Takes::Number,
+        default: Some("100000"),
+        help: "The most steps of one slot",
+    },
+    Row {
+        name: "entries",
+        takes: Takes::Number,
+        default: Some("100000"),
+        help: "The most states of one slot, and the most runs that fit so far, before the search is cut",
+    },
+    GRAIN,
+    TAKING,
+    Row {
+        name: "format",
+        takes: Takes::One("F", &["text", "json"]),
+        default: Some("text"),
+        help: "How what was found is written",
+    },
+    SECONDS,
+    Row {
+        name: "memory",
+        takes: Takes::Number,
+        default: Some("2000"),
+        help: MEMORY,
+    },
+    PROGRESS,
+];
+
+const CHECK: [Row; 4] = [
+    Row {
+        name: "report",
+        takes: Takes::Needed("REPORT"),
+        default: None,
+        help: "The file of the report",
+    },
+    Row {
+        name: "until",
+        takes: Takes::Number,
+        default: Some("4611686018427387903"),
+        help: "The greatest time limit that the report may ask for, in units of the precision",
+    },
+    Row {
+        name: "steps",
+        takes: Takes::Number,
+        default: Some("1000000"),
+        help: "The most steps of one run that the report may ask for",
+    },
+    IN_WORDS,
+];
+
+// What the option takes.
+fn taking<'a>(arg: Arg<'a>, takes: Takes) -> Arg<'a> {
+    match takes {
+        Takes::Nothing => arg.action(ArgAction::SetTrue),
+        Takes::Word(name) => arg.action(ArgAction::Set).value_name(name),
+        Takes::Words(name) => arg.action(ArgAction::Append).value_name(name),
+        Takes::Needed(name) => arg.action(ArgAction::Set).value_name(name).required(true),
+        Takes::One(name, words) => arg
+            .action(ArgAction::Set)
+            .value_name(name)
+            .value_parser(words),
+        Takes::Number => arg
+            .action(ArgAction::Set)
+            .value_name("N")
+            .value_parser(value_parser!(u64)),
+    }
 }
 
-fn hold<'a>(alloc: Global) -> Arg<'a> {
-    flag(
-        alloc,
-        "hold",
-        "Departures may also hold back the processes that stand before the one that is taken",
-    )
-}
-
-fn in_words<'a>(alloc: Global) -> Arg<'a> {
-    flag(
-        alloc,
-        "words",
-        "Says in words what is refused, where, and what to write in its place",
-    )
+// The option.
+fn option<'a>(alloc: Global, row: &Row) -> Arg<'a> {
+    let arg = Arg::new(alloc, row.name).long(row.name).help(row.help);
+    let arg = taking(arg, row.takes);
+    match row.default {
+        None => arg,
+        Some(value) => arg.default_value(value),
+    }
 }
 
 fn files<'a>(alloc: Global) -> Arg<'a> {
@@ -75,303 +384,18 @@ fn files<'a>(alloc: Global) -> Arg<'a> {
         .help("Verilog files in order; none means standard input")
 }
 
-fn top<'a>(alloc: Global) -> Arg<'a> {
-    option(alloc, "top", "N", "The top module")
-}
-
-// An option whose value is a number.
-fn number<'a>(alloc: Global, name: &'a str, help: &'a str, default: &'a str) -> Arg<'a> {
-    option(alloc, name, "N", help)
-        .value_parser(value_parser!(u64))
-        .default_value(default)
-}
-
-// An option whose value is a number, which needn't be given.
-fn limit<'a>(alloc: Global, name: &'a str, help: &'a str) -> Arg<'a> {
-    option(alloc, name, "N", help).value_parser(value_parser!(u64))
-}
-
-fn until<'a>(alloc: Global) -> Arg<'a> {
-    number(
-        alloc,
-        "until",
-        "The latest time, in units of the precision",
-        "1000000",
-    )
-}
-
-fn replay_command<'a>(alloc: Global) -> Result<Command<'a>, NoMemory> {
-    let log = option(
-        alloc,
-        "log",
-        "L",
-        "The departures, as step:index joined by commas, or - for none; process/ or statement/ before it names the grain; process-holding/ or statement-holding/ also says that departures may hold back",
-    )
-    .default_value("-");
-    let trace = flag(
-        alloc,
-        "trace",
-        "Prints the steps of the run, a line each, in place of the dump",
-    );
-    let details = flag(
-        alloc,
-        "details",
-        "With --trace: what each step reads, whom it wakes, and where the <= of an update stands",
-    );
-    let lines = flag(
-        alloc,
-        "lines",
-        "Prints the lines of $display, $strobe and $monitor, in place of the dump",
-    );
-    let command = Command::new(alloc, "replay")
-        .about(
-            "Writes the value change dump of the run under a log, or its printed lines, or its steps",
-        )
-        .arg(top(alloc))?
-        .arg(until(alloc))?
-        .arg(number(alloc, "steps", "The most steps of the run", "100000"))?
-        .arg(grain(alloc))?
-        .arg(hold(alloc))?
-        .arg(log)?
-        .arg(lines)?
-        .arg(trace)?
-        .arg(details)?
-        .arg(in_words(alloc))?
-        .arg(files(alloc))?;
-    Ok(command)
-}
-
-fn depart<'a>(alloc: Global) -> Arg<'a> {
-    number(
-        alloc,
-        "depart",
-        "The most departures from the default order, 0 to 4",
-        "1",
-    )
-}
-
-fn seconds<'a>(alloc: Global) -> Arg<'a> {
-    limit(
-        alloc,
-        "seconds",
-        "The most seconds before the search is cut; it then goes by time, and what it reports is whole up to where it came",
-    )
-}
-
-const MEMORY: &str =
-    "The most megabytes that states take, as the program counts them, before such a search is cut";
-
-fn progress<'a>(alloc: Global) -> Arg<'a> {
-    flag(
-        alloc,
-        "progress",
-        "Shows on standard error how far such a search has come",
-    )
-}
-
-fn explore_command<'a>(alloc: Global) -> Result<Command<'a>, NoMemory> {
-    let entries = limit(
-        alloc,
-        "entries",
-        "The most states that are visited before the search is cut; where nothing is said 100000, or any number where it goes by time",
-    );
-    let lines = flag(
-        alloc,
-        "lines",
-        "Compares the lines that slots print, too, in whichever order",
-    );
-    let command = Command::new(alloc, "explore")
-        .about(
-            "Runs every schedule of at most so many departures as --depart says; reports each end and each race",
-        )
-        .arg(top(alloc))?
-        .arg(until(alloc))?
-        .arg(depart(alloc))?
-        .arg(number(alloc, "steps", "The most steps of one run", "100000"))?
-        .arg(entries)?
-        .arg(number(alloc, "workers", "How many threads explore, 1 to 64", "1"))?
-        .arg(grain(alloc))?
-        .arg(hold(alloc))?
-        .arg(lines)?
-        .arg(seconds(alloc))?
-        .arg(limit(alloc, "memory", MEMORY))?
-        .arg(progress(alloc))?
-        .arg(in_words(alloc))?
-        .arg(files(alloc))?;
-    Ok(command)
-}
-
-fn tops<'a>(alloc: Global) -> Arg<'a> {
-    option(
-        alloc,
-        "top",
-        "N",
-        "The top module; where it is given more than once, each is searched on its own",
-    )
-    .action(ArgAction::Append)
-}
-
-fn ignore_before<'a>(alloc: Global) -> Arg<'a> {
-    option(
-        alloc,
-        "ignore-before",
-        "TIME",
-        "The time with its unit, as 10us, before which differences are only counted",
-    )
-}
-
-fn taking<'a>(alloc: Global) -> Arg<'a> {
-    flag(
-        alloc,
-        "taking",
-        "Departures only take a process; none holds back those that stand before it",
-    )
-}
-
-fn values<'a>(alloc: Global) -> Arg<'a> {
-    flag(
-        alloc,
-        "values",
-        "Compares values alone, and not the lines that slots print",
-    )
-}
-
-fn format<'a>(alloc: Global) -> Arg<'a> {
-    option(alloc, "format", "F", "How what was found is written")
-        .value_parser(["text", "json", "sarif"].as_slice())
-        .default_value("text")
-}
-
-fn waive<'a>(alloc: Global) -> Arg<'a> {
-    option(
-        alloc,
-        "waive",
-        "FILE",
-        "A file of waivers: races that may stay, which don't count for the exit status",
-    )
-}
-
-fn write_waivers<'a>(alloc: Global) -> Arg<'a> {
-    option(
-        alloc,
-        "write-waivers",
-        "FILE",
-        "Writes a file of waivers of the races that were found, for --waive",
-    )
-}
-
-fn html<'a>(alloc: Global) -> Arg<'a> {
-    option(
-        alloc,
-        "html",
-        "FILE",
-        "Writes a page for a browser: each race with the waveforms of both runs and the two statements",
-    )
-}
-
-fn vcd<'a>(alloc: Global) -> Arg<'a> {
-    option(
-        alloc,
-        "vcd",
-        "FILE",
-        "Writes a value change dump of both runs of the first race, under the scopes default and departed",
-    )
-}
-
-fn races_command<'a>(alloc: Global) -> Result<Command<'a>, NoMemory> {
-    let until = option(
-        alloc,
-        "until",
-        "TIME",
-        "The latest time with its unit, one of s, ms, us, ns, ps and fs, as 10us; where nothing is said there is none",
-    );
-    let all = flag(alloc, "all", "Names all differences of each race");
-    let command = Command::new(alloc, "races")
-        .about("Says which statements race, what differs then, and how to replay each order")
-        .arg(tops(alloc))?
-        .arg(until)?
-        .arg(depart(alloc))?
-        .arg(number(alloc, "steps", "The most steps of one run", "1000000"))?
-        .arg(grain(alloc))?
-        .arg(taking(alloc))?
-        .arg(values(alloc))?
-        .arg(ignore_before(alloc))?
-        .arg(all)?
-        .arg(format(alloc))?
-        .arg(waive(alloc))?
-        .arg(write_waivers(alloc))?
-        .arg(html(alloc))?
-        .arg(vcd(alloc))?
-        .arg(seconds(alloc))?
-        .arg(number(alloc, "memory", MEMORY, "2000"))?
-        .arg(progress(alloc))?
-        .arg(files(alloc))?;
-    Ok(command)
-}
-
-fn match_command<'a>(alloc: Global) -> Result<Command<'a>, NoMemory> {
-    let dump = option(
-        alloc,
-        "vcd",
-        "DUMP",
-        "The value change dump that another simulator wrote of these files",
-    )
-    .required(true);
-    let entries = number(
-        alloc,
-        "entries",
-        "The most states of one slot, and the most runs that fit so far, before the search is cut",
-        "100000",
-    );
-    let format = option(alloc, "format", "F", "How what was found is written")
-        .value_parser(["text", "json"].as_slice())
-        .default_value("text");
-    let command = Command::new(alloc, "match")
-        .about(
-            "Says which order of the files has the values of another simulator's dump, or that none has",
-        )
-        .arg(dump)?
-        .arg(number(
-            alloc,
-            "slot-depart",
-            "The most departures in a slot, 0 to 4",
-            "2",
-        ))?
-        .arg(top(alloc))?
-        .arg(number(alloc, "steps", "The most steps of one slot", "100000"))?
-        .arg(entries)?
-        .arg(grain(alloc))?
-        .arg(taking(alloc))?
-        .arg(format)?
-        .arg(seconds(alloc))?
-        .arg(number(alloc, "memory", MEMORY, "2000"))?
-        .arg(progress(alloc))?
-        .arg(files(alloc))?;
-    Ok(command)
-}
-
-fn check_command<'a>(alloc: Global) -> Result<Command<'a>, NoMemory> {
-    let report = option(alloc, "report", "REPORT", "The file of the report").required(true);
-    let until = number(
-        alloc,
-        "until",
-        "The greatest time limit that the report may ask for, in units of the precision",
-        "4611686018427387903",
-    );
-    let steps = number(
-        alloc,
-        "steps",
-        "The most steps of one run that the report may ask for",
-        "1000000",
-    );
-    let command = Command::new(alloc, "check")
-        .about("Runs each log of a report; says ok, or the first item that isn't true")
-        .arg(report)?
-        .arg(until)?
-        .arg(steps)?
-        .arg(in_words(alloc))?
-        .arg(files(alloc))?;
-    Ok(command)
+// The command of this name, with these options, and behind them the files.
+fn command<'a>(
+    alloc: Global,
+    name: &'a str,
+    about: &'a str,
+    options: &[Row],
+) -> Result<Command<'a>, NoMemory> {
+    let mut command = Command::new(alloc, name).about(about);
+    for row in options {
+        command = command.arg(option(alloc, row))?;
+    }
+    Ok(command.arg(files(alloc))?)
 }
 
 fn explain_command<'a>(alloc: Global) -> Result<Command<'a>, NoMemory> {
@@ -382,23 +406,36 @@ fn explain_command<'a>(alloc: Global) -> Result<Command<'a>, NoMemory> {
     Ok(command)
 }
 
+// The commands that read files.
+fn commands_of_files<'a>(alloc: Global, all: Command<'a>) -> Result<Command<'a>, NoMemory> {
+    let check = "Runs each log of a report; says ok, or the first item that isn't true";
+    let explore =
+        "Runs every schedule of at most so many departures as --depart says; reports each end and each race";
+    let matching =
+        "Says which order of the files has the values of another simulator's dump, or that none has";
+    let races = "Says which statements race, what differs then, and how to replay each order";
+    let replay =
+        "Writes the value change dump of the run under a log, or its printed lines, or its steps";
+    let all = all
+        .subcommand(command(alloc, "check", check, &CHECK)?)?
+        .subcommand(command(alloc, "explore", explore, &EXPLORE)?)?
+        .subcommand(command(alloc, "match", matching, &MATCH)?)?
+        .subcommand(command(alloc, "races", races, &RACES)?)?
+        .subcommand(command(alloc, "replay", replay, &REPLAY)?)?;
+    Ok(all)
+}
+
 /// The commands of the program.
 pub fn commands<'a>(alloc: Global) -> Result<Command<'a>, NoMemory> {
-    let command = Command::new(alloc, "vrace")
+    let all = Command::new(alloc, "vrace")
         .bin_name("vrace")?
         .about(
             "Runs Verilog in the orders that the standard leaves open, and finds races. Without words: replays standard input.",
         )
         .version(VERSION)
         .after_help(PAGES)
-        .subcommand_required(true)
-        .subcommand(check_command(alloc)?)?
-        .subcommand(explore_command(alloc)?)?
-        .subcommand(match_command(alloc)?)?
-        .subcommand(races_command(alloc)?)?
-        .subcommand(replay_command(alloc)?)?
-        .subcommand(explain_command(alloc)?)?;
-    Ok(command)
+        .subcommand_required(true);
+    Ok(commands_of_files(alloc, all)?.subcommand(explain_command(alloc)?)?)
 }
 
 // Whether a word reads as an option, as all do that begin with a minus but `-` itself.

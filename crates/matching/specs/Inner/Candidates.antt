@@ -1,7 +1,8 @@
 -- *internal*: The candidates of a search, and which of them follow from those of the time before.
-use Rattle.std.specs.Prelude.{◌≡◌, ℕ, ◌+◌, ◌<◌, ◌≤◌, ◌⊎◌, true, List, ◌++◌, length, slice_get, Option, Some, None, IfSome}
+use Rattle.std.specs.Prelude.{◌≡◌, ℕ, ◌+◌, ◌<◌, ◌≤◌, ◌⊎◌, true, List, ◌++◌, length, slice_get, Option}
+use Rattle.std.specs.Prelude.{Some, None, IfSome}
 use Rattle.sched_core.specs.Rules.{Rules}
-use Rattle.matching.specs.Answers.{Stands}
+use Rattle.matching.specs.Slots.{IsRunTo}
 use Rattle.matching.specs.Inner.Slots.{shifted, EndsSlot}
 use Rattle.matching.specs.declared.answer.Explanation.{Explanation}
 use Rattle.matching.specs.declared.candidates.Onward.{Onward}
@@ -19,7 +20,7 @@ GoesOn r rank s (Some next) = (0 < r.width s) × (r.same next.state (r.after s 0
 
 -- the pair is a mark at which its run stands, with where that goes on
 pub record IsAWay {S : Type 0} (r : Rules S) (rank : S → ℕ) (e : S × Way S) : Type 0 where
-  pub stands : Stands r e.0 e.1.log e.1.steps
+  pub stands : IsRunTo r e.0 e.1.log e.1.steps
   pub mark : r.mark e.0 ≡ true
   pub next : GoesOn r rank e.0 e.1.next
 
@@ -49,7 +50,8 @@ pub record Keeps {S : Type 0} (r : Rules S) (s : S) (way : Way S) (old new : Lis
   pub kept : IsKept r new s (length way.log)
 
 -- The pair stands at the end of a slot, after a run that goes on from the start by at most so many departures.
-pub record IsEndOf {S : Type 0} (r : Rules S) (most : ℕ) (start : SlotStart S) (s : S) (log : List (ℕ × ℕ)) (steps : ℕ) : Type 0 where
+pub record IsEndOf {S : Type 0} (r : Rules S) (most : ℕ) (start : SlotStart S) (s : S) (log : List (ℕ × ℕ))
+    (steps : ℕ) : Type 0 where
   pub slot : List (ℕ × ℕ)
   pub count : ℕ
   pub ends : EndsSlot r start.state slot count s
@@ -58,7 +60,8 @@ pub record IsEndOf {S : Type 0} (r : Rules S) (most : ℕ) (start : SlotStart S)
   pub steps_is : steps ≡ start.steps + count
 
 -- so it does, and nothing differs
-pub record IsFittingEnd {S : Type 0} (r : Rules S) (rank : S → ℕ) (differ : S → ℕ) (most : ℕ) (start : SlotStart S) (e : S × Way S) : Type 0 where
+pub record IsFittingEnd {S : Type 0} (r : Rules S) (rank : S → ℕ) (differ : S → ℕ) (most : ℕ) (start : SlotStart S)
+    (e : S × Way S) : Type 0 where
   pub ends : IsEndOf r most start e.0 e.1.log e.1.steps
   pub fits : differ e.0 ≡ 0
   pub next : GoesOn r rank e.0 e.1.next
@@ -70,7 +73,8 @@ KeepsFound {S} r differ more marks entries = (found : S × List (ℕ × ℕ)) �
 
 -- Each end of the slot in which nothing differs is in the list, after a run of at most so many departures more.
 abbrev pub KeepsEnds : {S : Type 0} → Rules S → (S → ℕ) → ℕ → SlotStart S → List (S × Way S) → Type 0
-KeepsEnds {S} r differ most start entries = (log : List (ℕ × ℕ)) (n : ℕ) (s : S) → length log ≤ most → EndsSlot r start.state log n s → differ s ≡ 0 → IsKept r entries s (length start.log + length log)
+KeepsEnds {S} r differ most start entries = (log : List (ℕ × ℕ)) (n : ℕ) (s : S) → length log ≤ most →
+    EndsSlot r start.state log n s → differ s ≡ 0 → IsKept r entries s (length start.log + length log)
 
 -- where the slot after a candidate begins
 abbrev pub begins : {S : Type 0} → S → Way S → ℕ → SlotStart S
@@ -99,12 +103,14 @@ abbrev pub Follows : {S : Type 0} → Rules S → (S → ℕ) → (S → ℕ) �
 Follows r rank differ most v c e = Waits r differ v c e ⊎ GoesInto r rank differ most v c e
 
 -- Whatever follows from the candidate at time v is in the list.
-pub record KeepsFollowing {S : Type 0} (r : Rules S) (differ : S → ℕ) (most v : ℕ) (c : S × Way S) (entries : List (S × Way S)) : Type 0 where
+pub record KeepsFollowing {S : Type 0} (r : Rules S) (differ : S → ℕ) (most v : ℕ) (c : S × Way S) (entries : List (S × Way S)) :
+    Type 0 where
   pub waits : IsWaiting v c.1 → differ c.0 ≡ 0 → IsKept r entries c.0 (length c.1.log)
   pub ends : (next : Onward S) → IsDue v c.1 next → KeepsEnds r differ most (begins next.state c.1 (c.1.steps + 1)) entries
 
 -- The candidates are what follows at time v from those of a time before.
-pub record FollowAll {S : Type 0} (r : Rules S) (rank : S → ℕ) (differ : S → ℕ) (most v : ℕ) (old new : List (S × Way S)) : Type 0 where
+pub record FollowAll {S : Type 0} (r : Rules S) (rank : S → ℕ) (differ : S → ℕ) (most v : ℕ) (old new : List (S × Way S)) :
+    Type 0 where
   pub only : (e : S × Way S) → IsIn new e → (c : S × Way S) × IsIn old c × Follows r rank differ most v c e
   pub all : (c : S × Way S) → IsIn old c → KeepsFollowing r differ most v c new
 
@@ -123,6 +129,25 @@ pub record IsShortest {S : Type 0} (entries : List (S × Way S)) (best : Explana
   pub steps : entry.1.steps ≡ best.steps
   pub least : (e : S × Way S) → IsIn entries e → length best.log ≤ length e.1.log
 
--- the run stands at its state, the end of a slot
-abbrev pub IsRunToEnd : {S : Type 0} → Rules S → Explanation S → Type 0
-IsRunToEnd r e = Stands r e.state e.log e.steps × (r.mark e.state ≡ true)
+-- The run is that of the first, which waits at time v; or it goes on from there to the end of the next slot.
+pub record WaitsNear {S : Type 0} (v : ℕ) (c : S × Way S) (e : Explanation S) : Type 0 where
+  pub waiting : IsWaiting v c.1
+  pub state : e.state ≡ c.0
+  pub log : e.log ≡ c.1.log
+  pub steps : e.steps ≡ c.1.steps
+
+pub record GoesNear {S : Type 0} (r : Rules S) (most v : ℕ) (c : S × Way S) (e : Explanation S) : Type 0 where
+  pub next : Onward S
+  pub due : IsDue v c.1 next
+  pub ends : IsEndOf r most (begins next.state c.1 (c.1.steps + 1)) e.state e.log e.steps
+
+abbrev pub NearFrom : {S : Type 0} → Rules S → ℕ → ℕ → S × Way S → Explanation S → Type 0
+NearFrom r most v c e = WaitsNear v c e ⊎ GoesNear r most v c e
+
+-- So it is from one of the list.
+abbrev pub NearFromSome : {S : Type 0} → Rules S → ℕ → ℕ → List (S × Way S) → Explanation S → Type 0
+NearFromSome {S} r most v old e = (c : S × Way S) × IsIn old c × NearFrom r most v c e
+
+-- the run goes on from the start to the end of the slot
+abbrev pub EndsNear : {S : Type 0} → Rules S → ℕ → SlotStart S → Explanation S → Type 0
+EndsNear r most start e = IsEndOf r most start e.state e.log e.steps

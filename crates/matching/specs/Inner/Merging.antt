@@ -25,4 +25,5 @@ pub record IsEarlier {S : Type 0} (time : ℕ) (way : Way S) (earlier : ℕ) : T
 -- It is the second run, or the first, which has no more departures.
 abbrev pub IsShorter : {S : Type 0} → Option (Explanation S) → S → Way S → Explanation S → Type 0
 IsShorter None s way best = (best.state ≡ s) × (best.log ≡ way.log) × (best.steps ≡ way.steps)
-IsShorter (Some old) s way best = ((best ≡ old) × (length old.log ≤ length way.log)) ⊎ ((best.state ≡ s) × (best.log ≡ way.log) × (best.steps ≡ way.steps) × (length way.log ≤ length old.log))
+IsShorter (Some old) s way best = ((best ≡ old) × (length old.log ≤ length way.log)) ⊎
+    ((best.state ≡ s) × (best.log ≡ way.log) × (best.steps ≡ way.steps) × (length way.log ≤ length old.log))

@@ -1,7 +1,7 @@
 -- *internal*: One slot of a lawful space is a lawful space (a law with its proof).
 use Rattle.std.proofs.Common.{◌≡◌, ℕ, ◌<◌, Bool, true, false, if◌then◌else◌, arith, refl}
 use Rattle.sched_core.specs.Rules.{Rules, IsLawful}
-use Rattle.matching.specs.Inner.Slots.{one_slot}
+use Rattle.matching.specs.Slots.{one_slot}
 
 -- at no mark the width is the space's own
 width_there : (mark : Bool) (i w : ℕ) → i < (if mark then 0 else w) → i < w

@@ -1,16 +1,7 @@
 -- *internal*: One slot of a space, and the run that goes on into it.
-use Rattle.std.specs.Prelude.{◌≡◌, ℕ, ◌+◌, true, if◌then◌else◌, List, [], ◌∷◌}
+use Rattle.std.specs.Prelude.{◌≡◌, ℕ, ◌+◌, ◌<◌, true, List, [], ◌∷◌}
 use Rattle.sched_core.specs.Rules.{Rules, stands, IsRun, NamesBelow}
-
--- The runs from a state on to the first mark.
-abbrev pub one_slot : {S : Type 0} → Rules S → S → Rules S
-one_slot r start = record {
-  same = r.same;
-  first = start;
-  width = λ s. if r.mark s then 0 else r.width s;
-  mark = r.mark;
-  after = r.after;
-}
+use Rattle.matching.specs.Slots.{one_slot}
 
 -- The members of a log, so many steps later.
 abbrev pub shifted : ℕ → List (ℕ × ℕ) → List (ℕ × ℕ)
@@ -23,3 +14,7 @@ pub record EndsSlot {S : Type 0} (r : Rules S) (start : S) (log : List (ℕ × �
   pub names : NamesBelow log n
   pub mark : r.mark (stands (one_slot r start) log n) ≡ true
   pub at : r.same s (stands (one_slot r start) log n) ≡ true
+
+-- A run that takes so many steps and then goes on under the second log can't be named: it takes too many steps.
+abbrev pub IsBeyond : List (ℕ × ℕ) → ℕ → List (ℕ × ℕ) → Type 0
+IsBeyond log steps slot = (c : ℕ) → NamesBelow log steps → NamesBelow slot c → 1000000 < steps + c

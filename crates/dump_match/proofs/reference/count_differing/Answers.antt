@@ -1,4 +1,4 @@
-use Rattle.std.proofs.Common.{arith, ℕ, suc, ◌≡◌, ◌+◌, ◌∷◌, List, drop, subst, get_or, sym, ap, ◌∙◌, Bool, if◌then◌else◌}
+use Rattle.std.proofs.Common.{arith, ℕ, suc, ◌≡◌, ◌+◌, ◌∷◌, drop, subst, get_or, sym, ap, ◌∙◌, Bool, if◌then◌else◌}
 use Rattle.basis.proofs.Lists.{drop_at_place}
 use Rattle.dump_match.specs.Comparison.{differing_in}
 use Rattle.dump_match.specs.declared.comparison.Pair.{Pair}

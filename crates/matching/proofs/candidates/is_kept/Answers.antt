@@ -15,12 +15,15 @@ leb-false a b h = elim (leb_tells a b) [
 pub returns-in-Some-clause-kept : goal.returns-in-Some-clause-kept
 returns-in-Some-clause-kept g c = λ t.
     let P : List (ℕ × ℕ) → Type 0 = λ l. length l ≤ c.args.departures in
-    no_longer g.S.PartialEq.eq c.args.candidates.now.entries c.args.state.now c.in-Some.way.now c.args.departures c.in-Some.ensures.value (subst P c.members.ensures.list (leb-true (length c.members.result.now) c.args.departures t))
+    no_longer g.S.PartialEq.eq c.args.candidates.now.entries c.args.state.now c.in-Some.way.now c.args.departures c.in-Some.ensures.value
+    (subst P c.members.ensures.list (leb-true (length c.members.result.now) c.args.departures t))
 
 pub returns-in-Some-clause-longer : goal.returns-in-Some-clause-longer
 returns-in-Some-clause-longer g c = λ t.
     let P : List (ℕ × ℕ) → Type 0 = λ l. c.args.departures < length l in
-    longer g.S.PartialEq.eq g.met.S.Eq.laws c.args.candidates.now.entries c.requires c.args.state.now c.in-Some.way.now c.args.departures c.in-Some.ensures.value (subst P c.members.ensures.list (leb-false (length c.members.result.now) c.args.departures t))
+    longer g.S.PartialEq.eq g.met.S.Eq.laws c.args.candidates.now.entries c.requires c.args.state.now c.in-Some.way.now c.args.departures
+    c.in-Some.ensures.value (subst P c.members.ensures.list (leb-false (length c.members.result.now) c.args.departures t))
 
 pub returns-in-None-clause-longer : goal.returns-in-None-clause-longer
-returns-in-None-clause-longer g c = λ _. longer_none g.S.PartialEq.eq g.met.S.Eq.laws c.args.candidates.now.entries c.requires c.args.state.now c.args.departures c.in-None.ensures.value
+returns-in-None-clause-longer g c = λ _. longer_none g.S.PartialEq.eq g.met.S.Eq.laws c.args.candidates.now.entries c.requires
+    c.args.state.now c.args.departures c.in-None.ensures.value

@@ -1,6 +1,6 @@
 use Rattle.std.proofs.Common.{ℕ, List, ◌∷◌, ◌++◌, [], ap, subst, ◌∙◌}
-use Rattle.basis.specs.Numerals.{IsNumber}
 use Rattle.vcd_read.specs.Words.{Text}
+use Rattle.vcd_read.specs.Numbers.{IsDecimal}
 use Rattle.vcd_read.specs.Bytes.{left}
 use Rattle.vcd_read.specs.Declarations.{end_word, declared}
 use Rattle.vcd_read.specs.Declaring.{all_seen}
@@ -22,13 +22,13 @@ returns-clause-lead g c =
     let fifth = left g.R.Read.remaining c.take-2.new.self.bytes in
     let last = left g.R.Read.remaining c.pass.new.self.bytes in
     let ending : List Text = range ++ end_word ∷ [] in
-    let number : IsNumber size c.in-Some.width = subst (λ (text : Text). IsNumber text c.in-Some.width) c.word.ensures c.in-Some.ensures.read in (
+    let number : IsDecimal size c.in-Some.width = subst (λ (text : Text). IsDecimal text c.in-Some.width) c.word.ensures c.in-Some.ensures in (
       kind ∷ size ∷ code ∷ reference ∷ ending,
       more_come (kind ∷ []) (size ∷ code ∷ reference ∷ ending) first second last c.in_ok-must.ensures.word
           (more_come (size ∷ []) (code ∷ reference ∷ ending) second third last c.in_ok-must-2.ensures.word
           (more_come (code ∷ []) (reference ∷ ending) third fourth last c.in_ok-code.ensures.word
           (more_come (reference ∷ []) ending fourth fifth last c.in_ok-reference.ensures.word passed))),
-      lead_variable c.args.self.now c.add.new.self kind size code reference range c.in-Some.width number without c.in_ok-add.ensures.prefix c.in_ok-add.ensures.outer
+      lead_variable c.args.self.now c.add.new.self kind size code reference range c.in-Some.width number without c.in_ok-add.ensures.prefix c.in_ok-add.ensures.outer c.in_ok-add.ensures.unit
           (c.in_ok-add.ensures.variables ∙ ap (λ (text : List ℕ). all_seen c.args.self.now.variables.items
           ++ declared c.args.self.now.prefix.items text c.in-Some.width code ∷ []) c.deref.ensures.value),
     )

@@ -16,5 +16,5 @@ returns-clause-lead g c =
       kind ∷ name ∷ end_word ∷ [],
       more_come (kind ∷ []) (name ∷ end_word ∷ []) first second last c.in_ok-must.ensures.word
           (more_come (name ∷ []) (end_word ∷ []) second third last c.in_ok-name.ensures.word c.in_ok-expect.ensures.word),
-      lead_scope c.args.self.now c.enter.new.self kind name (c.in_ok-enter.ensures.prefix ∙ ap (λ (text : List ℕ). c.args.self.now.prefix.items ++ (text ++ 46 ∷ [])) c.deref.ensures.value) c.in_ok-enter.ensures.outer c.in_ok-enter.ensures.variables,
+      lead_scope c.args.self.now c.enter.new.self kind name (c.in_ok-enter.ensures.prefix ∙ ap (λ (text : List ℕ). c.args.self.now.prefix.items ++ (text ++ 46 ∷ [])) c.deref.ensures.value) c.in_ok-enter.ensures.outer c.in_ok-enter.ensures.unit c.in_ok-enter.ensures.variables,
     )

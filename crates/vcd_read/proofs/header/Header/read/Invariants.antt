@@ -1,4 +1,4 @@
-use Rattle.std.specs.Prelude.{◌≡◌, ◌≤◌, List, []}
+use Rattle.std.specs.Prelude.{◌≡◌, ◌≤◌, List, [], None}
 use Rattle.vcd_read.specs.Words.{Text}
 use Rattle.vcd_read.specs.Bytes.{left, Come, IsReady}
 use Rattle.vcd_read.specs.Declaring.{Lead}
@@ -10,6 +10,7 @@ invariant-declarations g l = record {
   budget : l.words.bytes.budget ≤ l.fn.words.bytes.budget;
   prefix : l.initial.header.prefix.items ≡ [];
   outer : l.initial.header.outer.items ≡ [];
+  unit : l.initial.header.unit ≡ None;
   variables : l.initial.header.variables.items ≡ [];
   come : (list : List Text) × Come list (left g.R.Read.remaining l.fn.words.bytes) (left g.R.Read.remaining l.words.bytes) × Lead list l.initial.header l.header;
 }

@@ -10,9 +10,10 @@ invariant-items g l = record {
   sound : IsSound l.self.columns;
   none : l.self.ahead ≡ None;
   time : l.self.time ≡ l.fn.self.time;
+  units : l.self.units ≡ l.fn.self.units;
   watched : l.self.columns.watched ≡ l.fn.self.columns.watched;
   budget : bytes_left l.self.dump ≤ bytes_left l.fn.self.dump;
-  came : Came g.R.Read.remaining l.fn.self.time l.fn.self.dump l.fn.self.columns l.self.dump l.self.columns;
+  came : Came g.R.Read.remaining l.self.units l.fn.self.time l.fn.self.dump l.fn.self.columns l.self.dump l.self.columns;
 }
 
 abbrev pub decreases-items : goal.decreases-items
