@@ -3,8 +3,6 @@
 #![tactic(auto)]
 
 #[cfg(test)]
-mod directives;
-#[cfg(test)]
 mod dumps;
 #[cfg(test)]
 mod logs;

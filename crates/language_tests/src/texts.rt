@@ -1,6 +1,6 @@
-// From the bytes of files to places, tokens, trees and steps.
+// From the bytes of files to trees and steps.
 
-use basis::{OrMemory, Timescale};
+use basis::OrMemory;
 use byte_sinks::HeldText;
 use sched_core::end::Cause;
 use sched_core::setting::Grain;
@@ -11,7 +11,7 @@ use text_read::{delays_fit, design_of, expression_at, tree_of};
 use vbits::Vec4;
 use vcd_text::DumpSink;
 use vdesign::design::Design;
-use vlex::{TokenKind, Tokens, tokens};
+use vlex::{Tokens, tokens};
 use vmachine::Machine;
 use vmodel::history::Item;
 use vmodel::{opening, slow_step, slow_width};
@@ -30,49 +30,6 @@ fn place(file: usize, line: usize, column: usize) -> Place {
     Place { file, line, column }
 }
 
-#[test]
-fn joins_files(rt: HostRuntime) -> Result<(), Fail> {
-    let none = source(rt.alloc(), &[])?;
-    assert_eq!(rt; none.text(), b"".as_slice());
-    assert_eq!(rt; none.place(0), place(1, 1, 0));
-
-    let source = source(rt.alloc(), &[b"a\nb", b"", b"\nc"])?;
-    assert_eq!(rt; source.text(), b"a\nb\n\n\nc".as_slice());
-    // the bytes of the text, line feeds between the files included, and its end
-    let places = [
-        (1, 1, 0),
-        (1, 1, 1),
-        (1, 2, 0),
-        (1, 2, 1),
-        (2, 1, 0),
-        (3, 1, 0),
-        (3, 2, 0),
-        (3, 2, 1),
-    ];
-    for (at, (file, line, column)) in places.into_iter().enumerate() {
-        assert!(rt; at <= source.text().len());
-        assert_eq!(rt; source.place(at), place(file, line, column), "at {at}");
-    }
-    assert!(rt; source.timescale() == Timescale::usual());
-    Ok(())
-}
-
-// A text of tokens, and the same with a blank between each two.
-const TEXT: &[u8] = b"#1a = 0; 1'h1?a:b (c == 2'b01 ?a:b)
-8'dx_ 04'b1 1_6'b0 64'b1 4'b1_ 8'bX 4'SHf 'bz 'sbx 'D9 8 'b1
-a-->b a**b[i+:2] a?b-:c a===b!==c<<<d>>>e<=f a&&&b~|^~~^c~&|d||e a=!b!=c==d>=e>>f<<g
-x$1_ _y $time $$ a.b(c)@{d,e};f:g%h+i*j<k>l|m^n
-a/b a//b
-c a/**/b/***/c/*//*/d a / \"a\\n\\t\\\\\\\"b\" \"\" // \x00\xff
-\"\x00\xff\"";
-
-const WORDS: &[u8] = b"# 1 a = 0 ; 1'h1?a : b ( c == 2'b01 ? a : b ) \
-8'dx_ 04'b1 1_6'b0 64'b1 4'b1_ 8'bX 4'SHf 'bz 'sbx 'D9 8 'b1 \
-a - -> b a ** b [ i +: 2 ] a ? b -: c a === b !== c <<< d >>> e <= f \
-a && & b ~| ^~ ~^ c ~& | d || e a = ! b != c == d >= e >> f << g \
-x$1_ _y $time $$ a . b ( c ) @ { d , e } ; f : g % h + i * j < k > l | m ^ n \
-a / b a c a b c d a / \"a\\n\\t\\\\\\\"b\" \"\" \"\x00\xff\"";
-
 fn joined(alloc: Global, tokens: &Tokens<'_>) -> Result<Vec<u8>, Fail> {
     let mut line = Vec::new(alloc);
     for index in 0..tokens.len() {
@@ -82,35 +39,6 @@ fn joined(alloc: Global, tokens: &Tokens<'_>) -> Result<Vec<u8>, Fail> {
         line.extend_from_slice(tokens.text(index))?;
     }
     Ok(line)
-}
-
-#[test]
-fn cuts_a_text(rt: HostRuntime) -> Result<(), Fail> {
-    let source = source(rt.alloc(), &[TEXT])?;
-    let found = joined(rt.alloc(), &tokens(rt.alloc(), &source)?)?;
-    assert_eq!(rt; found.as_slice(), WORDS);
-    Ok(())
-}
-
-#[test]
-fn names_kinds_and_places(rt: HostRuntime) -> Result<(), Fail> {
-    let kinds = [
-        TokenKind::Name,
-        TokenKind::System,
-        TokenKind::Plain,
-        TokenKind::Based,
-        TokenKind::Text,
-        TokenKind::Symbol,
-    ];
-    let source = source(rt.alloc(), &[b"a\n$b 1\n", b"1'b1\n\"c\" +"])?;
-    let found = tokens(rt.alloc(), &source)?;
-    assert_eq!(rt; found.len(), 6);
-    for (index, kind) in kinds.into_iter().enumerate() {
-        assert!(rt; found.kind(index) == kind);
-    }
-    assert_eq!(rt; found.place(2), place(1, 2, 3));
-    assert_eq!(rt; found.place(5), place(2, 2, 4));
-    Ok(())
 }
 
 const EACH_STATEMENT: &[u8] = b"module leaf #(parameter [3:0] W = 4, D = 2, parameter integer I = 1)

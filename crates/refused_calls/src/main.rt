@@ -1,7 +1,8 @@
 //! Makes calls whose growths of memory may be refused, and tells what a refusal left: whether what was there stands as it was, and
 //! whether the same call then succeeds. Which growth is refused is up to whoever starts it. In goes the name of the calls: `meet`,
-//! `share`, or, with the text of a module, `step` and `report`; out comes one line, behind the report where one was asked for.
-//! Without words nothing is called. No law is claimed.
+//! `share`, or, with the text of a module, `step` and `report`; out comes one line, after the report where one was asked for. `timed`, with
+//! the text of a module, a number of departures and one of entries, tells what a search by time finds that is stopped once so many
+//! entries were taken. Without words nothing is called. No law is claimed.
 #![tactic(auto)]
 
 mod counts;
@@ -10,13 +11,32 @@ mod plain;
 mod reports;
 mod shared;
 mod steps;
+mod timed;
 
+use basis::NoMemory;
 use counts::show;
 use plain::inserts;
 use reports::reports;
 use shared::shares;
+use std::io::Write;
 use std::{env, io};
 use steps::{machine_of, walks};
+use timed::stopped;
+
+// The number that a word tells; 0 where there is none.
+fn number(words: &[String], place: usize) -> u32 {
+    match words.get(place) {
+        Some(word) => word.parse::<u32>().unwrap_or(0),
+        None => 0,
+    }
+}
+
+fn show_text(rt: &HostRuntime, text: Result<Vec<u8>, NoMemory>) -> io::Result<()> {
+    match text {
+        Ok(text) => io::writer(rt).write_all(&text),
+        Err(_) => rt.println("E901"),
+    }
+}
 
 fn main(rt: HostRuntime) -> io::Result<()> {
     let alloc = rt.alloc();
@@ -34,13 +54,14 @@ fn main(rt: HostRuntime) -> io::Result<()> {
         "share" => show(&rt, shares(&rt, alloc)),
         _ => match machine_of(alloc, text.as_bytes()) {
             None => rt.println("no machine"),
-            Some(machine) => {
-                if name == "step" {
-                    show(&rt, walks(&machine))
-                } else {
-                    reports(&rt, alloc, &machine)
+            Some(machine) => match name {
+                "step" => show(&rt, walks(&machine)),
+                "timed" => {
+                    let text = stopped(alloc, &machine, number(&words, 3), number(&words, 4));
+                    show_text(&rt, text)
                 }
-            }
+                _ => reports(&rt, alloc, &machine),
+            },
         },
     }
 }

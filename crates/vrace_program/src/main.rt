@@ -6,26 +6,30 @@
 
 mod complaints;
 mod dump_flaws;
-mod explanations;
 mod matches;
 mod meter;
 mod races;
 mod refusals;
 mod times;
-mod words;
 
 use basis::NoMemory;
 use byte_sinks::Metered;
 use clap::error::ErrorKind;
 use clap::{ArgMatches, Error};
+use command_line::{
+    Allowance, Request, Search, Wanted, commands, explanation_of, files_of, has_dashed_dump,
+    has_dashed_log, has_dashed_report, has_dashed_top, has_dashed_waivers, has_joined_letters,
+    has_one_output_for_two, has_output_over_file, is_in_words, log_of, match_request_of,
+    match_words_of, race_request_of, race_search_of, race_words_of, report_of, request_of,
+    search_of, show, show_advice, show_all, steps_of, until_of, wanted_of,
+};
 use complaints::{
     TOO_LONG_TOGETHER, ask_for_words, limits_text, needless_in, unopened_text, unread_text,
     value_of, waiver_text,
 };
 use dump_flaws::flaw_words;
-use explanations::{explanation_of, show, show_advice, show_all};
 use matches::tell_match;
-use meter::{Allowance, Meter};
+use meter::{Meter, check_limits};
 use races::tell_races;
 use refusals::with_words;
 use sched_core::setting::Looked;
@@ -38,15 +42,8 @@ use std::thread::Threads;
 use std::{env, io};
 use vcd_read::VcdFlaw;
 use vrace::{
-    Allowed, Fault, Options, Outcome, Status, Timed, check_text, detailed_trace_text, explore_text,
-    explore_text_alone, explore_text_in_time, read_text, replay_text, trace_text,
-};
-use words::{
-    Request, Search, Wanted, commands, files_of, has_dashed_dump, has_dashed_log,
-    has_dashed_report, has_dashed_top, has_dashed_waivers, has_joined_letters,
-    has_one_output_for_two, has_output_over_file, is_in_words, log_of, match_request_of,
-    match_words_of, race_request_of, race_search_of, race_words_of, report_of, request_of,
-    search_of, steps_of, until_of, wanted_of,
+    Allowed, Fault, Options, Outcome, Show, Status, Timed, check_text, detailed_trace_text,
+    explore_text, explore_text_alone, explore_text_in_time, read_text, replay_text, trace_text,
 };
 use workpool::OpenGate;
 
@@ -153,7 +150,8 @@ fn write_run<W: Write>(
     writer: &mut Metered<W>,
 ) -> Result<(), Fault> {
     match wanted {
-        Wanted::Shown(show) => replay_text(alloc, texts, options, log, show, writer),
+        Wanted::Dump => replay_text(alloc, texts, options, log, Show::Dump, writer),
+        Wanted::Lines => replay_text(alloc, texts, options, log, Show::Lines, writer),
         Wanted::Steps => trace_text(alloc, texts, options, log, writer),
         Wanted::Details => detailed_trace_text(alloc, texts, options, log, writer),
     }
@@ -306,7 +304,7 @@ fn options_for<'a>(
     )?;
     options.look(request.departures, search.looked);
     if let Some(allowance) = search.allowance {
-        allowance.check()?;
+        check_limits(&allowance)?;
         if search.entries.is_none() {
             options.visit_any_entries();
         }

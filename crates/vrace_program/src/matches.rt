@@ -1,14 +1,14 @@
 // Which order another simulator took: the dump that it wrote is compared with the runs of the files.
 
 use crate::complaints::unopened_text;
-use crate::meter::{Allowance, Meter};
-use crate::races::write_out;
+use crate::meter::{Meter, check_limits};
+use crate::races::{format_of, write_out};
 use crate::refusals::with_words;
-use crate::words::{MatchWords, Request};
 use crate::{Stop, refused_file, texts};
 use basis::{NoMemory, OrMemory};
 use byte_sinks::Metered;
 use cause::causes_of;
+use command_line::{MatchWords, Request};
 use dump_match::{Comparison, Differing, DumpReference, match_dump};
 use match_text::{Departure, Found, match_json, match_words};
 use matching::{Cut, Explanation, Matching, Reference};
@@ -301,7 +301,7 @@ fn tell_found(
         stopped_by: stopped_by(meter.spent()),
         full_by: full_by(words, machine),
     };
-    write_found(rt, &found, words.format)?;
+    write_found(rt, &found, format_of(words.format))?;
     Ok(code_of(&tried))
 }
 
@@ -312,7 +312,7 @@ fn match_texts(
     request: &Request<'_>,
     words: &MatchWords<'_>,
 ) -> Result<ExitCode, Stop> {
-    words.allowance.check()?;
+    check_limits(&words.allowance)?;
     let options = options_of(request, words.entries, words.slot_depart)?;
     let placed = machine_of_files(rt.alloc(), texts, &options)?;
     tell_found(rt, texts, &placed, request, words)

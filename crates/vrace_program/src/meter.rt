@@ -1,5 +1,6 @@
 // What an exploration by time may take, and what it shows on its way.
 
+use command_line::Allowance;
 use std::rt::Clock;
 use std::time::Instant;
 use vrace::{Budget, Fault, Progress, Spent, Watcher};
@@ -21,31 +22,12 @@ enum Counted {
 // Milliseconds between two lines on standard error.
 const SHOWN_APART: u64 = 500;
 
-/// What an exploration by time may take: seconds, and megabytes of memory by its own count; and whether it shows how far it
-/// has come.
-#[derive(Clone, Copy)]
-pub struct Allowance {
-    pub seconds: Option<u64>,
-    pub memory: Option<u64>,
-    pub progress: bool,
-}
-
-// Whether the number, if there is one, is at most 1,000,000. With 0 the search is cut at its first state.
-fn is_within(number: Option<u64>) -> bool {
-    match number {
-        None => true,
-        Some(number) => number <= 1_000_000,
-    }
-}
-
-impl Allowance {
-    /// E404 where a number is out of its limit.
-    pub fn check(&self) -> Result<(), Fault> {
-        if is_within(self.seconds) && is_within(self.memory) {
-            Ok(())
-        } else {
-            Err(Fault::OutOfLimit)
-        }
+/// E404 where a number is out of its limit.
+pub fn check_limits(allowance: &Allowance) -> Result<(), Fault> {
+    if allowance.is_within_limits() {
+        Ok(())
+    } else {
+        Err(Fault::OutOfLimit)
     }
 }
 

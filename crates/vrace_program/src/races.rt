@@ -1,18 +1,18 @@
 // The races of files, told to people and to programs.
 
 use crate::complaints::{no_file_text, unwritten_text};
-use crate::meter::{Allowance, Meter};
+use crate::meter::Meter;
 use crate::refusals::with_words;
 use crate::times::{Bounds, Times};
-use crate::words::{RaceWords, Request, Search, VERSION};
 use crate::{ONE_FOR_TWO, OVER_SOURCE, Stop, finish, options_for, read_file, refused_file, texts};
 use basis::NoMemory;
 use byte_sinks::Metered;
+use command_line::{Allowance, RaceWords, Request, Search, VERSION};
 use race_groups::{Group, Races, Scope};
 use race_page::Page;
 use race_text::{
-    Findings, NAMED, Sources, Told, Tops, Waived, Waiver, WaiverFault, WaiverLines, WaiverScope,
-    read_waivers,
+    Findings, Format, NAMED, Sources, Told, Tops, Waived, Waiver, WaiverFault, WaiverLines,
+    WaiverScope, read_waivers,
 };
 use run_pair::write_pair;
 use std::alloc::Global;
@@ -29,6 +29,15 @@ const NO_LIMIT: Allowance = Allowance {
     memory: None,
     progress: false,
 };
+
+/// How what was found is written, by the value of `--format`.
+pub(crate) fn format_of(word: Option<&str>) -> Format {
+    match word {
+        Some("json") => Format::Json,
+        Some("sarif") => Format::Sarif,
+        _ => Format::Text,
+    }
+}
 
 // By which option the search was stopped, where it was.
 fn stopped_by(spent: Spent) -> &'static [u8] {
@@ -197,7 +206,12 @@ fn no_answer<'w>(
     steps: u32,
 ) -> Result<Answer<'w>, NoMemory> {
     Ok(Answer {
-        tops: Tops::new(alloc, words.format, words.tops.len() > 1, waivers),
+        tops: Tops::new(
+            alloc,
+            format_of(words.format),
+            words.tops.len() > 1,
+            waivers,
+        ),
         waivers: WaiverLines::new(alloc),
         page: no_page(alloc, words, steps)?,
         dump: None,

@@ -1,5 +1,5 @@
 use Rattle.vcd_read.specs.Readers.{IsOpen}
-use Rattle.explorer_tests.proofs.dumps_read.fault_of.Given as goal
+use Rattle.reader_print.proofs.dumps.put_items.Given as goal
 
 abbrev pub invariant-loop : goal.invariant-loop
 invariant-loop l = IsOpen l.dump

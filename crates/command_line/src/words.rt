@@ -1,12 +1,9 @@
 // The words of a command line, by the rules of docs/LANGUAGE.md, "Commands".
 
-use crate::meter::Allowance;
 use basis::NoMemory;
 use clap::{Arg, ArgAction, ArgMatches, Command, value_parser};
-use race_text::Format;
 use sched_core::setting::{Departures, Grain, Looked};
 use std::alloc::Global;
-use vrace::Show;
 
 const PAGES: &str =
     "Pages, in the folder docs: LANGUAGE.md (what is read, commands, limits), SCHEDULING.md (steps, choices, logs), RACES.md (races, reports), CI.md (statuses, waivers), FORMATS.md (dumps, lines, logs, reports, JSON, SARIF), FAULTS.md (numbers)
@@ -501,8 +498,10 @@ pub fn has_dashed_report(matches: &ArgMatches<'_>) -> bool {
 /// What of a run is asked for.
 #[derive(Clone, Copy, PartialEq, Eq)]
 pub enum Wanted {
-    /// The dump, or the printed lines.
-    Shown(Show),
+    /// The dump.
+    Dump,
+    /// The printed lines.
+    Lines,
     /// The steps.
     Steps,
     /// The steps, each with what it reads and whom it wakes.
@@ -513,8 +512,8 @@ pub enum Wanted {
 pub fn wanted_of(matches: &ArgMatches<'_>) -> Option<Wanted> {
     let details = matches.get_flag("details");
     match (matches.get_flag("lines"), matches.get_flag("trace")) {
-        (false, false) if !details => Some(Wanted::Shown(Show::Dump)),
-        (true, false) if !details => Some(Wanted::Shown(Show::Lines)),
+        (false, false) if !details => Some(Wanted::Dump),
+        (true, false) if !details => Some(Wanted::Lines),
         (false, true) if details => Some(Wanted::Details),
         (false, true) => Some(Wanted::Steps),
         _ => None,
@@ -556,6 +555,30 @@ fn values_of<'a>(
 /// The files of Verilog.
 pub fn files_of<'a>(alloc: Global, matches: &ArgMatches<'a>) -> Result<Vec<&'a str>, NoMemory> {
     values_of(alloc, matches, "FILE")
+}
+
+/// What an exploration by time may take: seconds, and megabytes of memory by its own count; and whether it shows how far it
+/// has come.
+#[derive(Clone, Copy)]
+pub struct Allowance {
+    pub seconds: Option<u64>,
+    pub memory: Option<u64>,
+    pub progress: bool,
+}
+
+// Whether the number, if there is one, is at most 1,000,000. With 0 the search is cut at its first state.
+fn is_small(number: Option<u64>) -> bool {
+    match number {
+        None => true,
+        Some(number) => number <= 1_000_000,
+    }
+}
+
+impl Allowance {
+    /// Whether its numbers are within their limits.
+    pub fn is_within_limits(&self) -> bool {
+        is_small(self.seconds) && is_small(self.memory)
+    }
 }
 
 /// How far an exploration goes: departures, entries that cut it, how many workers there are, what is looked at, and what it may
@@ -614,7 +637,7 @@ pub struct RaceWords<'a> {
     pub until: Option<&'a str>,
     pub from: Option<&'a str>,
     pub all: bool,
-    pub format: Format,
+    pub format: Option<&'a str>,
     pub waive: Option<&'a str>,
     pub write_waivers: Option<&'a str>,
     pub html: Option<&'a str>,
@@ -669,15 +692,6 @@ pub fn has_one_output_for_two(matches: &ArgMatches<'_>) -> bool {
         || name_one_file(matches, "vcd", "write-waivers")
 }
 
-// The value of `--format`.
-fn format_of(matches: &ArgMatches<'_>) -> Format {
-    match matches.get_str("format") {
-        Some("json") => Format::Json,
-        Some("sarif") => Format::Sarif,
-        _ => Format::Text,
-    }
-}
-
 /// What the words after `races` ask for alone.
 pub fn race_words_of<'a>(
     alloc: Global,
@@ -688,7 +702,7 @@ pub fn race_words_of<'a>(
         until: matches.get_str("until"),
         from: matches.get_str("ignore-before"),
         all: matches.get_flag("all"),
-        format: format_of(matches),
+        format: matches.get_str("format"),
         waive: matches.get_str("waive"),
         write_waivers: matches.get_str("write-waivers"),
         html: matches.get_str("html"),
@@ -728,7 +742,7 @@ pub struct MatchWords<'a> {
     pub slot_depart: u64,
     pub entries: u64,
     pub allowance: Allowance,
-    pub format: Format,
+    pub format: Option<&'a str>,
 }
 
 /// Whether the name of the dump reads as an option.
@@ -747,7 +761,7 @@ pub fn match_words_of<'a>(matches: &ArgMatches<'a>) -> MatchWords<'a> {
             memory: matches.get_one::<u64>("memory"),
             progress: matches.get_flag("progress"),
         },
-        format: format_of(matches),
+        format: matches.get_str("format"),
     }
 }
 
