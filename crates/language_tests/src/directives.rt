@@ -14,7 +14,7 @@ fn expanded(alloc: Global, texts: &[&[u8]]) -> Result<Result<Expanded, OrMemory<
 }
 
 // Files, and the text that they are expanded to.
-const TEXTS: [(&[u8], &[u8]); 40] = [
+const TEXTS: [(&[u8], &[u8]); 47] = [
     (b"", b""),
     (b"a // `x\n/* ` */ \"`\" b", b"a // `x\n/* ` */ \"`\" b"),
     (b"\"a `\n\"` b\"", b"\"a `\n\"` b\""),
@@ -70,6 +70,13 @@ const TEXTS: [(&[u8], &[u8]); 40] = [
     (b"`default_nettype none\n`default_nettype wire x", b"\n x"),
     (b"`ifdef A\n`timescale 1\n`default_nettype x\n`endif", b""),
     (b"/* a\n*/ b\n`define A c\n`A", b"/* a\n*/ b\n\nc"),
+    (b"`celldefine\n`endcelldefine x\n`resetall\n", b"\n x\n\n"),
+    (b"`define A b\n`resetall `A", b"\n b"),
+    (b"`begin_keywords \"1364-2005\"x\n`end_keywords y", b"x\n y"),
+    (b"`line 7\"a\\\"b\"1 x", b" x"),
+    (b"`pragma a `b \" /* \\\nx", b"\nx"),
+    (b"`unconnected_drive pull0;\n`nounconnected_drive.", b";\n."),
+    (b"`define pragma `line\n`define line b\n`pragma x", b"\n\nb x"),
 ];
 
 #[test]
@@ -85,7 +92,7 @@ fn expands_texts(rt: HostRuntime) -> Result<(), Fail> {
 }
 
 // Texts that are refused, each with the number in docs/FAULTS.md and the line.
-const REFUSED: [(&[u8], u32, usize); 44] = [
+const REFUSED: [(&[u8], u32, usize); 51] = [
     (b"\n`X", 111, 2),
     (b"`include \"a\"", 111, 1),
     (b"`timescale1ns/1ns", 111, 1),
@@ -130,6 +137,13 @@ const REFUSED: [(&[u8], u32, usize); 44] = [
     (b"`timescale 1ns/1us", 110, 1),
     (b"`default_nettype tri", 110, 1),
     (b"`default_nettype", 110, 1),
+    (b"`begin_keywords \"1364-2005", 110, 1),
+    (b"`begin_keywords\n\"1364-2005\"", 110, 1),
+    (b"\n`end_keywords", 110, 2),
+    (b"`line 1 \"a\" 2x", 110, 1),
+    (b"`unconnected_drive pull01", 110, 1),
+    (b"`define A `pragma x\n`A", 110, 2),
+    (b"`define line b\n`undef line\n`line", 110, 3),
 ];
 
 // The number of a fault, and its file and line.
