@@ -14,6 +14,8 @@ from second_values import World, digits, extended, integer, is_known
 MOST_LEVELS, MOST_OBJECTS, MOST_PROCESSES, MOST_INSTANCES, MOST_LETTERS, MOST_SIZE = 16, 1024, 256, 1024, 1_048_576, 4_194_304
 TASKS = {"display": "line", "strobe": "strobe", "monitor": "monitor"}
 FORMS = {"b": "b", "h": "h", "d": "d", "t": "t", "0d": "0d", "0t": "0t"}
+# what a letter behind a backslash stands for, and one to three octal digits
+ESCAPE = re.compile(r"\\(?:([0-7]{1,3})|(.))")
 ESCAPES = {"n": "\n", "t": "\t", "\\": "\\", '"': '"'}
 
 
@@ -29,7 +31,7 @@ class Refused(Exception):
 
 def number_of(word):
     """The number that is spelled so."""
-    found = re.fullmatch(r"([0-9_]*)'([sS]?)([bodhBODH])(.*)", word)
+    found = re.fullmatch(r"([0-9_]*)\s*'([sS]?)([bodhBODH])\s*(.*)", word)
     if not found:
         return Number(word, digits(int(word.replace("_", "")), 32), True)
     size, sign, base, shown = found[1].replace("_", ""), found[2], found[3].lower(), found[4].replace("_", "").lower().replace("?", "z")
@@ -541,7 +543,7 @@ class Unit:
             if tree[0] != "string":
                 pieces.append(("d", tree[0] != "time", self.checked(tree, before)))
                 continue
-            text = re.sub(r'\\(.)', lambda found: ESCAPES[found[1]], tree[1][1:-1])
+            text = ESCAPE.sub(lambda found: chr(int(found[1], 8)) if found[1] else ESCAPES[found[2]], tree[1][1:-1])
             for found in re.finditer(r"%(%|[bhdtBHDT]|0[dtDT]|)|[^%]+", text):
                 if found[1] is None or found[1] == "%":
                     pieces.append("%" if found[1] else found[0])

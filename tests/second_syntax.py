@@ -39,6 +39,14 @@ class Fault(Exception):
 
 CONDITIONALS = {"ifdef", "ifndef", "elsif", "else", "endif"}
 DIRECTIVES = CONDITIONALS | {"define", "undef", "timescale", "default_nettype"}
+# those that are passed over, where no macro has their name, with what stands behind them
+STRING = r'"(?:[^"\\\n]|\\[^\n])*"'
+PASSED_OVER = {
+    "celldefine": "", "endcelldefine": "", "resetall": "", "nounconnected_drive": "", "end_keywords": "", "pragma": r"[^\n]*",
+    "unconnected_drive": r"[ \t\r\f]*pull[01](?![A-Za-z0-9_$])",
+    "begin_keywords": r'[ \t\r\f]*"1364-(?:1995|2001|2001-noconfig|2005)"',
+    "line": rf"[ \t\r\f]*[0-9]+[ \t\r\f]*{STRING}[ \t\r\f]*[012](?![A-Za-z0-9_$])",
+}
 NAME = r"[A-Za-z_][A-Za-z0-9_$]*"
 BLANKS_HERE = r"[ \t\r\f]*"
 TIMESCALE = re.compile(rf"{BLANKS_HERE}(100|10|1){BLANKS_HERE}(s|ms|us|ns|ps|fs){BLANKS_HERE}/{BLANKS_HERE}(100|10|1){BLANKS_HERE}(s|ms|us|ns|ps|fs)(?![A-Za-z0-9_$])")
@@ -56,7 +64,7 @@ class Expander:
 
     def __init__(self, text):
         self.text, self.at, self.line, self.is_first = text, 0, 1, True
-        self.macros, self.open, self.scale, self.uses = {}, [], None, 0
+        self.macros, self.open, self.scale, self.uses, self.keywords = {}, [], None, 0, 0
         self.bytes, self.lines = [], []
 
     def put(self, text):
@@ -102,7 +110,7 @@ class Expander:
     def backtick(self):
         found = re.compile(NAME).match(self.text, self.at + 1)
         name = found[0] if found else None
-        if name in CONDITIONALS or (self.is_taken() and (name is None or name in DIRECTIVES)):
+        if name in CONDITIONALS or (self.is_taken() and (name is None or name in DIRECTIVES or self.is_passed_over(name))):
             if name is None or not self.is_first:
                 raise self.fault(110)
             self.at = found.end()
@@ -123,8 +131,24 @@ class Expander:
             self.macros.pop(self.name(), None)
         elif name == "timescale":
             self.timescale()
+        elif name in PASSED_OVER:
+            self.pass_over(name)
         else:
             self.pass_by(rf"{BLANKS_HERE}(none|wire)(?![A-Za-z0-9_$])")
+
+    def is_passed_over(self, name):
+        return name in PASSED_OVER and name not in self.macros
+
+    def pass_over(self, name):
+        begin = self.at - len(name) - 1
+        try:
+            self.pass_by(PASSED_OVER[name])
+        except Fault:
+            self.at = begin
+            raise
+        self.keywords += (name == "begin_keywords") - (name == "end_keywords")
+        if self.keywords < 0 or self.keywords > 32:
+            raise self.fault(110 if self.keywords < 0 else 112)
 
     def conditional(self, name):
         """Each open conditional is (state, whether its else was met, line); a state is taken, waiting for a part, or done."""
@@ -169,7 +193,7 @@ class Expander:
 
     def use(self, name, level):
         if name not in self.macros:
-            raise self.fault(111)
+            raise self.fault(110 if name in PASSED_OVER else 111)
         self.uses += 1
         if level > 32 or self.uses > 1_000_000:
             raise self.fault(112)
@@ -191,16 +215,19 @@ class Expander:
 
 # ---- tokens
 
+# what stands behind a backslash: up to three octal digits, 377 at most
+OCTAL = "[0-3][0-7]{0,2}|[4-7][0-7]?(?![0-7])"
 TOKEN = re.compile(r"""
       (?P<blank> [ \t\n\r\f]+ | //[^\n]* | /\*(?s:.*?)\*/ )
     | (?P<open> /\* )
     | (?P<name> [A-Za-z_][A-Za-z0-9_$]* )
     | (?P<system> \$[A-Za-z0-9_$]+ )
-    | (?P<based> (?P<size>[0-9][0-9_]*)? '[sS]?
-        (?: (?: [bB][01xXzZ?][01xXzZ?_]* | [oO][0-7xXzZ?][0-7xXzZ?_]* | [hH][0-9a-fA-FxXzZ?][0-9a-fA-FxXzZ?_]* ) (?![?])
-          | [dD](?:[0-9][0-9_]*|[xXzZ?]_*) ) (?![A-Za-z0-9_$]) )
+    | (?P<based> (?: (?P<size>[0-9][0-9_]*) (?P<gap>[ \t\n\r\f]*) )? '[sS]?
+        (?: (?: [bB][ \t\n\r\f]*[01xXzZ?][01xXzZ?_]* | [oO][ \t\n\r\f]*[0-7xXzZ?][0-7xXzZ?_]*
+              | [hH][ \t\n\r\f]*[0-9a-fA-FxXzZ?][0-9a-fA-FxXzZ?_]* ) (?![?])
+          | [dD][ \t\n\r\f]*(?:[0-9][0-9_]*|[xXzZ?]_*) ) (?P<word>[A-Za-z0-9_$])? )
     | (?P<plain> [0-9][0-9_]* (?![0-9_']) )
-    | (?P<string> "(?:[^"\\\n]|\\[nt\\"])*" )
+    | (?P<string> "(?:[^"\\\n]|\\[nt\\"]|\\(?:""" + OCTAL + r"""))*" )
     | (?P<quote> "(?:[^"\\\n]|\\[^\n])*(?P<end>"|) )
     | (?P<symbol> """ + "|".join(re.escape(word) for word in sorted(SYMBOLS, key=len, reverse=True)) + r""" )
     """, re.VERBOSE)
@@ -214,21 +241,35 @@ class Token:
 def quote_fault(found):
     """Of a string: not ended, or with a bad escape; where it is both, either may be told."""
     body = found[0][1:]
-    is_bad = re.sub(r'\\[nt\\"]', "", body).find("\\") >= 0 or found.string.startswith("\\", found.end())
+    is_bad = re.sub(rf'\\(?:[nt\\"]|{OCTAL})', "", body).find("\\") >= 0 or found.string.startswith("\\", found.end())
     if found["end"]:
         return 102
     return (101, 102) if is_bad else 101
+
+
+PLAIN = re.compile(r"[0-9][0-9_]*")
+DELAY = re.compile(r"[^ \t\n\r\f]+")
+
+
+def token_at(text, at, is_delay):
+    """What stands there: behind a # a number that begins with a digit goes no further than to a blank. A size is 1 to 64; any other number
+    before blanks and an apostrophe stands alone."""
+    end = DELAY.match(text, at).end() if is_delay and text[at] in "0123456789" else len(text)
+    found = TOKEN.match(text, at, end)
+    if found and found["size"] and not 1 <= int(found["size"].replace("_", "")) <= 64:
+        return PLAIN.match(text, at) if found["gap"] else None
+    return None if found and found["word"] else found
 
 
 def cut(text, lines):
     """The tokens of a text, and one of kind end behind them."""
     tokens, at = [], 0
     while at < len(text):
-        found = TOKEN.match(text, at)
-        kind = found and found.lastgroup
-        if found and found["quote"]:
+        found = token_at(text, at, bool(tokens) and tokens[-1].text == "#")
+        kind = found and (found.lastgroup or "plain")
+        if kind == "quote":
             raise Fault(quote_fault(found), lines[at])
-        if not found or (found["size"] and not 1 <= int(found["size"].replace("_", "")) <= 64):
+        if not found:
             raise Fault(102, lines[at])
         if kind == "open":
             raise Fault(101, lines[at])
@@ -872,7 +913,7 @@ class Maker:
         first = rng.choice(known + "xXzZ?")
         return first + "".join(rng.choice(known + known + "xXzZ?_") for _ in range(rng.randint(0, 6)))
 
-    def number(self):
+    def number(self, gaps=("",) * 8 + (" ", "\t", "  ")):
         rng = self.rng
         if self.chance(0.5):
             return rng.choice(["0", "1", "2", "3", "7", "10", "64", "255", "1_000", "007", "9__", "4294967295", "4_294_967_296", "99999999999999999999"])
@@ -880,11 +921,11 @@ class Maker:
         base = rng.choice("bBoOhHdD")
         digits = self.digits({"b": "01", "o": "01234567", "h": "0123456789abcdefABCDEF"}[base.lower()]) if base not in "dD" else rng.choice(
             [str(rng.randrange(1 << 70)), rng.choice("xXzZ?"), "x_", "0_1", "12_"])
-        return f"{size}'{rng.choice(['', '', 's', 'S'])}{base}{digits}"
+        return f"{size}{rng.choice(gaps) if size else ''}'{rng.choice(['', '', 's', 'S'])}{base}{rng.choice(gaps)}{digits}"
 
     def string(self):
         rng = self.rng
-        piece = lambda: rng.choice(["%d", "%0d", "%b", " ", "a", "//", "/*", "*/", "`x", "`", "'", "\\n", "\\t", "\\\\", '\\"', "begin", "\r", "\t", "(", ";",
+        piece = lambda: rng.choice(["%d", "%0d", "%b", " ", "a", "//", "/*", "*/", "`x", "`", "'", "\\n", "\\t", "\\\\", '\\"', "\\0", "\\101", "\\3778", "\\48", "begin", "\r", "\t", "(", ";",
                                     chr(rng.choice([b for b in range(256) if b not in (10, 34, 92)]))])
         return '"' + "".join(self.some(piece, 0, 6)) + '"'
 
@@ -929,7 +970,7 @@ class Maker:
 
     def delay(self, depth, deep=False):
         kind = self.rng.choice(["delay-number", "delay-name", "delay-value"]) if depth == 1 or not deep else "delay-value"
-        return kind, {"delay-number": self.number, "delay-name": self.name, "delay-value": lambda: self.expression(depth, deep)}[kind]()
+        return kind, {"delay-number": lambda: self.number([""]), "delay-name": self.name, "delay-value": lambda: self.expression(depth, deep)}[kind]()
 
     def term(self):
         return self.rng.choice(["change", "change", "posedge", "negedge"]), self.name()

@@ -18,7 +18,7 @@ use Rattle.vvalue.specs.declared.operand_rule.UnaryOperandRule.TheVariants.{Keep
 use Rattle.vdesign.specs.declared.expression.Bounds.{Bounds}
 use Rattle.vvalue.proofs.SelectLemmas.{part_length}
 use Rattle.velab_expr.specs.Literals as literals
-use Rattle.velab_expr.specs.Literals.{spelled_letters, first_byte, filling_letters, is_decimal_base, letters_per_digit, lettered_value, based_value, without_mark, constant_by, constant_of}
+use Rattle.velab_expr.specs.Literals.{spelled_letters, first_byte, filling_letters, is_decimal_base, letters_per_digit, lettered_value, based_value, without_mark, digits_behind, size_before, constant_by, constant_of}
 use Rattle.velab_expr.specs.Constants.{nothing, worth, count_in}
 use Rattle.velab_expr.specs.Resolved.{count_of}
 use Rattle.elaboration_law.specs.Widths.{Worth, meant, meant_parts, size_in, joined_size, part_in, selected_by}
@@ -89,9 +89,9 @@ constant_sized : (text : Text) (mark : Option ℕ) → IsSize (length (constant_
 unfolding with_sign
 constant_sized text None = plain_sized _
 constant_sized text (Some place) =
-    let size = take place text in let rest = drop (place + 1) text in
+    let size = size_before place text in let rest = drop (place + 1) text in
     let h = written_sized size in
-    subst IsSize (sym (value_long (literals.size_of size) (first_byte (without_mark rest)) (drop 1 (without_mark rest)) h.few)) h
+    subst IsSize (sym (value_long (literals.size_of size) (first_byte (without_mark rest)) (digits_behind rest) h.few)) h
 
 literal_sized : (digits : Text) → IsSize (length (constant_of digits).value.letters)
 literal_sized digits = constant_sized digits _

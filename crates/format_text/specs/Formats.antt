@@ -1,8 +1,10 @@
 -- *trusted*: Formats of printed lines (IEEE 1364-2005, 17.1.1; docs/LANGUAGE.md, "Printed lines"): what a string prints, and where it
 -- shows the expressions after it.
-use Rattle.std.specs.Prelude.{ℕ, ◌==◌, ◌||◌, Bool, true, false, if◌then◌else◌, List, [], ◌∷◌, ◌++◌, Option, Some, None}
+use Rattle.std.specs.Prelude.{ℕ, ◌+◌, ◌-◌, ◌*◌, ◌%◌, ◌==◌, ◌&&◌, ◌||◌, nat_le, Bool, if◌then◌else◌, List, [], ◌∷◌, ◌++◌, Option, Some, None}
 use Rattle.vdesign.specs.declared.print.Form.{Form}
 use Rattle.vdesign.specs.declared.print.Form.TheVariants.{Binary, Hexadecimal, Decimal, ShortDecimal, Time, ShortTime}
+use Rattle.format_text.specs.declared.letters.Escape.{Escape}
+use Rattle.format_text.specs.declared.letters.Escape.TheVariants.{Plain, Backslash, One, Two}
 use Rattle.format_text.specs.declared.run.FormatState.{FormatState}
 use Rattle.format_text.specs.declared.run.FormatState.TheVariants.{Outside, Behind, Shortened}
 
@@ -12,18 +14,49 @@ use Rattle.format_text.specs.declared.run.FormatState.TheVariants.{Outside, Behi
 abbrev pub escaped_letter : ℕ → ℕ
 escaped_letter c = if c == 110 then 10 else if c == 116 then 9 else c
 
-abbrev pub letters_read : Bool → ℕ → List ℕ
-letters_read true c = escaped_letter c ∷ []
-letters_read false c = if c == 92 then [] else c ∷ []
+-- one to three octal digits after a backslash are the letter of that number; a token has none above 377
+abbrev pub octal_of : ℕ → Option ℕ
+octal_of c = if nat_le 48 c && nat_le c 55 then Some (c - 48) else None
 
--- whether the letter is a backslash that stands before the next one
-abbrev pub escapes : Bool → ℕ → Bool
-escapes true c = false
-escapes false c = c == 92
+abbrev pub with_octal : ℕ → ℕ → ℕ
+with_octal value digit = (8 * value + digit) % 256
 
-abbrev pub letters_of : Bool → List ℕ → List ℕ
-letters_of is_escaped [] = []
-letters_of is_escaped (c ∷ cs) = letters_read is_escaped c ++ letters_of (escapes is_escaped c) cs
+-- a letter outside of escapes: a backslash begins one
+abbrev pub letters_plain : ℕ → List ℕ
+letters_plain c = if c == 92 then [] else c ∷ []
+
+abbrev pub after_plain : ℕ → Escape
+after_plain c = if c == 92 then Backslash else Plain
+
+-- the letters that are had with one more that is read, which may be an octal digit
+abbrev pub letters_read : Escape → Option ℕ → ℕ → List ℕ
+letters_read Plain digit c = letters_plain c
+letters_read Backslash None c = escaped_letter c ∷ []
+letters_read Backslash (Some digit) c = []
+letters_read (One value) None c = value ∷ letters_plain c
+letters_read (One value) (Some digit) c = []
+letters_read (Two value) None c = value ∷ letters_plain c
+letters_read (Two value) (Some digit) c = with_octal value digit ∷ []
+
+abbrev pub after_letter : Escape → Option ℕ → ℕ → Escape
+after_letter Plain digit c = after_plain c
+after_letter Backslash None c = Plain
+after_letter Backslash (Some digit) c = One digit
+after_letter (One value) None c = after_plain c
+after_letter (One value) (Some digit) c = Two (with_octal value digit)
+after_letter (Two value) None c = after_plain c
+after_letter (Two value) (Some digit) c = Plain
+
+-- and with the end of the string
+abbrev pub letters_left : Escape → List ℕ
+letters_left Plain = []
+letters_left Backslash = []
+letters_left (One value) = value ∷ []
+letters_left (Two value) = value ∷ []
+
+abbrev pub letters_of : Escape → List ℕ → List ℕ
+letters_of escape [] = letters_left escape
+letters_of escape (c ∷ cs) = letters_read escape (octal_of c) c ++ letters_of (after_letter escape (octal_of c) c) cs
 
 -- ---- forms (17.1.1.2)
 

@@ -5,6 +5,7 @@ use Rattle.vdesign.specs.declared.print.Form.{Form}
 use Rattle.vdesign.specs.declared.print.Form.TheVariants.{Decimal}
 use Rattle.vdesign.specs.declared.print.Piece.{Piece}
 use Rattle.vdesign.specs.declared.print.Piece.TheVariants.{Text, Value}
+use Rattle.format_text.specs.declared.letters.Escape.TheVariants.{Plain}
 use Rattle.format_text.specs.Formats.{Run, letters_of, run_of}
 
 -- a string as it stands between its quotes, or an expression, and whether a monitor watches it (17.1.3)
@@ -46,7 +47,7 @@ both_pieces (Some front) later = behind front later
 -- the pieces of what is left of a format and of the arguments after it, from left to right
 abbrev pub pieces_by : List ℕ → List Argument → Option (List Piece)
 pieces_by format [] = last_pieces (run_of format)
-pieces_by format (string letters ∷ arguments) = both_pieces (last_pieces (run_of format)) (pieces_by (letters_of false letters) arguments)
+pieces_by format (string letters ∷ arguments) = both_pieces (last_pieces (run_of format)) (pieces_by (letters_of Plain letters) arguments)
 pieces_by format (value is_watched e ∷ arguments) =
     both_pieces (value_pieces (run_of format) is_watched e) (pieces_by (rest_of (run_of format)) arguments)
 

@@ -7,7 +7,7 @@ use Rattle.vbits.specs.Letters.{is_unknown}
 use Rattle.vbits.specs.Numbers.{digits}
 use Rattle.vbits.specs.Vectors.{Vector, filled, of_number, with_sign}
 use Rattle.vlex.specs.Bytes.{is_apostrophe, is_underscore, is_x_digit, is_z_digit}
-use Rattle.vlex.specs.Forms.{spelled_number}
+use Rattle.vlex.specs.Forms.{leading_digits, spelled_number, unblanked}
 use Rattle.vast.specs.Words.{Text}
 use Rattle.vdesign.specs.declared.expression.Constant.{Constant}
 
@@ -83,16 +83,24 @@ is_unknown_at value place = is_unknown (get_or value.letters place Zero)
 abbrev pub spreads_by : Text → Bool → Vector → Bool
 spreads_by size marked value = (length size == 0) && not marked && is_unknown_at value 31
 
+-- the digits after the base, behind blanks or none
+abbrev pub digits_behind : Text → Text
+digits_behind text = unblanked (drop 1 (without_mark text))
+
 -- a size, or none, and what stands after the apostrophe
 abbrev pub based_constant : Text → Text → Constant
 based_constant size text =
-    let value = based_value (size_of size) (first_byte (without_mark text)) (drop 1 (without_mark text)) in
+    let value = based_value (size_of size) (first_byte (without_mark text)) (digits_behind text) in
     record { value = with_sign value (is_marked text); spreads = spreads_by size (is_marked text) value }
+
+-- the digits of the size before the apostrophe that stands there
+abbrev pub size_before : ℕ → Text → Text
+size_before place text = leading_digits (take place text)
 
 -- a number whose apostrophe stands there
 abbrev pub constant_by : Text → Option ℕ → Constant
 constant_by text None = plain_constant text
-constant_by text (Some place) = based_constant (take place text) (drop (place + 1) text)
+constant_by text (Some place) = based_constant (size_before place text) (drop (place + 1) text)
 
 abbrev pub constant_of : Text → Constant
 constant_of text = constant_by text (position is_apostrophe text)

@@ -1,7 +1,9 @@
 -- What each lead says of its byte.
-use Rattle.std.proofs.Common.{◌≡◌, ◌≢◌, ℕ, Bool, true, false, cond, ◌||◌, nat_eq, refl, subst}
-use Rattle.std.proofs.lemmas.Bool.{eqb-true, eqb-false}
-use Rattle.vlex.specs.declared.bytes.Set.TheVariants.{Blanks}
+use Rattle.std.proofs.Common.{◌≡◌, ◌≢◌, ℕ, Bool, true, false, cond, ◌||◌, not, nat_eq, refl, sym, ◌∙◌, ap, subst, inl, inr}
+use Rattle.std.proofs.lemmas.Bool.{cases_Bool, eqb-true, eqb-false}
+use Rattle.std.proofs.Common.{arith}
+use Rattle.std.proofs.lemmas.Bool.Decides.{nat_tests}
+use Rattle.vlex.specs.declared.bytes.Set.TheVariants.{Blanks, Marks}
 use Rattle.vlex.specs.declared.bytes.Lead.{Lead}
 use Rattle.vlex.specs.declared.bytes.Lead.TheVariants as lead
 use Rattle.std.specs.Char.{is_ascii_digit, is_ascii_alphabetic}
@@ -43,3 +45,13 @@ by_tests false false false false false false false false c blank letter dollar d
 
 pub says : (c : ℕ) (l : Lead) → lead_of c ≡ l → Says l c
 says c l e = subst (λ k. Says k c) e (by_tests _ _ _ _ _ _ _ (is_punctuation c) c refl refl refl refl refl refl refl)
+
+-- digits are no blanks
+pub blank_no_digit : (c : ℕ) → is_in Blanks c ≡ true → is_ascii_digit c ≡ false
+blank_no_digit c blank = grind (arith, nat_tests)
+
+pub digit_no_blank : (c : ℕ) → is_ascii_digit c ≡ true → is_in Marks c ≡ true
+digit_no_blank c digit = elim (cases_Bool (is_in Blanks c)) [
+  | inl blank ↦ let clash : false ≡ true = sym (blank_no_digit c blank) ∙ digit in cc
+  | inr mark ↦ ap not mark
+]

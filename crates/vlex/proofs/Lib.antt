@@ -3,7 +3,7 @@ mod Pieces
 mod Numbers
 mod Sizes
 mod Words
-mod Cuts
+pub mod Cuts
 mod Ends
 mod Escapes
 mod Comments

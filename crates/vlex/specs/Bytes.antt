@@ -3,7 +3,7 @@ use Rattle.std.specs.Prelude.{ℕ, Bool, ◌==◌, ◌&&◌, ◌||◌, not, nat_
 use Rattle.std.specs.List.{list_any}
 use Rattle.std.specs.Char.{is_ascii_digit, is_ascii_alphabetic, is_ascii_hexdigit}
 use Rattle.vlex.specs.declared.bytes.Set.{Set}
-use Rattle.vlex.specs.declared.bytes.Set.TheVariants.{Blanks, Words, Decimals, Binaries, Octals, Hexadecimals, Underscores, LineBytes}
+use Rattle.vlex.specs.declared.bytes.Set.TheVariants.{Blanks, Marks, Words, Decimals, Binaries, Octals, Hexadecimals, Underscores, LineBytes}
 use Rattle.vlex.specs.declared.bytes.Lead.{Lead}
 use Rattle.vlex.specs.declared.bytes.Lead.TheVariants.{Blank, Letter, Dollar, Digit, Apostrophe, Quote, Slash, Punctuation, Other}
 
@@ -26,9 +26,13 @@ is_underscore c = c == 95
 abbrev pub is_apostrophe : ℕ → Bool
 is_apostrophe c = c == 39
 
-abbrev pub is_in : Set → ℕ → Bool
 -- space, tab, line feed, form feed (3.2), and carriage return (own)
-is_in Blanks c = c == 32 || c == 9 || c == 10 || c == 13 || c == 12
+abbrev pub is_blank : ℕ → Bool
+is_blank c = c == 32 || c == 9 || c == 10 || c == 13 || c == 12
+
+abbrev pub is_in : Set → ℕ → Bool
+is_in Blanks c = is_blank c
+is_in Marks c = not (is_blank c)
 -- letters, digits, _ and $ (3.7)
 is_in Words c = is_ascii_alphabetic c || is_ascii_digit c || c == 95 || c == 36
 -- digits of each base, with _ (3.5.1)

@@ -1,7 +1,7 @@
 -- *trusted*: What bytes are, taken alone (IEEE 1364-2005, 3.2 to 3.7): a run of blanks, a comment, a token of some kind, or none of
 -- these.
-use Rattle.std.specs.Prelude.{ℕ, ◌+◌, ◌-◌, ◌*◌, Bool, true, false, ◌==◌, ◌&&◌, ◌||◌, not, nat_le, if◌then◌else◌, List, [], ◌∷◌, length, Option, None, Some, fold, codes}
-use Rattle.std.specs.List.{list_all, list_any, before_first, after_first}
+use Rattle.std.specs.Prelude.{ℕ, ◌+◌, ◌-◌, ◌*◌, Bool, true, false, ◌==◌, ◌&&◌, ◌||◌, not, nat_lt, nat_le, if◌then◌else◌, List, [], ◌∷◌, length, take, drop, Option, None, Some, fold, codes}
+use Rattle.std.specs.List.{list_all, list_any, prefix_len}
 use Rattle.std.specs.Str.{bytes_eq}
 use Rattle.vsrc.specs.Outside.{block_end, string_end}
 use Rattle.vlex.specs.declared.bytes.Set.{Set}
@@ -34,12 +34,25 @@ ends_block bytes = is_whole (block_end bytes) bytes
 abbrev pub ends_string : List ℕ → Bool
 ends_string bytes = is_whole (string_end bytes) bytes
 
--- after a backslash stands n, t, a backslash or a quote (3.6.3)
+-- After a backslash stands n, t, a backslash, a quote, or one to three octal digits, of 377 at most (3.6.3; own).
+abbrev pub is_octal : ℕ → Bool
+is_octal c = nat_le 48 c && nat_le c 55
+
+abbrev pub begins_octals : List ℕ → Bool
+begins_octals [] = false
+begins_octals (c ∷ []) = false
+begins_octals (c ∷ d ∷ cs) = is_octal c && is_octal d
+
+abbrev pub is_escape : ℕ → List ℕ → Bool
+is_escape c behind =
+    c == 110 || c == 116 || c == 92 || c == 34
+    || is_octal c && not (nat_lt 51 c && begins_octals behind)
+
 abbrev pub has_good_escapes : List ℕ → Bool
 has_good_escapes [] = true
 has_good_escapes (c ∷ []) = not (c == 92)
 has_good_escapes (c ∷ d ∷ cs) =
-    if c == 92 then (d == 110 || d == 116 || d == 92 || d == 34) && has_good_escapes cs
+    if c == 92 then is_escape d cs && has_good_escapes cs
     else has_good_escapes (d ∷ cs)
 
 -- Numbers (3.5.1)
@@ -53,7 +66,15 @@ spelled_number = fold with_digit 0
 
 -- a size is 1 to 64 (own), which zeros may stand before (own)
 abbrev pub is_size : List ℕ → Bool
-is_size digits = list_all (is_in Decimals) digits && nat_le 1 (spelled_number digits) && nat_le (spelled_number digits) 64
+is_size digits = nat_le 1 (spelled_number digits) && nat_le (spelled_number digits) 64
+
+-- the digits at the head
+abbrev pub leading_digits : List ℕ → List ℕ
+leading_digits bytes = take (prefix_len (is_in Decimals) bytes) bytes
+
+-- what stands behind the blanks at the head
+abbrev pub unblanked : List ℕ → List ℕ
+unblanked bytes = drop (prefix_len (is_in Blanks) bytes) bytes
 
 -- after a first digit other than _ stand digits of the same base
 abbrev pub digits_from : Set → ℕ → Option Set
@@ -72,22 +93,34 @@ abbrev pub are_in : Option Set → List ℕ → Bool
 are_in None digits = false
 are_in (Some set) digits = list_all (is_in set) digits
 
--- a base letter, a digit, and more of them
+-- a digit of the base, and more of them
+abbrev pub are_digits : ℕ → List ℕ → Bool
+are_digits base [] = false
+are_digits base (first ∷ digits) = are_in (digits_after base first) digits
+
+-- a base letter, blanks or none, and digits
 abbrev pub is_base_and_digits : List ℕ → Bool
 is_base_and_digits [] = false
-is_base_and_digits (base ∷ []) = false
-is_base_and_digits (base ∷ first ∷ digits) = are_in (digits_after base first) digits
+is_base_and_digits (base ∷ cs) = are_digits base (unblanked cs)
 
 -- what stands after the apostrophe: s or not, then base and digits
 abbrev pub is_based : List ℕ → Bool
 is_based [] = false
 is_based (c ∷ cs) = if c == 115 || c == 83 then is_base_and_digits cs else is_base_and_digits (c ∷ cs)
 
+-- a number without size
+abbrev pub is_unsized : List ℕ → Bool
+is_unsized [] = false
+is_unsized (c ∷ cs) = is_apostrophe c && is_based cs
+
+-- digits alone, or a size, blanks or none, and a number without size
+abbrev pub number_by : List ℕ → List ℕ → Option Form
+number_by digits [] = Some (Token Plain)
+number_by digits (c ∷ cs) = only_if (is_size digits && is_unsized (unblanked (c ∷ cs))) (Token Based)
+
 -- what begins with a digit
 abbrev pub number_form : List ℕ → Option Form
-number_form bytes =
-    if list_all (is_in Decimals) bytes then Some (Token Plain)
-    else only_if (is_size (before_first is_apostrophe bytes) && is_based (after_first is_apostrophe bytes)) (Token Based)
+number_form bytes = let len = prefix_len (is_in Decimals) bytes in number_by (take len bytes) (drop len bytes)
 
 -- Symbols (3.4, 5.1)
 

@@ -1,9 +1,10 @@
 -- *internal*: What the parts of the lexer answer and its tokens keep.
-use Rattle.std.specs.Prelude.{◌≡◌, ℕ, ◌+◌, ◌<◌, ◌≤◌, Bool, true, false, List, [], ◌∷◌, Option, length, take, All, MatchOption}
+use Rattle.std.specs.Prelude.{◌≡◌, ℕ, zero, suc, ◌+◌, ◌<◌, ◌≤◌, Bool, true, false, List, [], ◌∷◌, Option, length, take, All, MatchOption}
 use Rattle.vsrc.specs.Source.{text_limit}
 use Rattle.vlex.specs.declared.list.Span.{Span}
 use Rattle.vlex.specs.declared.form.Form.{Form}
 use Rattle.vlex.specs.declared.form.Form.TheVariants.{Blank, Comment, Token}
+use Rattle.vlex.specs.declared.kind.TokenKind.TheVariants.{Plain}
 use Rattle.vlex.specs.declared.form.Front.{Front}
 use Rattle.vlex.specs.declared.form.Front.TheVariants.{Piece, NotEnded, Bad}
 use Rattle.vlex.specs.Lexed.{IsFront, IsStuck, IsOpen}
@@ -26,6 +27,11 @@ abbrev pub IsAnswer : List ℕ → Front → Type 0
 IsAnswer text (Piece form len) = IsFront text form len
 IsAnswer text NotEnded = IsStuck text × IsOpen text
 IsAnswer text Bad = IsStuck text × ¬ IsOpen text
+
+-- Digits that are no size of what an apostrophe begins behind them: a plain number before blanks, and nothing without them.
+abbrev pub alone : ℕ → ℕ → Front
+alone digits zero = Bad
+alone digits (suc blanks) = Piece (Token Plain) (1 + digits)
 
 -- each token ends within the text
 abbrev pub AreWithin : List ℕ → List Span → Type 0

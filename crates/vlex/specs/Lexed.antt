@@ -1,8 +1,11 @@
 -- *trusted*: The relation between a text and its tokens (IEEE 1364-2005, clause 3).
-use Rattle.std.specs.Prelude.{◌≡◌, ℕ, ◌+◌, ◌<◌, ◌≤◌, Bool, true, false, ◌==◌, ◌&&◌, ◌||◌, not, List, [], ◌∷◌, None, Some, length, take, drop, slice_index, ◌⊎◌}
+use Rattle.std.specs.Prelude.{◌≡◌, ℕ, ◌+◌, ◌<◌, ◌≤◌, Bool, true, false, ◌==◌, ◌&&◌, ◌||◌, not, if◌then◌else◌, List, [], ◌∷◌, ◌++◌, None, Some, codes, length, take, drop, slice_index, ◌⊎◌}
+use Rattle.std.specs.List.{prefix_len}
+use Rattle.std.specs.Char.{is_ascii_digit}
+use Rattle.std.specs.Str.{bytes_eq}
 use Rattle.vsrc.specs.Source.{Source, place_of}
 use Rattle.vsrc.specs.Outside.{block_end, string_end}
-use Rattle.vlex.specs.declared.bytes.Set.TheVariants.{Words}
+use Rattle.vlex.specs.declared.bytes.Set.TheVariants.{Marks, Words}
 use Rattle.vlex.specs.declared.form.Form.{Form}
 use Rattle.vlex.specs.declared.form.Form.TheVariants.{Blank, Comment, Token}
 use Rattle.vlex.specs.declared.kind.TokenKind.{TokenKind}
@@ -41,13 +44,35 @@ pub record IsFront (text : List ℕ) (form : Form) (len : ℕ) : Type 0 where
   pub longest : (n : ℕ) → len < n → n ≤ length text → form_of (take n text) ≡ None
   pub free : is_free form (slice_index text 0) (drop len text) ≡ true
 
--- The text is the spellings of the tokens in order, with blanks and comments between them.
-pub data Lexed : List ℕ → List Piece → Type 0 where
-  done : Lexed [] []
-  blank : (text : List ℕ) (len : ℕ) (pieces : List Piece) → IsFront text Blank len → Lexed (drop len text) pieces → Lexed text pieces
-  comment : (text : List ℕ) (len : ℕ) (pieces : List Piece) → IsFront text Comment len → Lexed (drop len text) pieces → Lexed text pieces
-  token : (text : List ℕ) (kind : TokenKind) (len : ℕ) (pieces : List Piece) → IsFront text (Token kind) len → Lexed (drop len text) pieces
-      → Lexed text (record { kind = kind; text = take len text } ∷ pieces)
+-- Behind a # stands the number of a delay, which is no size (9.7.1, A.2.2.3): there a number goes no further than to a blank.
+abbrev pub seen_number : List ℕ → List ℕ
+seen_number [] = []
+seen_number (c ∷ cs) = if is_ascii_digit c then take (prefix_len (is_in Marks) (c ∷ cs)) (c ∷ cs) else c ∷ cs
+
+abbrev pub seen : Bool → List ℕ → List ℕ
+seen false text = text
+seen true text = seen_number text
+
+-- whether # is the last token behind a piece, where it was before the piece or not
+abbrev pub is_delay : Bool → Form → List ℕ → Bool
+is_delay delay Blank bytes = delay
+is_delay delay Comment bytes = delay
+is_delay delay (Token kind) bytes = bytes_eq bytes (codes "#")
+
+-- the token that a piece is, if it is one
+abbrev pub token_of : Form → List ℕ → List Piece
+token_of Blank bytes = []
+token_of Comment bytes = []
+token_of (Token kind) bytes = record { kind = kind; text = bytes } ∷ []
+
+-- The text is the spellings of the tokens in order, with blanks and comments between them; at its head, behind a # or not.
+pub data Cut : Bool → List ℕ → List Piece → Type 0 where
+  done : (delay : Bool) → Cut delay [] []
+  piece : (delay : Bool) (text : List ℕ) (form : Form) (len : ℕ) (pieces : List Piece) → IsFront (seen delay text) form len
+      → Cut (is_delay delay form (take len text)) (drop len text) pieces → Cut delay text (token_of form (take len text) ++ pieces)
+
+abbrev pub Lexed : List ℕ → List Piece → Type 0
+Lexed = Cut false
 
 -- no front of the text is a piece
 abbrev pub IsStuck : List ℕ → Type 0
@@ -69,16 +94,18 @@ IsOnlyLexed text pieces = (others : List Piece) → Lexed text others → others
 abbrev pub HasNoTokens : List ℕ → Type 0
 HasNoTokens text = (pieces : List Piece) → Lexed text pieces → ⊥
 
--- the pieces from the head of the text on go up to this place
-pub data Reaches (text : List ℕ) : ℕ → Type 0 where
-  start : Reaches text 0
-  next : (at : ℕ) (form : Form) (len : ℕ) → Reaches text at → IsFront (drop at text) form len → Reaches text (at + len)
+-- the pieces from the head of the text on go up to this place, behind a # or not
+pub data Reaches (text : List ℕ) : Bool → ℕ → Type 0 where
+  start : Reaches text false 0
+  next : (delay : Bool) (at : ℕ) (form : Form) (len : ℕ) → Reaches text delay at → IsFront (seen delay (drop at text)) form len
+      → Reaches text (is_delay delay form (take len (drop at text))) (at + len)
 
 -- the pieces go up to a place within the text, and no piece stands there
 pub record StopsAt (text : List ℕ) (at : ℕ) : Type 0 where
-  pub reached : Reaches text at
+  pub delay : Bool
+  pub reached : Reaches text delay at
   pub within : at < length text
-  pub stuck : IsStuck (drop at text)
+  pub stuck : IsStuck (seen delay (drop at text))
 
 -- what each fault says of the text: where its pieces stop a comment or a string is open, or not
 abbrev pub IsTokenReason : Source → LexFault → Type 0

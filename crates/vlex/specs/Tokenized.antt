@@ -1,11 +1,11 @@
 -- *product rule*: A text, and where its tokens stand in it.
-use Rattle.std.specs.Prelude.{ℕ, ◌+◌, ◌≤◌, List, [], ◌∷◌, Option, length, take, drop, map, slice_get, unwrap_or}
+use Rattle.std.specs.Prelude.{ℕ, ◌+◌, ◌≤◌, Bool, List, [], ◌∷◌, Option, length, take, drop, map, slice_get, unwrap_or}
 use Rattle.std.specs.Option.{option_map}
 use Rattle.vsrc.specs.Source.{Source}
 use Rattle.vlex.specs.declared.list.Span.{Span}
 use Rattle.vlex.specs.declared.form.Form.TheVariants.{Token}
 use Rattle.vlex.specs.declared.kind.TokenKind.{TokenKind}
-use Rattle.vlex.specs.Lexed.{Piece, IsFront, Reaches}
+use Rattle.vlex.specs.Lexed.{Piece, IsFront, Reaches, seen}
 
 pub record Tokenized : Type 0 where
   pub source : Source
@@ -32,8 +32,9 @@ start_of t index = unwrap_or (option_map (λ span. span.start) (slice_get t.span
 
 -- where the pieces before it end, the token of the span is the next piece
 pub record IsTokenAt (text : List ℕ) (span : Span) : Type 0 where
-  pub reached : Reaches text span.start
-  pub front : IsFront (drop span.start text) (Token span.kind) span.len
+  pub delay : Bool
+  pub reached : Reaches text delay span.start
+  pub front : IsFront (seen delay (drop span.start text)) (Token span.kind) span.len
 
 -- the spans stand in order between two places, none over another
 abbrev pub AreInOrder : ℕ → List Span → ℕ → Type 0

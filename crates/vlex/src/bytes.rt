@@ -3,7 +3,7 @@
 ghost use Rattle.std.specs.Prelude.{◌≡◌, ◌≤◌, true, length, slice_index};
 ghost use Rattle.std.specs.List.{prefix_len};
 ghost use Rattle.std.specs.Char.{is_ascii_digit};
-ghost use Rattle.vlex.specs.Bytes.{is_punctuation, is_in, lead_of};
+ghost use Rattle.vlex.specs.Bytes.{is_blank, is_punctuation, is_in, lead_of};
 
 use crate::digits::is_unknown;
 
@@ -11,6 +11,8 @@ use crate::digits::is_unknown;
 #[derive(Clone, Copy)]
 pub enum Set {
     Blanks,
+    /// All others.
+    Marks,
     Words,
     Decimals,
     Binaries,
@@ -40,16 +42,19 @@ fn is_punctuation(byte: u8) -> bool
     b"+-*%&|^~!?:=<>@#()[]{},;.".contains(&byte)
 }
 
+fn is_blank(byte: u8) -> bool
+    ensures { result ≡ is_blank byte }
+{
+    byte == b' ' || byte == b'\t' || byte == b'\n' || byte == b'\r' || byte == 12
+}
+
 /// Whether the byte is in the set.
 pub fn is_in(set: Set, byte: u8) -> bool
     ensures { result ≡ is_in set byte }
 {
     match set {
-        Set::Blanks => byte == b' '
-            || byte == b'\t'
-            || byte == b'\n'
-            || byte == b'\r'
-            || byte == 12,
+        Set::Blanks => is_blank(byte),
+        Set::Marks => !is_blank(byte),
         Set::Words => byte.is_ascii_alphabetic()
             || byte.is_ascii_digit()
             || byte == b'_'

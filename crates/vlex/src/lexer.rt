@@ -7,6 +7,7 @@ ghost use Rattle.vlex.specs.Lexed.{Lexed, IsOnlyLexed, IsTokenReason, HasNoToken
 ghost use Rattle.vlex.specs.Tokenized.{pieces_of, AreInOrder, IsTokenAt};
 ghost use Rattle.vlex.specs.Inner.{spans_of};
 
+use crate::delay::{is_delay, seen};
 use crate::fault::LexFault;
 use crate::form::{Form, Front};
 use crate::front::front;
@@ -30,10 +31,13 @@ pub fn tokens<'a>(alloc: Global, source: &'a Expanded) -> Result<Tokens<'a>, OrM
     let text = source.text();
     let mut spans = Vec::new(alloc);
     let mut at = 0;
+    let mut delay = false;
     while at < text.len() {
-        match front(text.split_at(at).1) {
+        let rest = text.split_at(at).1;
+        match front(seen(delay, rest)) {
             Front::Piece(form, len) => {
                 push_piece(&mut spans, form, at, len)?;
+                delay = is_delay(delay, form, rest.split_at(len).0);
                 at += len;
             }
             Front::NotEnded => {

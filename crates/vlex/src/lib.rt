@@ -4,6 +4,7 @@
 #![tactic(auto)]
 
 mod bytes;
+mod delay;
 pub mod digits;
 mod fault;
 mod form;

@@ -4,8 +4,8 @@ ghost use Rattle.std.specs.Prelude.{◌≡◌, ◌∷◌, ◌++◌, ◌≤◌, �
 ghost use Rattle.std.specs.List.{list_all};
 ghost use Rattle.std.specs.Char.{is_ascii_digit};
 ghost use Rattle.vlex.specs.Bytes.{is_in, lead_of};
-ghost use Rattle.vlex.specs.Forms.{digits_from, digits_after, is_base_and_digits, is_based, is_size};
-ghost use Rattle.vlex.specs.Inner.{Finds, IsAnswer};
+ghost use Rattle.vlex.specs.Forms.{digits_from, digits_after, are_digits, is_base_and_digits, is_based, is_size};
+ghost use Rattle.vlex.specs.Inner.{Finds, IsAnswer, alone};
 
 use crate::bytes::{Lead, Set, byte_at, is_in, run_len};
 use crate::digits::is_unknown;
@@ -19,30 +19,43 @@ pub fn number(first: u8, rest: &[u8]) -> Front
     ensures { IsAnswer (first ∷ rest.now) result }
 {
     let (digits, after) = rest.split_at(run_len(Set::Decimals, rest));
-    if byte_at(after, 0) != b'\'' {
+    let (blanks, behind) = after.split_at(run_len(Set::Blanks, after));
+    if byte_at(behind, 0) != b'\'' {
         return Front::Piece(Form::Token(TokenKind::Plain), 1 + digits.len());
     }
-    sized(first, digits, after.split_at(1).1)
+    sized(first, digits, blanks, behind.split_at(1).1)
 }
 
-// The number with these digits as its size, told from what stands behind the apostrophe.
-fn sized(first: u8, digits: &[u8], base: &[u8]) -> Front
+// The number with these digits as its size, and blanks behind them, told from what stands behind the apostrophe.
+fn sized(first: u8, digits: &[u8], blanks: &[u8], base: &[u8]) -> Front
     requires lead { lead_of first ≡ Lead.Digit }
     requires digit { is_ascii_digit first ≡ true }
     requires digits { list_all (is_in Set.Decimals) digits.now ≡ true }
-    requires short { length digits.now + 1 + length base.now < 2 ^ 63 }
-    ensures { IsAnswer (first ∷ digits.now ++ 39 ∷ base.now) result }
+    requires blanks { list_all (is_in Set.Blanks) blanks.now ≡ true }
+    requires short { length digits.now + length blanks.now + 1 + length base.now < 2 ^ 63 }
+    ensures { IsAnswer (first ∷ digits.now ++ (blanks.now ++ 39 ∷ base.now)) result }
 {
     let Some(len) = based_len(base) else {
-        return Front::Bad;
+        return alone(digits, blanks);
     };
     if !is_size(first, digits) {
-        return Front::Bad;
+        return alone(digits, blanks);
     }
     if !is_ended(base, len) {
         return Front::Bad;
     }
-    Front::Piece(Form::Token(TokenKind::Based), 2 + digits.len() + len)
+    let before = digits.len() + blanks.len();
+    Front::Piece(Form::Token(TokenKind::Based), 2 + before + len)
+}
+
+// Digits that are no size of what stands behind the blanks: a number by themselves, where there are blanks.
+fn alone(digits: &[u8], blanks: &[u8]) -> Front
+    ensures { result ≡ alone (length digits.now) (length blanks.now) }
+{
+    if blanks.is_empty() {
+        return Front::Bad;
+    }
+    Front::Piece(Form::Token(TokenKind::Plain), 1 + digits.len())
 }
 
 /// The number that begins with an apostrophe.
@@ -88,13 +101,28 @@ fn is_sign(byte: u8) -> bool
 fn base_len(bytes: &[u8]) -> Option<usize>
     ensures { Finds is_base_and_digits bytes.now result }
 {
-    if bytes.len() < 2 {
+    if bytes.is_empty() {
         return None;
     }
-    let Some(set) = digits_after(bytes[0], bytes[1]) else {
+    let behind = bytes.split_at(1).1;
+    let blanks = run_len(Set::Blanks, behind);
+    let Some(len) = digits_len(bytes[0], behind.split_at(blanks).1) else {
         return None;
     };
-    Some(2 + run_len(set, bytes.split_at(2).1))
+    Some(1 + blanks + len)
+}
+
+// How many digits of the base stand at the head, if any.
+fn digits_len(base: u8, digits: &[u8]) -> Option<usize>
+    ensures { Finds (are_digits base) digits.now result }
+{
+    if digits.is_empty() {
+        return None;
+    }
+    let Some(set) = digits_after(base, digits[0]) else {
+        return None;
+    };
+    Some(1 + run_len(set, digits.split_at(1).1))
 }
 
 // What may stand behind a base letter and a first digit.

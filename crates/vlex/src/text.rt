@@ -1,7 +1,7 @@
 // Strings (IEEE 1364-2005, 3.6) and comments (3.3).
 
 ghost use Rattle.std.specs.Prelude.{◌≡◌, ◌∷◌, ◌==◌, ◌||◌};
-ghost use Rattle.vlex.specs.Forms.{has_good_escapes};
+ghost use Rattle.vlex.specs.Forms.{is_octal, begins_octals, is_escape, has_good_escapes};
 ghost use Rattle.vlex.specs.Inner.{IsAnswer};
 
 use crate::bytes::{Set, byte_at, run_len};
@@ -24,7 +24,7 @@ pub fn string(first: u8, rest: &[u8]) -> Front
     }
 }
 
-// Whether each backslash stands before one of the bytes that may follow it (3.6.3).
+// Whether what may follow it stands behind each backslash (3.6.3).
 fn has_good_escapes(bytes: &[u8]) -> bool
     ensures { result ≡ has_good_escapes bytes.now }
 {
@@ -32,7 +32,7 @@ fn has_good_escapes(bytes: &[u8]) -> bool
     while at < bytes.len() {
         if bytes[at] != b'\\' {
             at += 1;
-        } else if at + 1 < bytes.len() && is_escape(bytes[at + 1]) {
+        } else if at + 1 < bytes.len() && is_escape(bytes[at + 1], bytes.split_at(at + 2).1) {
             at += 2;
         } else {
             return false;
@@ -41,10 +41,29 @@ fn has_good_escapes(bytes: &[u8]) -> bool
     true
 }
 
-fn is_escape(byte: u8) -> bool
-    ensures { result ≡ (byte == 110 || byte == 116 || byte == 92 || byte == 34) }
+// Whether the byte and those behind it may follow a backslash: n, t, a backslash, a quote, or up to three octal digits.
+fn is_escape(byte: u8, behind: &[u8]) -> bool
+    ensures { result ≡ is_escape byte behind.now }
 {
-    byte == b'n' || byte == b't' || byte == b'\\' || byte == b'"'
+    if byte == b'n' || byte == b't' || byte == b'\\' || byte == b'"' {
+        return true;
+    }
+    is_octal(byte) && !(b'3' < byte && begins_octals(behind))
+}
+
+fn is_octal(byte: u8) -> bool
+    ensures { result ≡ is_octal byte }
+{
+    b'0' <= byte && byte <= b'7'
+}
+
+fn begins_octals(bytes: &[u8]) -> bool
+    ensures { result ≡ begins_octals bytes.now }
+{
+    if bytes.len() < 2 {
+        return false;
+    }
+    is_octal(bytes[0]) && is_octal(bytes[1])
 }
 
 /// The comment that begins with a slash, or the slash alone.

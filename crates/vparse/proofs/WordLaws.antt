@@ -1,19 +1,21 @@
 -- Among a text's tokens, which a number is and which a name is, by their bytes and by their kinds.
-use Rattle.std.proofs.Common.{◌≡◌, ◌⊎◌, ℕ, Bool, true, false, ◌&&◌, ◌||◌, ◌==◌, not, List, [], ◌∷◌, None, Some, take, drop, refl, sym, ap, ◌∙◌, arith, inl, inr, subst, All}
-use Rattle.std.specs.List.{list_all}
-use Rattle.std.proofs.lemmas.Bool.{ne_eqb, cases_Bool, cases_eq, and_parts, not-true}
+use Rattle.std.proofs.Common.{◌≡◌, ◌⊎◌, ℕ, Bool, true, false, ◌&&◌, ◌||◌, ◌==◌, not, List, [], ◌∷◌, ◌++◌, None, Some, take, drop, refl, sym, ap, ◌∙◌, arith, inl, inr, subst, All}
+use Rattle.std.specs.List.{list_all, prefix_len}
+use Rattle.std.proofs.lemmas.Bool.{ne_eqb, cases_eq, and_parts, not-true}
 use Rattle.std.proofs.lemmas.Bool.Decides.{nat_tests}
 use Rattle.std.proofs.lemmas.List.Elements.{All-nil, All-cons, All-weaker}
 use Rattle.vlex.specs.declared.bytes.Set.TheVariants.{Words, Decimals}
 use Rattle.vlex.specs.declared.bytes.Lead.{Lead}
 use Rattle.vlex.specs.declared.bytes.Lead.TheVariants as lead
+use Rattle.vlex.specs.declared.form.Form.{Form}
 use Rattle.vlex.specs.declared.form.Form.TheVariants.{Blank, Comment, Token}
 use Rattle.vlex.specs.declared.kind.TokenKind.{TokenKind}
 use Rattle.vlex.specs.declared.kind.TokenKind.TheVariants.{Name, System, Plain, Based, Text as Quoted, Symbol}
 use Rattle.vlex.specs.Bytes.{is_in, lead_of}
-use Rattle.vlex.specs.Forms.{only_if, form_of, form_by, number_form, slash_form}
-use Rattle.vlex.specs.Lexed.{Lexed, Piece, IsFront}
-use Rattle.vlex.specs.Lexed.Lexed.{done, blank, comment, token}
+use Rattle.vlex.specs.Forms.{only_if, form_of, form_by, number_by, number_form, slash_form}
+use Rattle.vlex.specs.Lexed.{Cut, Lexed, Piece, IsFront, is_delay, seen, token_of as pieces_by}
+use Rattle.vlex.specs.Lexed.Cut.{done, piece}
+use Rattle.vlex.proofs.Cuts.{seen_front}
 use Rattle.vlex.proofs.Leads.{Says, says}
 use Rattle.basis.specs.Letters.{begins_name, is_in_name}
 use Rattle.vast.specs.Words.{Text, is_name, is_number, is_reserved}
@@ -95,10 +97,11 @@ slash_symbol (d ∷ cs) kind e = elim (cases_eq d 47) [
 ]
 
 digit_numeric : (bytes : List ℕ) (kind : TokenKind) → number_form bytes ≡ Some (Token kind) → (Plain ≡ kind) ⊎ (Based ≡ kind)
-digit_numeric bytes kind e = elim (cases_Bool (list_all (is_in Decimals) bytes)) [
-  | inl plain ↦ let same : Some (Token Plain) ≡ Some (Token kind) = rw plain at e in let is : Plain ≡ kind = cc in inl is
-  | inr more ↦ inr (token_of _ Based kind (rw more at e)).0
-]
+digit_numeric bytes kind e = by (take (prefix_len (is_in Decimals) bytes) bytes) (drop (prefix_len (is_in Decimals) bytes) bytes) e
+  where
+    by : (digits behind : List ℕ) → number_by digits behind ≡ Some (Token kind) → (Plain ≡ kind) ⊎ (Based ≡ kind)
+    by digits [] e = let same : Some (Token Plain) ≡ Some (Token kind) = e in let is : Plain ≡ kind = cc in inl is
+    by digits (c ∷ cs) e = inr (token_of _ Based kind e).0
 
 by_lead : (l : Lead) (c : ℕ) (cs : List ℕ) (kind : TokenKind) → Says l c → form_by l c cs ≡ Some (Token kind) → Tells kind (c ∷ cs)
 by_lead lead.Blank c cs kind s e = absurd (no_blank _ kind e)
@@ -126,12 +129,16 @@ front_tells text kind len f = by_bytes (take len text) f.shape where
   by_bytes [] e = let clash : None ≡ Some (Token kind) = e in absurd cc
   by_bytes (c ∷ cs) e = by_lead (lead_of c) c cs kind (says c (lead_of c) refl) e
 
-tokens_tell : (text : List ℕ) (pieces : List Piece) → Lexed text pieces → All (λ piece. Tells piece.kind piece.text) pieces
-tokens_tell text pieces done = All-nil (λ piece. Tells piece.kind piece.text)
-tokens_tell text pieces (blank t len left f l) = tokens_tell (drop len t) left l
-tokens_tell text pieces (comment t len left f l) = tokens_tell (drop len t) left l
-tokens_tell text pieces (token t kind len left f l) =
-    All-cons (λ piece. Tells piece.kind piece.text) (record { kind = kind; text = take len t }) left (front_tells t kind len f) (tokens_tell (drop len t) left l)
+tokens_tell : (delay : Bool) (text : List ℕ) (pieces : List Piece) → Cut delay text pieces → All (λ piece. Tells piece.kind piece.text) pieces
+tokens_tell delay text pieces (done d) = All-nil (λ piece. Tells piece.kind piece.text)
+tokens_tell delay text pieces (piece d t form len left f l) = by form f (tokens_tell (is_delay d form (take len t)) (drop len t) left l)
+  where
+    by : (form : Form) → IsFront (seen d t) form len → All (λ piece. Tells piece.kind piece.text) left → All (λ piece. Tells piece.kind piece.text) (pieces_by form (take len t) ++ left)
+    by Blank f rest = rest
+    by Comment f rest = rest
+    by (Token kind) f rest =
+        All-cons (λ piece. Tells piece.kind piece.text) (record { kind = kind; text = take len t }) left
+        (subst (Tells kind) (seen_front d t len f.within) (front_tells (seen d t) kind len f)) rest
 
 -- The same, kind by kind
 
@@ -154,19 +161,19 @@ word_kind System e = let clash : false ≡ true = e in absurd cc
 word_kind Quoted e = let clash : false ≡ true = e in absurd cc
 word_kind Symbol e = let clash : false ≡ true = e in absurd cc
 
-number_told : (piece : Piece) → Tells piece.kind piece.text → TellsNumber piece
-number_told piece t = (λ e. numeric_kinds piece.kind (sym t.number ∙ e), λ e. t.number ∙ numeric_from piece.kind e)
+number_told : (found : Piece) → Tells found.kind found.text → TellsNumber found
+number_told found t = (λ e. numeric_kinds found.kind (sym t.number ∙ e), λ e. t.number ∙ numeric_from found.kind e)
 
-name_told : (piece : Piece) → Tells piece.kind piece.text → TellsName piece
-name_told piece t = (
+name_told : (found : Piece) → Tells found.kind found.text → TellsName found
+name_told found t = (
   λ e.
-      let p = and_parts (is_word piece.kind) (not (is_reserved piece.text)) (sym t.name ∙ e) in
-      (word_kind piece.kind p.0, not-true (is_reserved piece.text) p.1),
-  λ e. t.name ∙ ap (λ k. is_word k && not (is_reserved piece.text)) e.0 ∙ ap not e.1,
+      let p = and_parts (is_word found.kind) (not (is_reserved found.text)) (sym t.name ∙ e) in
+      (word_kind found.kind p.0, not-true (is_reserved found.text) p.1),
+  λ e. t.name ∙ ap (λ k. is_word k && not (is_reserved found.text)) e.0 ∙ ap not e.1,
 )
 
 pub numbers_told : (text : List ℕ) (pieces : List Piece) → Lexed text pieces → All TellsNumber pieces
-numbers_told text pieces l = All-weaker (λ piece. Tells piece.kind piece.text) TellsNumber number_told pieces (tokens_tell text pieces l)
+numbers_told text pieces l = All-weaker (λ piece. Tells piece.kind piece.text) TellsNumber number_told pieces (tokens_tell false text pieces l)
 
 pub names_told : (text : List ℕ) (pieces : List Piece) → Lexed text pieces → All TellsName pieces
-names_told text pieces l = All-weaker (λ piece. Tells piece.kind piece.text) TellsName name_told pieces (tokens_tell text pieces l)
+names_told text pieces l = All-weaker (λ piece. Tells piece.kind piece.text) TellsName name_told pieces (tokens_tell false text pieces l)

@@ -10,14 +10,14 @@ use Rattle.std.proofs.lemmas.List.{drop-drop, length-drop}
 use Rattle.std.proofs.lemmas.Bool.{ltb-true}
 use Rattle.indexmap.specs.IndexMap.{insert_entry}
 use Rattle.vsrc.specs.declared.refusal.Refusal.{Refusal}
-use Rattle.vsrc.specs.declared.refusal.Why.TheVariants.{Directive, Macro as NoMacro}
+use Rattle.vsrc.specs.declared.refusal.Why.TheVariants.{Directive}
 use Rattle.vsrc.specs.declared.pieces.Kind.{Kind}
 use Rattle.vsrc.specs.declared.pieces.Kind.TheVariants.{Kept, Use, Refused}
 use Rattle.vsrc.specs.declared.pieces.Piece.{Piece}
 use Rattle.vsrc.specs.declared.pieces.Macro.{Macro}
 use Rattle.vsrc.specs.Outside.{stretch_len}
 use Rattle.vsrc.specs.Words.{name_len}
-use Rattle.vsrc.specs.Macros.{Macros, Made, looked_up, piece, piece_len, put_given, redefined, refused_at, used}
+use Rattle.vsrc.specs.Macros.{Macros, Made, looked_up, piece, piece_len, put_given, redefined, refused_at, used, why_unknown}
 use Rattle.vsrc.proofs.MacroText.{used_none, used_some}
 use Rattle.vsrc.specs.Pieces.{head_of, next_of, is_use, uses_in, AreUses, AreCut, EachIsCut, IsCut, IsCutIfAny, IsKind, IsPiece, Keeps, Leads, begins_use, found_text, macros_of, names_of, of_text, text_of, texts_of, used_name}
 
@@ -351,15 +351,15 @@ module _ (names : List (List ℕ)) (rest : List ℕ) (head : Piece) (levels : �
   piece_refused is =
       let kind : IsKind names rest Refused = subst (IsKind names rest) is here.kind in
       piece_used (used levels macros at) at rest made kind.0
-      ∙ used_none levels macros at (used_name rest) made (refused_at at Directive) (ap (λ b. looked_up b (macros (used_name rest)) at) kind.1)
+      ∙ used_none levels macros at (used_name rest) made (refused_at at Directive) (ap (λ b. looked_up b (macros (used_name rest)) (used_name rest) at) kind.1)
 
   pub piece_missing : (index : ℕ) → head.kind ≡ Use index → ((name : List ℕ) → slice_get names index ≡ Some name → None ≡ macros name)
-      → piece (used levels macros at) at rest made ≡ Err (refused_at at NoMacro)
+      → piece (used levels macros at) at rest made ≡ Err (refused_at at (why_unknown (used_name rest)))
   piece_missing index is none =
       let kind : IsKind names rest (Use index) = subst (IsKind names rest) is here.kind in
       piece_used (used levels macros at) at rest made kind.0
-      ∙ used_none levels macros at (used_name rest) made (refused_at at NoMacro)
-      (ap (λ b. looked_up b (macros (used_name rest)) at) kind.1.0 ∙ ap (λ t. looked_up true t at) (sym (none (used_name rest) kind.1.1)))
+      ∙ used_none levels macros at (used_name rest) made (refused_at at (why_unknown (used_name rest)))
+      (ap (λ b. looked_up b (macros (used_name rest)) (used_name rest) at) kind.1.0 ∙ ap (λ t. looked_up true t (used_name rest) at) (sym (none (used_name rest) kind.1.1)))
 
   pub piece_found : (index : ℕ) (text : List ℕ) → head.kind ≡ Use index → ((name : List ℕ) → slice_get names index ≡ Some name → Some text ≡ macros name)
       → piece (used levels macros at) at rest made ≡ of_text levels macros at text made
@@ -367,4 +367,4 @@ module _ (names : List (List ℕ)) (rest : List ℕ) (head : Piece) (levels : �
       let kind : IsKind names rest (Use index) = subst (IsKind names rest) is here.kind in
       piece_used (used levels macros at) at rest made kind.0
       ∙ used_some levels macros at (used_name rest) text made
-      (ap (λ b. looked_up b (macros (used_name rest)) at) kind.1.0 ∙ ap (λ t. looked_up true t at) (sym (some (used_name rest) kind.1.1)))
+      (ap (λ b. looked_up b (macros (used_name rest)) (used_name rest) at) kind.1.0 ∙ ap (λ t. looked_up true t (used_name rest) at) (sym (some (used_name rest) kind.1.1)))

@@ -9,14 +9,16 @@ use Rattle.vsrc.specs.declared.refusal.Refusal.{Refusal}
 use Rattle.vsrc.specs.declared.refusal.Why.TheVariants.{Limit}
 use Rattle.vsrc.specs.declared.words.Word.{Word}
 use Rattle.vsrc.specs.declared.words.Word.TheVariants as word
+use Rattle.vsrc.specs.declared.words.Idle.{Idle}
 use Rattle.vsrc.specs.declared.fault.SrcFault.{SrcFault}
 use Rattle.vsrc.specs.Source.{Source, joined, place_in, text_limit, too_long}
-use Rattle.vsrc.specs.Words.{Named, name_behind, name_len, blanks_len, directive_of}
+use Rattle.vsrc.specs.Words.{Named, name_behind, name_len, blanks_len}
+use Rattle.vsrc.specs.Idle.{idle_len}
 use Rattle.vsrc.specs.Outside.{stretch_len}
 use Rattle.vsrc.specs.Timescales.{Timed, timescale_behind}
 use Rattle.vsrc.specs.Conditionals.{is_read, opened, turned, closed}
 use Rattle.vsrc.specs.Macros.{Macros, Made, and_then, refused_at, put, put_copied, put_given, piece, piece_len, given, used, text_for, counted, may_be_macro, redefined, macro_text, lines_len, level_limit, use_limit}
-use Rattle.vsrc.specs.Walk.{State, Done, start, done, ill_formed, begins_arguments, is_nettype, is_conditional, is_fresh, moved, ticked, defined, undefined, opening, alternative, with_opens, agreed, timed, typed, obeyed, met, kept, passed, step, walked, holds}
+use Rattle.vsrc.specs.Walk.{State, Done, start, done, ill_formed, begins_arguments, is_nettype, is_conditional, is_fresh, moved, ticked, defined, undefined, opening, alternative, with_opens, agreed, timed, typed, keywords_behind, idled, obeyed, word_in, met, kept, passed, step, walked, holds}
 use Rattle.vsrc.specs.Expansion.{left_open, expanded, source_of, told, unless_long, ended, expansion}
 
 -- ---- results
@@ -123,6 +125,12 @@ typed-kept : (named : Option Named) (state : State) → IfOk (typed named state)
 typed-kept None state = tt
 typed-kept (Some named) state = either (is_nettype named.name) (done named.len state) (ill_formed state) (KeepsMade state) refl tt
 
+idled-kept : (which : Idle) (len : Option ℕ) (state : State) → IfOk (idled which len state) (KeepsMade state)
+idled-kept which None state = tt
+idled-kept which (Some len) state =
+    let left = keywords_behind which state.at state.keywords in
+    chain left (λ n. done len (record state { keywords = n })) (λ _. Unit {0}) (KeepsMade state) (any left) (λ _ _. refl)
+
 obeyed-kept : (w : Word) (rest : List ℕ) (state : State) → IfOk (obeyed w rest state) (KeepsMade state)
 obeyed-kept word.Define rest state = defined-kept (name_behind rest) rest state
 obeyed-kept word.Undef rest state = undefined-kept (name_behind rest) state
@@ -133,6 +141,7 @@ obeyed-kept word.Else rest state = opens-kept 0 state (turned true true state.at
 obeyed-kept word.Endif rest state = opens-kept 0 state (closed state.at state.opens)
 obeyed-kept word.Timescale rest state = timed-kept (timescale_behind rest) state
 obeyed-kept word.DefaultNettype rest state = typed-kept (name_behind rest) state
+obeyed-kept (word.Idle which) rest state = idled-kept which (idle_len which rest) state
 
 -- ---- the walk
 
@@ -163,8 +172,8 @@ ticked-placed behind state placed =
     let len = name_len behind in
     let name = take len behind in
     let next : Done → Result State Refusal = λ found. Ok (moved (1 + len + found.len) found.state) in
-    chain (met (directive_of name) name (drop len behind) state) next IsPlacedAfter IsPlacedIn
-    (met-placed (directive_of name) name (drop len behind) state placed) (λ _ is. is)
+    chain (met (word_in state.macros name) name (drop len behind) state) next IsPlacedAfter IsPlacedIn
+    (met-placed (word_in state.macros name) name (drop len behind) state placed) (λ _ is. is)
 
 passed-placed : (c : ℕ) (rest : List ℕ) (state : State) → IsPlacedIn state → IfOk (passed c rest state) IsPlacedIn
 passed-placed c rest state placed =

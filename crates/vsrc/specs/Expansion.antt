@@ -8,17 +8,19 @@
 -- Comments, strings and bytes stay as they are (`passed`), backticks in comments and strings too. A comment ends with its
 -- line or with the first */, a string with its quote or its line (`stretch_len`).
 --
--- A name after a backtick is a directive if it is a word of one (`directive_of`), and else the use of a macro. A
--- directive stands first on its line, after blanks alone: only a line feed outside comments makes a line fresh, and any
--- piece but a blank ends that, a directive and a use too. E110 is for one that isn't first, is ill formed, or is without
--- its open conditional, and for a backtick without a name. What a directive takes of its line is left out of the text,
--- and what stands after that is read as any text (`obeyed`):
+-- A name after a backtick is a directive if it is a word of one (`directive_of`), or of one that is passed over and of
+-- no macro (`idle_of`), and else the use of a macro (`word_in`). A directive stands first on its line, after blanks alone:
+-- only a line feed outside comments makes a line fresh, and any piece but a blank ends that, a directive and a use too.
+-- E110 is for one that isn't first, is ill formed, or is without its open conditional, and for a backtick without a name.
+-- What a directive takes of its line is left out of the text, and what stands after that is read as any text (`obeyed`):
 --   define          its name, blanks, and the rest of the line, which goes on after a backslash. Comments to the end of
 --                   the line are cut (`macro_text`). No word of a directive is given a text, and none with a
 --                   parenthesis at once after it.
 --   undef, ifdef, ifndef, elsif, default_nettype        a name after blanks of the same line
 --   timescale       two lengths of time and a slash, blanks between or not
 --   else, endif     nothing
+--   those that are passed over      what `idle_len` says; an `end_keywords also an open `begin_keywords, of which there
+--                   may be 32 (`keywords_behind`)
 --
 -- Conditionals nest (`Open`, innermost first). Each has a part that is read, is sought, or is past; what stands in a part
 -- that isn't read is left out, and of its directives only the conditional ones are heeded. They must be well formed and

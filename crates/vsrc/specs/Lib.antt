@@ -2,6 +2,7 @@
 pub mod Source
 pub mod Outside
 pub mod Words
+pub mod Idle
 pub mod Timescales
 pub mod Macros
 pub mod Conditionals

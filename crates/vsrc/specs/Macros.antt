@@ -8,6 +8,7 @@ use Rattle.vsrc.specs.declared.refusal.Why.TheVariants.{Directive, Macro, Limit}
 use Rattle.vsrc.specs.Source.{text_limit}
 use Rattle.vsrc.specs.Outside.{stretch_len}
 use Rattle.vsrc.specs.Words.{name_len, directive_of}
+use Rattle.vsrc.specs.Idle.{idle_of}
 
 -- ---- what a definition gives its name (19.3.1)
 
@@ -119,19 +120,23 @@ abbrev pub given : (List ℕ → Made → Result Made Refusal) → ℕ → ℕ �
 given nested at zero text made = Ok made
 given nested at (suc n) text made = and_then (piece nested at text made) (given nested at n (drop (piece_len text) text))
 
--- a name that is no word of a directive may be a macro's; only the words of this product's directives are barred (own)
+-- a name that is no word of a directive may be a macro's; only the words of directives that aren't passed over are barred (own)
 abbrev pub may_be_macro : List ℕ → Bool
 may_be_macro [] = false
 may_be_macro (c ∷ cs) = if is_some (directive_of (c ∷ cs)) then false else true
 
+-- why a name without a macro can't be used: it may be the word of a directive that is passed over
+abbrev pub why_unknown : List ℕ → Why
+why_unknown name = if is_some (idle_of name) then Directive else Macro
+
 -- what may be done with a name behind a backtick: nothing where it can't be a macro's, or isn't one's
-abbrev pub looked_up : Bool → Option (List ℕ) → ℕ → Result (List ℕ) Refusal
-looked_up false text at = Err (refused_at at Directive)
-looked_up true None at = Err (refused_at at Macro)
-looked_up true (Some text) at = Ok text
+abbrev pub looked_up : Bool → Option (List ℕ) → List ℕ → ℕ → Result (List ℕ) Refusal
+looked_up false text name at = Err (refused_at at Directive)
+looked_up true None name at = Err (refused_at at (why_unknown name))
+looked_up true (Some text) name at = Ok text
 
 abbrev pub text_for : Macros → ℕ → List ℕ → Result (List ℕ) Refusal
-text_for macros at name = looked_up (may_be_macro name) (macros name) at
+text_for macros at name = looked_up (may_be_macro name) (macros name) name at
 
 abbrev pub counted : Made → Made
 counted made = record { text = made.text; origins = made.origins; uses = made.uses + 1 }

@@ -1,31 +1,36 @@
 -- *trusted*: The walk over the joined files, piece by piece (IEEE 1364-2005, clause 19).
-use Rattle.std.specs.Prelude.{ℕ, zero, suc, ◌+◌, ◌==◌, ◌&&◌, ◌||◌, Bool, true, false, not, if◌then◌else◌, nat_lt, List, [], ◌∷◌, length, take, drop, Option, None, Some, is_some, Result, Ok, Err, codes}
+use Rattle.std.specs.Prelude.{ℕ, zero, suc, ◌+◌, ◌==◌, ◌&&◌, ◌||◌, Bool, true, false, not, if◌then◌else◌, nat_lt, nat_le, List, [], ◌∷◌, length, take, drop, Option, None, Some, is_some, Result, Ok, Err, codes}
 use Rattle.std.specs.Str.{bytes_eq}
 use Rattle.vsrc.specs.declared.refusal.Refusal.{Refusal}
-use Rattle.vsrc.specs.declared.refusal.Why.TheVariants.{Directive, Timescales}
+use Rattle.vsrc.specs.declared.refusal.Why.TheVariants.{Directive, Limit, Timescales}
 use Rattle.vsrc.specs.declared.words.Word.{Word}
 use Rattle.vsrc.specs.declared.words.Word.TheVariants as word
+use Rattle.vsrc.specs.declared.words.Idle.{Idle}
+use Rattle.vsrc.specs.declared.words.Idle.TheVariants as idle
 use Rattle.vsrc.specs.declared.conditionals.Open.{Open}
 use Rattle.basis.specs.declared.timescale.Timescale.{Timescale}
 use Rattle.vsrc.specs.Outside.{stretch_len}
 use Rattle.vsrc.specs.Words.{Named, is_blank, blanks_len, name_len, name_behind, directive_of}
+use Rattle.vsrc.specs.Idle.{idle_of, idle_len}
 use Rattle.vsrc.specs.Timescales.{Timed, timescale_behind}
 use Rattle.basis.specs.Timescales.{is_like}
 use Rattle.vsrc.specs.Macros.{Macros, Made, and_then, refused_at, lines_len, macro_text, may_be_macro, redefined, put_copied, used, level_limit, no_macros, nothing_made}
 use Rattle.vsrc.specs.Conditionals.{is_read, opened, turned, closed}
 
 -- What is known between two pieces: how far the walk has come, whether only blanks stand before that place on its
--- line, the macros, the open conditionals with the innermost first, the timescale if one stood, and what was made.
+-- line, the macros, the open conditionals with the innermost first, how many `begin_keywords are open, the timescale
+-- if one stood, and what was made.
 pub record State : Type 0 where
   pub at : ℕ
   pub fresh : Bool
   pub macros : Macros
   pub opens : List Open
+  pub keywords : ℕ
   pub timescale : Option Timescale
   pub made : Made
 
 abbrev pub start : State
-start = record { at = 0; fresh = true; macros = no_macros; opens = []; timescale = None; made = nothing_made }
+start = record { at = 0; fresh = true; macros = no_macros; opens = []; keywords = 0; timescale = None; made = nothing_made }
 
 -- what a directive or a use does, and how many bytes behind its word it takes
 pub record Done : Type 0 where
@@ -98,6 +103,28 @@ abbrev pub typed : Option Named → State → Result Done Refusal
 typed None state = ill_formed state
 typed (Some named) state = if is_nettype named.name then done named.len state else ill_formed state
 
+-- 19.11: `end_keywords ends the innermost `begin_keywords that is open; at most so many may be (own)
+abbrev pub keywords_limit : ℕ
+keywords_limit = 32
+
+abbrev pub keywords_behind : Idle → ℕ → ℕ → Result ℕ Refusal
+keywords_behind idle.Celldefine at n = Ok n
+keywords_behind idle.Endcelldefine at n = Ok n
+keywords_behind idle.Resetall at n = Ok n
+keywords_behind idle.BeginKeywords at n = if nat_le keywords_limit n then Err (refused_at at Limit) else Ok (n + 1)
+keywords_behind idle.EndKeywords at zero = Err (refused_at at Directive)
+keywords_behind idle.EndKeywords at (suc n) = Ok n
+keywords_behind idle.Line at n = Ok n
+keywords_behind idle.Pragma at n = Ok n
+keywords_behind idle.UnconnectedDrive at n = Ok n
+keywords_behind idle.NounconnectedDrive at n = Ok n
+
+-- a directive that is passed over (own)
+abbrev pub idled : Idle → Option ℕ → State → Result Done Refusal
+idled which None state = ill_formed state
+idled which (Some len) state =
+    and_then (keywords_behind which state.at state.keywords) (λ n. done len (record state { keywords = n }))
+
 abbrev pub obeyed : Word → List ℕ → State → Result Done Refusal
 obeyed word.Define rest state = defined (name_behind rest) rest state
 obeyed word.Undef rest state = undefined (name_behind rest) state
@@ -108,6 +135,7 @@ obeyed word.Else rest state = with_opens 0 state (turned true true state.at stat
 obeyed word.Endif rest state = with_opens 0 state (closed state.at state.opens)
 obeyed word.Timescale rest state = timed (timescale_behind rest) state
 obeyed word.DefaultNettype rest state = typed (name_behind rest) state
+obeyed (word.Idle which) rest state = idled which (idle_len which rest) state
 
 -- ---- what stands behind a backtick
 
@@ -122,6 +150,7 @@ is_conditional word.Else = true
 is_conditional word.Endif = true
 is_conditional word.Timescale = false
 is_conditional word.DefaultNettype = false
+is_conditional (word.Idle which) = false
 
 -- a directive is the first thing on its line after blanks (own)
 abbrev pub heeded : Word → List ℕ → State → Result Done Refusal
@@ -139,6 +168,16 @@ abbrev pub met : Option Word → List ℕ → List ℕ → State → Result Done
 met None name rest state = replaced name state
 met (Some word) name rest state = heeded word rest state
 
+-- the directive that the name is the word of, if any; a macro goes before one that is passed over (own)
+abbrev pub word_by : Option Word → Option Idle → Bool → Option Word
+word_by (Some found) which is_macro = Some found
+word_by None None is_macro = None
+word_by None (Some which) true = None
+word_by None (Some which) false = Some (word.Idle which)
+
+abbrev pub word_in : Macros → List ℕ → Option Word
+word_in macros name = word_by (directive_of name) (idle_of name) (is_some (macros name))
+
 -- a backtick, the name behind it and what that takes; neither leaves its line fresh
 abbrev pub moved : ℕ → State → State
 moved len state = record state { at = state.at + len; fresh = false }
@@ -146,7 +185,7 @@ moved len state = record state { at = state.at + len; fresh = false }
 abbrev pub ticked : List ℕ → State → Result State Refusal
 ticked behind state =
     let len = name_len behind in
-    and_then (met (directive_of (take len behind)) (take len behind) (drop len behind) state) (λ found. Ok (moved (1 + len + found.len) found.state))
+    and_then (met (word_in state.macros (take len behind)) (take len behind) (drop len behind) state) (λ found. Ok (moved (1 + len + found.len) found.state))
 
 -- ---- all else
 

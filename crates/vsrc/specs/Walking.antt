@@ -12,6 +12,7 @@ state_of walk = record {
   fresh = walk.fresh;
   macros = by_name walk.macros;
   opens = walk.opens;
+  keywords = walk.keywords;
   timescale = walk.timescale;
   made = walk.made;
 }

@@ -30,7 +30,7 @@ named blanks len text = if len == 0 then None else Some (record { name = take le
 abbrev pub name_behind : List ℕ → Option Named
 name_behind text = named (blanks_len text) (name_len (drop (blanks_len text) text)) (drop (blanks_len text) text)
 
--- the directives of this language, by their words
+-- the directives whose words no macro can have, by their words
 abbrev pub directive_of : List ℕ → Option Word
 directive_of name =
     if bytes_eq name (codes "define") then Some Define

@@ -8,7 +8,8 @@ ghost use Rattle.vsrc.specs.Pieces.{by_name, names_of, macros_of, of_text, AreCu
 
 use crate::output::Output;
 use crate::pieces::{
-    Kind, Macro, Piece, Texts, cut, head_of, macro_at, macro_by, may_be_macro, set,
+    Kind, Macro, Piece, Texts, cut, head_of, macro_at, macro_by, may_be_macro, set, used_name,
+    why_unknown,
 };
 use crate::refusal::{Refusal, Why, refuse};
 use basis::{NoMemory, OrMemory};
@@ -89,7 +90,7 @@ pub fn put_use(
         return Err(refuse(Why::Directive, at));
     }
     let Some(found) = macro_by(&table.texts, name) else {
-        return Err(refuse(Why::Macro, at));
+        return Err(refuse(why_unknown(name), at));
     };
     put_macro(&table.texts, found, at, levels, made)
 }
@@ -158,7 +159,7 @@ fn put_piece(
         Kind::Kept => made.put_given(rest.split_at(head.len).0, at),
         Kind::Refused => Err(refuse(Why::Directive, at)),
         Kind::Use(index) => match macro_at(texts, index) {
-            None => Err(refuse(Why::Macro, at)),
+            None => Err(refuse(why_unknown(used_name(rest)), at)),
             Some(found) => put_macro(texts, found, at, levels, made),
         },
     }

@@ -36,8 +36,8 @@ fn slash_len(text: &[u8]) -> usize
     }
 }
 
-// How far it is to the end of the line.
-fn line_len(text: &[u8]) -> usize
+/// How far it is to the end of the line.
+pub fn line_len(text: &[u8]) -> usize
     ensures value { result ≡ line_len text.now }
     ensures within { result ≤ length text.now }
 {

@@ -1,11 +1,12 @@
 // The uses in the texts of macros, found where those are defined, so that no use looks at a name in a text again.
 
 ghost use Rattle.std.specs.Prelude.{◌≡◌, ◌<◌, ◌++◌, ◌∷◌, ℕ, List, true, length, is_some, slice_get, [], None, Some, IfOk, OnOk, IfSome};
-ghost use Rattle.vsrc.specs.Macros.{may_be_macro, redefined};
-ghost use Rattle.vsrc.specs.Pieces.{names_of, macros_of, text_of, found_text, begins_use, head_of, is_use, next_of, uses_in, AreCut, AreUses, IsCut, IsCutIfAny, IsPiece, IsUse, Keeps};
+ghost use Rattle.vsrc.specs.Macros.{may_be_macro, why_unknown, redefined};
+ghost use Rattle.vsrc.specs.Pieces.{names_of, macros_of, text_of, found_text, begins_use, head_of, is_use, next_of, used_name, uses_in, AreCut, AreUses, IsCut, IsCutIfAny, IsPiece, IsUse, Keeps};
 
 use crate::outside::stretch_len;
-use crate::words::{directive_of, name_len};
+use crate::refusal::Why;
+use crate::words::{directive_of, idle_of, name_len};
 use basis::NoMemory;
 use indexmap::IndexMap;
 use std::alloc::Global;
@@ -46,6 +47,17 @@ pub fn may_be_macro(name: &[u8]) -> bool
         return false;
     }
     directive_of(name).is_none()
+}
+
+/// Why a name without a macro can't be used.
+pub fn why_unknown(name: &[u8]) -> Why
+    ensures { result ≡ why_unknown name.now }
+{
+    if idle_of(name).is_some() {
+        Why::Directive
+    } else {
+        Why::Macro
+    }
 }
 
 /// The macro of a name, if it has one.
@@ -108,6 +120,17 @@ pub fn head_of(rest: &[u8], uses: &[Piece], next: usize) -> (Piece, usize)
         kind: Kind::Kept,
     };
     (head, next)
+}
+
+/// The name behind the backtick at the head.
+pub fn used_name(rest: &[u8]) -> &[u8]
+    ensures { result.now ≡ used_name rest.now }
+{
+    if rest.is_empty() {
+        return rest;
+    }
+    let behind = rest.split_at(1).1;
+    behind.split_at(name_len(behind)).0
 }
 
 // Whether a backtick stands at the head.

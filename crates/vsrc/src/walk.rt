@@ -3,7 +3,8 @@
 ghost use Rattle.std.specs.Prelude.{◌≡◌, ◌≤◌, ◌<◌, ◌+◌, ◌∷◌, ◌&&◌, ◌||◌, ◌==◌, not, length, slice_index, is_some, true, IfOk, OnOk, Ok, Err};
 ghost use Rattle.basis.specs.Reasons.{IfFault};
 ghost use Rattle.vsrc.specs.Source.{text_limit};
-ghost use Rattle.vsrc.specs.Words.{name_behind, directive_of};
+ghost use Rattle.vsrc.specs.Words.{name_behind};
+ghost use Rattle.vsrc.specs.Idle.{idle_len};
 ghost use Rattle.vsrc.specs.Macros.{may_be_macro};
 ghost use Rattle.vsrc.specs.Conditionals.{is_read};
 ghost use Rattle.vsrc.specs.Expansion.{expanded};
@@ -13,6 +14,7 @@ ghost use Rattle.vsrc.specs.Timescales.{timescale_behind};
 ghost use Rattle.vsrc.specs.Walk.{begins_arguments, is_conditional, is_fresh, is_nettype, is_met};
 
 use crate::conditionals::Opens;
+use crate::idle::{idle_len, keywords_behind};
 use crate::macro_text::{lines_len, macro_text};
 use crate::macros::{Table, put_use};
 use crate::output::Output;
@@ -20,7 +22,9 @@ use crate::outside::stretch_len;
 use crate::pieces::may_be_macro;
 use crate::refusal::{Refusal, Why, refuse};
 use crate::timescale::timescale_behind;
-use crate::words::{Word, blanks_len, directive_of, is_blank, name_behind, name_len};
+use crate::words::{
+    Idle, Word, blanks_len, directive_of, idle_of, is_blank, name_behind, name_len,
+};
 use basis::{OrMemory, Timescale};
 use std::alloc::Global;
 
@@ -34,13 +38,15 @@ pub struct Walk {
     fresh: bool,
     macros: Table,
     opens: Opens,
+    // how many `begin_keywords` are open
+    keywords: u32,
     timescale: Option<Timescale>,
     made: Output,
     alloc: Global,
 }
 
 impl Walk {
-    ghost use Rattle.vsrc.specs.Walk.{start, step, passed, kept, ticked, met, replaced, heeded, obeyed, defined, undefined, opening, alternative, timed, typed, with_opens};
+    ghost use Rattle.vsrc.specs.Walk.{start, step, passed, kept, ticked, met, replaced, word_in, heeded, obeyed, defined, undefined, opening, alternative, timed, typed, idled, with_opens};
     ghost use Rattle.vsrc.specs.Conditionals.{turned, closed};
     ghost use Rattle.vsrc.specs.Walking.{StepResult};
 
@@ -53,6 +59,7 @@ impl Walk {
             fresh: true,
             macros: Table::new(alloc),
             opens: Opens::new(alloc),
+            keywords: 0,
             timescale: None,
             made: Output::new(alloc),
             alloc,
@@ -69,6 +76,7 @@ impl Walk {
             fresh: _,
             macros: _,
             opens: _,
+            keywords: _,
             timescale,
             made,
             alloc: _,
@@ -144,17 +152,34 @@ impl Walk {
     fn meet(&mut self, name: &[u8], rest: &[u8]) -> Result<usize, OrMemory<Refusal>>
         requires { self.old.at ≤ text_limit }
         ensures ok { IfOk result
-            (StepResult (met (directive_of name.now) name.now rest.now (state_of self.old))
-            (state_of self.new)) }
+            (StepResult (met (word_in (by_name self.old.macros) name.now) name.now rest.now
+            (state_of self.old)) (state_of self.new)) }
         ensures within { IfOk result (λ len. len ≤ length rest.now) }
         ensures still { self.new.at ≡ self.old.at }
         ensures err { IfFault result (λ refusal.
-            met (directive_of name.now) name.now rest.now (state_of self.old) ≡ Err refusal) }
+            met (word_in (by_name self.old.macros) name.now) name.now rest.now (state_of self.old)
+            ≡ Err refusal) }
     {
-        match directive_of(name) {
+        match self.word_in(name) {
             None => self.replace(name),
             Some(word) => self.heed(word, rest),
         }
+    }
+
+    // The directive that the name is the word of, if any.
+    fn word_in(&self, name: &[u8]) -> Option<Word>
+        ensures { result ≡ word_in (by_name self.now.macros) name.now }
+    {
+        if let Some(word) = directive_of(name) {
+            return Some(word);
+        }
+        let Some(idle) = idle_of(name) else {
+            return None;
+        };
+        if self.macros.has(name) {
+            return None;
+        }
+        Some(Word::Idle(idle))
     }
 
     // A use of a macro.
@@ -215,6 +240,7 @@ impl Walk {
             Word::Endif => self.close(),
             Word::Timescale => self.time(rest),
             Word::DefaultNettype => self.set_type(rest),
+            Word::Idle(idle) => self.pass_over(idle, rest),
         }
     }
 
@@ -361,6 +387,23 @@ impl Walk {
         }
         Ok(len)
     }
+
+    // A directive that is passed over.
+    fn pass_over(&mut self, idle: Idle, rest: &[u8]) -> Result<usize, OrMemory<Refusal>>
+        ensures ok { IfOk result
+            (StepResult (idled idle (idle_len idle rest.now) (state_of self.old))
+            (state_of self.new)) }
+        ensures within { IfOk result (λ len. len ≤ length rest.now) }
+        ensures still { self.new.at ≡ self.old.at }
+        ensures err { IfFault result (λ refusal.
+            idled idle (idle_len idle rest.now) (state_of self.old) ≡ Err refusal) }
+    {
+        let Some(len) = idle_len(idle, rest) else {
+            return Err(refuse(Why::Directive, self.at));
+        };
+        self.keywords = keywords_behind(idle, self.at, self.keywords)?;
+        Ok(len)
+    }
 }
 
 /// The walk over a whole text. E113 where a conditional is left open at its end.
@@ -421,5 +464,6 @@ fn is_conditional(word: Word) -> bool
         Word::Endif => true,
         Word::Timescale => false,
         Word::DefaultNettype => false,
+        Word::Idle(_) => false,
     }
 }

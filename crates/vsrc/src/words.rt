@@ -4,6 +4,7 @@ ghost use Rattle.std.specs.Prelude.{◌≡◌, ◌≤◌, ◌+◌, ℕ, length, 
 ghost use Rattle.std.specs.List.{prefix_len};
 ghost use Rattle.basis.specs.Letters.{is_in_name};
 ghost use Rattle.vsrc.specs.Words.{is_blank, blanks_len, name_len, name_behind, directive_of};
+ghost use Rattle.vsrc.specs.Idle.{idle_of};
 ghost use Rattle.vsrc.specs.Inner.{named_of};
 
 use basis::{begins_name, is_in_name};
@@ -20,6 +21,22 @@ pub enum Word {
     Endif,
     Timescale,
     DefaultNettype,
+    /// One that is passed over.
+    Idle(Idle),
+}
+
+/// A directive that is passed over (IEEE 1364-2005, clause 19).
+#[derive(Clone, Copy)]
+pub enum Idle {
+    Celldefine,
+    Endcelldefine,
+    Resetall,
+    BeginKeywords,
+    EndKeywords,
+    Line,
+    Pragma,
+    UnconnectedDrive,
+    NounconnectedDrive,
 }
 
 /// Whether the byte is a blank inside a line (3.2).
@@ -102,6 +119,33 @@ pub fn directive_of(name: &[u8]) -> Option<Word>
         Some(Word::Timescale)
     } else if name == b"default_nettype".as_slice() {
         Some(Word::DefaultNettype)
+    } else {
+        None
+    }
+}
+
+/// The directive that is passed over whose word the name is, if any.
+pub fn idle_of(name: &[u8]) -> Option<Idle>
+    ensures { result ≡ idle_of name.now }
+{
+    if name == b"celldefine".as_slice() {
+        Some(Idle::Celldefine)
+    } else if name == b"endcelldefine".as_slice() {
+        Some(Idle::Endcelldefine)
+    } else if name == b"resetall".as_slice() {
+        Some(Idle::Resetall)
+    } else if name == b"begin_keywords".as_slice() {
+        Some(Idle::BeginKeywords)
+    } else if name == b"end_keywords".as_slice() {
+        Some(Idle::EndKeywords)
+    } else if name == b"line".as_slice() {
+        Some(Idle::Line)
+    } else if name == b"pragma".as_slice() {
+        Some(Idle::Pragma)
+    } else if name == b"unconnected_drive".as_slice() {
+        Some(Idle::UnconnectedDrive)
+    } else if name == b"nounconnected_drive".as_slice() {
+        Some(Idle::NounconnectedDrive)
     } else {
         None
     }

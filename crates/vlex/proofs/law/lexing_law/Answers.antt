@@ -1,5 +1,6 @@
-use Rattle.vlex.proofs.Cuts.{one_list}
+use Rattle.std.proofs.Common.{false}
+use Rattle.vlex.proofs.Cuts.{one_cut}
 use Rattle.vlex.proofs.law.lexing_law.Goals as goal
 
 pub returns : goal.returns
-returns c = record { one = one_list }
+returns c = record { one = one_cut false }

@@ -1,5 +1,5 @@
 use Rattle.std.proofs.Common.{All, ◌≡◌, ◌-◌, ◌≤◌, ◌++◌, List, length, drop, map}
-use Rattle.vlex.specs.Lexed.{Lexed, Piece, Reaches}
+use Rattle.vlex.specs.Lexed.{Cut, Lexed, Piece, Reaches}
 use Rattle.vlex.specs.Tokenized.{piece_at, AreInOrder, IsTokenAt}
 use Rattle.vlex.proofs.lexer.tokens.Given as goal
 
@@ -7,12 +7,12 @@ use Rattle.vlex.proofs.lexer.tokens.Given as goal
 abbrev pub invariant-loop-at : goal.invariant-loop-at
 invariant-loop-at l = record {
   within : l.at ≤ length l.text;
-  reached : Reaches l.text l.at;
+  reached : Reaches l.text l.delay l.at;
   stands : All (IsTokenAt l.text) l.spans.items;
   order : AreInOrder 0 l.spans.items l.at;
   few : length l.spans.items ≤ l.at;
-  onward : (pieces : List Piece) → Lexed (drop l.at l.text) pieces → Lexed l.text (map (piece_at l.text) l.spans.items ++ pieces);
-  back : (pieces : List Piece) → Lexed l.text pieces → (left : List Piece) × ((pieces ≡ map (piece_at l.text) l.spans.items ++ left) × Lexed (drop l.at l.text) left);
+  onward : (pieces : List Piece) → Cut l.delay (drop l.at l.text) pieces → Lexed l.text (map (piece_at l.text) l.spans.items ++ pieces);
+  back : (pieces : List Piece) → Lexed l.text pieces → (left : List Piece) × ((pieces ≡ map (piece_at l.text) l.spans.items ++ left) × Cut l.delay (drop l.at l.text) left);
 }
 
 abbrev pub decreases-loop-at : goal.decreases-loop-at

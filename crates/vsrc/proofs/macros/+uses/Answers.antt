@@ -4,10 +4,10 @@ use Rattle.basis.specs.Reasons.{Because, IfFault}
 use Rattle.basis.specs.declared.memory.OrMemory.{OrMemory}
 use Rattle.basis.specs.declared.memory.OrMemory.TheVariants.{Fault}
 use Rattle.vsrc.specs.declared.refusal.Refusal.{Refusal}
-use Rattle.vsrc.specs.declared.refusal.Why.TheVariants.{Directive, Macro, Limit}
+use Rattle.vsrc.specs.declared.refusal.Why.TheVariants.{Directive, Limit}
 use Rattle.vsrc.specs.declared.pieces.Piece.{Piece}
-use Rattle.vsrc.specs.Macros.{Macros, Made, counted, given, piece, refused_at, used}
-use Rattle.vsrc.specs.Pieces.{AreUses, macros_of, names_of, of_text}
+use Rattle.vsrc.specs.Macros.{Macros, Made, counted, given, piece, refused_at, used, why_unknown}
+use Rattle.vsrc.specs.Pieces.{AreUses, macros_of, names_of, of_text, used_name}
 use Rattle.vsrc.proofs.MacroText.{Gives, gives_begins, gives_ends, gives_more, gives_stop, of_text_deep, of_text_full, of_text_gives}
 use Rattle.vsrc.proofs.Whole.{because_so}
 use Rattle.vsrc.proofs.Cutting.{Turn, step_is, turn_is, piece_found, piece_missing, piece_refused}
@@ -113,7 +113,8 @@ put_piece-returns-in-Refused-clause-err t c =
 
 pub put_piece-returns-in-None-clause-err : goal.put_piece-returns-in-None-clause-err
 put_piece-returns-in-None-clause-err t c =
-    refuses c.refuse-in-None.result (refused_at c.args.at Macro) _ c.refuse-in-None.ensures
+    refuses c.refuse-in-None.result (refused_at c.args.at (why_unknown (used_name c.args.rest.now))) _
+    (c.refuse-in-None.ensures ∙ ap (λ w. Fault (refused_at c.args.at w)) (c.why_unknown.ensures ∙ ap why_unknown c.used_name.ensures))
     (piece_missing (names_of c.args.texts.now.entries) c.args.rest.now c.args.head c.args.levels (macros_of c.args.texts.now.entries) c.args.at c.args.made.now c.requires.head
     c.in-Use.index c.in-Use.is (λ name named. c.in-None.ensures.text name named))
 

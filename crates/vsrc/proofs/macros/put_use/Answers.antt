@@ -3,8 +3,8 @@ use Rattle.basis.specs.Reasons.{Because, IfFault}
 use Rattle.basis.specs.declared.memory.OrMemory.{OrMemory}
 use Rattle.basis.specs.declared.memory.OrMemory.TheVariants.{Fault}
 use Rattle.vsrc.specs.declared.refusal.Refusal.{Refusal}
-use Rattle.vsrc.specs.declared.refusal.Why.TheVariants.{Directive, Macro}
-use Rattle.vsrc.specs.Macros.{Macros, Made, looked_up, may_be_macro, refused_at, text_for, used}
+use Rattle.vsrc.specs.declared.refusal.Why.TheVariants.{Directive}
+use Rattle.vsrc.specs.Macros.{Macros, Made, looked_up, may_be_macro, refused_at, text_for, used, why_unknown}
 use Rattle.vsrc.specs.Pieces.{Texts, by_name, macros_of, of_text}
 use Rattle.vsrc.proofs.MacroText.{used_none, used_some}
 use Rattle.vsrc.proofs.macros.put_use.Goals as goal
@@ -15,21 +15,21 @@ refuses result refusal whole is h = subst (λ (e : OrMemory Refusal). Because (�
 
 -- what may be done with a name, told from what is known of it
 looked : (macros : Macros) (at : ℕ) (name : List ℕ) (may : Bool) (text : Option (List ℕ)) → may_be_macro name ≡ may → macros name ≡ text
-    → text_for macros at name ≡ looked_up may text at
-looked macros at name may text is has = ap (λ b. looked_up b (macros name) at) is ∙ ap (λ t. looked_up may t at) has
+    → text_for macros at name ≡ looked_up may text name at
+looked macros at name may text is has = ap (λ b. looked_up b (macros name) name at) is ∙ ap (λ t. looked_up may t name at) has
 
 pub returns-then-not-may_be_macro-clause-err : goal.returns-then-not-may_be_macro-clause-err
 returns-then-not-may_be_macro-clause-err c =
     let macros : Macros = by_name c.args.table.now in
     refuses c.refuse.result (refused_at c.args.at Directive) _ c.refuse.ensures
     (used_none c.args.levels macros c.args.at c.args.name.now c.args.made.now (refused_at c.args.at Directive)
-    (ap (λ b. looked_up b (macros c.args.name.now) c.args.at) (sym c.may_be_macro.ensures ∙ c.if-not-may_be_macro.true)))
+    (ap (λ b. looked_up b (macros c.args.name.now) c.args.name.now c.args.at) (sym c.may_be_macro.ensures ∙ c.if-not-may_be_macro.true)))
 
 pub returns-in_default-clause-err : goal.returns-in_default-clause-err
 returns-in_default-clause-err c =
     let macros : Macros = by_name c.args.table.now in
-    refuses c.refuse-in_default.result (refused_at c.args.at Macro) _ c.refuse-in_default.ensures
-    (used_none c.args.levels macros c.args.at c.args.name.now c.args.made.now (refused_at c.args.at Macro)
+    refuses c.refuse-in_default.result (refused_at c.args.at (why_unknown c.args.name.now)) _ (c.refuse-in_default.ensures ∙ ap (λ w. Fault (refused_at c.args.at w)) c.why_unknown.ensures)
+    (used_none c.args.levels macros c.args.at c.args.name.now c.args.made.now (refused_at c.args.at (why_unknown c.args.name.now))
     (looked macros c.args.at c.args.name.now true None (sym c.may_be_macro.ensures ∙ c.if-not-may_be_macro.false)
     (ap (λ (l : Texts). by_name l c.args.name.now) (sym c.table.view_is) ∙ sym c.in_default.ensures.text)))
 
