@@ -1,0 +1,16 @@
+// Command lines, and what `vrace explain` says. In go the words of a call; out come the command that they name and what it is asked
+// for, by the tables of its options; and what is said of a fault's number.
+// No law is claimed: tests/run-cases and tests/faults compare what the program does.
+#![tactic(auto)]
+
+mod explanations;
+mod words;
+
+pub use explanations::{Explanation, explanation_of, show, show_advice, show_all};
+pub use words::{
+    Allowance, MatchWords, RaceWords, Request, Search, VERSION, Wanted, commands, files_of,
+    has_dashed_dump, has_dashed_log, has_dashed_report, has_dashed_top, has_dashed_waivers,
+    has_joined_letters, has_one_output_for_two, has_output_over_file, is_in_words, log_of,
+    match_request_of, match_words_of, race_request_of, race_search_of, race_words_of, report_of,
+    request_of, search_of, steps_of, until_of, wanted_of,
+};
