@@ -17,7 +17,6 @@ pub(crate) enum Construct {
     Class,
     Defparam,
     DelayRange,
-    Directive,
     Disable,
     DoWhile,
     DumpPath,
@@ -60,8 +59,7 @@ pub(crate) enum Construct {
     NetKind,
     NetTypeDirective,
     NewType,
-    NumberBlank,
-    OctalEscape,
+    NumberGap,
     OldPorts,
     OutputPart,
     Package,
@@ -113,7 +111,7 @@ pub(crate) struct Row {
     pub(crate) instead: &'static str,
 }
 
-const ROWS: [Row; 65] = [
+const ROWS: [Row; 63] = [
     Row {
         construct: Construct::Attribute,
         names_word: false,
@@ -143,12 +141,6 @@ const ROWS: [Row; 65] = [
         names_word: false,
         what: "min:typ:max values",
         instead: "write the one of the three that you simulate",
-    },
-    Row {
-        construct: Construct::Directive,
-        names_word: true,
-        what: "the directive",
-        instead: "take it away; where `unconnected_drive` drives inputs, connect them",
     },
     Row {
         construct: Construct::Disable,
@@ -353,16 +345,10 @@ const ROWS: [Row; 65] = [
         instead: "take it away: no net is declared by its use, and each is a `wire`",
     },
     Row {
-        construct: Construct::NumberBlank,
+        construct: Construct::NumberGap,
         names_word: false,
-        what: "blanks inside a number",
-        instead: "write it in one word: `8'hff`",
-    },
-    Row {
-        construct: Construct::OctalEscape,
-        names_word: false,
-        what: "octal escapes in strings",
-        instead: "write the letter itself; what can't be written so has to be left out",
+        what: "a comment inside a number, or a size of 0",
+        instead: "write it in one word, of 1 to 64 bits: `8'hff`",
     },
     Row {
         construct: Construct::OldPorts,

@@ -1,6 +1,7 @@
 // Constructs in expressions, told by their form.
 
 use crate::construct::Construct;
+use crate::numbers::is_wide;
 use crate::walk::{Group, Level, Opening, TYPES, Walk};
 use crate::words::{Words, is, is_one_of};
 use basis::digits_len;
@@ -156,11 +157,15 @@ pub(crate) fn by_name(words: Words<'_>) -> Option<Construct> {
     None
 }
 
-/// The construct of a number with a base: a blank behind its size.
+/// The construct of a number with a base: something behind its size, or a size that there isn't.
 pub(crate) fn by_based_number(words: Words<'_>) -> Option<Construct> {
     let is_delay = is(words.before(2), "#");
     if words.word().starts_with(b"'") && words.is_plain_before(1) && !is_delay {
-        return Some(Construct::NumberBlank);
+        return Some(if is_wide(words.before(1)) {
+            Construct::WideNumber
+        } else {
+            Construct::NumberGap
+        });
     }
     None
 }

@@ -32,18 +32,6 @@ pub(crate) enum Letters {
     NoSpaces,
 }
 
-// Directives of the standard that stand alone.
-const ALONE: [&str; 5] = [
-    "resetall",
-    "celldefine",
-    "endcelldefine",
-    "nounconnected_drive",
-    "end_keywords",
-];
-
-// Directives of the standard with words behind them.
-const WITH_WORDS: [&str; 4] = ["unconnected_drive", "line", "pragma", "begin_keywords"];
-
 // Whether the letter is one of these.
 fn is_in(letters: Letters, letter: u8) -> bool {
     match letters {
@@ -179,18 +167,12 @@ fn has_macro(files: &[Vec<u8>], name: &[u8]) -> bool {
     false
 }
 
-// A directive that isn't read, or a macro that isn't there.
+// An `include`, or a macro that isn't there.
 fn by_macro(rest: &[u8], files: &[Vec<u8>]) -> Flaw {
     let name = front(from(rest, 1), len_of(Letters::OfName, from(rest, 1)));
     let word = name.len().saturating_add(1);
     if name == b"include".as_slice() {
         return blanked(What::LeftOut(Construct::Include), word, line_len(rest));
-    }
-    if is_one_of(name, &ALONE) {
-        return blanked(What::LeftOut(Construct::Directive), word, word);
-    }
-    if is_one_of(name, &WITH_WORDS) {
-        return blanked(What::LeftOut(Construct::Directive), word, line_len(rest));
     }
     if has_macro(files, name) {
         let what = What::LeftOut(Construct::MacroArguments);

@@ -28,7 +28,7 @@ fn is_base(letter: u8) -> bool {
 }
 
 // Whether a letter of the number that these digits write is past the widest one.
-fn is_wide(digits: &[u8]) -> bool {
+pub(crate) fn is_wide(digits: &[u8]) -> bool {
     let mut size = 0u64;
     for digit in digits {
         let unit = u64::from(digit.saturating_sub(b'0'));
@@ -65,11 +65,23 @@ fn without_base(size: usize, behind: &[u8], whole: usize) -> Flaw {
     }
 }
 
+// Where the apostrophe behind a size stands, or what else stands behind it.
+fn mark_at(rest: &[u8], size: usize) -> usize {
+    let blanks = len_of(Letters::Spaces, from(rest, size));
+    let mark = size.saturating_add(blanks);
+    if from(rest, mark).starts_with(b"'") {
+        mark
+    } else {
+        size
+    }
+}
+
 // A number whose digits, or whose size, there aren't.
 fn by_number(rest: &[u8]) -> Flaw {
-    let whole = len_of(Letters::OfNumber, rest);
     let size = digits_len(rest);
-    let behind = from(rest, size.saturating_add(1));
+    let mark = mark_at(rest, size);
+    let whole = mark.saturating_add(len_of(Letters::OfNumber, from(rest, mark)));
+    let behind = from(rest, mark.saturating_add(1));
     let is_signed = behind.starts_with(b"s") || behind.starts_with(b"S");
     let sign = if is_signed { 1usize } else { 0usize };
     let base = from(behind, sign);
@@ -82,7 +94,7 @@ fn by_number(rest: &[u8]) -> Flaw {
     }
     let digits = from(base, 1);
     let blanks = len_of(Letters::Spaces, digits);
-    let before = size.saturating_add(sign).saturating_add(2);
+    let before = mark.saturating_add(sign).saturating_add(2);
     let end = before
         .saturating_add(blanks)
         .saturating_add(len_of(Letters::OfNumber, from(digits, blanks)));
@@ -90,34 +102,14 @@ fn by_number(rest: &[u8]) -> Flaw {
     if is_wide(front(rest, size)) {
         return number(What::LeftOut(Construct::WideNumber), len);
     }
-    if blanks > 0 {
-        return number(What::LeftOut(Construct::NumberBlank), len);
-    }
     number(What::Broken(102), len)
-}
-
-// Whether a digit stands behind a backslash.
-fn has_octal(string: &[u8]) -> bool {
-    let mut is_escape = false;
-    for letter in string {
-        if is_escape && letter.is_ascii_digit() {
-            return true;
-        }
-        is_escape = *letter == b'\\' && !is_escape;
-    }
-    false
 }
 
 // A string with an escape that there isn't; its letters become blanks.
 fn by_string(rest: &[u8]) -> Flaw {
     let whole = string_len(rest);
-    let string = front(rest, whole);
     Flaw {
-        what: if has_octal(string) {
-            What::LeftOut(Construct::OctalEscape)
-        } else {
-            What::Broken(102)
-        },
+        what: What::Broken(102),
         word: whole,
         len: whole.saturating_sub(1),
         first: b'"',
