@@ -13,6 +13,7 @@ use Rattle.vdesign.specs.Design.{Design}
 use Rattle.vdesign.specs.declared.action.Edge.{Edge}
 use Rattle.vdesign.specs.declared.action.Edge.TheVariants.{Any, Rise, Fall}
 use Rattle.vdesign.specs.declared.print.Piece.{Piece}
+use Rattle.format_text.specs.declared.letters.Escape.TheVariants.{Plain}
 use Rattle.format_text.specs.Formats.{Run, letters_of, run_of}
 use Rattle.format_text.specs.Pieces.{Argument, string, value, text_piece, without_form, last_pieces, value_pieces, rest_of, both_pieces, pieces_by, pieces_of}
 use Rattle.vmodules.specs.Hierarchy.{top_of}
@@ -173,8 +174,8 @@ formats_are scope format (quoted letters ∷ more) all is =
     let text = between_quotes letters.letters in
     let others = then_ok (lower_arguments scope more) (λ others. Ok (string text ∷ others)) all is in
     sym (ap (λ (l : List Argument). is_some (pieces_by format l)) (same_value (string text ∷ others.0) all others.2))
-    ∙ both_some (last_pieces (run_of format)) (pieces_by (letters_of false text) others.0)
-    ∙ (λ i. last_ended (run_of format) i && formats_are scope (letters_of false text) more others.0 others.1 i)
+    ∙ both_some (last_pieces (run_of format)) (pieces_by (letters_of Plain text) others.0)
+    ∙ (λ i. last_ended (run_of format) i && formats_are scope (letters_of Plain text) more others.0 others.1 i)
 formats_are scope format (printed tree ∷ more) all is =
     let one = then_ok (lower_argument scope (printed tree)) (λ argument. lower_arguments scope more >>= λ others. Ok (argument ∷ others)) all is in
     let e = then_ok (lower_expression scope tree) (λ e. Ok (value (is_watched tree) e)) one.0 one.1 in

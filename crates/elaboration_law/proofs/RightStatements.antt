@@ -18,6 +18,7 @@ use Rattle.vdesign.specs.declared.action.Target.{Target}
 use Rattle.vdesign.specs.declared.action.Edge.TheVariants.{Any}
 use Rattle.vdesign.specs.declared.print.Piece.{Piece}
 use Rattle.vdesign.specs.declared.print.Form.{Form}
+use Rattle.format_text.specs.declared.letters.Escape.TheVariants.{Plain}
 use Rattle.format_text.specs.Formats.{Run, letters_of, run_of}
 use Rattle.format_text.specs.Pieces.{Argument, string, value, text_piece, without_form, last_pieces, value_pieces, rest_of, both_pieces, pieces_by, pieces_of}
 use Rattle.velab_expr.specs.declared.fault.Rule.TheVariants.{Kind}
@@ -157,7 +158,7 @@ module _ (vs : List Variable) (place : Place) (scope : Scope) (h : IsAt place sc
 
   pieces_are : (format : List ℕ) (all : List Argument) → Pieces (list_all argument_bits all) (pieces_by format all)
   pieces_are format [] = last_bits (run_of format)
-  pieces_are format (string letters ∷ more) = both_bits true (list_all argument_bits more) (last_pieces (run_of format)) (pieces_by (letters_of false letters) more) (last_bits (run_of format)) (pieces_are (letters_of false letters) more)
+  pieces_are format (string letters ∷ more) = both_bits true (list_all argument_bits more) (last_pieces (run_of format)) (pieces_by (letters_of Plain letters) more) (last_bits (run_of format)) (pieces_are (letters_of Plain letters) more)
   pieces_are format (value watched e ∷ more) =
       both_bits (bits_in vs e) (list_all argument_bits more) (value_pieces (run_of format) watched e) (pieces_by (rest_of (run_of format)) more) (value_bits (run_of format) watched e) (pieces_are (rest_of (run_of format)) more)
 

@@ -22,6 +22,7 @@ use Rattle.vdesign.specs.declared.print.Piece.{Piece}
 use Rattle.vdesign.specs.declared.print.Piece.TheVariants.{Value}
 use Rattle.vdesign.specs.declared.print.Form.{Form}
 use Rattle.vdesign.specs.declared.print.Form.TheVariants.{Decimal}
+use Rattle.format_text.specs.declared.letters.Escape.TheVariants.{Plain}
 use Rattle.format_text.specs.Formats.{Run, letters_of, run_of}
 use Rattle.format_text.specs.Pieces.{Argument, string, value, text_piece, without_form, last_pieces, value_pieces, rest_of, both_pieces, pieces_by, pieces_of}
 use Rattle.vvalue.specs.Value.{Environment}
@@ -246,7 +247,7 @@ module _ (now : Environment) where
   pieces_have : (format : List ℕ) (all : List Argument) → Have (first_flaw argument_flaw all) (pieces_by format all)
   pieces_have format [] = last_flawless (run_of format)
   pieces_have format (string letters ∷ more) =
-      both_have None (first_flaw argument_flaw more) (last_pieces (run_of format)) (pieces_by (letters_of false letters) more) (last_flawless (run_of format)) (pieces_have (letters_of false letters) more)
+      both_have None (first_flaw argument_flaw more) (last_pieces (run_of format)) (pieces_by (letters_of Plain letters) more) (last_flawless (run_of format)) (pieces_have (letters_of Plain letters) more)
   pieces_have format (value watched e ∷ more) =
       both_have (flaw_of now e) (first_flaw argument_flaw more) (value_pieces (run_of format) watched e) (pieces_by (rest_of (run_of format)) more) (value_flaw (run_of format) watched e) (pieces_have (rest_of (run_of format)) more)
 

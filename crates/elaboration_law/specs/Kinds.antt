@@ -10,6 +10,7 @@ use Rattle.vmodules.specs.Hierarchy.{top_of}
 use Rattle.vdesign.specs.declared.action.Edge.{Edge}
 use Rattle.vdesign.specs.declared.action.Edge.TheVariants.{Any, Rise, Fall}
 use Rattle.vvalue.specs.Flaws.{kind_has_bits}
+use Rattle.format_text.specs.declared.letters.Escape.TheVariants.{Plain}
 use Rattle.format_text.specs.Formats.{Run, letters_of, run_of}
 use Rattle.format_text.specs.Pieces.{rest_of}
 use Rattle.velab_expr.specs.Selections.{levels_in}
@@ -82,7 +83,7 @@ is_ended (Some run) = not (is_some run.form)
 -- each string is of formats that are known, and each format has its expression, among what is left of a string and the arguments after it
 abbrev pub formats_fit : List ℕ → List ArgumentTree → Bool
 formats_fit format [] = is_ended (run_of format)
-formats_fit format (quoted letters ∷ more) = is_ended (run_of format) && formats_fit (letters_of false (between_quotes letters.letters)) more
+formats_fit format (quoted letters ∷ more) = is_ended (run_of format) && formats_fit (letters_of Plain (between_quotes letters.letters)) more
 formats_fit format (printed tree ∷ more) = is_some (run_of format) && formats_fit (rest_of (run_of format)) more
 
 -- ---- the rule
