@@ -21,6 +21,7 @@ use Rattle.cause.specs.Swaps.{is_swap, is_swap_of, has_come}
 use Rattle.cause.specs.Inner.{is_same_as}
 use Rattle.cause.specs.Latest.{number_at, of_thing, greater, greatest, Reaches, latest_of, Covers, AreClear}
 use Rattle.cause.specs.Known.{IsClearedAt, IsKnown, IsPast}
+use Rattle.vmodel.proofs.PlaceLemmas.{or_either}
 use Rattle.cause.proofs.SwapLemmas.{come_by}
 
 -- ---- numbers of things
@@ -92,10 +93,6 @@ greatest_in table (y ∷ things) x most e =
     greatest_by table things x y most (same_thing x y) refl e (greatest_in table things x (greater most (of_thing table y)))
 
 -- ---- what touches
-
-or_either : (a b : Bool) → (a || b) ≡ true → (a ≡ true) ⊎ (b ≡ true)
-or_either true b e = inl refl
-or_either false b e = inr e
 
 meet_some : (xs ys : List Thing) → meet xs ys ≡ true → (x : Thing) × (is_in x xs ≡ true) × (is_in x ys ≡ true)
 meet_some [] ys e = absurd cc

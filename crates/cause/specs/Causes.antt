@@ -4,7 +4,7 @@ use Rattle.std.specs.Prelude.{◌≡◌, ℕ, suc, ◌+◌, ◌-◌, ◌<◌, if
 use Rattle.vdesign.specs.declared.action.Action.{Action}
 use Rattle.sched_core.specs.Rules.{IsRun, NamesBelow}
 use Rattle.vmodel.specs.Run.{Setting, rules_of, state_after}
-use Rattle.cause.specs.Footprints.{shared}
+use Rattle.cause.specs.Footprints.{shared_things}
 use Rattle.cause.specs.Visits.{same_visit, visits_to, IsBegin, IsSlot}
 use Rattle.cause.specs.Behind.{statement_behind}
 use Rattle.cause.specs.Swaps.{IsFirstSwap, HasNoSwap}
@@ -54,7 +54,7 @@ cause_by actions step run_earlier run parent_earlier parent i j v w = record {
   step = step;
   first = told_of actions run parent run_earlier run i v;
   second = told_of actions run parent parent_earlier parent j w;
-  things = shared v.footprint w.footprint;
+  things = shared_things v.footprint w.footprint;
 }
 
 -- it tells the first swap of the visits of both runs from the step on, before which these come

@@ -51,9 +51,9 @@ abbrev pub named_in_branch : Branch → List Thing
 named_in_branch branch = named_in branch.item
 
 -- 9.7.2, 9.7.3: what a term waits for
-abbrev pub awaited : Term → Thing
-awaited (terms.Change edge n) = Variable n
-awaited (terms.Event event) = Event event
+abbrev pub thing_of_term : Term → Thing
+thing_of_term (terms.Change edge n) = Variable n
+thing_of_term (terms.Event event) = Event event
 
 -- 17.1: what a piece of a line shows
 abbrev pub named_in_piece : Piece → List Thing
@@ -71,43 +71,43 @@ named_in_print AtChange list = []
 abbrev pub nothing : Footprint
 nothing = record { reads = []; writes = [] }
 
-abbrev pub reading : List Thing → Footprint
-reading things = record { reads = things; writes = [] }
+abbrev pub footprint_of_reads : List Thing → Footprint
+footprint_of_reads things = record { reads = things; writes = [] }
 
 -- 6.2, 9.2: what names these things and goes to targets
-abbrev pub writing : List Thing → List Target → Footprint
-writing things targets = record { reads = things ++ flat_map named_in_target targets; writes = map target_of targets }
+abbrev pub footprint_of_writes : List Thing → List Target → Footprint
+footprint_of_writes things targets = record { reads = things ++ flat_map named_in_target targets; writes = map target_of targets }
 
 -- 9.7.7: a suspended assignment takes its value in its first step, which holds it from then on, and writes in its second
-abbrev pub suspended : Bool → List Thing → List Target → Footprint
-suspended holds things targets = if holds then reading things else writing [] targets
+abbrev pub footprint_of_suspended : Bool → List Thing → List Target → Footprint
+footprint_of_suspended holds things targets = if holds then footprint_of_reads things else footprint_of_writes [] targets
 
 -- 9.7.3
-abbrev pub triggering : ℕ → Footprint
-triggering event = record { reads = []; writes = Event event ∷ [] }
+abbrev pub footprint_of_trigger : ℕ → Footprint
+footprint_of_trigger event = record { reads = []; writes = Event event ∷ [] }
 
 -- 6.1
-abbrev pub driving : ℕ → List Thing → Footprint
-driving net things = record { reads = things; writes = Variable net ∷ [] }
+abbrev pub footprint_of_drive : ℕ → List Thing → Footprint
+footprint_of_drive net things = record { reads = things; writes = Variable net ∷ [] }
 
 -- clause 9: what a step of an action reads and writes; `holds`: the process holds a value after it. A nonblocking assignment writes what it
 -- posts to. Each turn of a `repeat` is a step of it
 abbrev pub footprint_of : Action → Bool → Footprint
-footprint_of (Assign targets value) holds = writing (named_in value) targets
-footprint_of (Nonblocking targets value) holds = writing (named_in value) targets
-footprint_of (AssignDelayed amount targets value) holds = suspended holds (named_in amount ++ named_in value) targets
-footprint_of (NonblockingDelayed amount targets value) holds = writing (named_in amount ++ named_in value) targets
-footprint_of (Trigger event) holds = triggering event
-footprint_of (Test condition when_true otherwise) holds = reading (named_in condition)
-footprint_of (Case kind value branches otherwise) holds = reading (named_in value ++ flat_map named_in_branch branches)
-footprint_of (While condition body) holds = reading (named_in condition)
-footprint_of (Repeat count body) holds = reading (named_in count)
+footprint_of (Assign targets value) holds = footprint_of_writes (named_in value) targets
+footprint_of (Nonblocking targets value) holds = footprint_of_writes (named_in value) targets
+footprint_of (AssignDelayed amount targets value) holds = footprint_of_suspended holds (named_in amount ++ named_in value) targets
+footprint_of (NonblockingDelayed amount targets value) holds = footprint_of_writes (named_in amount ++ named_in value) targets
+footprint_of (Trigger event) holds = footprint_of_trigger event
+footprint_of (Test condition when_true otherwise) holds = footprint_of_reads (named_in condition)
+footprint_of (Case kind value branches otherwise) holds = footprint_of_reads (named_in value ++ flat_map named_in_branch branches)
+footprint_of (While condition body) holds = footprint_of_reads (named_in condition)
+footprint_of (Repeat count body) holds = footprint_of_reads (named_in count)
 footprint_of (Forever body) holds = nothing
-footprint_of (Delay amount body) holds = reading (named_in amount)
-footprint_of (EventControl list body) holds = reading (map awaited list)
-footprint_of (Wait condition list body) holds = reading (named_in condition)
-footprint_of (ContinuousAssign net value list) holds = driving net (named_in value)
-footprint_of (Print when list) holds = reading (named_in_print when list)
+footprint_of (Delay amount body) holds = footprint_of_reads (named_in amount)
+footprint_of (EventControl list body) holds = footprint_of_reads (map thing_of_term list)
+footprint_of (Wait condition list body) holds = footprint_of_reads (named_in condition)
+footprint_of (ContinuousAssign net value list) holds = footprint_of_drive net (named_in value)
+footprint_of (Print when list) holds = footprint_of_reads (named_in_print when list)
 footprint_of (DumpVars selection) holds = nothing
 footprint_of (Dump asked) holds = nothing
 footprint_of NoOperation holds = nothing
@@ -143,5 +143,5 @@ common [] others = []
 common (thing ∷ things) others = if is_in thing others then thing ∷ common things others else common things others
 
 -- what one writes and the other reads or writes
-abbrev pub shared : Footprint → Footprint → List Thing
-shared one other = common one.writes other.reads ++ (common one.writes other.writes ++ common other.writes one.reads)
+abbrev pub shared_things : Footprint → Footprint → List Thing
+shared_things one other = common one.writes other.reads ++ (common one.writes other.writes ++ common other.writes one.reads)

@@ -71,11 +71,11 @@ updates_after Advance n = 0
 -- ---- visits
 
 -- 11.4: an update writes the variables of its parts
-abbrev pub written : Part → Thing
-written part = Variable (variable_of part)
+abbrev pub thing_of_part : Part → Thing
+thing_of_part part = Variable (variable_of part)
 
 abbrev pub footprint_of_update : List Part → Footprint
-footprint_of_update parts = record { reads = []; writes = map written parts }
+footprint_of_update parts = record { reads = []; writes = map thing_of_part parts }
 
 abbrev pub actor_of : Choice → ℕ → Actor
 actor_of (Run p) place = Process p

@@ -96,7 +96,7 @@ pub fn causes_of(
     ensures { IfOk result (λ causes. AreCauses machine.now log.now steps causes.items) }
 {
     let members = log.members();
-    let mut start = Checkpoint::opened(alloc, machine)?;
+    let mut start = Checkpoint::open(alloc, machine)?;
     let mut causes = Vec::new(alloc);
     for place in 0..members.len() {
         let step = members[place].0;

@@ -11,7 +11,7 @@ use crate::checkpoint::Checkpoint;
 use crate::checkpoints::Checkpoints;
 use crate::slot::{Slot, first_step, visits_of_slot};
 use crate::swap::first_swap;
-use crate::thing::{Things, shared};
+use crate::thing::{Things, shared_things};
 use crate::visit::{Actor, Visit, is_same_visit};
 use basis::NoMemory;
 use sched_core::{Log, Member};
@@ -115,7 +115,7 @@ fn cause_in(
                 step,
                 first: told_of(actions, ours, theirs, run, swap.in_run, one),
                 second: told_of(actions, ours, theirs, parent, swap.in_parent, other),
-                things: shared(alloc, &one.footprint, &other.footprint)?,
+                things: shared_things(alloc, &one.footprint, &other.footprint)?,
             }))
         }
     }

@@ -21,7 +21,7 @@ pub(crate) struct Checkpoint {
 impl Checkpoint {
     /// The beginning of the run.
     #[tactic(auto, using(crate::proofs::CheckpointLemmas::opened_is))]
-    pub(crate) fn opened(alloc: Global, machine: &Machine) -> Result<Checkpoint, NoMemory>
+    pub(crate) fn open(alloc: Global, machine: &Machine) -> Result<Checkpoint, NoMemory>
         ensures is { IfOk result (IsCheckpoint machine.now) }
         ensures first { IfOk result (λ checkpoint. checkpoint.step ≡ 0) }
     {

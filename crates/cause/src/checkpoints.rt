@@ -138,13 +138,13 @@ impl<'m> Checkpoints<'m> {
         ensures before { IfOk result (λ checkpoint. checkpoint.step ≤ step) }
     {
         match last_to(&self.list, step) {
-            None => Checkpoint::opened(alloc, self.machine),
+            None => Checkpoint::open(alloc, self.machine),
             Some(checkpoint) => checkpoint.copy(alloc),
         }
     }
 
     // The step of the newest.
-    fn reached(&self) -> u32 {
+    fn newest_step(&self) -> u32 {
         match self.list.last() {
             None => 0,
             Some(checkpoint) => checkpoint.step,
@@ -197,7 +197,7 @@ impl<'m> Checkpoints<'m> {
     pub(crate) fn extend(&mut self, alloc: Global, to: u32) -> Result<(), NoMemory>
         ensures { self.new ≡ self.old }
     {
-        if to <= self.reached() {
+        if to <= self.newest_step() {
             return Ok(());
         }
         let Checkpoint {

@@ -109,8 +109,8 @@ fn put_branches(things: &mut Vec<Thing>, branches: &[Branch]) -> Result<(), NoMe
 }
 
 // What a term waits for (9.7.2, 9.7.3).
-fn awaited(term: &Term) -> Thing
-    ensures { result ≡ spec.awaited term.now }
+fn thing_of_term(term: &Term) -> Thing
+    ensures { result ≡ spec.thing_of_term term.now }
 {
     match term {
         Term::Change { variable, .. } => Thing::Variable(*variable),
@@ -119,10 +119,10 @@ fn awaited(term: &Term) -> Thing
 }
 
 fn put_awaited(things: &mut Vec<Thing>, terms: &[Term]) -> Result<(), NoMemory>
-    ensures { OnOk result (things.new.items ≡ things.old.items ++ map spec.awaited terms.now) }
+    ensures { OnOk result (things.new.items ≡ things.old.items ++ map spec.thing_of_term terms.now) }
 {
     for term in terms {
-        things.push(awaited(term))?;
+        things.push(thing_of_term(term))?;
     }
     Ok(())
 }
@@ -159,8 +159,8 @@ impl Footprint {
 }
 
 // A step that reads these things.
-fn reading(alloc: Global, reads: Vec<Thing>) -> Footprint
-    ensures { result ≡ spec.reading reads.items }
+fn footprint_of_reads(alloc: Global, reads: Vec<Thing>) -> Footprint
+    ensures { result ≡ spec.footprint_of_reads reads.items }
 {
     Footprint {
         reads: Things::new(reads),
@@ -169,12 +169,12 @@ fn reading(alloc: Global, reads: Vec<Thing>) -> Footprint
 }
 
 // A step that evaluates an expression.
-fn evaluating(alloc: Global, expression: &Expression) -> Result<Footprint, NoMemory>
-    ensures { IfOk result (λ found. found ≡ spec.reading (named_in expression.now)) }
+fn footprint_of_expression(alloc: Global, expression: &Expression) -> Result<Footprint, NoMemory>
+    ensures { IfOk result (λ found. found ≡ spec.footprint_of_reads (named_in expression.now)) }
 {
     let mut reads = Vec::new(alloc);
     put_named(&mut reads, expression)?;
-    Ok(reading(alloc, reads))
+    Ok(footprint_of_reads(alloc, reads))
 }
 
 // What a delay and a value name.
@@ -192,8 +192,12 @@ fn names_of_both(
 }
 
 // A step that reads these things, and writes targets (6.2).
-fn writing(alloc: Global, names: Vec<Thing>, targets: &Targets) -> Result<Footprint, NoMemory>
-    ensures { IfOk result (λ found. found ≡ spec.writing names.items targets.now) }
+fn footprint_of_writes(
+    alloc: Global,
+    names: Vec<Thing>,
+    targets: &Targets,
+) -> Result<Footprint, NoMemory>
+    ensures { IfOk result (λ found. found ≡ spec.footprint_of_writes names.items targets.now) }
 {
     let mut reads = names;
     put_indices(&mut reads, targets.as_slice())?;
@@ -206,30 +210,34 @@ fn writing(alloc: Global, names: Vec<Thing>, targets: &Targets) -> Result<Footpr
 }
 
 // An assignment, at once or posted (9.2).
-fn assigning(alloc: Global, targets: &Targets, value: &Expression) -> Result<Footprint, NoMemory>
-    ensures { IfOk result (λ found. found ≡ spec.writing (named_in value.now) targets.now) }
+fn footprint_of_assignment(
+    alloc: Global,
+    targets: &Targets,
+    value: &Expression,
+) -> Result<Footprint, NoMemory>
+    ensures { IfOk result (λ found. found ≡ spec.footprint_of_writes (named_in value.now) targets.now) }
 {
     let mut names = Vec::new(alloc);
     put_named(&mut names, value)?;
-    writing(alloc, names, targets)
+    footprint_of_writes(alloc, names, targets)
 }
 
 // A nonblocking assignment with a delay (9.7.7).
-fn posting(
+fn footprint_of_delayed(
     alloc: Global,
     amount: &Expression,
     targets: &Targets,
     value: &Expression,
 ) -> Result<Footprint, NoMemory>
     ensures { IfOk result (λ found.
-        found ≡ spec.writing (named_in amount.now ++ named_in value.now) targets.now) }
+        found ≡ spec.footprint_of_writes (named_in amount.now ++ named_in value.now) targets.now) }
 {
     let names = names_of_both(alloc, amount, value)?;
-    writing(alloc, names, targets)
+    footprint_of_writes(alloc, names, targets)
 }
 
 // A step of a suspended assignment, after which the process holds its value, or has written it (9.7.7).
-fn suspended(
+fn footprint_of_suspended(
     alloc: Global,
     amount: &Expression,
     targets: &Targets,
@@ -237,38 +245,42 @@ fn suspended(
     holds: bool,
 ) -> Result<Footprint, NoMemory>
     ensures { IfOk result (λ found.
-        found ≡ spec.suspended holds (named_in amount.now ++ named_in value.now) targets.now) }
+        found ≡ spec.footprint_of_suspended holds (named_in amount.now ++ named_in value.now) targets.now) }
 {
     if holds {
         let names = names_of_both(alloc, amount, value)?;
-        return Ok(reading(alloc, names));
+        return Ok(footprint_of_reads(alloc, names));
     }
-    writing(alloc, Vec::new(alloc), targets)
+    footprint_of_writes(alloc, Vec::new(alloc), targets)
 }
 
 // `case` (9.5).
-fn comparing(alloc: Global, value: &Expression, branches: &Branches) -> Result<Footprint, NoMemory>
+fn footprint_of_case(
+    alloc: Global,
+    value: &Expression,
+    branches: &Branches,
+) -> Result<Footprint, NoMemory>
     ensures { IfOk result (λ found.
-        found ≡ spec.reading (named_in value.now ++ flat_map spec.named_in_branch branches.now)) }
+        found ≡ spec.footprint_of_reads (named_in value.now ++ flat_map spec.named_in_branch branches.now)) }
 {
     let mut reads = Vec::new(alloc);
     put_named(&mut reads, value)?;
     put_branches(&mut reads, branches.as_slice())?;
-    Ok(reading(alloc, reads))
+    Ok(footprint_of_reads(alloc, reads))
 }
 
 // An event control (9.7.2).
-fn awaiting(alloc: Global, terms: &Terms) -> Result<Footprint, NoMemory>
-    ensures { IfOk result (λ found. found ≡ spec.reading (map spec.awaited terms.now)) }
+fn footprint_of_event_control(alloc: Global, terms: &Terms) -> Result<Footprint, NoMemory>
+    ensures { IfOk result (λ found. found ≡ spec.footprint_of_reads (map spec.thing_of_term terms.now)) }
 {
     let mut reads = Vec::new(alloc);
     put_awaited(&mut reads, terms.as_slice())?;
-    Ok(reading(alloc, reads))
+    Ok(footprint_of_reads(alloc, reads))
 }
 
 // A print task (17.1).
-fn printing(alloc: Global, when: When, pieces: &Pieces) -> Result<Footprint, NoMemory>
-    ensures { IfOk result (λ found. found ≡ spec.reading (spec.named_in_print when pieces.now)) }
+fn footprint_of_print(alloc: Global, when: When, pieces: &Pieces) -> Result<Footprint, NoMemory>
+    ensures { IfOk result (λ found. found ≡ spec.footprint_of_reads (spec.named_in_print when pieces.now)) }
 {
     let mut reads = Vec::new(alloc);
     match when {
@@ -276,12 +288,12 @@ fn printing(alloc: Global, when: When, pieces: &Pieces) -> Result<Footprint, NoM
         When::AtSlotEnd => {}
         When::AtChange => {}
     }
-    Ok(reading(alloc, reads))
+    Ok(footprint_of_reads(alloc, reads))
 }
 
 // `-> event` (9.7.3).
-fn triggering(alloc: Global, event: usize) -> Result<Footprint, NoMemory>
-    ensures { IfOk result (λ found. found ≡ spec.triggering event) }
+fn footprint_of_trigger(alloc: Global, event: usize) -> Result<Footprint, NoMemory>
+    ensures { IfOk result (λ found. found ≡ spec.footprint_of_trigger event) }
 {
     let writes = Things::one(alloc, Thing::Event(event))?;
     Ok(Footprint {
@@ -291,8 +303,8 @@ fn triggering(alloc: Global, event: usize) -> Result<Footprint, NoMemory>
 }
 
 // `assign net = value` (6.1).
-fn driving(alloc: Global, net: u32, value: &Expression) -> Result<Footprint, NoMemory>
-    ensures { IfOk result (λ found. found ≡ spec.driving net (named_in value.now)) }
+fn footprint_of_drive(alloc: Global, net: u32, value: &Expression) -> Result<Footprint, NoMemory>
+    ensures { IfOk result (λ found. found ≡ spec.footprint_of_drive net (named_in value.now)) }
 {
     let mut reads = Vec::new(alloc);
     put_named(&mut reads, value)?;
@@ -312,33 +324,33 @@ pub(crate) fn footprint_of(
     ensures { IfOk result (λ found. found ≡ spec.footprint_of action.now holds) }
 {
     match action {
-        Action::Assign { targets, value } => assigning(alloc, targets, value),
-        Action::Nonblocking { targets, value } => assigning(alloc, targets, value),
+        Action::Assign { targets, value } => footprint_of_assignment(alloc, targets, value),
+        Action::Nonblocking { targets, value } => footprint_of_assignment(alloc, targets, value),
         Action::AssignDelayed {
             amount,
             targets,
             value,
-        } => suspended(alloc, amount, targets, value, holds),
+        } => footprint_of_suspended(alloc, amount, targets, value, holds),
         Action::NonblockingDelayed {
             amount,
             targets,
             value,
-        } => posting(alloc, amount, targets, value),
-        Action::Trigger(event) => triggering(alloc, *event),
-        Action::Test { condition, .. } => evaluating(alloc, condition),
+        } => footprint_of_delayed(alloc, amount, targets, value),
+        Action::Trigger(event) => footprint_of_trigger(alloc, *event),
+        Action::Test { condition, .. } => footprint_of_expression(alloc, condition),
         Action::Case {
             value,
             branches,
             ..
-        } => comparing(alloc, value, branches),
-        Action::While { condition, .. } => evaluating(alloc, condition),
-        Action::Repeat { count, .. } => evaluating(alloc, count),
+        } => footprint_of_case(alloc, value, branches),
+        Action::While { condition, .. } => footprint_of_expression(alloc, condition),
+        Action::Repeat { count, .. } => footprint_of_expression(alloc, count),
         Action::Forever { .. } => Ok(Footprint::nothing(alloc)),
-        Action::Delay { amount, .. } => evaluating(alloc, amount),
-        Action::EventControl { terms, .. } => awaiting(alloc, terms),
-        Action::Wait { condition, .. } => evaluating(alloc, condition),
-        Action::ContinuousAssign { net, value, .. } => driving(alloc, *net, value),
-        Action::Print { when, pieces } => printing(alloc, *when, pieces),
+        Action::Delay { amount, .. } => footprint_of_expression(alloc, amount),
+        Action::EventControl { terms, .. } => footprint_of_event_control(alloc, terms),
+        Action::Wait { condition, .. } => footprint_of_expression(alloc, condition),
+        Action::ContinuousAssign { net, value, .. } => footprint_of_drive(alloc, *net, value),
+        Action::Print { when, pieces } => footprint_of_print(alloc, *when, pieces),
         Action::DumpVars(_) => Ok(Footprint::nothing(alloc)),
         Action::Dump(_) => Ok(Footprint::nothing(alloc)),
         Action::NoOperation => Ok(Footprint::nothing(alloc)),

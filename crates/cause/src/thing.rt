@@ -112,8 +112,12 @@ fn put_common(common: &mut Vec<Thing>, list: &[Thing], other: &[Thing]) -> Resul
 }
 
 /// What one writes and the other reads or writes.
-pub(crate) fn shared(alloc: Global, one: &Footprint, other: &Footprint) -> Result<Things, NoMemory>
-    ensures { IfOk result (λ things. things ≡ spec.shared one.now other.now) }
+pub(crate) fn shared_things(
+    alloc: Global,
+    one: &Footprint,
+    other: &Footprint,
+) -> Result<Things, NoMemory>
+    ensures { IfOk result (λ things. things ≡ spec.shared_things one.now other.now) }
 {
     let mut common = Vec::new(alloc);
     put_common(&mut common, one.writes.as_slice(), other.reads.as_slice())?;

@@ -199,7 +199,7 @@ fn actor_of(choice: Choice, place: usize) -> Actor
 
 // The variables of written parts (11.4).
 fn put_parts(things: &mut Vec<Thing>, parts: &[Part]) -> Result<(), NoMemory>
-    ensures { OnOk result (things.new.items ≡ things.old.items ++ map spec.written parts.now) }
+    ensures { OnOk result (things.new.items ≡ things.old.items ++ map spec.thing_of_part parts.now) }
 {
     for part in parts {
         things.push(Thing::Variable(part.variable()))?;

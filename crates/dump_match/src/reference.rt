@@ -163,7 +163,6 @@ impl<'m, R: Read + Drop> DumpReference<'m, R> {
         ensures { IfOk result (λ list. list.items ≡ all_told_apart self.now.slots.columns.told.items
             (state_in self.now.machine.now s.now).values self.now.comparison.pairs.items) }
     {
-        machine_law();
         let values = self.machine.values(s);
         all_differing(self.alloc, &self.slots, values, &self.comparison.pairs)
     }

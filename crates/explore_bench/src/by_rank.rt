@@ -40,7 +40,7 @@ impl Watcher for Counter {
 }
 
 // How the search ended.
-fn told(status: RankedStatus) -> &'static str {
+fn status_word(status: RankedStatus) -> &'static str {
     match status {
         RankedStatus::Exhausted => "exhausted",
         RankedStatus::Cut(RankedReason::Entries) => "cut by entries",
@@ -96,7 +96,7 @@ pub fn explore_by_rank(
     println!(rt;
         "{} marks, {}",
         mark_count(&kept.ranks),
-        told(findings.status)
+        status_word(findings.status)
     )?;
     if lists {
         for of_rank in &kept.ranks {

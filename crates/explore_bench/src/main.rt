@@ -34,7 +34,7 @@ fn number(words: &[String], place: usize, default: u32) -> Result<u32> {
 }
 
 // What so many workers find, or `explore_alone` where there is none.
-fn found<R: Threads + Wait + Sync>(
+fn search<R: Threads + Wait + Sync>(
     rt: &R,
     alloc: Global,
     grid: &Grid,
@@ -58,7 +58,7 @@ fn is_ranked(words: &[String], place: usize) -> bool {
 }
 
 // How the search ended.
-fn told(status: Status) -> &'static str {
+fn status_word(status: Status) -> &'static str {
     match status {
         Status::Exhausted => "exhausted",
         Status::Cut(Reason::Entries) => "cut by entries",
@@ -83,10 +83,14 @@ fn main(rt: HostRuntime) -> Result<()> {
         return explore_by_rank(&rt, rt.alloc(), &grid, &limits, lists, most);
     }
     let workers = number(&words, 6, 0)?.min(64);
-    let findings = found(&rt, rt.alloc(), &grid, &limits, workers as usize)
+    let findings = search(&rt, rt.alloc(), &grid, &limits, workers as usize)
         .ok()
         .context("memory")?;
-    println!(rt; "{} marks, {}", findings.marks.len(), told(findings.status))?;
+    println!(rt;
+        "{} marks, {}",
+        findings.marks.len(),
+        status_word(findings.status)
+    )?;
     if lists {
         show_marks(&rt, &findings.marks)?;
     }

@@ -1,11 +1,15 @@
-// Tests of the explorer against its public calls: values from outside, what no clause says, and that calls succeed. They stand apart
-// so that a crate is proved once; the crate itself has nothing.
+// Tests against public calls that no program shows: values from outside, what no clause says, and that calls succeed. They stand apart so
+// that a crate is proved once; the crate itself has nothing.
 #![tactic(auto)]
 
 #[cfg(test)]
 mod books;
 #[cfg(test)]
+mod devices;
+#[cfg(test)]
 mod gates;
+#[cfg(test)]
+mod logs;
 #[cfg(test)]
 mod searches;
 #[cfg(test)]

@@ -23,10 +23,10 @@ fn names_of(alloc: Global, names: &[Vec<u8>]) -> Result<Value, NoMemory> {
 fn compared_of(alloc: Global, compared: &Comparison) -> Result<Value, NoMemory> {
     let mut members = Members::new(alloc);
     members.number("variables", compared.pairs.len() as u64);
-    members.made("only_in_dump", names_of(alloc, &compared.only_in_dump));
-    members.made("only_in_files", names_of(alloc, &compared.only_in_files));
-    members.made("other_width", names_of(alloc, &compared.of_other_width));
-    members.made("repeated", names_of(alloc, &compared.repeated));
+    members.try_value("only_in_dump", names_of(alloc, &compared.only_in_dump));
+    members.try_value("only_in_files", names_of(alloc, &compared.only_in_files));
+    members.try_value("other_width", names_of(alloc, &compared.of_other_width));
+    members.try_value("repeated", names_of(alloc, &compared.repeated));
     if let Some(scope) = &compared.left_out {
         members.text("left_out", scope);
     }
@@ -45,9 +45,9 @@ fn departure_of(
     if let Some(cause) = &departure.cause {
         let (design, things) = (found.machine.design(), cause.things.as_slice());
         let first = statement_of(alloc, design, found.sources, &cause.second, things);
-        members.made("first", first);
+        members.try_value("first", first);
         let second = statement_of(alloc, design, found.sources, &cause.first, things);
-        members.made("second", second);
+        members.try_value("second", second);
     }
     members.whole()
 }
@@ -56,7 +56,7 @@ fn departure_of(
 fn departures_of(alloc: Global, found: &Found<'_>) -> Result<Value, NoMemory> {
     let mut list = Items::new(alloc);
     for departure in found.departures {
-        list.made(departure_of(alloc, found, departure));
+        list.try_value(departure_of(alloc, found, departure));
     }
     list.whole()
 }
@@ -76,7 +76,7 @@ fn differing_of(alloc: Global, design: &Design, differing: &Differing) -> Result
 fn all_differing(alloc: Global, found: &Found<'_>) -> Result<Value, NoMemory> {
     let mut list = Items::new(alloc);
     for differing in found.differing {
-        list.made(differing_of(alloc, found.machine.design(), differing));
+        list.try_value(differing_of(alloc, found.machine.design(), differing));
     }
     list.whole()
 }
@@ -102,7 +102,7 @@ fn put_explained(
     members.text("status", b"explained");
     members.number("time", found.last);
     put_log(alloc, members, found, run);
-    members.made("departures", departures_of(alloc, found));
+    members.try_value("departures", departures_of(alloc, found));
 }
 
 // No run has.
@@ -116,7 +116,7 @@ fn put_unexplained(
     members.number("time", answer.time);
     if let Some(run) = &answer.nearest {
         put_log(alloc, members, found, run);
-        members.made("differing", all_differing(alloc, found));
+        members.try_value("differing", all_differing(alloc, found));
     }
     if let Some(end) = found.end {
         members.number("ends_at", end.time);
@@ -159,7 +159,7 @@ pub fn match_json(alloc: Global, found: &Found<'_>) -> Result<Vec<u8>, NoMemory>
     members.text("top", &found.machine.design().top);
     members.made_text("precision", precision_of(alloc, found.machine));
     members.number("slot_departures", u64::from(found.most));
-    members.made("compared", compared_of(alloc, found.compared));
+    members.try_value("compared", compared_of(alloc, found.compared));
     put_answer(alloc, &mut members, found);
     document(alloc, &members.whole()?)
 }

@@ -94,7 +94,7 @@ fn spot_of(span: Span, left: u64, y: u64) -> Spot {
 }
 
 // The spot, so much further down, and so much further to the right.
-fn moved(spot: Spot, right: u64, down: u64) -> Spot {
+fn translate(spot: Spot, right: u64, down: u64) -> Spot {
     Spot {
         x: spot.x.saturating_add(right),
         y: spot.y.saturating_add(down),
@@ -113,8 +113,8 @@ fn put_box(
 ) -> Result<(), NoMemory> {
     let mut text = Vec::new(alloc);
     put_value(&mut text, variable, value)?;
-    put_rectangle(page, class, moved(spot, 0, 3), HEIGHT - 6)?;
-    put_text(page, "v", moved(spot, 5, 15), &text)
+    put_rectangle(page, class, translate(spot, 0, 3), HEIGHT - 6)?;
+    put_text(page, "v", translate(spot, 5, 15), &text)
 }
 
 // A value where it stays.
@@ -126,8 +126,8 @@ fn put_span(
     spot: Spot,
 ) -> Result<(), NoMemory> {
     match look_of(value) {
-        Look::Low => put_rectangle(page, "l", moved(spot, 0, HEIGHT - 5), 2),
-        Look::High => put_rectangle(page, "l", moved(spot, 0, 3), 2),
+        Look::Low => put_rectangle(page, "l", translate(spot, 0, HEIGHT - 5), 2),
+        Look::High => put_rectangle(page, "l", translate(spot, 0, 3), 2),
         Look::Number => put_box(alloc, page, variable, value, "n", spot),
         Look::Unknown => put_box(alloc, page, variable, value, "x", spot),
     }

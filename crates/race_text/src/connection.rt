@@ -51,7 +51,7 @@ fn last_dot(name: &[u8]) -> Option<usize> {
 }
 
 // What stands before the last dot, and behind it.
-fn parted(name: &[u8]) -> Option<(&[u8], &[u8])> {
+fn split_at_dot(name: &[u8]) -> Option<(&[u8], &[u8])> {
     let (path, rest) = name.split_at_checked(last_dot(name)?)?;
     let (_, own) = rest.split_first()?;
     Some((path, own))
@@ -59,14 +59,14 @@ fn parted(name: &[u8]) -> Option<(&[u8], &[u8])> {
 
 // The name of the variable in its scope, where that is an instance of this name.
 fn name_in<'a>(name: &'a [u8], instance: &[u8]) -> Option<&'a [u8]> {
-    let (path, own) = parted(name)?;
-    let (_, scope) = parted(path)?;
+    let (path, own) = split_at_dot(name)?;
+    let (_, scope) = split_at_dot(path)?;
     if scope == instance { Some(own) } else { None }
 }
 
 // The name of a variable without its scopes.
 fn own_name(name: &[u8]) -> &[u8] {
-    match parted(name) {
+    match split_at_dot(name) {
         None => name,
         Some((_, own)) => own,
     }

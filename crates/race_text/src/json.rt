@@ -77,7 +77,7 @@ fn deeds(
     let mut list = Items::new(alloc);
     for (place, thing) in things.iter().enumerate() {
         if !is_among_first(things, place, thing) {
-            list.made(deed(alloc, design, blamed, *thing));
+            list.try_value(deed(alloc, design, blamed, *thing));
         }
     }
     list.whole()
@@ -94,9 +94,9 @@ pub fn statement_of(
     let mut statement = place_of(alloc, design, sources, blamed.statement);
     if blamed.statement != blamed.place {
         let connection = place_of(alloc, design, sources, blamed.place);
-        statement.made("connection", connection.whole());
+        statement.try_value("connection", connection.whole());
     }
-    statement.made("does", deeds(alloc, design, blamed, things));
+    statement.try_value("does", deeds(alloc, design, blamed, things));
     statement.whole()
 }
 
@@ -104,11 +104,11 @@ pub fn statement_of(
 fn put_cause(alloc: Global, members: &mut Members, subject: Subject<'_>, cause: &Cause) {
     let (design, sources) = (subject.machine.design(), subject.sources);
     let things = cause.things.as_slice();
-    members.made(
+    members.try_value(
         "first",
         statement_of(alloc, design, sources, &cause.second, things),
     );
-    members.made(
+    members.try_value(
         "second",
         statement_of(alloc, design, sources, &cause.first, things),
     );
@@ -123,16 +123,16 @@ fn put_statements(alloc: Global, members: &mut Members, subject: Subject<'_>) {
         put_cause(alloc, members, subject, cause);
     } else if let Some(action) = subject.facts.ending {
         let ending = place_of(alloc, subject.machine.design(), subject.sources, action);
-        members.made("ending", ending.whole());
+        members.try_value("ending", ending.whole());
     }
 }
 
 // The group's differences that are told.
 fn differences(alloc: Global, subject: Subject<'_>, named: usize) -> Result<Value, NoMemory> {
     let mut list = Items::new(alloc);
-    list.made(first_difference(alloc, subject));
+    list.try_value(first_difference(alloc, subject));
     for name in subject.group.next.iter().take(named) {
-        list.made(next_difference(alloc, subject.machine.design(), name));
+        list.try_value(next_difference(alloc, subject.machine.design(), name));
     }
     list.whole()
 }
@@ -157,7 +157,7 @@ fn group_of(
     put_waiver(&mut members, waiver);
     members.number("time", group.first.time(machine));
     put_statements(alloc, &mut members, subject);
-    members.made("differences", differences(alloc, subject, named));
+    members.try_value("differences", differences(alloc, subject, named));
     members.number("count", group.more.saturating_add(1));
     members.number("last", group.last);
     members.whole()
@@ -170,7 +170,7 @@ fn groups(alloc: Global, findings: &Findings<'_>) -> Result<Value, NoMemory> {
         let facts = Facts::new(alloc, findings.machine, group)?;
         let subject = findings.subject(group, &facts);
         let waiver = findings.waiver(place);
-        list.value(group_of(alloc, subject, findings.told.named(), waiver)?);
+        list.value(group_of(alloc, subject, findings.told.named_count(), waiver)?);
     }
     list.whole()
 }
@@ -224,7 +224,7 @@ pub fn top_of(alloc: Global, findings: &Findings<'_>) -> Result<Value, NoMemory>
     members.text("top", &findings.machine.design().top);
     members.made_text("precision", precision_of(alloc, findings.machine));
     put_seen(&mut members, findings);
-    members.made("causes", groups(alloc, findings));
+    members.try_value("causes", groups(alloc, findings));
     members.whole()
 }
 
@@ -241,7 +241,7 @@ fn waiver_of(alloc: Global, waiver: &Waiver<'_>, matched: u64) -> Result<Value, 
 fn waivers_of(alloc: Global, waivers: &[Waiver<'_>], matched: &[u64]) -> Result<Value, NoMemory> {
     let mut list = Items::new(alloc);
     for (place, waiver) in waivers.iter().enumerate() {
-        list.made(waiver_of(alloc, waiver, matched_at(matched, place)));
+        list.try_value(waiver_of(alloc, waiver, matched_at(matched, place)));
     }
     list.whole()
 }
@@ -262,7 +262,7 @@ pub fn json_of(
 ) -> Result<Vec<u8>, NoMemory> {
     let mut members = Members::new(alloc);
     members.number("version", 1);
-    members.made("tops", tops.whole());
-    members.made("waivers", waivers_of(alloc, waivers, matched));
+    members.try_value("tops", tops.whole());
+    members.try_value("waivers", waivers_of(alloc, waivers, matched));
     document(alloc, &members.whole()?)
 }

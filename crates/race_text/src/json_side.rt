@@ -79,7 +79,7 @@ fn push_values(alloc: Global, sides: &mut Items, subject: Subject<'_>, race: &Ra
     };
     for witness in &race.values {
         if witness.log.members().is_empty() == default {
-            sides.made(value_side(alloc, subject, variable, witness));
+            sides.try_value(value_side(alloc, subject, variable, witness));
         }
     }
 }
@@ -96,7 +96,7 @@ fn lines_of(alloc: Global, lines: &Bag) -> Result<Value, NoMemory> {
 // A side of printed lines.
 fn lines_side(alloc: Global, subject: Subject<'_>, found: &Side) -> Result<Value, NoMemory> {
     let mut side = side_of(alloc, subject, &found.log);
-    side.made("lines", lines_of(alloc, &found.lines));
+    side.try_value("lines", lines_of(alloc, &found.lines));
     side.whole()
 }
 
@@ -110,7 +110,7 @@ fn push_lines(
 ) {
     for found in &race.sides {
         if found.log.members().is_empty() == default {
-            sides.made(lines_side(alloc, subject, found));
+            sides.try_value(lines_side(alloc, subject, found));
         }
     }
 }
@@ -169,11 +169,11 @@ fn put_apart(
     state: &MachineState,
 ) {
     if !apart.variables.is_empty() {
-        side.made("values", values_in(alloc, machine, &apart.variables, state));
+        side.try_value("values", values_in(alloc, machine, &apart.variables, state));
     }
     if let Some(lines) = machine.printed(state) {
         if apart.in_lines {
-            side.made("lines", lines_of(alloc, lines));
+            side.try_value("lines", lines_of(alloc, lines));
         }
     }
 }
@@ -206,7 +206,7 @@ fn push_ends(
 ) {
     for found in ends {
         if found.log.members().is_empty() == default {
-            sides.made(end_side(alloc, subject, found));
+            sides.try_value(end_side(alloc, subject, found));
         }
     }
 }
@@ -229,7 +229,7 @@ fn sides_of(alloc: Global, subject: Subject<'_>) -> Result<Value, NoMemory> {
 }
 
 // A difference by its name: of this variable, or of lines.
-fn named(alloc: Global, design: &Design, variable: Option<usize>, time: u64) -> Members {
+fn name_members(alloc: Global, design: &Design, variable: Option<usize>, time: u64) -> Members {
     let mut difference = Members::new(alloc);
     difference.number("time", time);
     let Some(number) = variable else {
@@ -249,7 +249,7 @@ fn put_ends_apart(alloc: Global, difference: &mut Members, subject: Subject<'_>)
     if let Some(apart) = &subject.facts.apart {
         if !apart.variables.is_empty() {
             let design = subject.machine.design();
-            difference.made("variables", names_of(alloc, design, &apart.variables));
+            difference.try_value("variables", names_of(alloc, design, &apart.variables));
         }
     }
 }
@@ -261,15 +261,15 @@ pub fn first_difference(alloc: Global, subject: Subject<'_>) -> Result<Value, No
         Difference::Values(race) => Some(race.variable),
         _ => None,
     };
-    let mut difference = named(alloc, machine.design(), variable, first.time(machine));
+    let mut difference = name_members(alloc, machine.design(), variable, first.time(machine));
     if let Difference::Ends(_) = first {
         put_ends_apart(alloc, &mut difference, subject);
     }
-    difference.made("sides", sides_of(alloc, subject));
+    difference.try_value("sides", sides_of(alloc, subject));
     difference.whole()
 }
 
 /// A difference that follows.
 pub fn next_difference(alloc: Global, design: &Design, name: &Name) -> Result<Value, NoMemory> {
-    named(alloc, design, name.variable, name.time).whole()
+    name_members(alloc, design, name.variable, name.time).whole()
 }

@@ -42,7 +42,7 @@ impl Members {
     }
 
     /// A member of a value that was made, if it was.
-    pub fn made(&mut self, name: &str, value: Result<Value, NoMemory>) {
+    pub fn try_value(&mut self, name: &str, value: Result<Value, NoMemory>) {
         match value {
             Ok(value) => self.value(name, value),
             Err(refused) => self.refused = Some(refused),
@@ -52,7 +52,7 @@ impl Members {
     /// A string of these bytes.
     pub fn text(&mut self, name: &str, bytes: &[u8]) {
         let text = string_value(self.alloc, bytes);
-        self.made(name, text);
+        self.try_value(name, text);
     }
 
     /// A string of bytes that were made, if they were.
@@ -115,7 +115,7 @@ impl Items {
     }
 
     /// An item that was made, if it was.
-    pub fn made(&mut self, item: Result<Value, NoMemory>) {
+    pub fn try_value(&mut self, item: Result<Value, NoMemory>) {
         match item {
             Ok(item) => self.value(item),
             Err(refused) => self.refused = Some(refused),
@@ -125,7 +125,7 @@ impl Items {
     /// A string of these bytes.
     pub fn text(&mut self, bytes: &[u8]) {
         let text = string_value(self.alloc, bytes);
-        self.made(text);
+        self.try_value(text);
     }
 
     /// A string of bytes that were made, if they were.

@@ -33,7 +33,7 @@ fn text_object(alloc: Global, text: &[u8]) -> Result<Value, NoMemory> {
 }
 
 // The bytes, each brace twice.
-fn doubled(alloc: Global, text: &[u8]) -> Result<Vec<u8>, NoMemory> {
+fn escape_braces(alloc: Global, text: &[u8]) -> Result<Vec<u8>, NoMemory> {
     let mut doubled = Vec::new(alloc);
     for byte in text {
         doubled.push(*byte)?;
@@ -46,21 +46,21 @@ fn doubled(alloc: Global, text: &[u8]) -> Result<Vec<u8>, NoMemory> {
 
 /// A message. A brace in a message is written twice (SARIF 2.1.0, 3.11.5).
 pub fn message(alloc: Global, text: &[u8]) -> Result<Value, NoMemory> {
-    text_object(alloc, &doubled(alloc, text)?)
+    text_object(alloc, &escape_braces(alloc, text)?)
 }
 
 // The rule, as the tool describes it.
 fn rule(alloc: Global) -> Result<Value, NoMemory> {
     let mut members = Members::new(alloc);
     members.text("id", RULE);
-    members.made("shortDescription", text_object(alloc, RULE_MEANS));
+    members.try_value("shortDescription", text_object(alloc, RULE_MEANS));
     members.whole()
 }
 
 // The rules of the tool.
 fn rules(alloc: Global) -> Result<Value, NoMemory> {
     let mut rules = Items::new(alloc);
-    rules.made(rule(alloc));
+    rules.try_value(rule(alloc));
     rules.whole()
 }
 
@@ -69,14 +69,14 @@ fn driver(alloc: Global, version: &str) -> Result<Value, NoMemory> {
     let mut members = Members::new(alloc);
     members.text("name", b"vrace");
     members.text("version", version.as_bytes());
-    members.made("rules", rules(alloc));
+    members.try_value("rules", rules(alloc));
     members.whole()
 }
 
 // The tool.
 fn tool(alloc: Global, version: &str) -> Result<Value, NoMemory> {
     let mut members = Members::new(alloc);
-    members.made("driver", driver(alloc, version));
+    members.try_value("driver", driver(alloc, version));
     members.whole()
 }
 
@@ -126,13 +126,13 @@ fn prints(alloc: Global, subject: Subject<'_>, cause: &Cause) -> Result<Value, N
 // the run, or the beginning of the first file.
 fn put_places(alloc: Global, members: &mut Members, subject: Subject<'_>) -> Result<(), NoMemory> {
     let Some(cause) = &subject.group.cause else {
-        members.made("locations", location_of_end(alloc, subject));
+        members.try_value("locations", location_of_end(alloc, subject));
         return Ok(());
     };
     let Locations { first, others } = locations_of(alloc, subject, cause)?;
-    members.made("locations", first.whole());
-    members.made("relatedLocations", others.whole());
-    members.made("partialFingerprints", prints(alloc, subject, cause));
+    members.try_value("locations", first.whole());
+    members.try_value("relatedLocations", others.whole());
+    members.try_value("partialFingerprints", prints(alloc, subject, cause));
     Ok(())
 }
 
@@ -149,7 +149,7 @@ fn suppression(alloc: Global, waiver: &Waiver<'_>) -> Result<Value, NoMemory> {
 fn suppressions(alloc: Global, waiver: Option<&Waiver<'_>>) -> Result<Value, NoMemory> {
     let mut list = Items::new(alloc);
     if let Some(waiver) = waiver {
-        list.made(suppression(alloc, waiver));
+        list.try_value(suppression(alloc, waiver));
     }
     list.whole()
 }
@@ -169,9 +169,9 @@ fn result_of(
     members.text("ruleId", RULE);
     members.number("ruleIndex", 0);
     members.text("level", b"warning");
-    members.made("message", group_message(alloc, subject));
+    members.try_value("message", group_message(alloc, subject));
     put_places(alloc, &mut members, subject)?;
-    members.made("suppressions", suppressions(alloc, waiver));
+    members.try_value("suppressions", suppressions(alloc, waiver));
     members.whole()
 }
 
@@ -193,12 +193,16 @@ pub fn push_results(
 fn notification(alloc: Global, level: &[u8], text: &[u8]) -> Result<Value, NoMemory> {
     let mut members = Members::new(alloc);
     members.text("level", level);
-    members.made("message", message(alloc, text));
+    members.try_value("message", message(alloc, text));
     members.whole()
 }
 
 // What was left unseen, behind the name of the top module where several are told.
-fn unseen(alloc: Global, findings: &Findings<'_>, is_headed: bool) -> Result<Vec<u8>, NoMemory> {
+fn unseen_text(
+    alloc: Global,
+    findings: &Findings<'_>,
+    is_headed: bool,
+) -> Result<Vec<u8>, NoMemory> {
     let mut text = Vec::new(alloc);
     if is_headed {
         put_top(&mut text, findings)?;
@@ -210,7 +214,7 @@ fn unseen(alloc: Global, findings: &Findings<'_>, is_headed: bool) -> Result<Vec
 
 // A notification of what was left unseen.
 fn warning(alloc: Global, findings: &Findings<'_>, is_headed: bool) -> Result<Value, NoMemory> {
-    let text = unseen(alloc, findings, is_headed)?;
+    let text = unseen_text(alloc, findings, is_headed)?;
     notification(alloc, b"warning", text.trim_ascii_start())
 }
 
@@ -218,7 +222,7 @@ fn warning(alloc: Global, findings: &Findings<'_>, is_headed: bool) -> Result<Va
 pub fn push_unseen(alloc: Global, list: &mut Items, findings: &Findings<'_>, is_headed: bool) {
     let races = findings.races;
     if races.cut_runs || races.search.status != RankedStatus::Exhausted {
-        list.made(warning(alloc, findings, is_headed));
+        list.try_value(warning(alloc, findings, is_headed));
     }
 }
 
@@ -233,7 +237,7 @@ fn note(alloc: Global, waiver: &Waiver<'_>) -> Result<Value, NoMemory> {
 pub fn push_unmatched(alloc: Global, list: &mut Items, waivers: &[Waiver<'_>], matched: &[u64]) {
     for (place, waiver) in waivers.iter().enumerate() {
         if matched_at(matched, place) == 0 {
-            list.made(note(alloc, waiver));
+            list.try_value(note(alloc, waiver));
         }
     }
 }
@@ -242,14 +246,14 @@ pub fn push_unmatched(alloc: Global, list: &mut Items, waivers: &[Waiver<'_>], m
 fn invocation(alloc: Global, notifications: Items) -> Result<Value, NoMemory> {
     let mut members = Members::new(alloc);
     members.flag("executionSuccessful", true);
-    members.made("toolExecutionNotifications", notifications.whole());
+    members.try_value("toolExecutionNotifications", notifications.whole());
     members.whole()
 }
 
 // The calls of the tool.
 fn invocations(alloc: Global, notifications: Items) -> Result<Value, NoMemory> {
     let mut list = Items::new(alloc);
-    list.made(invocation(alloc, notifications));
+    list.try_value(invocation(alloc, notifications));
     list.whole()
 }
 
@@ -261,10 +265,10 @@ fn run(
     version: &str,
 ) -> Result<Value, NoMemory> {
     let mut members = Members::new(alloc);
-    members.made("tool", tool(alloc, version));
+    members.try_value("tool", tool(alloc, version));
     members.text("columnKind", b"unicodeCodePoints");
-    members.made("invocations", invocations(alloc, notifications));
-    members.made("results", results.whole());
+    members.try_value("invocations", invocations(alloc, notifications));
+    members.try_value("results", results.whole());
     members.whole()
 }
 
@@ -273,7 +277,7 @@ fn log_of(alloc: Global, runs: Items) -> Result<Value, NoMemory> {
     let mut members = Members::new(alloc);
     members.text("$schema", SCHEMA);
     members.text("version", b"2.1.0");
-    members.made("runs", runs.whole());
+    members.try_value("runs", runs.whole());
     members.whole()
 }
 
@@ -285,6 +289,6 @@ pub fn sarif_of(
     version: &str,
 ) -> Result<Vec<u8>, NoMemory> {
     let mut runs = Items::new(alloc);
-    runs.made(run(alloc, results, notifications, version));
+    runs.try_value(run(alloc, results, notifications, version));
     document(alloc, &log_of(alloc, runs)?)
 }

@@ -80,11 +80,11 @@ fn artifact(alloc: Global, name: &str) -> Result<Value, NoMemory> {
 // A place of a file.
 fn physical(alloc: Global, subject: Subject<'_>, place: Place) -> Result<Value, NoMemory> {
     let mut members = Members::new(alloc);
-    members.made(
+    members.try_value(
         "artifactLocation",
         artifact(alloc, subject.sources.name(place.file)),
     );
-    members.made("region", region(alloc, subject, place));
+    members.try_value("region", region(alloc, subject, place));
     members.whole()
 }
 
@@ -98,8 +98,8 @@ fn location(
 ) -> Result<Value, NoMemory> {
     let mut members = Members::new(alloc);
     members.number("id", number);
-    members.made("physicalLocation", physical(alloc, subject, place));
-    members.made("message", message(alloc, text));
+    members.try_value("physicalLocation", physical(alloc, subject, place));
+    members.try_value("message", message(alloc, text));
     members.whole()
 }
 
@@ -113,7 +113,7 @@ fn push_location(
     text: &[u8],
 ) {
     if let Some(place) = subject.sources.place(action) {
-        list.made(location(alloc, subject, place, number, text));
+        list.try_value(location(alloc, subject, place, number, text));
     }
 }
 
@@ -145,7 +145,7 @@ fn place_of_end(alloc: Global, subject: Subject<'_>) -> Result<Value, NoMemory> 
 /// file, as code hosts ask for a place.
 pub fn location_of_end(alloc: Global, subject: Subject<'_>) -> Result<Value, NoMemory> {
     let mut list = Items::new(alloc);
-    list.made(place_of_end(alloc, subject));
+    list.try_value(place_of_end(alloc, subject));
     list.whole()
 }
 

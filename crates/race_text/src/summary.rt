@@ -32,7 +32,7 @@ pub struct Told {
 
 impl Told {
     /// How many of the differences that follow are named.
-    pub fn named(&self) -> usize {
+    pub fn named_count(&self) -> usize {
         if self.all { usize::MAX } else { NAMED }
     }
 }
@@ -116,7 +116,7 @@ fn put_counts(text: &mut Vec<u8>, groups: &[Group], waived: u64) -> Result<(), N
 fn put_found(text: &mut Vec<u8>, findings: &Findings<'_>) -> Result<(), NoMemory> {
     let groups = &findings.races.groups;
     if !groups.is_empty() {
-        return put_counts(text, groups, findings.waived.waived());
+        return put_counts(text, groups, findings.waived.waived_count());
     }
     if findings.is_partial() {
         put(text, b"No race was found in what was looked at.")

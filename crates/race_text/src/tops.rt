@@ -34,7 +34,7 @@ pub struct Tops<'w> {
 }
 
 // What waivers matched so far, and matched now.
-fn added(
+fn add_matches(
     alloc: Global,
     waivers: &[Waiver<'_>],
     matched: &[u64],
@@ -78,11 +78,11 @@ impl<'w> Tops<'w> {
 
     /// Tells of a top module.
     pub fn tell(&mut self, findings: &Findings<'_>) -> Result<(), NoMemory> {
-        self.matched = added(self.alloc, self.waivers, &self.matched, findings.waived)?;
+        self.matched = add_matches(self.alloc, self.waivers, &self.matched, findings.waived)?;
         match self.format {
             Format::Text => self.put_part(findings),
             Format::Json => {
-                self.values.made(top_of(self.alloc, findings));
+                self.values.try_value(top_of(self.alloc, findings));
                 Ok(())
             }
             Format::Sarif => {

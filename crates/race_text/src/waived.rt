@@ -217,7 +217,7 @@ impl Waived {
     }
 
     /// How many groups are waived.
-    pub fn waived(&self) -> u64 {
+    pub fn waived_count(&self) -> u64 {
         let mut count = 0u64;
         for waiver in &self.by {
             if waiver.is_some() {
@@ -229,6 +229,6 @@ impl Waived {
 
     /// Whether each group is waived.
     pub fn are_all(&self) -> bool {
-        self.waived() == self.by.len() as u64
+        self.waived_count() == self.by.len() as u64
     }
 }

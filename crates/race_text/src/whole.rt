@@ -219,7 +219,7 @@ fn text_of(
     let rows = rows_of(alloc, subject)?;
     put_head(alloc, &mut text, waiver, subject, place, &rows)?;
     put_sides(&mut text, subject, &rows, behind)?;
-    put_others(&mut text, subject, told.named())?;
+    put_others(&mut text, subject, told.named_count())?;
     put_cure(&mut text, subject)?;
     put_more(&mut text, subject.machine, subject.group, told.all)?;
     Ok(text)

@@ -32,12 +32,12 @@ fn answer(alloc: Global, name: &str, files: &[Vec<u8>]) -> Result<Vec<u8>, NoMem
         Some(bytes) => bytes,
     };
     match name {
-        "expand" => sources::expanded(alloc, files),
+        "expand" => sources::expansion(alloc, files),
         "places" => sources::places(alloc, files),
         "words" => sources::words(alloc, files),
         "report" => reports::again(alloc, first),
         "dump" => dumps::items(alloc, first),
-        _ => slots::shown(alloc, first),
+        _ => slots::slot_lines(alloc, first),
     }
 }
 

@@ -19,7 +19,7 @@ fn put_ends(alloc: Global, text: &mut Vec<u8>, told: &ReportWithDumps) -> Result
 }
 
 // The text of what was read, made of its pieces.
-fn rewritten(alloc: Global, told: &ReportWithDumps) -> Result<Vec<u8>, NoMemory> {
+fn rewrite(alloc: Global, told: &ReportWithDumps) -> Result<Vec<u8>, NoMemory> {
     let mut text = head_lines(alloc, &told.report)?;
     put_ends(alloc, &mut text, told)?;
     text.extend_from_slice(&race_count_line(alloc, &told.report)?)?;
@@ -36,7 +36,7 @@ fn rewritten(alloc: Global, told: &ReportWithDumps) -> Result<Vec<u8>, NoMemory>
 /// The report once more, or that it is none.
 pub fn again(alloc: Global, text: &[u8]) -> Result<Vec<u8>, NoMemory> {
     match read_report(alloc, text) {
-        Ok(told) => rewritten(alloc, &told),
+        Ok(told) => rewrite(alloc, &told),
         Err(OrMemory::Fault(ReportFault::IllFormed)) => Ok(Vec::from_slice(alloc, b"E501\n")?),
         Err(OrMemory::Memory(refused)) => Err(refused),
     }

@@ -90,7 +90,7 @@ fn put_dump(alloc: Global, text: &mut Vec<u8>, bytes: &[u8]) -> Result<(), OrMem
 }
 
 /// The slots of a dump, up to its fault.
-pub fn shown(alloc: Global, bytes: &[u8]) -> Result<Vec<u8>, NoMemory> {
+pub fn slot_lines(alloc: Global, bytes: &[u8]) -> Result<Vec<u8>, NoMemory> {
     let mut text = Vec::new(alloc);
     match put_dump(alloc, &mut text, bytes) {
         Ok(()) => {}

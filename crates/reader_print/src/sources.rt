@@ -65,7 +65,7 @@ fn source_of(alloc: Global, files: &[Vec<u8>]) -> Result<Result<Expanded, Vec<u8
 }
 
 /// `timescale UNIT PRECISION` and the expanded text after it.
-pub fn expanded(alloc: Global, files: &[Vec<u8>]) -> Result<Vec<u8>, NoMemory> {
+pub fn expansion(alloc: Global, files: &[Vec<u8>]) -> Result<Vec<u8>, NoMemory> {
     let source = match source_of(alloc, files)? {
         Ok(source) => source,
         Err(line) => return Ok(line),

@@ -21,7 +21,7 @@ use shared::shares;
 use std::io::Write;
 use std::{env, io};
 use steps::{machine_of, walks};
-use timed::stopped;
+use timed::stopped_search;
 
 // The number that a word tells; 0 where there is none.
 fn number(words: &[String], place: usize) -> u32 {
@@ -57,7 +57,12 @@ fn main(rt: HostRuntime) -> io::Result<()> {
             Some(machine) => match name {
                 "step" => show(&rt, walks(&machine)),
                 "timed" => {
-                    let text = stopped(alloc, &machine, number(&words, 3), number(&words, 4));
+                    let text = stopped_search(
+                        alloc,
+                        &machine,
+                        number(&words, 3),
+                        number(&words, 4),
+                    );
                     show_text(&rt, text)
                 }
                 _ => reports(&rt, alloc, &machine),

@@ -22,7 +22,7 @@ fn of_writing(fault: OrMemory<WriteFault>) -> &'static str {
 }
 
 // Writes the report: the word for how it ended.
-fn written(
+fn outcome_of_writing(
     alloc: Global,
     machine: &Machine,
     explored: &Explored,
@@ -38,14 +38,14 @@ fn written(
 }
 
 // Explores the machine and writes the report.
-fn explored(
+fn explore_and_write(
     alloc: Global,
     machine: &Machine,
     limits: &Limits,
     writer: &mut Metered<Vec<u8>>,
 ) -> &'static str {
     match report_alone(alloc, machine, limits) {
-        Ok(explored) => written(alloc, machine, &explored, writer),
+        Ok(explored) => outcome_of_writing(alloc, machine, &explored, writer),
         Err(OrMemory::Memory(_)) => "E901 of exploring",
         Err(OrMemory::Fault(_)) => "wrong: a dump is said to be too long",
     }
@@ -66,7 +66,7 @@ pub fn reports(rt: &impl Print, alloc: Global, machine: &Machine) -> io::Result<
         return rt.println("wrong: limits");
     };
     let mut writer = Metered::new(Vec::with_capacity(alloc, ROOM)?);
-    let word = explored(alloc, machine, &limits, &mut writer);
+    let word = explore_and_write(alloc, machine, &limits, &mut writer);
     let text = writer.into_inner();
     if let Ok(text) = std::str::from_utf8(text.as_slice()) {
         rt.print(text)?;

@@ -106,7 +106,7 @@ fn put_search(text: &mut Vec<u8>, told: &TimedReport) -> Result<(), NoMemory> {
 }
 
 /// What a search by time finds that is stopped once so many entries were taken: how it ended, its races and its ends.
-pub fn stopped(
+pub fn stopped_search(
     alloc: Global,
     machine: &Machine,
     depart: u32,

@@ -52,7 +52,7 @@ pub struct Marked {
 }
 
 // The step at which the run under the log parts from its parent.
-fn parting(log: &Log) -> u32 {
+fn parting_step(log: &Log) -> u32 {
     match log.members().last() {
         None => 0,
         Some(member) => member.0,
@@ -170,9 +170,9 @@ impl Runs {
             Some(time) => time,
             None => first_end(machine, log, &first, steps)?,
         };
-        let looked = looked_at(machine, &first, parting(log), in_parent, steps)?;
+        let looked = looked_at(machine, &first, parting_step(log), in_parent, steps)?;
         let parent = seen_of(alloc, machine, first, looked, time, steps)?;
-        let looked = looked_at(machine, log, parting(log), in_run, steps)?;
+        let looked = looked_at(machine, log, parting_step(log), in_run, steps)?;
         let departed = seen_of(alloc, machine, log.copy()?, looked, time, steps)?;
         let columns = columns_of(alloc, &parent.waves, &departed.waves)?;
         Ok(Runs {

@@ -1,23 +1,27 @@
 //! Prints the tree of a text. In goes one text on standard input; out comes its tree on standard output as one line, in which
 //! each node stands as `(kind part ..)` and each word that a node keeps as it is written; or one line with the number and
-//! the place of the fault that the text is refused for, with status 2. No law is claimed.
+//! the place of the fault that the text is refused for, with status 2. With the word `spell` the line has whether the tree fits
+//! its words, and the words that it spells; with `expression` and a number the number of the word behind the longest expression that
+//! begins at the word of that number, and that expression's tree; with `delays` and a number whether the tree of so many delays round
+//! an empty statement fits the words. No law is claimed.
 #![tactic(auto)]
 
 mod expressions;
 mod items;
+mod lines;
 mod modules;
 mod page;
 mod statements;
 mod tasks;
 
 use basis::{NoMemory, OrMemory};
-use modules::text;
-use page::Page;
+use lines::{delays_line, expression_line, spelling_line, tree_line};
 use std::alloc::Global;
+use std::env;
 use std::io::{self, Read, Write};
 use std::process::ExitCode;
 use vlex::{LexFault, tokens};
-use vparse::{SyntaxFault, parse};
+use vparse::SyntaxFault;
 use vsrc::{Expanded, Place, SrcFault, expand};
 
 // A fault of the text: its number, and its place in the files.
@@ -52,27 +56,56 @@ fn of_tree(fault: SyntaxFault) -> Refusal {
     }
 }
 
-// The line that tells of the tree of an expanded text.
-fn line_of(alloc: Global, source: &Expanded) -> Result<Vec<u8>, OrMemory<Refusal>> {
+// What is asked for.
+#[derive(Clone, Copy)]
+enum Asked {
+    Tree,
+    Spelling,
+    Expression(usize),
+    Delays(usize),
+}
+
+// What the words ask for: the tree, where they ask for nothing else.
+fn asked_of(words: &[String]) -> Asked {
+    let number = match words.get(2) {
+        Some(word) => word.parse::<usize>().unwrap_or(0),
+        None => 0,
+    };
+    match words.get(1) {
+        None => Asked::Tree,
+        Some(word) => match word.as_str() {
+            "spell" => Asked::Spelling,
+            "expression" => Asked::Expression(number),
+            "delays" => Asked::Delays(number),
+            _ => Asked::Tree,
+        },
+    }
+}
+
+// The line that tells of an expanded text.
+fn line_of(alloc: Global, source: &Expanded, asked: Asked) -> Result<Vec<u8>, OrMemory<Refusal>> {
     let tokens = match tokens(alloc, source) {
         Ok(tokens) => tokens,
         Err(OrMemory::Fault(fault)) => return Err(OrMemory::Fault(of_tokens(fault))),
         Err(OrMemory::Memory(refused)) => return Err(OrMemory::Memory(refused)),
     };
-    let tree = match parse(alloc, &tokens) {
-        Ok(tree) => tree,
-        Err(OrMemory::Fault(fault)) => return Err(OrMemory::Fault(of_tree(fault))),
-        Err(OrMemory::Memory(refused)) => return Err(OrMemory::Memory(refused)),
+    let line = match asked {
+        Asked::Tree => tree_line(alloc, &tokens),
+        Asked::Spelling => spelling_line(alloc, &tokens),
+        Asked::Expression(at) => expression_line(alloc, &tokens, at),
+        Asked::Delays(count) => delays_line(alloc, &tokens, count),
     };
-    let mut page = Page::new(alloc, &tokens);
-    text(&mut page, &tree)?;
-    Ok(page.bytes)
+    match line {
+        Ok(line) => Ok(line),
+        Err(OrMemory::Fault(fault)) => Err(OrMemory::Fault(of_tree(fault))),
+        Err(OrMemory::Memory(refused)) => Err(OrMemory::Memory(refused)),
+    }
 }
 
-// The line that tells of the tree of the files.
-fn answer(alloc: Global, files: &[Vec<u8>]) -> Result<Vec<u8>, OrMemory<Refusal>> {
+// The line that tells of the files.
+fn answer(alloc: Global, files: &[Vec<u8>], asked: Asked) -> Result<Vec<u8>, OrMemory<Refusal>> {
     match expand(alloc, files) {
-        Ok(source) => line_of(alloc, &source),
+        Ok(source) => line_of(alloc, &source, asked),
         Err(OrMemory::Fault(fault)) => Err(OrMemory::Fault(of_source(fault))),
         Err(OrMemory::Memory(refused)) => Err(OrMemory::Memory(refused)),
     }
@@ -86,10 +119,11 @@ fn alone(alloc: Global, bytes: Vec<u8>) -> Result<Vec<Vec<u8>>, NoMemory> {
 }
 
 fn main(rt: HostRuntime) -> io::Result<ExitCode> {
+    let words = env::args(&rt)?.collect::<Vec<String>>(rt.alloc())?;
     let mut bytes = Vec::new(rt.alloc());
     rt.reader().read_to_end(&mut bytes)?;
     let done = match alone(rt.alloc(), bytes) {
-        Ok(files) => answer(rt.alloc(), &files),
+        Ok(files) => answer(rt.alloc(), &files, asked_of(&words)),
         Err(refused) => Err(OrMemory::Memory(refused)),
     };
     match done {

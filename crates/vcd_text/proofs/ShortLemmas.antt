@@ -5,9 +5,7 @@ use Rattle.std.proofs.lemmas.Bool.{cases_Bool}
 use Rattle.std.proofs.lemmas.Bool.Decides.{nat_tests}
 use Rattle.vcd_text.specs.DumpText.{extension, short_digits}
 use Rattle.vcd_text.specs.Readers.{left_fill, full_digits}
-
-same_when : (a b : ℕ) → (a == b) ≡ true → a ≡ b
-same_when a b h = grind (arith, nat_tests)
+use Rattle.vmodel.proofs.ProcessLemmas.{same_back}
 
 -- a reader fills in what the writer leaves out, and behind it the same again
 fill_is_extension : (d : ℕ) → left_fill d ≡ extension d
@@ -48,7 +46,7 @@ is_back (d ∷ []) = nothing_out (d ∷ [])
 is_back (d ∷ e ∷ digits) =
     let by : Bool → List ℕ = λ b. cond b (short_digits (e ∷ digits)) (d ∷ e ∷ digits) in
     elim (cases_Bool (d == extension e)) [
-      | inl out ↦ subst (IsBack (d ∷ e ∷ digits)) (sym (ap by out)) (one_out d e digits (short_digits (e ∷ digits)) (same_when d (extension e) out) (is_back (e ∷ digits)))
+      | inl out ↦ subst (IsBack (d ∷ e ∷ digits)) (sym (ap by out)) (one_out d e digits (short_digits (e ∷ digits)) (same_back d (extension e) out) (is_back (e ∷ digits)))
       | inr stays ↦ subst (IsBack (d ∷ e ∷ digits)) (sym (ap by stays)) (nothing_out (d ∷ e ∷ digits))
     ]
 

@@ -23,7 +23,7 @@ use Rattle.vcompile.proofs.StepLemmas.{Holds, holds_of}
 
 -- ---- one list
 
-nobody : {X : Type 0} (x : X) → Contains [] x → ⊥
+pub nobody : {X : Type 0} (x : X) → Contains [] x → ⊥
 nobody x h = absurd (omega (arith, h.1))
 
 only_one : {X : Type 0} (y x : X) → Contains (y ∷ []) x → y ≡ x

@@ -9,7 +9,7 @@ use Rattle.vcode.specs.declared.link.Link.{Link}
 use Rattle.vcode.specs.Points.{is_same_point, place_of_point}
 use Rattle.vcode.specs.Code.{no_link, link_at}
 use Rattle.vdesign.specs.declared.action.Action.{Action}
-use Rattle.vcompile.specs.Links.{place_number, first_point}
+use Rattle.vcompile.specs.Links.{place_number, first_point, begins_by}
 use Rattle.vcompile.specs.Whole.{leads_by, is_chain, is_linked, are_linked, begin_well, is_behind, is_owned, leads_on, lead_on}
 
 -- ---- numbers and points
@@ -25,6 +25,14 @@ is_between low n high h =
 
 pub number_of_place : (place : ℕ) → place ≤ 4294967295 → place_number place ≡ place
 number_of_place place le = grind arith
+
+-- there are as many points at which processes begin
+pub begins_as_many : (processes : List (List ℕ)) → length (begins_by processes) ≡ length processes
+begins_as_many [] = refl
+begins_as_many (places ∷ more) = ap suc (begins_as_many more)
+
+pub few_begins : (processes : List (List ℕ)) (begins : List Point) → begins ≡ begins_by processes → length processes ≤ 256 → length begins ≤ 256
+few_begins processes begins is few = subst (λ n. n ≤ 256) (sym (ap length is ∙ begins_as_many processes)) few
 
 same_point : (p q : Point) → is_same_point p q ≡ true → p ≡ q
 same_point Ended Ended h = refl

@@ -45,7 +45,7 @@ pub record Holds (design : Design) (code : Code) : Type 0 where
   pub by_event : code.by_event ≡ (lists_of design code.links).by_event
   pub listed : all_listed (length design.variables) (events_in design.actions) design.actions ≡ true
 
-within_limit : (n : ℕ) → nat_le n 4294967295 ≡ true → n ≤ 4294967295
+pub within_limit : (n : ℕ) → nat_le n 4294967295 ≡ true → n ≤ 4294967295
 within_limit n h = grind (arith, nat_tests)
 
 holds_by : (design : Design) (links : List Link) → length design.actions ≤ 4294967295 → is_whole design links (events_in design.actions) ≡ true →

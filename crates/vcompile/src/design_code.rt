@@ -28,9 +28,11 @@ fn no_code(alloc: Global) -> Code
 }
 
 // That of a design with few enough.
+#[tactic(auto, using(crate::proofs::LinkLemmas::few_begins))]
 fn code_by(alloc: Global, design: &Design) -> Result<Code, NoMemory>
     requires { length design.now.actions ≤ 4294967295 }
-    ensures { IfOk result (λ code. code ≡ spec.code_by design.now (links_of_design design.now)) }
+    ensures code { IfOk result (λ code. code ≡ spec.code_by design.now (links_of_design design.now)) }
+    ensures few { IfOk result (λ code. length code.begins ≤ 256) }
 {
     let links = links_of(alloc, design)?;
     let lists = lists_of(alloc, design, &links)?;
@@ -45,10 +47,11 @@ fn code_by(alloc: Global, design: &Design) -> Result<Code, NoMemory>
     })
 }
 
-/// The code of a design. E901 is the only refusal.
+/// The code of a design; as few processes begin there as a design may have. E901 is the only refusal.
 #[tactic(auto, unfolding(crate::specs::CodeOf::code_of))]
 pub fn compile(alloc: Global, design: &Design) -> Result<Code, NoMemory>
-    ensures { IfOk result (λ code. code ≡ spec.code_of design.now) }
+    ensures code { IfOk result (λ code. code ≡ spec.code_of design.now) }
+    ensures few { IfOk result (λ code. length code.begins ≤ 256) }
 {
     if design.actions.len() <= MOST {
         code_by(alloc, design)

@@ -5,3 +5,4 @@ pub mod Reads
 pub mod Handed
 pub mod Inner
 pub mod Runs
+pub mod Kept

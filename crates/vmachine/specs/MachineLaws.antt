@@ -1,7 +1,7 @@
 -- *internal*: What holds of the states of every machine; `machine_law` proves each.
 use Rattle.std.specs.Prelude.{◌≡◌, ℕ, List, true}
 use Rattle.sched_core.specs.Rules.{IsRun, stands}
-use Rattle.vmodel.specs.State.{State}
+use Rattle.vmodel.specs.State.{State, without_processes}
 use Rattle.vmodel.specs.Run.{Setting, rules_of, opening_of, state_after}
 use Rattle.vmachine.specs.declared.machine_state.MachineState.{MachineState}
 use Rattle.vmachine.specs.Machines.{Stands, machine_rules, rank_of, state_in}
@@ -43,9 +43,14 @@ IsSameForOne = (setting : Setting) (s r : MachineState) (t : State) →
 abbrev pub StandsForOne : Type 0
 StandsForOne = (setting : Setting) (s : MachineState) (t u : State) → Stands setting s t → Stands setting s u → t ≡ u
 
--- each state of a machine stands for one
+-- what such a state tells is all of the state that it stands for, but for its processes
 abbrev pub StandsForOwn : Type 0
-StandsForOwn = (setting : Setting) (s : MachineState) → Stands setting s (state_in setting s)
+StandsForOwn = (setting : Setting) (s : MachineState) (t : State) →
+    Stands setting s t → without_processes (state_in setting s) ≡ without_processes t
+
+-- and each state's rank is the time that it tells
+abbrev pub HasOwnTimeAsRank : Type 0
+HasOwnTimeAsRank = (setting : Setting) (s : MachineState) → rank_of setting s ≡ (state_in setting s).queue.time
 
 -- so the runs of a machine are those of its setting
 abbrev pub RunsAsSetting : Type 0

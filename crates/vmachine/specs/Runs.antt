@@ -4,14 +4,20 @@ use Rattle.sched_core.specs.declared.end.End.{End}
 use Rattle.vmodel.specs.declared.history.Item.{Item}
 use Rattle.vmodel.specs.State.{State}
 use Rattle.vmodel.specs.Step.{slot_end_of}
-use Rattle.vmodel.specs.Run.{Setting, items_after}
+use Rattle.vmodel.specs.Run.{Setting, items_after, state_after}
 use Rattle.vmachine.specs.Handed.{RunsInto, RunsBySlot, ends_slot, by_slot, TakesEach}
 use Rattle.vmachine.specs.Inner.{IsAt}
+use Rattle.vmachine.specs.Machines.{Stands}
 use Rattle.vmachine.specs.declared.run.Run.{Run}
 
+-- where its log has led the run so far
+abbrev pub state_of : Setting → Run → State
+state_of setting run = state_after setting run.log.now run.n
+
 -- the run stands where its log leads it, and has taken no more steps than allowed
-abbrev pub IsRunAt : Setting → ℕ → Run → Type 0
-IsRunAt setting steps run = IsAt setting run.log.now run.rest.now steps run.n run.state
+pub record IsRunAt (setting : Setting) (steps : ℕ) (run : Run) : Type 0 where
+  pub so : IsAt setting run.log.now run.rest.now steps run.n (state_of setting run)
+  pub stands : Stands setting run.state (state_of setting run)
 
 -- the sink took all that the run gave so far, but for what waits
 pub record IsHandedSo {T : Type 0} (takes : T → List Item → T → Type 0) (setting : Setting) (run : Run) (first now : T) : Type 0 where
@@ -42,14 +48,14 @@ Waits items s = (front : List Item) × IsUnended front × (items ≡ front ++ sl
 -- all that the run gave so far waits
 pub record AllWaits (setting : Setting) (run : Run) : Type 0 where
   pub is : run.pending.items ≡ items_after setting run.log.now run.n
-  pub waits : Waits run.pending.items run.state
+  pub waits : Waits run.pending.items (state_of setting run)
 
 -- the sink took what each slot gave by itself, but for what waits
 pub record IsHandedBySlot {T : Type 0} (takes : T → List Item → T → Type 0) (setting : Setting) (run : Run) (first now : T) : Type 0 where
   pub so : IsHandedSo takes setting run first now
   pub each : TakesEach takes first (by_slot so.handed) now
   pub cut : IsCut so.handed
-  pub waits : Waits run.pending.items run.state
+  pub waits : Waits run.pending.items (state_of setting run)
 
 abbrev pub ReachesBySlot : {T : Type 0} → (T → List Item → T → Type 0) → Setting → ℕ → T → Run → T → Option End → Type 0
 ReachesBySlot takes setting steps first run now (Some end) = RunsBySlot takes setting run.log.now steps first end now

@@ -11,6 +11,8 @@ use sched_core::setting::{Departures, Grain, Looked};
 use sched_core::{Ranked, Space};
 use std::alloc::Global;
 use std::marker::Model;
+use vcode::code::Code;
+use vcompile::compile;
 use vdesign::design::Design;
 use vmodel::{State, opening};
 
@@ -21,6 +23,7 @@ use vmodel::{State, opening};
 pub struct Machine {
     pub(crate) alloc: Global,
     pub(crate) design: Design,
+    pub(crate) code: Code,
     pub(crate) until: u64,
     pub(crate) grain: Grain,
     pub(crate) departures: Departures,
@@ -43,6 +46,11 @@ impl Model for Machine {
       departures = m.departures;
       looked = m.looked;
     } };
+
+    ghost use Rattle.std.specs.Prelude.{◌≡◌, ◌≤◌, length};
+    ghost use Rattle.vcompile.specs.CodeOf.{code_of};
+
+    ghost invariant = { λ m. (m.code ≡ code_of m.design) × (length m.code.begins ≤ 256) };
 }
 
 impl Machine {
@@ -51,9 +59,11 @@ impl Machine {
         ensures { IfOk result (λ machine.
             machine ≡ record { design = design; until = until; grain = grain; departures = Taking; looked = Values }) }
     {
+        let code = compile(alloc, &design)?;
         Ok(Machine {
             alloc,
             design,
+            code,
             until,
             grain,
             departures: Departures::Taking,
@@ -125,24 +135,23 @@ impl Space for Machine {
 
     fn root(&self) -> Result<MachineState, NoMemory> {
         let state = self.opened()?;
-        Ok(MachineState { state })
+        MachineState::opening(self.alloc, &self.code, state)
     }
 
     fn copy(&self, s: &MachineState) -> Result<MachineState, NoMemory> {
-        let state = s.state.copy(self.alloc)?;
-        Ok(MachineState { state })
+        s.copy(self.alloc)
     }
 
     fn width(&self, s: &MachineState) -> u32 {
-        s.state.width()
+        s.rest().width()
     }
 
     fn step(&self, s: &mut MachineState, i: u32) -> Result<(), NoMemory> {
-        s.state.go(&self.design, i)
+        s.go(&self.design, &self.code, i)
     }
 
     fn is_mark(&self, s: &MachineState) -> bool {
-        s.state.is_mark()
+        s.rest().is_mark()
     }
 
     ghost same_is_eq = { same_by_test };
@@ -157,7 +166,7 @@ impl Ranked for Machine {
     ghost ranks = { rank_of };
 
     fn rank(&self, s: &MachineState) -> u64 {
-        s.state.time()
+        s.rest().time()
     }
 
     ghost ranked = { machine_is_ranked };

@@ -1,55 +1,152 @@
 // A state of a machine.
 
-ghost use Rattle.std.specs.Prelude.{◌≡◌};
+ghost use Rattle.std.specs.Prelude.{◌≡◌, ◌≤◌, length, IfOk, OnOk, OnErr};
+ghost use Rattle.vflat.specs.Standings.{rest_in, standing_of_opening, standing_step, standing_next, standing_to};
+ghost use Rattle.vmodel.specs.Run.{is_mark};
 
+use basis::NoMemory;
+use std::alloc::Global;
 use std::hash::{Hash, Hasher};
 use std::marker::Model;
+use vcode::code::Code;
+use vdesign::design::Design;
+use vflat::Flat;
 use vmodel::State;
+use vmodel::effect::Effect;
+
+/// How a state is kept: as it is, or flat.
+#[derive(Drop)]
+pub(crate) enum Kept {
+    Plain(State),
+    Fast(Flat),
+}
 
 /// Where a run stands. What it holds is the machine's own: the calls of `Machine` read it.
 #[derive(Drop)]
 pub struct MachineState {
-    pub(crate) state: State,
+    pub(crate) kept: Kept,
 }
 
 impl Model for MachineState {
-    ghost use Rattle.vmodel.specs.State.{State};
+    ghost use Rattle.vflat.specs.Standings.{Standing};
+    ghost use Rattle.vmachine.specs.Kept.{standing_of};
 
-    ghost Value = { State };
+    ghost Value = { Standing };
 
-    ghost view = { λ s. s.state };
+    ghost view = { λ s. standing_of s.kept };
 }
 
-/// Two are equal where they stand for the same state.
+/// Two are equal where they hold the same.
 impl PartialEq for MachineState {
     ghost use Rattle.std.specs.Cmp.{partial_equiv_from_equiv};
-    ghost use Rattle.vmodel.specs.Same.{state_same};
-    ghost use Rattle.vmodel.specs.SameLaws.{states_equivalent};
+    ghost use Rattle.vflat.specs.Standings.{standing_same, standings_equivalent};
 
-    ghost eq = { state_same };
+    ghost eq = { standing_same };
 
-    ghost laws = { partial_equiv_from_equiv states_equivalent };
+    ghost laws = { partial_equiv_from_equiv standings_equivalent };
 
     fn eq(&self, other: &MachineState) -> bool {
-        self.state == other.state
+        match (&self.kept, &other.kept) {
+            (Kept::Plain(state), Kept::Plain(same)) => state == same,
+            (Kept::Fast(flat), Kept::Fast(same)) => flat == same,
+            _ => false,
+        }
     }
 }
 
 impl Eq for MachineState {
-    ghost use Rattle.vmodel.specs.SameLaws.{states_equivalent};
+    ghost use Rattle.vflat.specs.Standings.{standings_equivalent};
 
-    ghost laws = { states_equivalent };
+    ghost laws = { standings_equivalent };
 }
 
 impl Hash for MachineState {
-    ghost use Rattle.std.specs.Hash as fed;
-    ghost use Rattle.vmodel.specs.Digest.{digest, fed_alike};
+    ghost use Rattle.vflat.specs.Standings.{standing_fed, standings_fed_alike};
 
-    ghost hash_input = { λ s. fed.u64 (digest s) };
+    ghost hash_input = { standing_fed };
 
-    ghost respects_eq = { fed_alike };
+    ghost respects_eq = { standings_fed_alike };
 
     fn hash<H: Hasher>(&self, state: &mut H) {
-        self.state.hash(state);
+        match &self.kept {
+            Kept::Plain(plain) => plain.hash(state),
+            Kept::Fast(flat) => flat.hash(state),
+        }
+    }
+}
+
+impl MachineState {
+    /// The state of a machine in which every process begins: flat, where the code is whole.
+    pub(crate) fn opening(
+        alloc: Global,
+        code: &Code,
+        state: State,
+    ) -> Result<MachineState, NoMemory>
+        requires { length code.now.begins ≤ 256 }
+        ensures { IfOk result (λ s. s ≡ standing_of_opening code.now state) }
+    {
+        let kept = if code.whole {
+            Kept::Fast(Flat::opening(alloc, code, state)?)
+        } else {
+            Kept::Plain(state)
+        };
+        Ok(MachineState { kept })
+    }
+
+    /// A state that is the same.
+    pub(crate) fn copy(&self, alloc: Global) -> Result<MachineState, NoMemory>
+        ensures { IfOk result (λ s. s ≡ self.now) }
+    {
+        let kept = match &self.kept {
+            Kept::Plain(state) => Kept::Plain(state.copy(alloc)?),
+            Kept::Fast(flat) => Kept::Fast(flat.copy(alloc)?),
+        };
+        Ok(MachineState { kept })
+    }
+
+    /// The step of choice `i`. E901 is the only refusal, and leaves the state as it was.
+    pub(crate) fn go(&mut self, design: &Design, code: &Code, i: u32) -> Result<(), NoMemory>
+        ensures ok { OnOk result (self.new ≡ standing_step design.now code.now self.old i) }
+        ensures err { OnErr result (self.new ≡ self.old) }
+    {
+        match &mut self.kept {
+            Kept::Plain(state) => state.go(design, i),
+            Kept::Fast(flat) => flat.go(design, code, i),
+        }
+    }
+
+    /// The same, with what the step did and the monitor events that ran, as `State::step_into` has it.
+    pub(crate) fn step_into(
+        &mut self,
+        design: &Design,
+        code: &Code,
+        i: u32,
+        effect: &mut Effect,
+        monitors: &mut Vec<usize>,
+    ) -> Result<(), NoMemory>
+        ensures ok { OnOk result (standing_next design.now code.now self.old i ≡ standing_to self.new effect.new monitors.new.items) }
+        ensures err { OnErr result (self.new ≡ self.old) }
+    {
+        match &mut self.kept {
+            Kept::Plain(state) => state.step_into(design, i, effect, monitors),
+            Kept::Fast(flat) => flat.step_into(design, code, i, effect, monitors),
+        }
+    }
+
+    /// Whether a slot has ended here, or the run has.
+    pub(crate) fn is_mark(&self) -> bool
+        ensures { result ≡ is_mark (rest_in self.now) }
+    {
+        self.rest().is_mark()
+    }
+
+    /// All of it but its processes.
+    pub(crate) fn rest(&self) -> &State
+        ensures { result.now ≡ rest_in self.now }
+    {
+        match &self.kept {
+            Kept::Plain(state) => state,
+            Kept::Fast(flat) => flat.rest(),
+        }
     }
 }

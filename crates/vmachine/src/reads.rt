@@ -1,8 +1,10 @@
 // What a state of a machine tells of the run that stands there.
 
-ghost use Rattle.std.specs.Prelude.{◌≡◌, option_map};
+ghost use Rattle.std.specs.Prelude.{◌≡◌, option_map, length};
+ghost use Rattle.vmodel.specs.Choices.{choices};
+ghost use Rattle.vmodel.specs.Run.{end_of};
 ghost use Rattle.vmodel.specs.State.{State};
-ghost use Rattle.vmachine.specs.Machines.{Stands};
+ghost use Rattle.vmachine.specs.Machines.{Stands, state_in};
 ghost use Rattle.vmachine.specs.Reads.{end_in, slot_in};
 
 use crate::machine::Machine;
@@ -33,31 +35,47 @@ fn slot_at(state: &State) -> Option<u64>
 }
 
 impl Machine {
+    /// How many choices the state has, as the state of the run has that it stands for.
+    pub(crate) fn width_of(&self, s: &MachineState) -> u32
+        ensures { (t : State) → Stands self.now s.now t → result ≡ length (choices t) }
+    {
+        s.rest().width()
+    }
+
+    /// The time and the cause of the run's end, if it ends here.
+    pub(crate) fn last_of(&self, s: &MachineState) -> End
+        ensures { (t : State) → Stands self.now s.now t → result ≡ end_of t }
+    {
+        s.rest().end()
+    }
+
     /// The end of the run, where it has ended: its time and why.
     pub fn end_of(&self, s: &MachineState) -> Option<End>
         ensures { (t : State) → Stands self.now s.now t → result ≡ end_in t }
     {
-        end_at(&s.state)
+        end_at(s.rest())
     }
 
     /// The time of the slot, where it has ended here and the run wasn't finished in it.
     pub fn slot_of(&self, s: &MachineState) -> Option<u64>
-        ensures { (t : State) → Stands self.now s.now t → result ≡ slot_in t }
+        ensures stands { (t : State) → Stands self.now s.now t → result ≡ slot_in t }
+        ensures own { result ≡ slot_in (state_in self.now s.now) }
     {
-        slot_at(&s.state)
+        slot_at(s.rest())
     }
 
     /// The value of each variable, by its number.
     pub fn values<'s>(&self, s: &'s MachineState) -> &'s [Vec4]
-        ensures { (t : State) → Stands self.now s.now t → result.now ≡ t.values }
+        ensures stands { (t : State) → Stands self.now s.now t → result.now ≡ t.values }
+        ensures own { result.now ≡ (state_in self.now s.now).values }
     {
-        s.state.values()
+        s.rest().values()
     }
 
     /// The lines that the slot has printed so far, in order, where lines are looked at.
     pub fn printed<'s>(&self, s: &'s MachineState) -> Option<&'s Bag>
         ensures { (t : State) → Stands self.now s.now t → option_map (λ bag. bag.now) result ≡ t.printed }
     {
-        s.state.printed()
+        s.rest().printed()
     }
 }

@@ -1,6 +1,6 @@
 // The run of a machine under a log, handed on slot by slot, or kept whole.
 
-ghost use Rattle.std.specs.Prelude.{◌≡◌, ℕ, List, [], Decides, IfOk, IfErr, OnOk, IsSome, false};
+ghost use Rattle.std.specs.Prelude.{◌≡◌, ℕ, List, [], Decides, length, IfOk, IfErr, OnOk, IsSome, false};
 ghost use Rattle.basis.specs.Reasons.{IfFault};
 ghost use Rattle.basis.specs.declared.memory.OrMemory.TheVariants.{Fault};
 ghost use Rattle.vmachine.specs.declared.run.RunFault.TheVariants.{Replay};
@@ -10,12 +10,15 @@ ghost use Rattle.vmachine.specs.Runs.{AllWaits, IsHandedBySlot, IsHandedSo, IsRu
 ghost use Rattle.vmodel.specs.RunProgress.{Finishes};
 ghost use Rattle.sched_core.specs.Logs.{IsLogFrom};
 ghost use Rattle.sched_core.specs.Replay.{IsReplayReason};
+ghost use Rattle.vmodel.specs.Choices.{choices};
 ghost use Rattle.vmodel.specs.Run.{Setting, rules_of};
+ghost use Rattle.vmodel.specs.State.{State};
 
 use crate::machine::Machine;
+use crate::machine_state::MachineState;
 use basis::{NoMemory, OrMemory};
 use sched_core::end::End;
-use sched_core::{Log, Member, ReplayFault, next_choice};
+use sched_core::{Log, Member, ReplayFault, Space, next_choice};
 use std::fmt::Display;
 use thiserror::Error;
 use vdesign::design::Design;
@@ -23,7 +26,7 @@ use vmodel::effect::Effect;
 use vmodel::history::{History, Item};
 use vmodel::sink::HistorySink;
 use vmodel::values::Values;
-use vmodel::{State, put_items, put_slot_end};
+use vmodel::{put_items, put_slot_end};
 
 /// Why a run wasn't handed on to its end, but for want of memory.
 #[derive(Debug, Drop, Error)]
@@ -81,19 +84,18 @@ struct Chosen<'l> {
     later: &'l [Member],
 }
 
-// What comes next after `n` steps: a choice, or none where the run has ended as its log has it.
+// What comes next after `n` steps, where there are so many choices: one of them, or none where the run has ended as its log has it.
 fn choose<'l>(
-    state: &State,
+    width: u32,
     rest: &'l [Member],
     n: u32,
     steps: u32,
 ) -> Result<Option<Chosen<'l>>, ReplayFault>
     requires { IsLogFrom n rest.now }
-    ensures { (setting : Setting) (log : List (ℕ × ℕ)) →
-        IsAt setting log rest.now steps n state.now →
-        IsChosen setting log steps n state.now rest.now result }
+    ensures { (setting : Setting) (log : List (ℕ × ℕ)) (state : State) →
+        IsAt setting log rest.now steps n state → width ≡ length (choices state) →
+        IsChosen setting log steps n state rest.now result }
 {
-    let width = state.width();
     if width == 0 {
         return if rest.is_empty() {
             Ok(None)
@@ -119,7 +121,7 @@ pub struct Run<'l> {
     log: &'l Log,
     rest: &'l [Member],
     n: u32,
-    state: State,
+    state: MachineState,
     pending: Vec<Item>,
 }
 
@@ -130,9 +132,9 @@ impl Machine {
         ensures here { IfOk result (λ run. (steps : ℕ) → IsRunAt self.now steps run) }
         ensures waits { IfOk result (λ run. AllWaits self.now run) }
     {
-        let state = self.opened()?;
+        let state = self.root()?;
         let mut pending = Vec::new(self.alloc);
-        put_slot_end(&mut pending, &state)?;
+        put_slot_end(&mut pending, state.rest())?;
         Ok(Run {
             log,
             rest: log.members(),
@@ -171,17 +173,22 @@ impl Machine {
             if may_pause && none_waits(&run.pending) && sink.is_full() {
                 return Ok(None);
             }
-            let chosen = match choose(&run.state, run.rest, run.n, steps) {
+            let chosen = match choose(self.width_of(&run.state), run.rest, run.n, steps) {
                 Ok(Some(chosen)) => chosen,
-                Ok(None) => return Ok(Some(run.state.end())),
+                Ok(None) => return Ok(Some(self.last_of(&run.state))),
                 Err(fault) => return Err(refused(fault)),
             };
-            run.state
-                .step_into(&self.design, chosen.choice, &mut effect, &mut monitors)?;
+            run.state.step_into(
+                &self.design,
+                &self.code,
+                chosen.choice,
+                &mut effect,
+                &mut monitors,
+            )?;
             put_items(
                 &mut run.pending,
                 &self.design,
-                &run.state,
+                run.state.rest(),
                 &effect,
                 &monitors,
             )?;
@@ -249,12 +256,12 @@ impl Machine {
         let mut rest = run.rest;
         let mut n = run.n;
         'walk: loop {
-            let chosen = match choose(&state, rest, n, steps) {
+            let chosen = match choose(self.width_of(&state), rest, n, steps) {
                 Ok(Some(chosen)) => chosen,
-                Ok(None) => return Ok(state.end()),
+                Ok(None) => return Ok(self.last_of(&state)),
                 Err(fault) => return Err(OrMemory::Fault(fault)),
             };
-            state.go(&self.design, chosen.choice)?;
+            state.go(&self.design, &self.code, chosen.choice)?;
             rest = chosen.later;
             n += 1;
         }
@@ -297,7 +304,7 @@ impl Machine {
         let mut rest = log.members();
         let mut n = 0;
         'walk: loop {
-            let chosen = match choose(&state, rest, n, steps) {
+            let chosen = match choose(state.width(), rest, n, steps) {
                 Ok(Some(chosen)) => chosen,
                 Ok(None) => {
                     let values = Values::from_slice(self.alloc, state.values())?;

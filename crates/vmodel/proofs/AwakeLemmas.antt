@@ -19,7 +19,7 @@ with_rises_by : (b : Bool) (n : ℕ) (active : List ℕ) → RisesFrom 0 active 
 with_rises_by true n active h = with_rises n 0 active h (omega arith)
 with_rises_by false n active h = h
 
-awake_rises : (comes : Process → Bool) (n : ℕ) (ps : List Process) (active : List ℕ) → RisesFrom 0 active → RisesFrom 0 (with_awake comes n ps active)
+pub awake_rises : (comes : Process → Bool) (n : ℕ) (ps : List Process) (active : List ℕ) → RisesFrom 0 active → RisesFrom 0 (with_awake comes n ps active)
 awake_rises comes n [] active h = h
 awake_rises comes n (process ∷ rest) active h =
     awake_rises comes (suc n) rest (cond (comes process) (with_process n active) active) (with_rises_by (comes process) n active h)
@@ -89,7 +89,7 @@ awake_counts comes r n (suc k) (process ∷ rest) active e =
 
 -- ---- a process that wakes
 
-get_awake : (comes : Process → Bool) (ps : List Process) (r : ℕ) → slice_get (map (awake comes) ps) r ≡ option_map (awake comes) (slice_get ps r)
+pub get_awake : (comes : Process → Bool) (ps : List Process) (r : ℕ) → slice_get (map (awake comes) ps) r ≡ option_map (awake comes) (slice_get ps r)
 get_awake comes [] r = refl
 get_awake comes (process ∷ rest) zero = refl
 get_awake comes (process ∷ rest) (suc r) = get_awake comes rest r

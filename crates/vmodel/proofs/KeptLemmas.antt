@@ -166,7 +166,7 @@ nobody_held Holding q = λ held is. subst (AreHeldBack q) (some_same [] held is)
     some_same : (xs ys : List ℕ) → Some xs ≡ Some ys → xs ≡ ys
     some_same xs ys is = cc
 
-opening-kept : (setting : Setting) → IsKept (opening_of setting)
+pub opening-kept : (setting : Setting) → IsKept (opening_of setting)
 opening-kept setting = record {
   order = record { active = busy_rises 0 setting.design.processes; inactive = tt; future = tt };
   place = record {

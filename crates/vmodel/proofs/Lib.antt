@@ -1,4 +1,4 @@
-mod ProcessLemmas
+pub mod ProcessLemmas
 mod BitLemmas
 mod SetLemmas
 mod FrameLemmas
@@ -6,18 +6,18 @@ mod ContinuationLemmas
 mod FutureLemmas
 mod OpeningLemmas
 mod PartLemmas
-mod PlaceLemmas
-mod MovedLemmas
-mod WakingLemmas
+pub mod PlaceLemmas
+pub mod MovedLemmas
+pub mod WakingLemmas
 mod RanLemmas
-mod AwakeLemmas
+pub mod AwakeLemmas
 mod OrderLemmas
 mod BagLemmas
-mod OpenLemmas
+pub mod OpenLemmas
 mod HeldLemmas
-mod KeptLemmas
+pub mod KeptLemmas
 mod ViewLemmas
-mod SilentLemmas
+pub mod SilentLemmas
 mod SettingLemmas
 mod ValuesLemmas
 mod ShapeLemmas

@@ -212,12 +212,12 @@ is_there (r ∷ rs) (suc p) frame rest e = omega (arith, is_there rs p frame res
 abbrev pub waits_at : List Process → ℕ → Option ℕ
 waits_at processes p = waits_of (slice_get processes p)
 
-get-set_same : (processes : List Process) (p : ℕ) (q : Process) → p < length processes → slice_get (slice_set processes p q) p ≡ Some q
+pub get-set_same : (processes : List Process) (p : ℕ) (q : Process) → p < length processes → slice_get (slice_set processes p q) p ≡ Some q
 get-set_same [] p q lt = absurd (omega arith)
 get-set_same (r ∷ rs) zero q lt = refl
 get-set_same (r ∷ rs) (suc p) q lt = get-set_same rs p q (omega arith)
 
-get-set_other : (processes : List Process) (p r : ℕ) (q : Process) → r ≢ p → slice_get (slice_set processes p q) r ≡ slice_get processes r
+pub get-set_other : (processes : List Process) (p r : ℕ) (q : Process) → r ≢ p → slice_get (slice_set processes p q) r ≡ slice_get processes r
 get-set_other [] p r q ne = refl
 get-set_other (x ∷ xs) zero zero q ne = absurd (ne refl)
 get-set_other (x ∷ xs) zero (suc r) q ne = refl

@@ -1,5 +1,5 @@
 -- In how many places a process stands, and which lists rise.
-use Rattle.std.proofs.Common.{◌≡◌, ◌≢◌, ◌⊎◌, inl, inr, ℕ, suc, ◌+◌, ◌≤◌, List, [], ◌∷◌, Option, Some, None, option_to_list, refl, sym, ap, subst, ◌∙◌, arith}
+use Rattle.std.proofs.Common.{◌≡◌, ◌≢◌, ◌⊎◌, inl, inr, ℕ, suc, Bool, true, false, ◌||◌, ◌+◌, ◌≤◌, List, [], ◌∷◌, Option, Some, None, option_to_list, refl, sym, ap, subst, ◌∙◌, arith}
 use Rattle.std.proofs.lemmas.Bool.Decides.{eqb_tells}
 use Rattle.std.proofs.lemmas.Bool.{ne_eqb}
 use Rattle.vmodel.specs.declared.part.Part.{Part}
@@ -7,6 +7,11 @@ use Rattle.vmodel.specs.Queue.{Later, with_process, without_process, empty_slot,
 use Rattle.vmodel.specs.Kept.{RisesFrom, FutureFrom, count_in, asleep}
 use Rattle.vmodel.proofs.ProcessLemmas.{less, equal, more, compared, same, with_less, with_same, with_more, without_other, without_same}
 use Rattle.vmodel.proofs.FutureLemmas.{earlier, here, sooner}
+
+-- one of two tests holds where either does
+pub or_either : (a b : Bool) → (a || b) ≡ true → (a ≡ true) ⊎ (b ≡ true)
+or_either true b e = inl refl
+or_either false b e = inr e
 
 pub alike : (p q : ℕ) → (p ≡ q) ⊎ (p ≢ q)
 alike p q = elim (eqb_tells p q) [ inl h ↦ inl h.1 | inr h ↦ inr h.1 ]

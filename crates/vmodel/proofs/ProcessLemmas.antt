@@ -56,6 +56,9 @@ not_lt a b h = grind (arith, nat_tests)
 pub same : (a b : ℕ) → a ≡ b → (a == b) ≡ true
 same a b h = grind (arith, nat_tests)
 
+pub same_back : (a b : ℕ) → (a == b) ≡ true → a ≡ b
+same_back a b h = grind (arith, nat_tests)
+
 -- the three cases of `with_process`
 pub with_less : (p q : ℕ) (qs : List ℕ) → p < q → with_process p (q ∷ qs) ≡ p ∷ q ∷ qs
 with_less p q qs lt = rw (is_lt p q lt)

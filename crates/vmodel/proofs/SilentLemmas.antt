@@ -31,7 +31,7 @@ use Rattle.vmodel.specs.Step.{Transition, StepResult, environment_of, execute, e
 
 -- ---- what an action shows
 
-record ShowsNothing (effect : Effect) : Type 0 where
+pub record ShowsNothing (effect : Effect) : Type 0 where
   pub shown : ShowsNoLine effect.shown
   pub strobed : effect.strobed ≡ None
 
@@ -69,7 +69,7 @@ resume-silent : (place : ℕ) (action : Action) (after : List Frame) (held : Opt
 resume-silent place (AssignDelayed amount targets value) after held now = record { shown = tt; strobed = refl }
 resume-silent place _ after held now = record { shown = tt; strobed = refl }
 
-execute_at-silent : (frame : Frame) (action : Action) (after : List Frame) (held : Option Vector) (now : Environment) → is_print action ≡ false →
+pub execute_at-silent : (frame : Frame) (action : Action) (after : List Frame) (held : Option Vector) (now : Environment) → is_print action ≡ false →
     ShowsNothing (execute_at frame action after held now).effect
 execute_at-silent (Executing place) action after held now h = execute-silent place action after now h
 execute_at-silent (Repeating place n) action after held now h = execute_turn-silent place n action after
@@ -77,23 +77,23 @@ execute_at-silent (Writing place) action after held now h = resume-silent place 
 
 -- ---- monitor events that wait
 
-abbrev HasNoStrobe : Queue → Type 0
+abbrev pub HasNoStrobe : Queue → Type 0
 HasNoStrobe q = q.strobes ≡ []
 
-posts-none : (posted : Option Post) (q : Queue) → HasNoStrobe q → HasNoStrobe (posts posted q)
+pub posts-none : (posted : Option Post) (q : Queue) → HasNoStrobe q → HasNoStrobe (posts posted q)
 posts-none posted q h = posts_by HasNoStrobe posted q h (λ post is. h) h (λ post t is lt within. h)
 
-reschedule-none : (p : ℕ) (disposition : Disposition) (goes : Option ℕ) (q : Queue) → HasNoStrobe q → HasNoStrobe (reschedule p disposition goes q)
+pub reschedule-none : (p : ℕ) (disposition : Disposition) (goes : Option ℕ) (q : Queue) → HasNoStrobe q → HasNoStrobe (reschedule p disposition goes q)
 reschedule-none p Runnable None q h = h
 reschedule-none p Runnable (Some same) q h = h
 reschedule-none p (Delayed d) goes q h = sleeps_by HasNoStrobe d goes q h (λ p is. h) h (λ t lt within. h)
 reschedule-none p (Waiting place) goes q h = h
 
-update-none : (updates : List (List Part)) (q : Queue) → HasNoStrobe q → HasNoStrobe (without_update updates q)
+pub update-none : (updates : List (List Part)) (q : Queue) → HasNoStrobe q → HasNoStrobe (without_update updates q)
 update-none [] q h = h
 update-none (u ∷ us) q h = h
 
-advance-none : (future : List (ℕ × Later)) (q : Queue) → HasNoStrobe q → HasNoStrobe (with_advance future q)
+pub advance-none : (future : List (ℕ × Later)) (q : Queue) → HasNoStrobe q → HasNoStrobe (with_advance future q)
 advance-none [] q h = h
 advance-none (e ∷ es) q h = h
 
@@ -105,7 +105,7 @@ run-none [] [] (i ∷ is) posts strobes none = refl
 run-none [] [] [] (u ∷ us) strobes none = refl
 run-none [] [] [] [] strobes none = none
 
-monitors-none : (s : State) → HasNoStrobe s.queue → monitors_of s ≡ []
+pub monitors-none : (s : State) → HasNoStrobe s.queue → monitors_of s ≡ []
 monitors-none s none = by_cause s.cause
   where
     by_cause : (cause : Option Cause) → monitors_by cause s ≡ []

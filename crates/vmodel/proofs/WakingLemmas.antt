@@ -26,7 +26,7 @@ use Rattle.vmodel.proofs.ProcessLemmas.{not_lt}
 
 -- ---- no change is heard
 
-edge_none : (edge : Edge) (v w : Vector) → v ≡ w → is_edge edge v w ≡ false
+pub edge_none : (edge : Edge) (v w : Vector) → v ≡ w → is_edge edge v w ≡ false
 edge_none Any v w e = ap not ((vectors_tell v w).1 e)
 edge_none Rise v w e = not_lt (rank (last_bit v)) (rank (last_bit w)) (omega (arith, ap (λ (u : Vector). rank (last_bit u)) e))
 edge_none Fall v w e = not_lt (rank (last_bit w)) (rank (last_bit v)) (omega (arith, ap (λ (u : Vector). rank (last_bit u)) e))

@@ -1,7 +1,7 @@
 -- *trusted*: A state of a run (IEEE 1364-2005, 11.1, 11.3; docs/SCHEDULING.md): values, what each process has left, the queue, why the run
 -- ended if `$finish` or `$stop` was taken, and, where the setting asks for these, what is held back and the lines of the slot.
 -- All of it is numbers, letters and lists of them; statements go by their places in the design's table of actions.
-use Rattle.std.specs.Prelude.{ℕ, List, Option}
+use Rattle.std.specs.Prelude.{ℕ, List, [], Option}
 use Rattle.vbits.specs.Vectors.{Vector}
 use Rattle.vmodel.specs.Queue.{Queue}
 use Rattle.sched_core.specs.declared.end.Cause.{Cause}
@@ -20,3 +20,7 @@ pub record State : Type 0 where
   pub cause : Option Cause  -- once `$finish` or `$stop` was taken (17.4)
   pub held_back : Option (List ℕ)  -- where departures may hold back: the active processes that are held back, by number
   pub printed : Option (List (List ℕ))  -- where lines are looked at: those of the slot so far, in the order of their bytes
+
+-- all of a state but its processes
+abbrev pub without_processes : State → State
+without_processes t = record t { processes = [] }

@@ -142,8 +142,8 @@ fn take_first(queue: &mut Queue) -> Parts
     }
 }
 
-// Whether an action is a print task (17.1).
-fn is_print(action: &Action) -> bool
+/// Whether an action is a print task (17.1).
+pub fn is_print(action: &Action) -> bool
     ensures { result ≡ silent.is_print action.now }
 {
     matches!(action, Action::Print { .. })
@@ -173,8 +173,8 @@ pub fn environment_at<'m>(design: &'m Design, values: &'m [Vec4], time: u64) -> 
 }
 
 impl State {
-    // The region moves; after `$finish` and `$stop` there are none. The list is then that of the monitor events that ran in them.
-    fn close(&mut self, monitors: &mut Vec<usize>)
+    /// The region moves; after `$finish` and `$stop` there are none. The list is then that of the monitor events that ran in them.
+    pub fn close(&mut self, monitors: &mut Vec<usize>)
         ensures state { self.new ≡ with_moves self.old }
         ensures monitors { monitors.new.items ≡ monitors_of self.old }
     {
@@ -185,8 +185,8 @@ impl State {
         }
     }
 
-    // Nothing happens.
-    fn stay(&self, effect: &mut Effect, monitors: &mut Vec<usize>)
+    /// Nothing happens.
+    pub fn stay(&self, effect: &mut Effect, monitors: &mut Vec<usize>)
         ensures { transition_to self.now effect.new monitors.new.items ≡ no_transition self.now }
     {
         monitors.clear();
@@ -280,8 +280,8 @@ impl State {
         }
     }
 
-    // What is known now.
-    pub(crate) fn environment<'m>(&'m self, design: &'m Design) -> Environment<'m>
+    /// What is known now.
+    pub fn environment<'m>(&'m self, design: &'m Design) -> Environment<'m>
         ensures { result ≡ environment_of design.now self.now }
     {
         environment_at(design, self.values.as_slice(), self.queue.time)
@@ -361,8 +361,8 @@ impl State {
         *effect = write_effect(update);
     }
 
-    // The time goes on to the next future time.
-    fn advance(&mut self, effect: &mut Effect, monitors: &mut Vec<usize>)
+    /// The time goes on to the next future time.
+    pub fn advance(&mut self, effect: &mut Effect, monitors: &mut Vec<usize>)
         ensures { (design : Design) → transition_of design Choice.Advance self.old
             ≡ transition_to self.new effect.new monitors.new.items }
     {
@@ -424,8 +424,8 @@ impl State {
         }
     }
 
-    // The lines of a step by this choice go into the bag of its slot.
-    fn print(
+    /// The lines of a step by this choice go into the bag of its slot.
+    pub fn print(
         &mut self,
         design: &Design,
         choice: Choice,

@@ -17,10 +17,10 @@ use vdesign::design::Variable;
 
 /// A change of a variable by a step.
 #[derive(Clone, Copy)]
-pub(crate) struct Change {
-    pub(crate) variable: u32,
-    pub(crate) old: Vec4,
-    pub(crate) new: Vec4,
+pub struct Change {
+    pub variable: u32,
+    pub old: Vec4,
+    pub new: Vec4,
 }
 
 /// What a step changes.
@@ -67,7 +67,7 @@ fn next_value(old: Vec4, part: Part, variable: u32) -> Vec4
 }
 
 /// The value of the variable of this number; x, one bit wide, where there is none.
-pub(crate) fn value_in(values: &[Vec4], variable: u32) -> Vec4
+pub fn value_in(values: &[Vec4], variable: u32) -> Vec4
     ensures { result ≡ spec.value_in values.now variable }
 {
     match values.get(variable as usize) {

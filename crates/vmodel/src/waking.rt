@@ -37,7 +37,8 @@ fn last_bit(value: Vec4) -> Bit4
     value.bit(0)
 }
 
-fn is_edge(edge: Edge, old: Vec4, new: Vec4) -> bool
+/// Whether an edge stands between two values of a variable (9.7.2).
+pub fn is_edge(edge: Edge, old: Vec4, new: Vec4) -> bool
     ensures { result ≡ spec.is_edge edge old new }
 {
     match edge {

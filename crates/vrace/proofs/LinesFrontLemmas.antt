@@ -77,7 +77,7 @@ module _ {O F : Type 0} (takes : O → List ℕ → O → Type 0) (fails : O →
         StopsLines takes fails setting front.run.log.now limit old fault new
     stops_in_front old new fault (steps, end, finishes) stops =
         let log : List (ℕ × ℕ) = front.run.log.now in
-        let later = given_front setting log front.run.n steps (not_behind (rules_of setting) log front.run.n steps is.here.run finishes.ends) in
+        let later = given_front setting log front.run.n steps (not_behind (rules_of setting) log front.run.n steps is.here.so.run finishes.ends) in
         let more : List ℕ = lines_from setting.design (in_force_over setting.design Nobody gave) later.0 in
         let whole : lines setting.design (items_after setting log steps) ≡ lines setting.design gave ++ more =
         ap (lines setting.design) later.1 ∙ text_joins setting.design Nobody gave later.0 in (

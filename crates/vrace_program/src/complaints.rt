@@ -253,7 +253,7 @@ pub fn unread_text(alloc: Global, name: &str, fault: Fault) -> Result<String, No
 pub const TOO_LONG_TOGETHER: &str = "the files have over 16,777,216 bytes together\n";
 
 // The letters as any terminal may be shown them.
-fn shown(alloc: Global, line: &[u8]) -> Result<String, NoMemory> {
+fn printable(alloc: Global, line: &[u8]) -> Result<String, NoMemory> {
     let mut text = String::new(alloc);
     for letter in line {
         let is_shown = letter.is_ascii_graphic() || *letter == b' ';
@@ -269,7 +269,7 @@ pub fn waiver_text(
     text: &[u8],
     number: u64,
 ) -> Result<String, NoMemory> {
-    let line = shown(alloc, line_of(text, number as usize))?;
+    let line = printable(alloc, line_of(text, number as usize))?;
     Ok(format!(in alloc;
         "{name}:{number}: no waiver\n    {line}\n    instead: write FILE:LINE FILE:LINE # reason, or variable PATTERN # reason\n"
     )?)

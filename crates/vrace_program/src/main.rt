@@ -393,7 +393,7 @@ fn check(
 }
 
 // What clap says of words that it doesn't take: help on standard output, or a refusal.
-fn stopped(rt: &HostRuntime, error: Error) -> Stop {
+fn stop_of(rt: &HostRuntime, error: Error) -> Stop {
     if error.kind() == ErrorKind::OutOfMemory {
         return Stop::NoMemory;
     }
@@ -553,7 +553,7 @@ fn run<'a, R: Threads + Wait + Sync>(
     };
     let matches = match commands.try_get_matches_from(words) {
         Ok(matches) => matches,
-        Err(error) => return Err(stopped(rt, error)),
+        Err(error) => return Err(stop_of(rt, error)),
     };
     if let Some(matches) = matches.subcommand_matches("explain") {
         return explain(rt, matches.get_str("NUMBER"));

@@ -81,7 +81,7 @@ impl<'r, R: Clock + Eprint> Meter<'r, R> {
     }
 
     /// Milliseconds since it was begun; without a clock more than is ever allowed.
-    pub fn passed(&self) -> u64 {
+    pub fn elapsed(&self) -> u64 {
         let Some(begun) = self.begun else {
             return u64::MAX;
         };
@@ -129,7 +129,7 @@ impl<'r, R: Clock + Eprint> Meter<'r, R> {
         if !self.is_to_look() {
             return false;
         }
-        let passed = self.passed();
+        let passed = self.elapsed();
         self.show(passed, progress);
         self.is_late(passed)
     }
@@ -146,7 +146,7 @@ impl<'r, R: Clock + Eprint> Meter<'r, R> {
         let counts_races = matches!(self.counted, Counted::Races);
         if self.allowance.progress && counts_races && progress.found > self.found {
             self.found = progress.found;
-            let passed = self.passed();
+            let passed = self.elapsed();
             self.show_now(passed, progress);
         }
     }

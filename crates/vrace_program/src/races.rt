@@ -105,7 +105,7 @@ fn told_of<R: Clock + Eprint>(
         from: scope.from,
         all,
         states: meter.states(),
-        milliseconds: meter.passed(),
+        milliseconds: meter.elapsed(),
         stopped_by: stopped_by(meter.spent()),
     }
 }

@@ -7,7 +7,13 @@ use std::process::ExitCode;
 use vrace::{At, Detail, Fault};
 
 // The refusal of these files, with what is told of it in words.
-fn told(alloc: Global, fault: Fault, names: &[&str], texts: &[Vec<u8>], tops: &[&str]) -> Stop {
+fn refusal_in_words(
+    alloc: Global,
+    fault: Fault,
+    names: &[&str],
+    texts: &[Vec<u8>],
+    tops: &[&str],
+) -> Stop {
     let place = match fault.detail() {
         Detail::Place(At(place)) => place,
         _ => None,
@@ -30,7 +36,7 @@ pub fn with_words(
 ) -> Result<ExitCode, Stop> {
     match done {
         Err(Stop::Refused(fault)) => Err(if in_words {
-            told(alloc, fault, names, texts, tops)
+            refusal_in_words(alloc, fault, names, texts, tops)
         } else {
             Stop::Refused(fault)
         }),

@@ -77,7 +77,7 @@ fn time_of(word: &str) -> Result<u128, Fault> {
 }
 
 // The same of a word that needn't be there.
-fn asked(word: Option<&str>) -> Result<Option<u128>, Fault> {
+fn optional_time(word: Option<&str>) -> Result<Option<u128>, Fault> {
     match word {
         None => Ok(None),
         Some(word) => Ok(Some(time_of(word)?)),
@@ -116,8 +116,8 @@ impl Times {
     /// What these words say, each where it is there. E404 where one isn't digits and a unit.
     pub fn new(until: Option<&str>, from: Option<&str>) -> Result<Times, Fault> {
         Ok(Times {
-            until: asked(until)?,
-            from: asked(from)?,
+            until: optional_time(until)?,
+            from: optional_time(from)?,
         })
     }
 

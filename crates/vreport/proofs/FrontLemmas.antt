@@ -82,7 +82,7 @@ module _ {O F : Type 0} (takes : O → List ℕ → O → Type 0) (fails : O →
         StopsDump takes fails setting front.run.log.now limit old fault new
     stops_in_front old new fault (dump, known) stops =
         let log : List (ℕ × ℕ) = front.run.log.now in
-        let later = given_front setting log front.run.n known.steps (not_behind (rules_of setting) log front.run.n known.steps is.here.run known.finishes.ends) in
+        let later = given_front setting log front.run.n known.steps (not_behind (rules_of setting) log front.run.n known.steps is.here.so.run known.finishes.ends) in
         let rest = front_of_dump setting.design (history_after setting log known.steps) gave later.0 later.1 in (
           vcd setting.design (history_after setting log known.steps),
           the_dump setting log limit known.steps known.end known.finishes,

@@ -10,7 +10,7 @@ returns c =
     let s = c.args.one.now in
     let r = c.args.other.now in
     subst (λ (b : Bool). MatchBool b (AreAlike setting s r) (AreUnlike setting s r)) (sym c.all_of.ensures)
-    (told_alike setting s r _ _ _ _ _ _ c.end_of.ensures c.end_of-2.ensures c.values.ensures c.values-2.ensures
+    (told_alike setting s r _ _ _ _ _ _ c.end_of.ensures c.end_of-2.ensures c.values.ensures.stands c.values-2.ensures.stands
     c.printed.ensures c.printed-2.ensures
     c.is_same_end-same_end.result c.are_same_values-same_values.result c.is_same_print-same_print.result
     c.is_same_end-same_end.ensures c.are_same_values-same_values.ensures c.is_same_print-same_print.ensures)

@@ -9,5 +9,5 @@ returns c =
     let s = c.args.machine_state.now in
     let claim = c.args.claim.now in
     let is_time : c.in-Some.time ≡ claim.time = c.if-time-claim.false ∙ ap (λ (k : Claim). k.time) c.claim.view_is in
-    claim_shown setting s claim c.is_seen_here.result (λ t at. sym (c.slot_of.ensures t at) ∙ c.in-Some.is ∙ ap Some is_time)
+    claim_shown setting s claim c.is_seen_here.result (λ t at. sym (c.slot_of.ensures.stands t at) ∙ c.in-Some.is ∙ ap Some is_time)
     (subst (λ (sight : Sight). IfOk c.is_seen_here.result (TellsState setting s (IsSightAt sight))) (ap (λ (k : Claim). k.sight) c.claim.view_is) c.is_seen_here.ensures)

@@ -1,4 +1,4 @@
-use Rattle.vmachine.proofs.StandLemmas.{first_stands, width_stands, mark_stands, after_stands, rank_stands, same_stands, one_stands, only_stands, own_stands, runs_there, runs_here, all_stand}
+use Rattle.vmachine.proofs.StandLemmas.{first_stands, width_stands, mark_stands, after_stands, rank_stands, rank_own, same_stands, one_stands, only_stands, own_stands, runs_there, runs_here, all_stand}
 use Rattle.vmachine.proofs.law.machine_law.Goals as goal
 
 pub returns : goal.returns
@@ -12,6 +12,7 @@ returns c = record {
   one = one_stands;
   only = only_stands;
   own = own_stands;
+  own_rank = rank_own;
   runs = runs_there;
   runs_back = runs_here;
   stands = all_stand;

@@ -5,4 +5,4 @@ use Rattle.vmachine.proofs.machine.Machine.end_of.Goals as goal
 
 pub returns : goal.returns
 returns c =
-    λ t h. c.end_at.ensures ∙ ap end_in (c.s.view_is ∙ seen c.args.self.now c.args.s.now t h)
+    λ t h. c.end_at.ensures ∙ ap end_in c.rest.ensures ∙ ap end_in (seen c.args.self.now c.args.s.now t h)

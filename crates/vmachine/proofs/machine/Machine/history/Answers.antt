@@ -24,7 +24,7 @@ walk-preserved c =
     let log = c.args.log.now in
     let here = c.walk.invariant.0 in
     let chosen : IsChosen setting log c.args.steps c.walk.n c.walk.state c.walk.rest.now (Ok (Some c.in-Ok-Some.chosen)) =
-    subst (IsChosen setting log c.args.steps c.walk.n c.walk.state c.walk.rest.now) (c.in-Ok-Some.is ∙ ap (λ (o : Option Chosen). Ok o) c.in-Ok-Some.field-0-is) (c.choose.ensures setting log here) in
+    subst (IsChosen setting log c.args.steps c.walk.n c.walk.state c.walk.rest.now) (c.in-Ok-Some.is ∙ ap (λ (o : Option Chosen). Ok o) c.in-Ok-Some.field-0-is) (c.choose.ensures setting log c.walk.state here c.width.ensures) in
     let design = ap (λ (s : Setting). s.design) c.self.view_is in
     let transition_is : Transition = transition_to c.step_into.new.self c.step_into.new.effect c.deref.result.now in
     let transition : next setting.design c.walk.state c.in-Ok-Some.chosen.choice ≡ transition_is =

@@ -5,4 +5,4 @@ use Rattle.vmachine.proofs.machine.Machine.printed.Goals as goal
 
 pub returns : goal.returns
 returns c =
-    λ t h. c.printed.ensures ∙ ap (λ (u : State). u.printed) (c.s.view_is ∙ seen c.args.self.now c.args.s.now t h)
+    λ t h. c.printed.ensures ∙ ap (λ (u : State). u.printed) c.rest.ensures ∙ ap (λ (u : State). u.printed) (seen c.args.self.now c.args.s.now t h)

@@ -1,4 +1,4 @@
-use Rattle.std.proofs.Common.{◌≡◌, ◌≢◌, List, [], ◌++◌, length, Option, Some, None, Ok, sym, ap, subst, ◌∙◌, append-nil, arith}
+use Rattle.std.proofs.Common.{◌≡◌, ◌≢◌, ◌+◌, List, [], ◌++◌, length, Option, Some, None, Ok, sym, ap, subst, ◌∙◌, append-nil, arith}
 use Rattle.basis.specs.declared.memory.OrMemory.{OrMemory}
 use Rattle.basis.specs.declared.memory.OrMemory.TheVariants.{Memory}
 use Rattle.vmodel.specs.declared.history.Item.{Item}
@@ -10,8 +10,12 @@ use Rattle.vmodel.specs.RunProgress.{Finishes}
 use Rattle.vmachine.specs.declared.run.Chosen.{Chosen}
 use Rattle.vmachine.specs.declared.run.RunFault.{RunFault}
 use Rattle.vmachine.specs.Handed.{LeavesSink, TakesEach, by_slot}
-use Rattle.vmachine.specs.Inner.{IsChosen, HandsOn}
-use Rattle.vmachine.specs.Runs.{Waits}
+use Rattle.vmachine.specs.Inner.{IsAt, IsChosen, HandsOn}
+use Rattle.vcompile.specs.CodeOf.{code_of}
+use Rattle.vflat.specs.Standings.{standing_next, standing_to}
+use Rattle.vmachine.specs.Machines.{Stands}
+use Rattle.vmachine.specs.Runs.{Waits, state_of}
+use Rattle.vmachine.proofs.StandLemmas.{marks_read, next_read}
 use Rattle.vmachine.proofs.GivenLemmas.{gave_more, taken_on}
 use Rattle.vmachine.proofs.RunProgressLemmas.{at_next, items_next, underway, handed_first, left_by, sink_left, ended_at_mark, less_differs}
 use Rattle.vmodel.specs.Choices.{choices}
@@ -22,7 +26,8 @@ pub returns-in_err-hand-clause-left : goal.returns-in_err-hand-clause-left
 returns-in_err-hand-clause-left g c = λ first start.
     let setting = c.args.self.now in
     let log = c.walk.run.log.now in
-    let here = c.walk.invariant.0 in
+    let here = c.walk.invariant.0.so in
+    let now = state_of setting c.walk.run in
     let given = c.walk.invariant.2 first start in
     left_by g.S.HistorySink.takes g.S.HistorySink.fails setting c.args.run.now.log.now c.args.steps first c.hand.new.sink c.from_residual.result c.in_err-hand.field-0.0
     c.from_residual.ensures.1
@@ -30,7 +35,7 @@ returns-in_err-hand-clause-left g c = λ first start.
     (sink_left g.S.HistorySink.takes g.S.HistorySink.fails setting log c.args.steps first c.hand.new.sink _ c.in_err-hand.field-0.0
     (λ fault failed. (
       c.walk.run.n,
-      underway setting log c.walk.run.rest.now c.args.steps c.walk.run.n c.walk.run.state here,
+      underway setting log c.walk.run.rest.now c.args.steps c.walk.run.n now here,
       subst (λ (xs : List Item). g.S.HistorySink.fails first xs fault c.hand.new.sink) given.is
           (g.met.S.HistorySink.fails_later first c.walk.sink c.hand.new.sink given.handed c.walk.run.pending.items fault given.taken failed),
     ))
@@ -38,10 +43,11 @@ returns-in_err-hand-clause-left g c = λ first start.
 
 pub returns-then-is_full-clause-ends : goal.returns-then-is_full-clause-ends
 returns-then-is_full-clause-ends g c = λ first start.
+    let now = state_of c.args.self.now c.walk.run in
     let given = c.walk.invariant.2 first start in
-    let on : HandsOn g.S.HistorySink.takes (is_mark c.walk.run.state) c.walk.sink c.walk.run.pending.items c.hand.new.sink c.hand.new.pending.items =
-    subst (λ mark. HandsOn g.S.HistorySink.takes mark c.walk.sink c.walk.run.pending.items c.hand.new.sink c.hand.new.pending.items) c.is_mark.ensures c.in_ok-hand.ensures.ok in
-    let after = taken_on g.S.HistorySink.takes g.met.S.HistorySink.joins (is_mark c.walk.run.state) first c.walk.sink c.hand.new.sink given.handed c.walk.run.pending.items
+    let on : HandsOn g.S.HistorySink.takes (is_mark now) c.walk.sink c.walk.run.pending.items c.hand.new.sink c.hand.new.pending.items =
+    subst (λ mark. HandsOn g.S.HistorySink.takes mark c.walk.sink c.walk.run.pending.items c.hand.new.sink c.hand.new.pending.items) (c.is_mark.ensures ∙ marks_read c.args.self.now c.walk.run.state now c.walk.invariant.0.stands) c.in_ok-hand.ensures.ok in
+    let after = taken_on g.S.HistorySink.takes g.met.S.HistorySink.joins (is_mark now) first c.walk.sink c.hand.new.sink given.handed c.walk.run.pending.items
     c.hand.new.pending.items given.taken on in
     (record { handed = after.handed; taken = after.taken; is = after.is ∙ given.is }, sym c.deref.ensures.value ∙ c.none_waits.ensures.0 c.if-none_waits.true)
 
@@ -49,21 +55,22 @@ pub returns-in-Ok-None-clause-ends : goal.returns-in-Ok-None-clause-ends
 returns-in-Ok-None-clause-ends g c = λ first start.
     let setting = c.args.self.now in
     let log = c.walk.run.log.now in
-    let here = c.walk.invariant.0 in
+    let here = c.walk.invariant.0.so in
+    let now = state_of setting c.walk.run in
     let given = c.walk.invariant.2 first start in
-    let on : HandsOn g.S.HistorySink.takes (is_mark c.walk.run.state) c.walk.sink c.walk.run.pending.items c.hand.new.sink c.hand.new.pending.items =
-    subst (λ mark. HandsOn g.S.HistorySink.takes mark c.walk.sink c.walk.run.pending.items c.hand.new.sink c.hand.new.pending.items) c.is_mark.ensures c.in_ok-hand.ensures.ok in
-    let after = taken_on g.S.HistorySink.takes g.met.S.HistorySink.joins (is_mark c.walk.run.state) first c.walk.sink c.hand.new.sink given.handed c.walk.run.pending.items
+    let on : HandsOn g.S.HistorySink.takes (is_mark now) c.walk.sink c.walk.run.pending.items c.hand.new.sink c.hand.new.pending.items =
+    subst (λ mark. HandsOn g.S.HistorySink.takes mark c.walk.sink c.walk.run.pending.items c.hand.new.sink c.hand.new.pending.items) (c.is_mark.ensures ∙ marks_read setting c.walk.run.state now c.walk.invariant.0.stands) c.in_ok-hand.ensures.ok in
+    let after = taken_on g.S.HistorySink.takes g.met.S.HistorySink.joins (is_mark now) first c.walk.sink c.hand.new.sink given.handed c.walk.run.pending.items
     c.hand.new.pending.items given.taken on in
-    let chosen : IsChosen setting log c.args.steps c.walk.run.n c.walk.run.state c.walk.run.rest.now (Ok None) =
-    subst (IsChosen setting log c.args.steps c.walk.run.n c.walk.run.state c.walk.run.rest.now) (c.in-Ok-None.is ∙ ap (λ (o : Option Chosen). Ok o) c.in-Ok-None.field-0-is) (c.choose.ensures setting log here) in
+    let chosen : IsChosen setting log c.args.steps c.walk.run.n now c.walk.run.rest.now (Ok None) =
+    subst (IsChosen setting log c.args.steps c.walk.run.n now c.walk.run.rest.now) (c.in-Ok-None.is ∙ ap (λ (o : Option Chosen). Ok o) c.in-Ok-None.field-0-is) (c.choose.ensures setting log now here (c.width_of.ensures now c.walk.invariant.0.stands)) in
     let nothing : c.hand.new.pending.items ≡ [] =
-    emptied g.S.HistorySink.takes (is_mark c.walk.run.state) c.walk.sink c.hand.new.sink c.walk.run.pending.items c.hand.new.pending.items
-    (ended_at_mark setting log c.walk.run.rest.now c.args.steps c.walk.run.n c.walk.run.state _ here chosen) on in
+    emptied g.S.HistorySink.takes (is_mark now) c.walk.sink c.hand.new.sink c.walk.run.pending.items c.hand.new.pending.items
+    (ended_at_mark setting log c.walk.run.rest.now c.args.steps c.walk.run.n now _ here chosen) on in
     let whole : after.handed ≡ items_after setting log c.walk.run.n =
     sym (append-nil after.handed) ∙ ap (λ (xs : List Item). after.handed ++ xs) (sym nothing) ∙ after.is ∙ given.is in (
       c.walk.run.n,
-      subst (λ end. Finishes setting log c.args.steps c.walk.run.n end) (sym c.end.ensures) chosen,
+      subst (λ end. Finishes setting log c.args.steps c.walk.run.n end) (sym (c.last_of.ensures now c.walk.invariant.0.stands)) chosen,
       subst (λ (xs : List Item). g.S.HistorySink.takes first xs c.hand.new.sink) whole after.taken,
     )
 
@@ -71,22 +78,23 @@ pub returns-in-Ok-None-clause-slots : goal.returns-in-Ok-None-clause-slots
 returns-in-Ok-None-clause-slots g c = λ first start.
     let setting = c.args.self.now in
     let log = c.walk.run.log.now in
-    let here = c.walk.invariant.0 in
+    let here = c.walk.invariant.0.so in
+    let now = state_of setting c.walk.run in
     let given = c.walk.invariant.3 first start in
-    let on : HandsOn g.S.HistorySink.takes (is_mark c.walk.run.state) c.walk.sink c.walk.run.pending.items c.hand.new.sink c.hand.new.pending.items =
-    subst (λ mark. HandsOn g.S.HistorySink.takes mark c.walk.sink c.walk.run.pending.items c.hand.new.sink c.hand.new.pending.items) c.is_mark.ensures c.in_ok-hand.ensures.ok in
+    let on : HandsOn g.S.HistorySink.takes (is_mark now) c.walk.sink c.walk.run.pending.items c.hand.new.sink c.hand.new.pending.items =
+    subst (λ mark. HandsOn g.S.HistorySink.takes mark c.walk.sink c.walk.run.pending.items c.hand.new.sink c.hand.new.pending.items) (c.is_mark.ensures ∙ marks_read setting c.walk.run.state now c.walk.invariant.0.stands) c.in_ok-hand.ensures.ok in
     let after =
-    handed_on g.S.HistorySink.takes g.met.S.HistorySink.joins c.walk.run.state first c.walk.sink c.hand.new.sink given.so.handed c.hand.new.pending.items
+    handed_on g.S.HistorySink.takes g.met.S.HistorySink.joins now first c.walk.sink c.hand.new.sink given.so.handed c.hand.new.pending.items
     given.so.taken given.each given.cut c.walk.run.pending.items given.waits on in
-    let chosen : IsChosen setting log c.args.steps c.walk.run.n c.walk.run.state c.walk.run.rest.now (Ok None) =
-    subst (IsChosen setting log c.args.steps c.walk.run.n c.walk.run.state c.walk.run.rest.now) (c.in-Ok-None.is ∙ ap (λ (o : Option Chosen). Ok o) c.in-Ok-None.field-0-is) (c.choose.ensures setting log here) in
+    let chosen : IsChosen setting log c.args.steps c.walk.run.n now c.walk.run.rest.now (Ok None) =
+    subst (IsChosen setting log c.args.steps c.walk.run.n now c.walk.run.rest.now) (c.in-Ok-None.is ∙ ap (λ (o : Option Chosen). Ok o) c.in-Ok-None.field-0-is) (c.choose.ensures setting log now here (c.width_of.ensures now c.walk.invariant.0.stands)) in
     let nothing : c.hand.new.pending.items ≡ [] =
-    emptied g.S.HistorySink.takes (is_mark c.walk.run.state) c.walk.sink c.hand.new.sink c.walk.run.pending.items c.hand.new.pending.items
-    (ended_at_mark setting log c.walk.run.rest.now c.args.steps c.walk.run.n c.walk.run.state _ here chosen) on in
+    emptied g.S.HistorySink.takes (is_mark now) c.walk.sink c.hand.new.sink c.walk.run.pending.items c.hand.new.pending.items
+    (ended_at_mark setting log c.walk.run.rest.now c.args.steps c.walk.run.n now _ here chosen) on in
     let whole : after.handed ≡ items_after setting log c.walk.run.n =
     sym (append-nil after.handed) ∙ ap (λ (xs : List Item). after.handed ++ xs) (sym nothing) ∙ after.is ∙ given.so.is in (
       c.walk.run.n,
-      subst (λ end. Finishes setting log c.args.steps c.walk.run.n end) (sym c.end.ensures) chosen,
+      subst (λ end. Finishes setting log c.args.steps c.walk.run.n end) (sym (c.last_of.ensures now c.walk.invariant.0.stands)) chosen,
       subst (λ (xs : List Item). TakesEach g.S.HistorySink.takes first (by_slot xs) c.hand.new.sink) whole after.each,
     )
 
@@ -94,90 +102,110 @@ pub returns-in-Err-clause-left : goal.returns-in-Err-clause-left
 returns-in-Err-clause-left g c = λ first start.
     let setting = c.args.self.now in
     let log = c.walk.run.log.now in
-    let here = c.walk.invariant.0 in
+    let here = c.walk.invariant.0.so in
+    let now = state_of setting c.walk.run in
     let given = c.walk.invariant.2 first start in
-    let on : HandsOn g.S.HistorySink.takes (is_mark c.walk.run.state) c.walk.sink c.walk.run.pending.items c.hand.new.sink c.hand.new.pending.items =
-    subst (λ mark. HandsOn g.S.HistorySink.takes mark c.walk.sink c.walk.run.pending.items c.hand.new.sink c.hand.new.pending.items) c.is_mark.ensures c.in_ok-hand.ensures.ok in
-    let after = taken_on g.S.HistorySink.takes g.met.S.HistorySink.joins (is_mark c.walk.run.state) first c.walk.sink c.hand.new.sink given.handed c.walk.run.pending.items
+    let on : HandsOn g.S.HistorySink.takes (is_mark now) c.walk.sink c.walk.run.pending.items c.hand.new.sink c.hand.new.pending.items =
+    subst (λ mark. HandsOn g.S.HistorySink.takes mark c.walk.sink c.walk.run.pending.items c.hand.new.sink c.hand.new.pending.items) (c.is_mark.ensures ∙ marks_read setting c.walk.run.state now c.walk.invariant.0.stands) c.in_ok-hand.ensures.ok in
+    let after = taken_on g.S.HistorySink.takes g.met.S.HistorySink.joins (is_mark now) first c.walk.sink c.hand.new.sink given.handed c.walk.run.pending.items
     c.hand.new.pending.items given.taken on in
     subst (λ l. LeavesSink g.S.HistorySink.takes g.S.HistorySink.fails setting l c.args.steps first c.refused.result c.hand.new.sink) c.walk.invariant.1
     (subst (λ (e : OrMemory (RunFault _)). LeavesSink g.S.HistorySink.takes g.S.HistorySink.fails setting log c.args.steps first e c.hand.new.sink) (sym c.refused.ensures)
-    (handed_first g.S.HistorySink.takes setting log c.walk.run.rest.now c.args.steps c.walk.run.n c.walk.run.state first c.hand.new.sink after.handed c.hand.new.pending.items here after.taken (after.is ∙ given.is)))
+    (handed_first g.S.HistorySink.takes setting log c.walk.run.rest.now c.args.steps c.walk.run.n now first c.hand.new.sink after.handed c.hand.new.pending.items here after.taken (after.is ∙ given.is)))
 
 pub returns-in_err-step_into-clause-left : goal.returns-in_err-step_into-clause-left
 returns-in_err-step_into-clause-left g c = λ first start.
     let setting = c.args.self.now in
     let log = c.walk.run.log.now in
-    let here = c.walk.invariant.0 in
+    let here = c.walk.invariant.0.so in
+    let now = state_of setting c.walk.run in
     let given = c.walk.invariant.2 first start in
-    let on : HandsOn g.S.HistorySink.takes (is_mark c.walk.run.state) c.walk.sink c.walk.run.pending.items c.hand.new.sink c.hand.new.pending.items =
-    subst (λ mark. HandsOn g.S.HistorySink.takes mark c.walk.sink c.walk.run.pending.items c.hand.new.sink c.hand.new.pending.items) c.is_mark.ensures c.in_ok-hand.ensures.ok in
-    let after = taken_on g.S.HistorySink.takes g.met.S.HistorySink.joins (is_mark c.walk.run.state) first c.walk.sink c.hand.new.sink given.handed c.walk.run.pending.items
+    let on : HandsOn g.S.HistorySink.takes (is_mark now) c.walk.sink c.walk.run.pending.items c.hand.new.sink c.hand.new.pending.items =
+    subst (λ mark. HandsOn g.S.HistorySink.takes mark c.walk.sink c.walk.run.pending.items c.hand.new.sink c.hand.new.pending.items) (c.is_mark.ensures ∙ marks_read setting c.walk.run.state now c.walk.invariant.0.stands) c.in_ok-hand.ensures.ok in
+    let after = taken_on g.S.HistorySink.takes g.met.S.HistorySink.joins (is_mark now) first c.walk.sink c.hand.new.sink given.handed c.walk.run.pending.items
     c.hand.new.pending.items given.taken on in
     left_by g.S.HistorySink.takes g.S.HistorySink.fails setting c.args.run.now.log.now c.args.steps first c.hand.new.sink c.from_residual-in_err-step_into.result (Memory c.in_err-step_into.field-0.0)
     c.from_residual-in_err-step_into.ensures.1
     (subst (λ l. LeavesSink g.S.HistorySink.takes g.S.HistorySink.fails setting l c.args.steps first (Memory c.in_err-step_into.field-0.0) c.hand.new.sink) c.walk.invariant.1
-    (handed_first g.S.HistorySink.takes setting log c.walk.run.rest.now c.args.steps c.walk.run.n c.walk.run.state first c.hand.new.sink after.handed c.hand.new.pending.items here after.taken (after.is ∙ given.is)))
+    (handed_first g.S.HistorySink.takes setting log c.walk.run.rest.now c.args.steps c.walk.run.n now first c.hand.new.sink after.handed c.hand.new.pending.items here after.taken (after.is ∙ given.is)))
 
 pub returns-in_err-put_items-clause-left : goal.returns-in_err-put_items-clause-left
 returns-in_err-put_items-clause-left g c = λ first start.
     let setting = c.args.self.now in
     let log = c.walk.run.log.now in
-    let here = c.walk.invariant.0 in
+    let here = c.walk.invariant.0.so in
+    let now = state_of setting c.walk.run in
     let given = c.walk.invariant.2 first start in
-    let on : HandsOn g.S.HistorySink.takes (is_mark c.walk.run.state) c.walk.sink c.walk.run.pending.items c.hand.new.sink c.hand.new.pending.items =
-    subst (λ mark. HandsOn g.S.HistorySink.takes mark c.walk.sink c.walk.run.pending.items c.hand.new.sink c.hand.new.pending.items) c.is_mark.ensures c.in_ok-hand.ensures.ok in
-    let after = taken_on g.S.HistorySink.takes g.met.S.HistorySink.joins (is_mark c.walk.run.state) first c.walk.sink c.hand.new.sink given.handed c.walk.run.pending.items
+    let on : HandsOn g.S.HistorySink.takes (is_mark now) c.walk.sink c.walk.run.pending.items c.hand.new.sink c.hand.new.pending.items =
+    subst (λ mark. HandsOn g.S.HistorySink.takes mark c.walk.sink c.walk.run.pending.items c.hand.new.sink c.hand.new.pending.items) (c.is_mark.ensures ∙ marks_read setting c.walk.run.state now c.walk.invariant.0.stands) c.in_ok-hand.ensures.ok in
+    let after = taken_on g.S.HistorySink.takes g.met.S.HistorySink.joins (is_mark now) first c.walk.sink c.hand.new.sink given.handed c.walk.run.pending.items
     c.hand.new.pending.items given.taken on in
     left_by g.S.HistorySink.takes g.S.HistorySink.fails setting c.args.run.now.log.now c.args.steps first c.hand.new.sink c.from_residual-in_err-put_items.result (Memory c.in_err-put_items.field-0.0)
     c.from_residual-in_err-put_items.ensures.1
     (subst (λ l. LeavesSink g.S.HistorySink.takes g.S.HistorySink.fails setting l c.args.steps first (Memory c.in_err-put_items.field-0.0) c.hand.new.sink) c.walk.invariant.1
-    (handed_first g.S.HistorySink.takes setting log c.walk.run.rest.now c.args.steps c.walk.run.n c.walk.run.state first c.hand.new.sink after.handed c.hand.new.pending.items here after.taken (after.is ∙ given.is)))
+    (handed_first g.S.HistorySink.takes setting log c.walk.run.rest.now c.args.steps c.walk.run.n now first c.hand.new.sink after.handed c.hand.new.pending.items here after.taken (after.is ∙ given.is)))
 
 pub walk-preserved : goal.walk-preserved
 walk-preserved g c =
     let setting = c.args.self.now in
     let log = c.walk.run.log.now in
-    let here = c.walk.invariant.0 in
-    let on : HandsOn g.S.HistorySink.takes (is_mark c.walk.run.state) c.walk.sink c.walk.run.pending.items c.hand.new.sink c.hand.new.pending.items =
-    subst (λ mark. HandsOn g.S.HistorySink.takes mark c.walk.sink c.walk.run.pending.items c.hand.new.sink c.hand.new.pending.items) c.is_mark.ensures c.in_ok-hand.ensures.ok in
-    let chosen : IsChosen setting log c.args.steps c.walk.run.n c.walk.run.state c.walk.run.rest.now (Ok (Some c.in-Ok-Some.chosen)) =
-    subst (IsChosen setting log c.args.steps c.walk.run.n c.walk.run.state c.walk.run.rest.now) (c.in-Ok-Some.is ∙ ap (λ (o : Option Chosen). Ok o) c.in-Ok-Some.field-0-is) (c.choose.ensures setting log here) in
+    let here = c.walk.invariant.0.so in
+    let now = state_of setting c.walk.run in
+    let stands = c.walk.invariant.0.stands in
+    let on : HandsOn g.S.HistorySink.takes (is_mark now) c.walk.sink c.walk.run.pending.items c.hand.new.sink c.hand.new.pending.items =
+    subst (λ mark. HandsOn g.S.HistorySink.takes mark c.walk.sink c.walk.run.pending.items c.hand.new.sink c.hand.new.pending.items)
+    (c.is_mark.ensures ∙ marks_read setting c.walk.run.state now stands) c.in_ok-hand.ensures.ok in
+    let chosen : IsChosen setting log c.args.steps c.walk.run.n now c.walk.run.rest.now (Ok (Some c.in-Ok-Some.chosen)) =
+    subst (IsChosen setting log c.args.steps c.walk.run.n now c.walk.run.rest.now) (c.in-Ok-Some.is ∙ ap (λ (o : Option Chosen). Ok o) c.in-Ok-Some.field-0-is)
+    (c.choose.ensures setting log now here (c.width_of.ensures now stands)) in
+    let choice = c.in-Ok-Some.chosen.choice in
+    let later = c.in-Ok-Some.chosen.later.now in
+    let effect = c.step_into.new.effect in
+    let monitors = c.deref-in-walk.result.now in
     let design = ap (λ (s : Setting). s.design) c.self.view_is in
-    let transition_is : Transition = transition_to c.step_into.new.self c.step_into.new.effect c.deref-in-walk.result.now in
-    let transition : next setting.design c.walk.run.state c.in-Ok-Some.chosen.choice ≡ transition_is =
-    ap (λ (d : Design). next d c.walk.run.state c.in-Ok-Some.chosen.choice) (sym design) ∙ c.in_ok-step_into.ensures.ok ∙ ap (transition_to c.step_into.new.self c.step_into.new.effect) (sym c.deref-in-walk.ensures.value) in
-    let gave = items_next setting log c.walk.run.rest.now c.args.steps c.walk.run.n c.walk.run.state here c.in-Ok-Some.chosen.choice c.in-Ok-Some.chosen.later.now chosen.2
-    transition_is transition in
-    let goes_on : length (choices c.walk.run.state) ≢ 0 = λ none. absurd (omega (arith, none, chosen.1)) in
-    let more : c.put_items.new.items.items ≡ c.hand.new.pending.items ++ items_of setting.design transition_is =
-    c.in_ok-put_items.ensures.ok ∙ ap (λ (d : Design). c.hand.new.pending.items ++ items_of d transition_is) design in (
-      at_next setting log c.walk.run.rest.now c.args.steps c.walk.run.n c.walk.run.state here c.in-Ok-Some.chosen.choice c.in-Ok-Some.chosen.later.now chosen.2
-          c.step_into.new.self (less_differs c.walk.run.n c.args.steps chosen.0) chosen.1 chosen.3 (ap (λ (t : Transition). t.state) transition),
+    let code = c.self.invariant.0 ∙ ap code_of design in
+    let stepped : standing_next setting.design (code_of setting.design) c.walk.run.state choice ≡ standing_to c.step_into.new.self effect monitors =
+    (λ i. standing_next (sym design i) (sym code i) c.walk.run.state choice) ∙ c.in_ok-step_into.ensures.ok
+    ∙ ap (standing_to c.step_into.new.self effect) (sym c.deref-in-walk.ensures.value) in
+    let read = next_read setting c.walk.run.state c.step_into.new.self now choice effect monitors stands stepped in
+    let transition : Transition = next setting.design now choice in
+    let gave = items_next setting log c.walk.run.rest.now c.args.steps c.walk.run.n now here choice later chosen.2 transition (λ i. transition) in
+    let at = at_next setting log c.walk.run.rest.now c.args.steps c.walk.run.n now here choice later chosen.2
+    transition.state (less_differs c.walk.run.n c.args.steps chosen.0) chosen.1 chosen.3 (λ i. transition.state) in
+    let goes_on : length (choices now) ≢ 0 = λ none. absurd (omega (arith, none, chosen.1)) in
+    let more : c.put_items.new.items.items ≡ c.hand.new.pending.items ++ items_of setting.design transition =
+    c.in_ok-put_items.ensures.ok
+    ∙ (λ i. c.hand.new.pending.items ++ items_of (design i) (transition_to (c.rest.ensures i) effect monitors))
+    ∙ ap (λ (xs : List Item). c.hand.new.pending.items ++ xs) read.1 in (
+      record {
+        so = subst (IsAt setting log later c.args.steps (c.walk.run.n + 1)) at.at at;
+        stands = subst (Stands setting c.step_into.new.self) at.at read.0;
+      },
       c.walk.invariant.1,
       λ first start.
           let given = c.walk.invariant.2 first start in
-          let after = taken_on g.S.HistorySink.takes g.met.S.HistorySink.joins (is_mark c.walk.run.state) first c.walk.sink c.hand.new.sink given.handed c.walk.run.pending.items
+          let after = taken_on g.S.HistorySink.takes g.met.S.HistorySink.joins (is_mark now) first c.walk.sink c.hand.new.sink given.handed c.walk.run.pending.items
           c.hand.new.pending.items given.taken on in
           record {
             handed = after.handed;
             taken = after.taken;
-            is = gave_more setting log c.walk.run.n (items_of setting.design transition_is) gave after.handed c.hand.new.pending.items c.put_items.new.items.items more (after.is ∙ given.is);
+            is = gave_more setting log c.walk.run.n (items_of setting.design transition) gave after.handed c.hand.new.pending.items c.put_items.new.items.items more (after.is ∙ given.is);
           },
       λ first start.
           let given = c.walk.invariant.3 first start in
           let after =
-          handed_on g.S.HistorySink.takes g.met.S.HistorySink.joins c.walk.run.state first c.walk.sink c.hand.new.sink given.so.handed c.hand.new.pending.items
+          handed_on g.S.HistorySink.takes g.met.S.HistorySink.joins now first c.walk.sink c.hand.new.sink given.so.handed c.hand.new.pending.items
           given.so.taken given.each given.cut c.walk.run.pending.items given.waits on in
           record {
             so = record {
               handed = after.handed;
               taken = after.taken;
-              is = gave_more setting log c.walk.run.n (items_of setting.design transition_is) gave after.handed c.hand.new.pending.items c.put_items.new.items.items more (after.is ∙ given.so.is);
+              is = gave_more setting log c.walk.run.n (items_of setting.design transition) gave after.handed c.hand.new.pending.items c.put_items.new.items.items more (after.is ∙ given.so.is);
             };
             each = after.each;
             cut = after.cut goes_on;
-            waits = subst (λ (xs : List Item). Waits xs c.step_into.new.self) (sym more)
-                (waits_more c.hand.new.pending.items (items_of setting.design transition_is) c.step_into.new.self (after.unended goes_on) (items_wait setting.design transition_is));
+            waits = subst (Waits c.put_items.new.items.items) at.at
+                (subst (λ (xs : List Item). Waits xs transition.state) (sym more)
+                (waits_more c.hand.new.pending.items (items_of setting.design transition) transition.state (after.unended goes_on) (items_wait setting.design transition)));
           },
     )

@@ -5,4 +5,4 @@ use Rattle.vmachine.proofs.machine.MachineRanked.rank.Goals as goal
 
 pub returns : goal.returns
 returns c =
-    c.time.ensures ∙ ap (λ (t : State). t.queue.time) c.s.view_is ∙ sym (ranks c.args.self.now c.args.s.now)
+    c.time.ensures ∙ ap (λ (t : State). t.queue.time) c.rest.ensures ∙ sym (ranks c.args.self.now c.args.s.now)

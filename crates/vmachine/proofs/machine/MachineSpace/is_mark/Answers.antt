@@ -5,4 +5,4 @@ use Rattle.vmachine.proofs.machine.MachineSpace.is_mark.Goals as goal
 
 pub returns : goal.returns
 returns c =
-    c.is_mark.ensures ∙ ap is_mark c.s.view_is ∙ sym (marks c.args.self.now c.args.s.now)
+    c.is_mark.ensures ∙ ap is_mark c.rest.ensures ∙ sym (marks c.args.self.now c.args.s.now)

@@ -6,4 +6,4 @@ use Rattle.vmachine.proofs.machine.MachineSpace.width.Goals as goal
 
 pub returns : goal.returns
 returns c =
-    c.width.ensures ∙ ap (λ (s : State). length (choices s)) c.s.view_is ∙ sym (widths c.args.self.now c.args.s.now)
+    c.width.ensures ∙ ap (λ (s : State). length (choices s)) c.rest.ensures ∙ sym (widths c.args.self.now c.args.s.now)

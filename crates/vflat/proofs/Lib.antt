@@ -1,0 +1,13 @@
+mod PointLemmas
+mod FlatLemmas
+mod SilentLemmas
+mod RisingLemmas
+mod WakeLemmas
+mod ToldLemmas
+mod ContinueLemmas
+mod AlongLemmas
+mod CounterLemmas
+mod MatchLemmas
+mod OneLemmas
+mod OnlyLemmas
+pub mod StandingLemmas
