@@ -46,7 +46,8 @@ def based(rng):
     sign = rng.choice(["", "s", "S"])
     shown, letters, fill = spelled(rng, base, width) if width else decimal(rng)
     letters = (letters + fill * 64)[: size or 32]
-    return Number(f"{'' if size is None else size}'{sign}{base}{shown}", letters, bool(sign), size is None and not sign)
+    gaps = [rng.choice(["", "", "", "", "", "", " ", "\t", "  "]) for _ in range(2)]
+    return Number(f"{'' if size is None else str(size) + gaps[0]}'{sign}{base}{gaps[1]}{shown}", letters, bool(sign), size is None and not sign)
 
 
 def integer_of(n):
@@ -78,7 +79,7 @@ class Texts:
     """Statements of a module, made at random."""
 
     def __init__(self, rng, names, asked=frozenset()):
-        self.rng, self.names, self.asked = rng, names, asked
+        self.rng, self.names, self.asked, self.blocks = rng, names, asked, 0
         self.written = [one for one in names.objects if one.kind != "wire"]
         self.leaves = {kind: weight for kind, weight in LEAVES.items() if self.is_made(kind)}
 
@@ -152,7 +153,8 @@ class Texts:
     def statement(self, depth):
         kinds = self.leaves | NESTED if depth else self.leaves
         kind = self.rng.choices(list(kinds), list(kinds.values()))[0]
-        return getattr(self, "make_" + kind)(depth - 1 if depth else 0)
+        attribute = '(* keep = "x", y *) ' if self.rng.random() < 0.03 else ""
+        return attribute + getattr(self, "make_" + kind)(depth - 1 if depth else 0)
 
     def setting(self):
         return f"{self.target()} = {self.value()}"
@@ -186,10 +188,16 @@ class Texts:
         return f"{self.rng.choice(words)};"
 
     def make_print(self, depth):
-        word = self.rng.choice(["$display", "$display", "$strobe", "$monitor"])
-        if word != "$monitor" and self.rng.random() < 0.1:
+        task = self.rng.choice(["$display", "$display", "$write", "$strobe", "$monitor"])
+        word = task + self.rng.choice(["", "", "", "", "b", "o", "h"])
+        if task != "$monitor" and self.rng.random() < 0.1:
             return f"{word};"
         return f"{word}({', '.join(self.argument() for _ in range(self.rng.choice([1, 1, 2, 3])))});"
+
+    def form(self):
+        """A format of a value; a width now and then."""
+        letter = self.rng.choice("bhdtbhdtocsxBHDTOCSX")
+        return "%" + self.rng.choice(["", "", "0", str(self.rng.choice([1, 2, 5, 12, 30])), "0" + str(self.rng.choice([1, 3, 9, 21]))]) + letter
 
     def argument(self):
         """An argument of a printing task, or a format with the arguments that it takes."""
@@ -198,9 +206,13 @@ class Texts:
             return shown()
         pieces, taken = [], []
         for _ in range(self.rng.choice([0, 1, 2, 3])):
-            pieces.append(self.rng.choice(["", "a=", " ", "%%", "\\n", "\\t", '\\"', "\\\\", ";"]))
-            pieces.append(self.rng.choice("%b %h %d %t %0d %0t %B %H %D %0T".split()))
-            taken.append(shown())
+            pieces.append(self.rng.choice(["", "a=", " ", "%%", "\\n", "\\t", '\\"', "\\\\", ";", "\\101", "\\7", "\\1278"]))
+            if self.rng.random() < 0.1:
+                pieces.append(self.rng.choice(["%s", "%0s", "%8S", "%08s"]))
+                taken.append(self.rng.choice(['"x"', '""', '"a%d\\n"', '"longer than eight"']))
+            else:
+                pieces.append(self.form())
+                taken.append(shown())
         pieces.append(self.rng.choice(["", ".", "%%"]))
         return ", ".join([f'"{"".join(pieces)}"', *taken])
 
@@ -214,7 +226,10 @@ class Texts:
         return f"#{self.amount()} {self.statement(depth)}"
 
     def make_block(self, depth):
-        return " ".join(["begin", *(self.statement(depth) for _ in range(self.rng.randrange(0, 5))), "end"])
+        self.blocks += 1
+        body = [self.statement(depth) for _ in range(self.rng.randrange(0, 5))]
+        label = [f": block_{self.blocks}"] if self.rng.random() < 0.2 and not (body and body[0].startswith("(*")) else []
+        return " ".join(["begin", *label, *body, "end"])
 
     def make_test(self, depth):
         front = f"if ({self.value()}) begin {self.statement(depth)} end"
@@ -371,18 +386,37 @@ def shown_port(word, one):
     return f"{word}{' reg' if one.kind == 'reg' else ''}{ranged(one.signed, one.bounds)} {one.name}"
 
 
+def shown_ports(rng, ports):
+    """The list of a module's ports, and the items that declare them, where the list has names alone (12.3.2)."""
+    if not ports or rng.random() < 0.6:
+        return ", ".join(shown_port(*one) for one in ports), []
+    lines = []
+    for word, one in ports:
+        is_again = rng.random() < 0.5
+        first, second = rng.choice([(True, True), (True, False), (False, True)]) if is_again and one.signed else (one.signed, one.signed)
+        if is_again and (word == "output" or one.kind == "wire"):
+            lines.append(f"{word}{ranged(first, one.bounds)} {one.name};")
+            lines.append(f"{one.kind}{ranged(second, one.bounds)} {one.name};")
+        else:
+            lines.append(f"{shown_port(word, one)};")
+    rng.shuffle(lines)
+    return ", ".join(one.name for _, one in ports), lines
+
+
 def child(rng, name, below, asked):
     """A module with ports and parameters, and instances of the modules below it."""
     ports = [port(rng, f"q{n}") for n in range(rng.randrange(0, 4))]
     heads = [Object(f"p{n}", "parameter", 8, False, (7, 0)) for n in range(rng.randrange(0, 3))]
     in_head = rng.random() < 0.5
-    shown = ", ".join(shown_port(*one) for one in ports)
+    shown, declared = shown_ports(rng, ports)
     head = f" #({', '.join(f'parameter [7:0] {one.name} = {n + 3}' for n, one in enumerate(heads))})" if heads and in_head else ""
     lines = [f"module {name}{head}{f'({shown})' if ports or rng.random() < 0.5 else ''};"]
     names = Names([one for _, one in ports] + [some_object(rng, f"v{n}", False) for n in range(rng.choice([1, 1, 2]))], [], heads)
     body = Body(rng, lines, names, asked)
     for n, one in enumerate([] if in_head else heads):
         body.item(f"parameter [7:0] {one.name} = {n + 3};")
+    for line in declared:
+        body.item(line)
     body.declare(names.objects[len(ports):])
     for word, one in ports:
         if word == "output" and one.kind == "wire" and rng.random() < 0.8:

@@ -2,21 +2,28 @@
 do, or the numbers of the rules that it breaks. Letters stand lowest first.
 
 An action is a tuple, its kind first; a list of them is what a process has left. A target is ("whole", place), ("bit", place, index) or ("part",
-place, left, right), a term (edge, place) or ("event", number), a piece of a printed line a str or (form, is watched, value).
+place, left, right), a term (edge, place) or ("event", number), a piece of a printed text a str or (form, is watched, value), where a form is
+(notation, width): its letter, lower case, and the digits before it.
 """
 import re
 from dataclasses import dataclass, field
 
-from second_syntax import Expander, Fault, Reader, cut
+from second_syntax import PRINTING, Expander, Fault, Reader, cut
 from second_values import Binary, Bit, Conditional, Constant, Conversion, FixedBit, FixedPart, Joined, Number, Part, Repeated, Time, Unary, Variable
 from second_values import World, digits, extended, integer, is_known
 
 MOST_LEVELS, MOST_OBJECTS, MOST_PROCESSES, MOST_INSTANCES, MOST_LETTERS, MOST_SIZE = 16, 1024, 256, 1024, 1_048_576, 4_194_304
-TASKS = {"display": "line", "strobe": "strobe", "monitor": "monitor"}
-FORMS = {"b": "b", "h": "h", "d": "d", "t": "t", "0d": "0d", "0t": "0t"}
+TASKS = {"display": "line", "write": "line", "strobe": "strobe", "monitor": "monitor"}
+# letters, a form with its width and its letter, or what is none
+PIECES = re.compile(r"%(?:(%)|(0?(?:[1-9][0-9]{0,2})?)([bohxdtcsBOHXDTCS])|)|([^%]+)")
 # what a letter behind a backslash stands for, and one to three octal digits
 ESCAPE = re.compile(r"\\(?:([0-7]{1,3})|(.))")
 ESCAPES = {"n": "\n", "t": "\t", "\\": "\\", '"': '"'}
+
+
+def letters_of(string):
+    """Of a tree of a string."""
+    return ESCAPE.sub(lambda found: chr(int(found[1], 8)) if found[1] else ESCAPES[found[2]], string[1][1:-1])
 
 
 class Refused(Exception):
@@ -63,7 +70,7 @@ def size_of(tree):
         return 1 + len(parts[0])
     if kind == "path":
         return sum(1 + len(name) for name in parts)
-    if kind in ("display", "strobe", "monitor", "dumpvars", "dumpfile", "dumpon", "dumpoff", "dumpall", "dumpflush", "finish", "stop"):
+    if "$" + kind in PRINTING or kind in ("dumpvars", "dumpfile", "dumpon", "dumpoff", "dumpall", "dumpflush", "finish", "stop"):
         return inner
     if kind == "instances":
         overrides = size_of(parts[1]) if isinstance(parts[1], tuple) else 0
@@ -377,12 +384,7 @@ class Unit:
         if heads != "-":
             for kind, name, value in self.settings():
                 self.set_parameter(kind, name, given.get(name, value))
-        direction = None
-        for _, own, name in ports[1:] if ports != "-" else ():
-            direction = own if own != "-" else direction
-            word, net, (_, signed, bounds) = direction
-            kind = "reg" if net == "reg" else "wire"
-            self.ports.append((word, name, self.declare(name, kind, signed == "signed", self.range(bounds, self.parameters))))
+        again = self.listed(ports, items)
         before = []
         for item in items:
             kind, *what = item
@@ -392,9 +394,14 @@ class Unit:
                     self.set_parameter(what[0], name, given.get(name, value) if can_be_given else value)
             elif kind == "declare":
                 word, *type = what[0]
-                signed, bounds = (type[0][1] == "signed", self.range(type[0][2], self.parameters)) if type else (True, None)
+                signed, bounds = (type[-1][1] == "signed", self.range(type[-1][2], self.parameters)) if type else (True, None)
                 for _, name, _ in what[1:]:
-                    self.declare(name, word, signed, bounds)
+                    if word in ("input", "output"):
+                        again[name].append(bounds)
+                    elif word != "integer" and name in again:
+                        again[name].append(bounds)
+                    else:
+                        self.declare(name, word, signed, bounds)
             elif kind == "events":
                 for name in what:
                     self.add(name, Named("event", self.whole.events))
@@ -403,7 +410,37 @@ class Unit:
                 for _, name, _ in what[2:]:
                     self.add(name, Named("instance", 0))
             before.append(self.parameters)
+        for name, ranges in again.items():
+            self.sized(name, ranges)
         return before
+
+    def listed(self, ports, items):
+        """The ports: those of a list with directions, or those of names alone, which items declare; of these the ranges that items give."""
+        rows, direction = ports[1:] if ports != "-" else (), None
+        if rows and rows[0][1] == "-":
+            directed, seconds = dict(directed_names(items)), dict(reversed(second_names(items)))
+            for _, _, name in rows:
+                word, net, (_, signed, _) = directed[name]
+                other = seconds.get(name)
+                kind = other[0] if other else "reg" if net == "reg" else "wire"
+                is_signed = "signed" in (signed, other[1][1] if other else "-")
+                self.ports.append((word, name, self.declare(name, kind, is_signed, None)))
+            return {name: [] for _, _, name in rows}
+        for _, own, name in rows:
+            direction = own if own != "-" else direction
+            word, net, (_, signed, bounds) = direction
+            kind = "reg" if net == "reg" else "wire"
+            self.ports.append((word, name, self.declare(name, kind, signed == "signed", self.range(bounds, self.parameters))))
+        return {}
+
+    def sized(self, name, ranges):
+        """12.3.3: a port has the range that an item gives it, and where it is declared again, the same there."""
+        if len(set(ranges)) > 1:
+            self.refuse(306)
+        meaning = self.scope[name]
+        if ranges[0] and isinstance(meaning, Named) and meaning.kind == "object":
+            one = self.whole.design.objects[meaning.number]
+            one.bounds, one.length = ranges[0], abs(ranges[0][0] - ranges[0][1]) + 1
 
     # statements
 
@@ -478,7 +515,7 @@ class Unit:
         if kind == "empty":
             return []
         if kind == "block":
-            return [action for one in what for action in self.statement(one, before)]
+            return [action for one in what[1:] for action in self.statement(one, before)]
         if kind in ("assign", "nonblocking"):
             targets, amount = self.left_side(what[0], before), None if what[1] == "-" else self.amount(what[1], before)
             if amount is None:
@@ -527,31 +564,33 @@ class Unit:
 
     def task(self, word, *what):
         *what, before = what
-        if word in TASKS:
-            return TASKS[word], self.pieces(what, before)
+        if "$" + word in PRINTING:
+            task, base = next((task, word[len(task) :] or "d") for task in TASKS if word.startswith(task))
+            return TASKS[task], self.pieces(base, what, before) + ([] if task == "write" else ["\n"])
         if word == "dumpvars":
             return "dumpvars", self.selection(what)
         if word in ("dumpfile", "dumpflush"):
             return ("nothing",)
         return (word,)
 
-    def pieces(self, arguments, before):
-        """What a line is made of (17.1.1)."""
+    def pieces(self, base, arguments, before):
+        """What a printed text is made of (17.1.1)."""
         arguments, pieces = list(arguments), []
+        value = lambda form, tree: pieces.append((form, tree[0] != "time", self.checked(tree, before)))
         while arguments:
             tree = arguments.pop(0)
             if tree[0] != "string":
-                pieces.append(("d", tree[0] != "time", self.checked(tree, before)))
+                value((base, ""), tree)
                 continue
-            text = ESCAPE.sub(lambda found: chr(int(found[1], 8)) if found[1] else ESCAPES[found[2]], tree[1][1:-1])
-            for found in re.finditer(r"%(%|[bhdtBHDT]|0[dtDT]|)|[^%]+", text):
-                if found[1] is None or found[1] == "%":
-                    pieces.append("%" if found[1] else found[0])
-                elif not found[1] or not arguments or arguments[0][0] == "string":
+            for percent, width, letter, letters in PIECES.findall(letters_of(tree)):
+                if percent or letters:
+                    pieces.append(percent or letters)
+                elif not letter or not arguments or (arguments[0][0] == "string" and letter not in "sS"):
                     self.refuse(310)
+                elif arguments[0][0] == "string":
+                    pieces.append(letters_of(arguments.pop(0)).rjust(int(width or 0)))
                 else:
-                    tree = arguments.pop(0)
-                    pieces.append((found[1].lower(), tree[0] != "time", self.checked(tree, before)))
+                    value((letter.lower().replace("x", "h"), width), arguments.pop(0))
         return pieces
 
     def selection(self, parts):
@@ -696,6 +735,71 @@ class Whole:
         self.broken.add(310 if isinstance(meaning, Named) and meaning.kind == "object" else 303)
 
 
+def directed_names(items):
+    """The names that items declare as ports, each with its direction, in the order of the text."""
+    return [(name, item[1]) for item in items if item[0] == "declare" and item[1][0] in ("input", "output") for _, name, _ in item[2:]]
+
+
+def second_names(items):
+    """The names that items declare as nets or as variables but `integer`."""
+    return [(name, item[1]) for item in items if item[0] == "declare" and item[1][0] in ("wire", "reg") for _, name, _ in item[2:]]
+
+
+def has_twice(names):
+    return len(set(names)) < len(names)
+
+
+def port_flaw(tree):
+    """12.3.2, 12.3.3: the number of what is wrong with the ports that a module's items declare."""
+    ports, items = tree[3], tree[4:]
+    rows = ports[1:] if ports != "-" else ()
+    listed = [name for _, _, name in rows]
+    plain = listed if rows and rows[0][1] == "-" else []
+    directed = directed_names(items)
+    names, seconds = [name for name, _ in directed], [(name, kind[0]) for name, kind in second_names(items) if name in plain]
+    if has_twice(plain):
+        return 302
+    for name in names:
+        if name not in plain:
+            return 302 if name in listed else 303
+    if has_twice(names):
+        return 302
+    if set(plain) - set(names):
+        return 303
+    if has_twice([name for name, (_, net, _) in directed if net != "-"] + [name for name, _ in seconds]):
+        return 302
+    if {name for name, kind in directed if kind[0] == "input"} & {name for name, word in seconds if word == "reg"}:
+        return 310
+    return None
+
+
+def names_of(item):
+    """The names that an item declares."""
+    if item[0] in ("parameter", "localparam"):
+        return [one[1] for one in item[2:]]
+    if item[0] == "instances":
+        return [one[1] for one in item[3:]]
+    return [one[1] for one in item[2:]] if item[0] == "declare" else list(item[1:]) if item[0] == "events" else []
+
+
+def blocks_in(tree):
+    """The names of blocks in the scope of a statement (9.8.1, 4.11)."""
+    if not isinstance(tree, tuple) or not tree:
+        return []
+    if tree[0] == "block" and tree[1] != "-":
+        return [tree[1]]
+    return [name for part in tree[1:] for name in blocks_in(part)]
+
+
+def doubles_block(tree):
+    """Whether a block has a name that its module has besides."""
+    heads, ports, items = tree[2], tree[3], tree[4:]
+    named = {head[2][1] for head in heads[1:] if heads != "-"} | {port[2] for port in ports[1:] if ports != "-"}
+    named |= {name for item in items for name in names_of(item)}
+    blocks = [name for item in items if item[0] in ("initial", "always") for name in blocks_in(item[1])]
+    return has_twice(blocks) or not named.isdisjoint(blocks)
+
+
 def instantiated(tree):
     return {item[1] for item in tree[4:] if item[0] == "instances"}
 
@@ -714,6 +818,11 @@ def elaborated(tree, top=None):
     names = [module[1] for module in tree[1:]]
     if len(set(names)) < len(names):
         raise Refused({302})
+    for module in tree[1:]:
+        if flaw := port_flaw(module):
+            raise Refused({flaw})
+        if doubles_block(module):
+            raise Refused({302})
     modules = {module[1]: module for module in tree[1:]}
     found = top_of(modules, top)
     if found is None:

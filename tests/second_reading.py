@@ -203,7 +203,7 @@ class Run:
             self.items.append((kind, *what))
 
     def line(self, pieces):
-        return line_of(pieces, self.world(), self.made.factor)
+        return text_of(pieces, self.world(), self.made.factor)
 
     def follows(self, kind, what):
         """What comes next of a statement that tests or turns."""
@@ -316,8 +316,8 @@ def unknown_letter(letters):
     return "x" if set(letters) == {"x"} else "z" if set(letters) == {"z"} else "X" if "x" in letters else "Z"
 
 
-def hexadecimal(letters):
-    groups = [letters[n : n + 4] for n in range(0, len(letters), 4)]
+def by_groups(letters, size):
+    groups = [letters[n : n + size] for n in range(0, len(letters), size)]
     return "".join(f"{integer(group, False):x}" if is_known(group) else unknown_letter(group) for group in reversed(groups))
 
 
@@ -325,22 +325,48 @@ def decimal(letters, signed, factor=1):
     return str(integer(letters, signed) * factor) if is_known(letters) else unknown_letter(letters)
 
 
-def formatted(form, letters, signed, factor):
-    if form == "b":
+def in_bytes(letters):
+    """Leftmost first; a bit that isn't known counts as 0."""
+    known = "".join("1" if letter == "1" else "0" for letter in letters)
+    return bytes(integer(known[n : n + 8], False) for n in range(0, len(known), 8))[::-1]
+
+
+def digits_in(notation, letters, signed, factor):
+    """All digits, or letters, of a value (17.1.1.2)."""
+    if notation == "b":
         return letters[::-1]
-    if form == "h":
-        return hexadecimal(letters)
-    shown = decimal(letters, signed, factor if form.endswith("t") else 1)
-    if form == "d":
-        widest = [-(1 << len(letters) - 1)] if signed else [(1 << len(letters)) - 1]
-        return shown.rjust(max(len(str(number)) for number in widest))
-    return shown.rjust(20) if form == "t" else shown
+    if notation in "oh":
+        return by_groups(letters, 3 if notation == "o" else 4)
+    if notation in "dt":
+        return decimal(letters, signed, factor if notation == "t" else 1)
+    if notation == "c":
+        return chr(in_bytes(letters)[-1])
+    return in_bytes(letters).lstrip(b"\0").replace(b"\0", b" ").decode("latin-1")
 
 
-def line_of(pieces, world, factor):
-    """The line that these pieces print."""
+def places_of(notation, letters, signed):
+    """The places that the longest value takes (17.1.1.3)."""
+    if notation == "d":
+        return len(str(-(1 << len(letters) - 1) if signed else (1 << len(letters)) - 1))
+    return {"t": 20, "s": len(in_bytes(letters))}.get(notation, 0)
+
+
+def formatted(form, letters, signed, factor):
+    notation, width = form
+    digits = digits_in(notation, letters, signed, factor)
+    if width == "":
+        return digits.rjust(places_of(notation, letters, signed))
+    if width == "0":
+        return digits if notation not in "boh" else digits.lstrip("0") or "0"
+    if width[0] != "0" or notation in "cs":
+        return digits.rjust(int(width), "0" if width[0] == "0" and notation == "c" else " ")
+    return digits.zfill(int(width))
+
+
+def text_of(pieces, world, factor):
+    """What these pieces print."""
     shown = [piece if isinstance(piece, str) else formatted(piece[0], piece[2].own(world), piece[2].signed(world), factor) for piece in pieces]
-    return "".join(shown) + "\n"
+    return "".join(shown)
 
 
 def lines(run):
@@ -355,7 +381,7 @@ def lines(run):
             world = World(item[1], run.signs, item[0] // made.factor, run.limits)
             now = [piece[2].own(world) for piece in monitor if not isinstance(piece, str) and piece[1]]
             if now != shown:
-                text += line_of(monitor, world, made.factor)
+                text += text_of(monitor, world, made.factor)
             shown = now
     return text.encode("latin-1")
 

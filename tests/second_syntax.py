@@ -15,8 +15,8 @@ notif1 or output parameter pmos posedge primitive pulldown pullup real realtime 
 task time tri tri0 tri1 triand trior trireg unsigned use uwire wait wand while wire wor xnor xor""".split())
 KEYWORDS = set("""always assign begin case casex casez default else end endcase endmodule event for forever if initial input integer localparam
 module negedge or output parameter posedge reg repeat signed wait while wire""".split())
-SYSTEM_NAMES = set("""$display $strobe $monitor $dumpfile $dumpvars $dumpon $dumpoff $dumpall $dumpflush $finish $stop $time $signed
-$unsigned""".split())
+PRINTING = ["$" + kind + base for kind in ("display", "write", "strobe", "monitor") for base in ("", "b", "o", "h")]
+SYSTEM_NAMES = set("$dumpfile $dumpvars $dumpon $dumpoff $dumpall $dumpflush $finish $stop $time $signed $unsigned".split()) | set(PRINTING)
 LEFT_OUT = {"**", "+:", "-:"}
 SYMBOLS = """+ - * / % & | ^ ~ ^~ ~^ ~& ~| ! && || == != === !== < <= > >= << >> <<< >>> ? : = @ # ( ) [ ] { } , ; . -> ** +: -:""".split()
 UNARY = "+ - ! ~ & ~& | ~| ^ ~^ ^~".split()
@@ -276,9 +276,60 @@ def cut(text, lines):
         if kind != "blank":
             tokens.append(Token("number" if kind in ("based", "plain") else kind, found[0], lines[at]))
         at = found.end()
+    tokens = without_attributes(tokens)
     if len(tokens) > MOST_WORDS:
         raise Fault(112, tokens[MOST_WORDS].line)
     return tokens + [Token("end", "", lines[at])]
+
+
+# what an attribute may stand behind
+ATTRIBUTED = set("""endmodule ; begin end endcase else default initial always forever ( ) , : ? + - ! ~ & ~& | ~| ^ ~^ ^~ * / % << >> <<< >>> < <= >
+>= == != === !== && ||""".split())
+
+
+def attribute_end(tokens, at):
+    """Where the attribute that begins there ends; None where none is well formed."""
+    texts = [token.text for token in tokens[at:at + 2]]
+    if texts != ["(", "*"]:
+        return None
+    at += 2
+    while True:
+        if at >= len(tokens) or tokens[at].kind != "name":
+            return None
+        at += 1
+        if at < len(tokens) and tokens[at].text == "=":
+            begin, open_brackets, at = at + 1, 0, at + 1
+            while True:
+                text = tokens[at].text if at < len(tokens) else ";"
+                behind = tokens[at + 1].text if at + 1 < len(tokens) else ""
+                is_end = open_brackets == 0 and (text == "," or (text == "*" and behind == ")" and at > begin))
+                if text == ";" or (text, behind) == ("(", "*") or (is_end and at == begin):
+                    return None
+                if is_end:
+                    break
+                open_brackets += (text in ("(", "[", "{")) - (text in (")", "]", "}"))
+                if not 0 <= open_brackets <= 64:
+                    return None
+                at += 1
+        texts = [token.text for token in tokens[at:at + 2]]
+        if texts == ["*", ")"]:
+            return at + 2
+        if texts[:1] != [","]:
+            return None
+        at += 1
+
+
+def without_attributes(tokens):
+    """The words of a text: its tokens less attributes, each behind a word that may stand before one."""
+    words, at = [], 0
+    while at < len(tokens):
+        last, earlier = (tokens[at - n].text if at >= n else None for n in (1, 2))
+        may_stand = last is None or last in ATTRIBUTED or earlier in ("#", "@")
+        end = attribute_end(tokens, at) if may_stand else None
+        if end is None:
+            words.append(tokens[at])
+        at = end or at + 1
+    return words
 
 
 def is_name(token):
@@ -447,11 +498,11 @@ class Reader:
         if self.took(";", least=below):
             return ("empty",)
         if self.took("begin", least=below):
-            statements = []
+            label, statements = self.name() if self.took(":") else "-", []
             while not self.stands("end"):
                 statements.append(self.statement(below))
             self.step()
-            return ("block", *statements)
+            return ("block", label, *statements)
         if word.kind == "system":
             tree = ("task", self.task(level))
             self.take(";")
@@ -543,10 +594,11 @@ class Reader:
 
     def task(self, level):
         word = self.here.text
-        if word in ("$display", "$strobe", "$monitor"):
-            self.step(level + 2 if word == "$monitor" else level + 1)
+        if word in PRINTING:
+            needs_arguments = word.startswith("$monitor")
+            self.step(level + 2 if needs_arguments else level + 1)
             arguments = []
-            if word == "$monitor" or self.stands("("):
+            if needs_arguments or self.stands("("):
                 self.take("(", least=level + 2)
                 arguments = self.listed(lambda: self.argument(level + 1))
                 self.take(")")
@@ -604,12 +656,19 @@ class Reader:
             return "head", self.parameter_type(), self.name_and_value()
         return "head", "-", self.name_and_value()
 
+    def direction(self):
+        word = self.take("input", "output")
+        net = self.took("wire") or (self.took("reg") if word == "output" else None) or "-"
+        return word, net, self.range_type()
+
     def port(self, is_first):
-        if is_first or self.stands("input", "output"):
-            word = self.take("input", "output")
-            net = self.took("wire") or (self.took("reg") if word == "output" else None) or "-"
-            return "port", (word, net, self.range_type()), self.name()
-        return "port", "-", self.name()
+        return "port", self.direction() if self.stands("input", "output") else "-", self.name()
+
+    def ports(self):
+        """Where the first one goes no way, all are names alone (12.3.2)."""
+        if self.stands("input", "output"):
+            return self.rows(self.port)
+        return [("port", "-", name) for name in self.listed(self.name)]
 
     def rows(self, read):
         """One, and more behind a comma each, where the first one is another."""
@@ -624,7 +683,7 @@ class Reader:
         if self.took("#"):
             heads = ("parameters", *self.enclosed(lambda: self.rows(self.head)))
         if self.took("("):
-            ports = ("ports", *([] if self.stands(")") else self.rows(self.port)))
+            ports = ("ports", *([] if self.stands(")") else self.ports()))
             self.take(")")
         self.take(";")
         while not self.stands("endmodule"):
@@ -657,6 +716,8 @@ class Reader:
             return self.step(), self.statement(0)
         if is_name(self.here):
             tree = ("instances", self.name(), self.connections() if self.took("#") else "-", *self.listed(self.instance))
+        elif self.stands("input", "output"):
+            tree = ("declare", self.direction(), *self.listed(lambda: ("declared", self.name(), "-")))
         else:
             word = self.take("parameter", "localparam", "wire", "reg", "integer", "event", "assign")
             if word in ("parameter", "localparam"):
@@ -780,9 +841,7 @@ SPELLINGS = {
     "or": lambda term: ["or", *spelled(term)],
     "string": alone,
     "path": lambda *names: between(".", [[name] for name in names]),
-    "display": printing("$display"),
-    "strobe": printing("$strobe"),
-    "monitor": printing("$monitor"),
+    **{word[1:]: printing(word) for word in PRINTING},
     "dumpfile": lambda letters: ["$dumpfile", "(", letters, ")"],
     "dumpvars": lambda *parts: ["$dumpvars", *(enclosed(between(",", [[parts[0]], *map(spelled, parts[1:])])) if parts else [])],
     "dumpon": lambda: ["$dumpon"],
@@ -793,7 +852,7 @@ SPELLINGS = {
     "stop": ending("$stop"),
     # statements
     "empty": lambda: [";"],
-    "block": lambda *statements: ["begin", *joined(statements), "end"],
+    "block": lambda label, *statements: ["begin", *([] if label == "-" else [":", label]), *joined(statements), "end"],
     "assign": lambda *parts: spelled_assignment("=", *parts),
     "nonblocking": lambda *parts: spelled_assignment("<=", *parts),
     "trigger": lambda name: ["->", name, ";"],
@@ -853,8 +912,8 @@ def spelled(tree):
 # ---- depth: a leaf counts 1, and each operator, select, parenthesis, concatenation, replication, conversion and statement round it 1 more
 
 UNCOUNTED = {"delay-number", "delay-name", "delay-value", "named", "any", "any-enclosed", "terms", "change", "posedge", "negedge", "comma", "or", "string", "path",
-             "display", "strobe", "monitor", "dumpfile", "dumpvars", "dumpon", "dumpoff", "dumpall", "dumpflush", "finish", "stop", "labels", "labelled",
-             "default"}
+             "dumpfile", "dumpvars", "dumpon", "dumpoff", "dumpall", "dumpflush", "finish", "stop", "labels", "labelled", "default",
+             *(word[1:] for word in PRINTING)}
 LEAVES = {"delay-number", "delay-name", "named", "change", "posedge", "negedge", "string", "dumpfile"}
 
 
@@ -987,11 +1046,11 @@ class Maker:
     def task(self, depth, deep):
         """Its levels are those within the statement."""
         rng = self.rng
-        kind = rng.choice(["display", "strobe"] + (["monitor"] if depth else []))
+        kind = rng.choice([word[1:] for word in PRINTING if depth or not word.startswith("$monitor")])
         if not deep and self.chance(0.5):
             kind = rng.choice(["dumpvars", "dumpvars", "dumpon", "dumpoff", "dumpall", "dumpflush", "finish", "stop"] + (["dumpfile"] if depth else []))
-        if kind in ("display", "strobe", "monitor"):
-            count = rng.randint(1, 3) if deep or kind == "monitor" else rng.randint(0, 3) if depth else 0
+        if "$" + kind in PRINTING:
+            count = rng.randint(1, 3) if deep or kind.startswith("monitor") else rng.randint(0, 3) if depth else 0
             return (kind, *(self.argument(*room) for room in self.within(depth + 1, count, deep)))
         if kind == "dumpvars":
             path = lambda: ("path", *self.some(self.name, 1, 3))
@@ -1037,7 +1096,7 @@ class Maker:
             return ("trigger", self.name()) if kind == "trigger" else ("empty",)
         if kind == "block":
             rooms = self.within(depth, self.rng.randint(1, 3) if deep else self.rng.randint(0, 3), deep) if depth > 1 else []
-            return (kind, *(self.statement(*room) for room in rooms))
+            return (kind, self.name() if self.chance(0.3) else "-", *(self.statement(*room) for room in rooms))
         if kind in ("task", "assign", "case", "if-else"):
             return ("task", self.task(depth - 1, deep and depth > 1)) if kind == "task" else {
                 "assign": self.assignment, "case": self.case, "if-else": self.if_else}[kind](depth, deep)
@@ -1076,11 +1135,12 @@ class Maker:
     def head(self, is_first):
         return "head", self.parameter_type() if is_first or self.chance(0.5) else "-", self.set()
 
+    def direction(self, deep=0):
+        words = self.rng.choice([("input", "-"), ("input", "wire"), ("output", "-"), ("output", "wire"), ("output", "reg")])
+        return (*words, self.range_type(deep))
+
     def port(self, is_first):
-        direction = "-"
-        if is_first or self.chance(0.5):
-            direction = self.rng.choice([("input", "-"), ("input", "wire"), ("output", "-"), ("output", "wire"), ("output", "reg")]) + (self.range_type(),)
-        return "port", direction, self.name()
+        return "port", self.direction() if is_first or self.chance(0.5) else "-", self.name()
 
     def connections(self, deep=0):
         if self.chance(0.5):
@@ -1096,6 +1156,8 @@ class Maker:
         deep, first = (levels or 0), self.chance(0.5)
         if kind in ("parameter", "localparam"):
             return (kind, self.parameter_type(deep * first), self.set(deep * (not first)), *self.some(self.set, 0, 2))
+        if kind == "declare" and self.chance(0.25):
+            return (kind, self.direction(deep), *self.some(lambda: ("declared", self.name(), "-"), 1, 3))
         if kind == "declare":
             kinds = [(word, self.range_type(deep * first)) for word in ("wire", "reg")] + ([("integer",)] if not (deep and first) else [])
             return (kind, self.rng.choice(kinds), *self.some(self.declared, 0, 2), self.declared(deep * (not first)))
@@ -1111,6 +1173,8 @@ class Maker:
         rows = lambda make, least: [make(n == 0) for n in range(self.rng.randint(least, 3))]
         heads = ("parameters", *rows(self.head, 1)) if self.chance(0.3) else "-"
         ports = ("ports", *rows(self.port, 0)) if self.chance(0.5) else "-"
+        if ports == "-" and self.chance(0.4):
+            ports = ("ports", *self.some(lambda: ("port", "-", self.name()), 1, 3))
         items = self.some(self.item, 0, 4)
         if levels:
             items.insert(self.rng.randint(0, len(items)), self.item(levels))

@@ -8,7 +8,7 @@ use Rattle.vast.specs.NumberedExpressions.{ExpressionTree, ExpressionTrees}
 use Rattle.vast.specs.NumberedStatements as written
 use Rattle.vast.specs.NumberedStatements.{TargetTree, TargetTrees, DelayTree, by_number, by_name, by_value, TermTree, EventTree, by_event, by_any, by_any_enclosed, by_terms, ArgumentTree, quoted, printed, SelectionTree, TaskTree, print, dump_file, dump_vars, dump, end_run, StatementTree, StatementTrees, empty, block, assign, nonblocking, trigger, if_true, if_else, case_of, while_true, repeat_times, forever, for_loop, wait_for, delay, event, task, no_statement, first_statement, BranchTree, BranchTrees, labelled, default, no_branch, first_branch}
 use Rattle.vast.specs.NumberedModules as modules
-use Rattle.vast.specs.NumberedModules.{RangeTree, TypeTree, ParameterType, integer, typed, SettingTree, DeclaredTree, DirectionTree, input, output, PortTree, HeadParameter, ConnectionTree, ConnectionsTree, InstanceTree, DeclarationKind, variables, integers, ItemTree, parameters, declaration, events, assignments, initial, always, instances}
+use Rattle.vast.specs.NumberedModules.{RangeTree, TypeTree, ParameterType, integer, typed, SettingTree, DeclaredTree, DirectionTree, input, output, PortTree, HeadParameter, ConnectionTree, ConnectionsTree, InstanceTree, DeclarationKind, variables, integers, directed, ItemTree, parameters, declaration, events, assignments, initial, always, instances}
 use Rattle.vast.specs.declared.statement.Edge.{Edge}
 use Rattle.vast.specs.declared.module.NetKind.{NetKind}
 use Rattle.vast.specs.Expressions.{spell_expression, spell_parts, spell_more_parts}
@@ -277,7 +277,9 @@ round keyword condition rest n is =
 mutual
   pub statement_spelled : (s : StatementTree) → statement_length s ≡ length (spell_statement (statement_with letters s))
   statement_spelled empty = refl
-  statement_spelled (block list) =
+  statement_spelled (block None list) =
+      omega (arith, statements_spelled list, length-append (spell_statements (statements_with letters list)) (codes "end" ∷ []))
+  statement_spelled (block (Some label) list) =
       omega (arith, statements_spelled list, length-append (spell_statements (statements_with letters list)) (codes "end" ∷ []))
   statement_spelled (assign target amount value) = assignment_spelled (codes "=") target amount value
   statement_spelled (nonblocking target amount value) = assignment_spelled (codes "<=") target amount value
@@ -415,6 +417,7 @@ instance_spelled instance = omega (arith, connections_spelled instance.connectio
 declaration_kind_spelled : (kind : DeclarationKind) → declaration_kind_length kind ≡ length (spell_declaration_kind (declaration_kind_with letters kind))
 declaration_kind_spelled (variables net type) = omega (arith, type_spelled type)
 declaration_kind_spelled integers = refl
+declaration_kind_spelled (directed direction) = direction_spelled (Some direction)
 
 settings_spelled : (settings : List SettingTree) → list_length setting_length settings ≡ length (listed plain.spell_setting (map (setting_with letters) settings) ++ codes ";" ∷ [])
 settings_spelled settings = list_spelled (setting_with letters) setting_length plain.spell_setting setting_spelled settings (codes ";")

@@ -1,8 +1,8 @@
 -- Where the actions of statements begin, one behind another.
-use Rattle.std.proofs.Common.{◌≡◌, ℕ, suc, ◌+◌, ◌-◌, List, [], ◌∷◌, ◌++◌, Vec, Global, Box, sym, ap, ◌∙◌, append_assoc, arith}
+use Rattle.std.proofs.Common.{◌≡◌, ℕ, suc, ◌+◌, ◌-◌, List, [], ◌∷◌, ◌++◌, Vec, Global, Box, sym, ap, ◌∙◌, append_assoc, arith, Option}
 use Rattle.std.specs.List.{flat_map}
 use Rattle.vast.specs.Words.{Text}
-use Rattle.vast.specs.NumberedWords.{numbered}
+use Rattle.vast.specs.NumberedWords.{numbered, Word}
 use Rattle.vast.specs.NumberedStatements.{StatementTree, block, case_of}
 use Rattle.vast.specs.NumberedModules.{ModuleTree, SourceTree}
 use Rattle.vast.specs.NumberedTrees.{tree_of, statement_tree, statement_trees, branch_trees}
@@ -11,23 +11,29 @@ use Rattle.vast.specs.declared.statement.CaseKind.{CaseKind}
 use Rattle.vast.specs.declared.statement.Branch.{Branch}
 use Rattle.vast.specs.declared.statement.Statement.{Statement, Block, Case}
 use Rattle.vast.proofs.ToldTrees.{told_block, told_case}
-use Rattle.action_origins.specs.Lengths.{head_length, statement_length, statements_length, branches_length}
+use Rattle.action_origins.specs.Lengths.{head_length, statement_length, statements_length, branches_length, begin_length}
 use Rattle.action_origins.specs.Origins.{number_of, statement_origins, statements_origins, branches_origins, items_origins, items_left, origins_below, module_origins}
+use Rattle.std.specs.Option.{option_map}
+use Rattle.vast.specs.declared.token.Token.{Token}
 
 module _ (words : List Text) where
-  module _ (s : Statement) (list : Vec Statement Global) (items : List Statement) (is : s ≡ Block list) (same : items ≡ list.items) where
-    block_is : block (statement_trees words items) ≡ statement_tree words s
-    block_is = sym (ap (statement_tree words) is ∙ told_block (numbered words) list ∙ ap (λ (xs : List Statement). block (statement_trees words xs)) (sym same))
+  module _ (s : Statement) (label : Option Token) (list : Vec Statement Global) (items : List Statement) (is : s ≡ Block label list) (same : items ≡ list.items) where
+    abbrev own : Option Word
+    own = option_map (numbered words) label
 
-    pub block_put : (old new : List ℕ) (left middle : ℕ) → middle ≡ left - 1 → new ≡ old ++ statements_origins words middle (statement_trees words items) →
+    block_is : block own (statement_trees words items) ≡ statement_tree words s
+    block_is =
+        sym (ap (statement_tree words) is ∙ told_block (numbered words) label list ∙ ap (λ (xs : List Statement). block own (statement_trees words xs)) (sym same))
+
+    pub block_put : (old new : List ℕ) (left middle : ℕ) → middle ≡ left - begin_length own → new ≡ old ++ statements_origins words middle (statement_trees words items) →
         new ≡ old ++ statement_origins words left (statement_tree words s)
     block_put old new left middle one put =
         put ∙ ap (λ (n : ℕ). old ++ statements_origins words n (statement_trees words items)) one ∙ ap (λ (t : StatementTree). old ++ statement_origins words left t) block_is
 
-    pub block_past : (left middle behind result : ℕ) → middle ≡ left - 1 → behind ≡ middle - statements_length (statement_trees words items) → result ≡ behind - 1 →
+    pub block_past : (left middle behind result : ℕ) → middle ≡ left - begin_length own → behind ≡ middle - statements_length (statement_trees words items) → result ≡ behind - 1 →
         result ≡ left - statement_length (statement_tree words s)
     block_past left middle behind result one h end =
-        let size : statement_length (statement_tree words s) ≡ 1 + (statements_length (statement_trees words items) + 1) = ap statement_length (sym block_is) in
+        let size : statement_length (statement_tree words s) ≡ begin_length own + (statements_length (statement_trees words items) + 1) = ap statement_length (sym block_is) in
         omega (arith, one, h, end, size)
 
   module _ (s : Statement) (at : ℕ) (kind : CaseKind) (value : Box Expression Global) (branches : Vec Branch Global) (amount : Expression) (items : List Branch)

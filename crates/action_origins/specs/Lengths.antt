@@ -6,7 +6,7 @@ use Rattle.vast.specs.NumberedExpressions.{ExpressionTree, ExpressionTrees}
 use Rattle.vast.specs.NumberedStatements as written
 use Rattle.vast.specs.NumberedStatements.{TargetTree, TargetTrees, DelayTree, by_number, by_name, by_value, TermTree, EventTree, by_event, by_any, by_any_enclosed, by_terms, ArgumentTree, quoted, printed, SelectionTree, TaskTree, print, dump_file, dump_vars, dump, end_run, StatementTree, StatementTrees, empty, block, assign, nonblocking, trigger, if_true, if_else, case_of, while_true, repeat_times, forever, for_loop, wait_for, delay, event, task, no_statement, first_statement, BranchTree, BranchTrees, labelled, default, no_branch, first_branch}
 use Rattle.vast.specs.NumberedModules as modules
-use Rattle.vast.specs.NumberedModules.{RangeTree, TypeTree, ParameterType, integer, typed, SettingTree, DeclaredTree, DirectionTree, input, output, PortTree, HeadParameter, ConnectionTree, ConnectionsTree, InstanceTree, DeclarationKind, variables, integers, ItemTree, parameters, declaration, events, assignments, initial, always, instances}
+use Rattle.vast.specs.NumberedModules.{RangeTree, TypeTree, ParameterType, integer, typed, SettingTree, DeclaredTree, DirectionTree, input, output, PortTree, HeadParameter, ConnectionTree, ConnectionsTree, InstanceTree, DeclarationKind, variables, integers, directed, ItemTree, parameters, declaration, events, assignments, initial, always, instances}
 
 -- of what may be left out
 abbrev pub length_if : {A : Type 0} → (A → ℕ) → Option A → ℕ
@@ -156,6 +156,11 @@ for_length target value condition = 4 + (pair_length target value + expression_l
 abbrev pub turn_length : TargetTree → ExpressionTree → ℕ
 turn_length target value = pair_length target value + 1
 
+-- begin : name or begin (9.8.1)
+abbrev pub begin_length : Option Word → ℕ
+begin_length None = 1
+begin_length (Some label) = 3
+
 -- default : or default
 abbrev pub default_length : Bool → ℕ
 default_length colon = 1 + word_where colon
@@ -165,7 +170,7 @@ default_length colon = 1 + word_where colon
 abbrev mutual
   pub statement_length : StatementTree → ℕ
   statement_length empty = 1
-  statement_length (block list) = 1 + (statements_length list + 1)
+  statement_length (block label list) = begin_length label + (statements_length list + 1)
   statement_length (assign target amount value) = assignment_length target amount value
   statement_length (nonblocking target amount value) = assignment_length target amount value
   statement_length (trigger letters) = 3
@@ -247,6 +252,7 @@ instance_length instance = 1 + connections_length instance.connections
 abbrev pub declaration_kind_length : DeclarationKind → ℕ
 declaration_kind_length (variables net type) = 1 + type_length type
 declaration_kind_length integers = 1
+declaration_kind_length (directed direction) = direction_length direction
 
 abbrev pub item_length : ItemTree → ℕ
 item_length (parameters local type settings) = 1 + (parameter_type_length type + list_length setting_length settings)

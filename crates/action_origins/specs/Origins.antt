@@ -8,7 +8,7 @@ use Rattle.vast.specs.NumberedWords.{Word}
 use Rattle.vast.specs.NumberedStatements.{StatementTree, StatementTrees, empty, block, assign, nonblocking, trigger, if_true, if_else, case_of, while_true, repeat_times, forever, for_loop, wait_for, delay, event, task, no_statement, first_statement, BranchTree, BranchTrees, labelled, default, no_branch, first_branch}
 use Rattle.vast.specs.NumberedModules.{DeclaredTree, SettingTree, ConnectionsTree, by_order, by_name, InstanceTree, ItemTree, parameters, declaration, events, assignments, initial, always, instances, ModuleTree, SourceTree}
 use Rattle.vmodules.specs.Hierarchy.{module_of, top_of}
-use Rattle.action_origins.specs.Lengths.{length_if, parts_length, delay_length, event_length, head_length, for_length, turn_length, default_length, statement_length, item_length, branch_length, head_parameters_length, ports_length}
+use Rattle.action_origins.specs.Lengths.{length_if, parts_length, delay_length, event_length, head_length, for_length, turn_length, default_length, statement_length, item_length, branch_length, head_parameters_length, ports_length, begin_length}
 
 -- ---- what begins at a name
 
@@ -51,7 +51,7 @@ module _ (words : List Text) where
   abbrev mutual
     pub statement_origins : ℕ → StatementTree → List ℕ
     statement_origins left empty = []
-    statement_origins left (block statements) = statements_origins (left - 1) statements
+    statement_origins left (block label statements) = statements_origins (left - begin_length label) statements
     statement_origins left (assign target amount value) = number_of left ∷ []
     statement_origins left (nonblocking target amount value) = number_of left ∷ []
     statement_origins left (trigger name) = number_of left ∷ []

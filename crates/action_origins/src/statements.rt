@@ -1,11 +1,13 @@
 // Statements (IEEE 1364-2005, clause 9).
 
-ghost use Rattle.std.specs.Prelude.{◌≡◌, ◌-◌, ◌+◌, ◌++◌, ◌∷◌, [], IfOk, OnOk};
+ghost use Rattle.std.specs.Prelude.{◌≡◌, ◌-◌, ◌+◌, ◌++◌, ◌∷◌, [], IfOk, OnOk, List, option_map};
 ghost use Rattle.vast.specs.NumberedTrees.{branch_tree, branch_trees, statement_tree, statement_trees};
 ghost use Rattle.vexpr_parse.specs.Texts.{words_of};
-ghost use Rattle.action_origins.specs.Lengths.{branch_length, branches_length, default_length, statement_length, statements_length};
+ghost use Rattle.action_origins.specs.Lengths.{branch_length, branches_length, default_length, statement_length, statements_length, begin_length};
 ghost use Rattle.action_origins.specs.Origins as spec;
 ghost use Rattle.action_origins.specs.Origins.{branch_origins, branches_origins, statement_origins, statements_origins};
+ghost use Rattle.vast.specs.Words.{Text};
+ghost use Rattle.vast.specs.NumberedWords.{numbered};
 
 use crate::expressions::past_parts;
 use crate::parts::{
@@ -13,6 +15,7 @@ use crate::parts::{
 };
 use basis::NoMemory;
 use vast::statement::{Branch, Statement};
+use vast::token::Token;
 use vlex::Tokens;
 
 /// The number of the token from which so many are left.
@@ -41,6 +44,16 @@ fn past_default(colon: bool, left: usize) -> usize
     }
 }
 
+fn past_begin(name: &Option<Token>, left: usize) -> usize
+    ensures { (words : List Text) →
+        result ≡ left - begin_length (option_map (numbered words) name.now) }
+{
+    match name {
+        None => left.saturating_sub(1),
+        Some(_) => left.saturating_sub(3),
+    }
+}
+
 /// Puts where the actions of a statement begin, and says what is left behind it.
 #[cycle(statements)]
 pub fn put_statement(
@@ -56,8 +69,8 @@ pub fn put_statement(
 {
     match statement {
         Statement::Empty => Ok(left.saturating_sub(1)),
-        Statement::Block(list) => {
-            let behind = put_statements(tokens, list, left.saturating_sub(1), into)?;
+        Statement::Block { name, statements } => {
+            let behind = put_statements(tokens, statements, past_begin(name, left), into)?;
             Ok(behind.saturating_sub(1))
         }
         Statement::Assign {

@@ -57,7 +57,7 @@ const EXPLANATIONS: [Explanation; 34] = [
         number: 201,
         meaning: "unexpected word: no text of the grammar goes on with this word after those before it, or the text ends too early",
         example: "a = 1 and no semicolon; else without an if",
-        advice: "look at the words of that line, and at the end of the line before it: a semicolon may be missing there; or the construct isn't in the profile, as ports declared in the body, named blocks, memories, hierarchical names and SystemVerilog; docs/LANGUAGE.md has the grammar",
+        advice: "look at the words of that line, and at the end of the line before it: a semicolon may be missing there; or the construct isn't in the profile, as named blocks, memories, hierarchical names and SystemVerilog; docs/LANGUAGE.md has the grammar",
     },
     Explanation {
         number: 202,
@@ -79,14 +79,14 @@ const EXPLANATIONS: [Explanation; 34] = [
     },
     Explanation {
         number: 302,
-        meaning: "a name declared twice: two modules, or two ports, variables, parameters, named events or instances of one module",
-        example: "reg a, a;",
-        advice: "rename one",
+        meaning: "a name declared twice: two modules, or two ports, variables, parameters, named events, instances or named blocks of one module, or a port that is declared more often than it may be",
+        example: "reg a, a;, output reg q; reg q;",
+        advice: "rename one, or take one of the declarations out",
     },
     Explanation {
         number: 303,
-        meaning: "a name that isn't declared in its module, a parameter in a constant that stands before it, or a path of $dumpvars to nothing",
-        example: "initial b = 1; without a reg b, $dumpvars(0, tb.u); without an instance u",
+        meaning: "a name that isn't declared in its module, a parameter in a constant that stands before it, a port of the list that no item declares, an item for a port that the list hasn't, or a path of $dumpvars to nothing",
+        example: "initial b = 1; without a reg b, module m(a, b); input a;, $dumpvars(0, tb.u); without an instance u",
         advice: "declare it; only what a constant uses has to stand before it; a path begins with the top's name",
     },
     Explanation {
@@ -103,9 +103,9 @@ const EXPLANATIONS: [Explanation; 34] = [
     },
     Explanation {
         number: 306,
-        meaning: "a bound that isn't 0 to 65,535 or has an unknown bit, a part in the other direction than its vector, a count of a replication that isn't 1 to 64, or more than 64 bits",
-        example: "reg [64:0] a;, {65{1'b1}}",
-        advice: "split the vector, turn the part round, or write a count from 1 to 64",
+        meaning: "a bound that isn't 0 to 65,535 or has an unknown bit, a part in the other direction than its vector, a count of a replication that isn't 1 to 64, more than 64 bits, or a port that is declared again with another range",
+        example: "reg [64:0] a;, {65{1'b1}}, output [3:0] q; reg q;",
+        advice: "split the vector, turn the part round, write a count from 1 to 64, or the same range twice",
     },
     Explanation {
         number: 307,
@@ -127,7 +127,7 @@ const EXPLANATIONS: [Explanation; 34] = [
     },
     Explanation {
         number: 310,
-        meaning: "a name of another kind than its use asks for: a net that a statement writes, a variable that an assign or an output drives, a parameter that is written or waited for, a named event or an instance in an expression, a variable's path in $dumpvars, a bit of what has no range; or a format that isn't known or has no expression",
+        meaning: "a name of another kind than its use asks for: a net that a statement writes, a variable that an assign or an output drives, a parameter that is written or waited for, a named event or an instance in an expression, a variable's path in $dumpvars, a bit of what has no range, an input that is declared as a variable; or a format that isn't known or has no argument",
         example: "reg r; assign r = 1;, wire w; initial w = 1;, $display(\"%d\");",
         advice: "declare it as what it is used as; docs/LANGUAGE.md lists the formats under Printed lines",
     },

@@ -141,7 +141,7 @@ const REPLAY: [Row; 10] = [
         name: "lines",
         takes: Takes::Nothing,
         default: None,
-        help: "Prints the lines of $display, $strobe and $monitor, in place of the dump",
+        help: "Prints what $display, $write, $strobe and $monitor print, in place of the dump",
     },
     Row {
         name: "trace",

@@ -5,7 +5,8 @@ use Rattle.basis.specs.declared.timescale.Timescale.{Timescale}
 use Rattle.vast.specs.Words.{Text}
 use Rattle.vast.specs.NumberedModules.{ModuleTree, SourceTree}
 use Rattle.vdesign.specs.Design.{Scope, Design}
-use Rattle.vmodules.specs.Ports.{ports_of}
+use Rattle.vmodules.specs.Ports.{ports_of, own_items}
+use Rattle.velab_declaration.specs.Variables.{port_scope}
 use Rattle.velab_expr.specs.declared.fault.ElabFault.{ElabFault}
 use Rattle.vhierarchy.specs.Instances.{Instantiation, Part, Context, scope_of, scope_drivers_by, child_context, each, elaborate_instance, elaborate_top, nothing, top_context, Elaborates}
 use Rattle.elaboration_law.specs.Counts.{Variables, Instances, Letters}
@@ -32,8 +33,8 @@ module _ (modules : SourceTree) where
       let s = own_steps modules part context own in
       let drivers = scope_drivers_by context (ports_of context.unit) own.children own.scope in
       let scope : Scope = scope_of context own.scope.variables in
-      let ports = ports_small drivers own.scope (ports_of context.unit) s.ports_are s.ports_made in
-      let others = variables_small drivers own.scope context.unit.items s.others_are s.others_made in
+      let ports = ports_small drivers (port_scope context.unit own.scope) (ports_of context.unit) s.ports_are s.ports_made in
+      let others = variables_small drivers own.scope (own_items context.unit) s.others_are s.others_made in
       let made = subst (All IsSmallVariable) s.both_made (All-append IsSmallVariable s.ports_are s.others_are ports others) in
       let here : IsShallow scope = let depth = placed.depth in (omega (arith, depth), placed.path) in
       subst IsSmallPart s.whole_is (record {

@@ -5,14 +5,15 @@ use Rattle.std.specs.List.{slice_index_or}
 use Rattle.std.proofs.lemmas.List.Elements.{All-nil, All-cons, All-append, All-map}
 use Rattle.vast.specs.Words.{Text}
 use Rattle.vast.specs.NumberedExpressions as text
-use Rattle.vast.specs.NumberedModules.{RangeTree, DeclarationKind, variables, integers, DeclaredTree, ItemTree, parameters, declaration, events, assignments, initial, always, instances}
+use Rattle.vast.specs.NumberedModules.{RangeTree, DeclarationKind, variables, integers, directed, DeclaredTree, ItemTree, parameters, declaration, events, assignments, initial, always, instances}
 use Rattle.vbits.specs.Numbers as numbers
 use Rattle.vdesign.specs.Design.{Variable}
 use Rattle.vdesign.specs.declared.design.Kind.{Kind}
 use Rattle.vdesign.specs.declared.design.Kind.TheVariants.{Reg, Integer, Wire}
 use Rattle.vdesign.specs.declared.expression.Bounds.{Bounds}
 use Rattle.vexpr_parse.proofs.Turning.{le_so}
-use Rattle.vmodules.specs.Ports.{Port}
+use Rattle.vast.specs.declared.module.NetKind.TheVariants as net
+use Rattle.vmodules.specs.Ports.{Port, type_in}
 use Rattle.velab_expr.specs.declared.fault.ElabFault.{ElabFault}
 use Rattle.velab_expr.specs.declared.fault.Rule.TheVariants.{Width}
 use Rattle.velab_expr.specs.Answers.{◌>>=◌, found}
@@ -23,8 +24,9 @@ use Rattle.velab_expr.specs.Resolved.{lower_value}
 use Rattle.velab_expr.specs.Scopes.{Scope}
 use Rattle.velab_expr.specs.Symbols.{behind_item}
 use Rattle.velab_declaration.specs.declared.variable.Form.{Form}
-use Rattle.velab_declaration.specs.Variables.{ScopeDrivers, length_of, variable_in, form_of, lower_kind, variables_in, lower_declaration, lower_variables, lower_port, lower_ports}
+use Rattle.velab_declaration.specs.Variables.{ScopeDrivers, length_of, variable_in, form_of, lower_kind, variables_in, variables_as, lower_declaration, lower_variables, lower_again, lower_port, lower_ports}
 use Rattle.elaboration_law.proofs.StepLemmas.{same_value, then_ok, required_ok, found_ok}
+use Rattle.elaboration_law.proofs.AgainLemmas.{again_keeps}
 use Rattle.dump_law.specs.Small.{AreSmallBounds, IsSmallVariable}
 
 -- ---- ranges (4.3.1)
@@ -87,11 +89,13 @@ module _ (drivers : ScopeDrivers) where
   ports_small scope (p ∷ more) vs is =
       let one = then_ok (lower_port drivers scope p) (λ one. lower_ports drivers scope more >>= λ others. Ok (one ∷ others)) vs is in
       let others = then_ok (lower_ports drivers scope more) (λ others. Ok (one.0 ∷ others)) vs one.2 in
-      let bounds = then_ok (lower_bounds scope p.type.range) (λ bounds. Ok (variable_in drivers (form_of p.net p.type.signed bounds) p.name.letters)) one.0 one.1 in
-      let form = form_of p.net p.type.signed bounds.0 in
-      let here = variable_small drivers form p.name.letters (bounds_small scope p.type.range bounds.0 bounds.1) in
+      let bounds = then_ok (lower_bounds scope p.type.range) (λ bounds. lower_again scope p.again bounds >>= λ whole. Ok (variable_in drivers (form_of p.net p.type.signed whole) p.name.letters)) one.0 one.1 in
+      let whole = then_ok (lower_again scope p.again bounds.0) (λ whole. Ok (variable_in drivers (form_of p.net p.type.signed whole) p.name.letters)) one.0 bounds.2 in
+      let form = form_of p.net p.type.signed whole.0 in
+      let small = subst IsRanged (again_keeps scope p.again bounds.0 whole.0 whole.1) (bounds_small scope p.type.range bounds.0 bounds.1) in
+      let here = variable_small drivers form p.name.letters small in
       subst (All IsSmallVariable) (same_value (one.0 ∷ others.0) vs others.2)
-      (All-cons IsSmallVariable one.0 others.0 (subst IsSmallVariable (same_value (variable_in drivers form p.name.letters) one.0 bounds.2) here)
+      (All-cons IsSmallVariable one.0 others.0 (subst IsSmallVariable (same_value (variable_in drivers form p.name.letters) one.0 whole.2) here)
       (ports_small scope more others.0 others.1))
 
   kind_small : (scope : Scope) (kind : DeclarationKind) (form : Form) → lower_kind scope kind ≡ Ok form → IsRanged form.bounds
@@ -100,10 +104,19 @@ module _ (drivers : ScopeDrivers) where
       subst (λ (f : Form). IsRanged f.bounds) (same_value (form_of word type.signed bounds.0) form bounds.2) (bounds_small scope type.range bounds.0 bounds.1)
   kind_small scope integers form is =
       subst (λ (f : Form). IsRanged f.bounds) (same_value (record { kind = Integer; signed = true; bounds = None }) form is) tt
+  kind_small scope (directed direction) form is =
+      let range = (type_in direction).range in
+      let bounds = then_ok (lower_bounds scope range) (λ bounds. Ok (form_of net.Wire (type_in direction).signed bounds)) form is in
+      subst (λ (f : Form). IsRanged f.bounds) (same_value (form_of net.Wire (type_in direction).signed bounds.0) form bounds.2) (bounds_small scope range bounds.0 bounds.1)
 
   declared_small : (form : Form) (list : List DeclaredTree) → IsRanged form.bounds → All IsSmallVariable (variables_in drivers form list)
   declared_small form list ranged =
       All-map IsSmallVariable (λ one. variable_in drivers form one.name.letters) list (λ k d lt. variable_small drivers form (slice_index_or list k d).name.letters ranged)
+
+  formed_small : (form : Form) (kind : DeclarationKind) (list : List DeclaredTree) → IsRanged form.bounds → All IsSmallVariable (variables_as drivers form kind list)
+  formed_small form (variables word type) list ranged = declared_small form list ranged
+  formed_small form integers list ranged = declared_small form list ranged
+  formed_small form (directed direction) list ranged = All-nil IsSmallVariable
 
   none_small : (vs : List Variable) → (let none : Result (List Variable) ElabFault = Ok [] in none ≡ Ok vs) → All IsSmallVariable vs
   none_small vs is = subst (All IsSmallVariable) (same_value [] vs is) (All-nil IsSmallVariable)
@@ -111,8 +124,8 @@ module _ (drivers : ScopeDrivers) where
   item_small : (scope : Scope) (item : ItemTree) (vs : List Variable) → lower_declaration drivers scope item ≡ Ok vs → All IsSmallVariable vs
   item_small scope (parameters local type settings) vs is = none_small vs is
   item_small scope (declaration kind list) vs is =
-      let form = then_ok (lower_kind scope kind) (λ form. Ok (variables_in drivers form list)) vs is in
-      subst (All IsSmallVariable) (same_value (variables_in drivers form.0 list) vs form.2) (declared_small form.0 list (kind_small scope kind form.0 form.1))
+      let form = then_ok (lower_kind scope kind) (λ form. Ok (variables_as drivers form kind list)) vs is in
+      subst (All IsSmallVariable) (same_value (variables_as drivers form.0 kind list) vs form.2) (formed_small form.0 kind list (kind_small scope kind form.0 form.1))
   item_small scope (events list) vs is = none_small vs is
   item_small scope (assignments settings) vs is = none_small vs is
   item_small scope (initial statement) vs is = none_small vs is

@@ -107,7 +107,7 @@ constants = record {
   of_driven = λ scope name. variable_fits name (meaning_of scope name);
   of_event = λ scope name. event_fits name (meaning_of scope name);
   of_term = λ scope edge name. term_fits edge name (meaning_of scope name);
-  of_formats = λ scope arguments all is. found_judges is_constant (pieces_of all) Kind (first_argument arguments) refl;
+  of_formats = λ scope default ends arguments all is. found_judges is_constant (pieces_of default ends all) Kind (first_argument arguments) refl;
   of_levels = λ scope levels. found_judges is_constant (levels_in levels) Kind (Some levels) refl;
   of_time = λ constant scope word x. required_fits (not constant) word x;
 }
@@ -206,6 +206,7 @@ constants_rule = record {
   no_ports = refl;
   no_depth = refl;
   no_many = refl;
+  no_width = refl;
 }
 
 -- ---- in a text

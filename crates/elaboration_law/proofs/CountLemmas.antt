@@ -31,7 +31,7 @@ use Rattle.elaboration_law.proofs.ToldLemmas.{is_local, is_of_connections, untol
 use Rattle.elaboration_law.proofs.ModuleRules.{is_of_paths, undriven_tell, own_processes_tell}
 use Rattle.elaboration_law.proofs.DesignRules.{table_tells, kind_broken, flaw_broken, broken_paths_tell}
 use Rattle.elaboration_law.proofs.StepLemmas.{same_value, then_ok, then_err, few_err}
-use Rattle.elaboration_law.proofs.HierarchyLemmas.{instance_of, instance_at, children_are, Own, OwnFault, in_names, in_instances, in_own, opened_ok, opened_err, below, Told, in_modules, in_top, in_hierarchy, in_design, all_elaborated, fault_told}
+use Rattle.elaboration_law.proofs.HierarchyLemmas.{instance_of, instance_at, children_are, Own, OwnFault, in_names, in_instances, in_own, opened_ok, opened_err, below, Told, in_modules, in_ports, is_of_ports, of_ports, in_top, in_hierarchy, in_design, all_elaborated, fault_told}
 use Rattle.elaboration_law.proofs.OwnLemmas.{dotted, own_steps, own_named, undriven_variables, OwnTold, net_again, in_variables, in_processes, too_many, own_told}
 use Rattle.elaboration_law.proofs.GatherLemmas.{Gathers, gathered, top_gathered}
 use Rattle.elaboration_law.proofs.CountRules.{gt_of, own_processes_counted, names_counted, ManyNames, many_names, many_instances}
@@ -332,6 +332,7 @@ module _ (modules : SourceTree) (top : Option Text) where
 
     counts_told : Told modules top fault → HasTooMany modules top
     counts_told (in_modules w again other) = absurd cc
+    counts_told (in_ports m is other) = absurd (let no = sym (of_ports m fault.rule other) ∙ ap is_of_ports rule in cc)
     counts_told (in_top missing other) = absurd cc
     counts_told (in_hierarchy unit is_top err) =
         let e = top_exceeds modules fault rule unit err in

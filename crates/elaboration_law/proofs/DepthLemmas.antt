@@ -15,7 +15,7 @@ use Rattle.elaboration_law.specs.Depths.{IsTooDeep}
 use Rattle.elaboration_law.proofs.ToldLemmas.{untold, untold_fault}
 use Rattle.elaboration_law.proofs.ModuleRules.{is_of_names, is_of_instances, is_of_own, names_tell, instances_tell, own_tells}
 use Rattle.elaboration_law.proofs.DesignRules.{design_tells}
-use Rattle.elaboration_law.proofs.HierarchyLemmas.{OwnFault, in_names, in_instances, in_own, ToldBelow, too_deep, by_own, Told, in_modules, in_top, in_hierarchy, in_design, all_elaborated, fault_told, top_elaborated, top_told_below}
+use Rattle.elaboration_law.proofs.HierarchyLemmas.{OwnFault, in_names, in_instances, in_own, ToldBelow, too_deep, by_own, Told, in_modules, in_ports, is_of_ports, of_ports, in_top, in_hierarchy, in_design, all_elaborated, fault_told, top_elaborated, top_told_below}
 
 -- the top of a text is one module
 pub one_top : (modules : SourceTree) (top : Option Text) (m other : ModuleTree) → top_of modules top ≡ Some m → top_of modules top ≡ Some other → m ≡ other
@@ -36,6 +36,7 @@ module _ (modules : SourceTree) (top : Option Text) where
 
   depth_told : (fault : ElabFault) → fault.rule ≡ Depth → Told modules top fault → IsTooDeep modules top
   depth_told fault rule (in_modules w again other) = absurd cc
+  depth_told fault rule (in_ports m is other) = absurd (let no = sym (of_ports m fault.rule other) ∙ ap is_of_ports rule in cc)
   depth_told fault rule (in_top missing other) = absurd cc
   depth_told fault rule (in_hierarchy unit is_top err) = below_told fault unit is_top rule (top_told_below modules unit fault err)
   depth_told fault rule (in_design unit part is_top ok broken) =

@@ -8,12 +8,12 @@ use Rattle.vast.specs.NumberedModules.{ModuleTree, SourceTree}
 use Rattle.vdesign.specs.Design.{Design, Variable}
 use Rattle.vmodules.specs.Names.{is_declared, has_double, letters_of, first_again}
 use Rattle.vmodules.specs.Hierarchy.{top_of}
-use Rattle.vmodules.specs.Ports.{ports_of}
+use Rattle.vmodules.specs.Ports.{ports_of, own_items}
 use Rattle.velab_expr.specs.declared.fault.Rule.TheVariants.{Drivers}
 use Rattle.velab_expr.specs.declared.fault.ElabFault.{ElabFault}
 use Rattle.velab_expr.specs.Answers.{◌>>=◌}
 use Rattle.velab_expr.specs.Scopes.{Scope}
-use Rattle.velab_declaration.specs.Variables.{drivers_by, nets_of, lower_ports, lower_variables}
+use Rattle.velab_declaration.specs.Variables.{drivers_by, nets_of, port_scope, lower_ports, lower_variables}
 use Rattle.vhierarchy.specs.Instances.{Instantiation, driven_inside, driven_outside, driven_by, scope_drivers_by, lower_own_variables, lower_own_processes, with_own, few_enough, lower_own, lower_names, lower_instances, Part, Context, broken_design, elaborated}
 use Rattle.elaboration_law.specs.Hierarchy.{Instance, StandsBelow, top_instance}
 use Rattle.elaboration_law.specs.Laws.{IsMeant}
@@ -23,7 +23,7 @@ use Rattle.elaboration_law.proofs.ModuleRules.{is_of_names, is_of_instances, nam
 use Rattle.elaboration_law.proofs.DesignRules.{design_tells}
 use Rattle.elaboration_law.proofs.StepLemmas.{then_ok, barring_ok, few_err}
 use Rattle.elaboration_law.proofs.DoubleLemmas.{none_twice, one_twice}
-use Rattle.elaboration_law.proofs.HierarchyLemmas.{instance_of, instance_at, children_are, OwnFault, in_names, in_instances, in_own, ToldBelow, too_deep, by_own, Told, in_modules, in_top, in_hierarchy, in_design, all_elaborated, fault_told, top_elaborated, top_told_below}
+use Rattle.elaboration_law.proofs.HierarchyLemmas.{instance_of, instance_at, children_are, OwnFault, in_names, in_instances, in_own, ToldBelow, too_deep, by_own, Told, in_modules, in_ports, is_of_ports, of_ports, in_top, in_hierarchy, in_design, all_elaborated, fault_told, top_elaborated, top_told_below}
 use Rattle.elaboration_law.proofs.OwnLemmas.{undriven_variables, OwnTold, net_again, in_variables, in_processes, too_many, own_told}
 use Rattle.elaboration_law.proofs.DepthLemmas.{one_top}
 
@@ -39,8 +39,8 @@ module _ (modules : SourceTree) (context : Context) (scope : Scope) (children : 
 
   abbrev undriven : Result (List Variable) ElabFault
   undriven =
-      lower_ports (scope_drivers_by context (ports_of context.unit) children scope) scope (ports_of context.unit) >>= λ front.
-      lower_variables (scope_drivers_by context (ports_of context.unit) children scope) scope context.unit.items >>= λ others. Ok (front ++ others)
+      lower_ports (scope_drivers_by context (ports_of context.unit) children scope) (port_scope context.unit scope) (ports_of context.unit) >>= λ front.
+      lower_variables (scope_drivers_by context (ports_of context.unit) children scope) scope (own_items context.unit) >>= λ others. Ok (front ++ others)
 
   driven_once : (part whole : Part) → lower_own context (ports_of context.unit) children scope part ≡ Ok whole → has_double (letters_of (driven_nets modules (instance_at context))) ≡ false
   driven_once part whole is =
@@ -79,6 +79,7 @@ module _ (modules : SourceTree) (top : Option Text) where
 
   drivers_told : (fault : ElabFault) → fault.rule ≡ Drivers → Told modules top fault → HasTwoDrivers modules top
   drivers_told fault rule (in_modules w again other) = absurd cc
+  drivers_told fault rule (in_ports m is other) = absurd (let no = sym (of_ports m fault.rule other) ∙ ap is_of_ports rule in cc)
   drivers_told fault rule (in_top missing other) = absurd cc
   drivers_told fault rule (in_hierarchy unit is_top err) = below_told fault unit is_top rule (top_told_below modules unit fault err)
   drivers_told fault rule (in_design unit part is_top ok broken) =

@@ -137,7 +137,7 @@ module _ (scope : Scope) where
       by false (Some amount) targets e = refl
 
   task_adds : (table : Table) (call : TaskTree) → Adds of_lowered table (paths_in_task scope.top call) (lower_task scope table call)
-  task_adds table (print kind arguments) = silent_adds of_lowered table [] (lower_line scope arguments) _ (λ pieces. acted table _)
+  task_adds table (print kind arguments) = silent_adds of_lowered table [] (lower_line scope kind arguments) _ (λ pieces. acted table _)
   task_adds table (dump_file letters) = acted table _
   task_adds table (dump_vars selection) = selection_adds table _ selection
   task_adds table (dump dumps.On) = acted table _
@@ -150,7 +150,7 @@ module _ (scope : Scope) where
   mutual
     statement_adds : (table : Table) (statement : StatementTree) → Adds of_lowered table (paths_by scope.top statement) (lower_statement scope table statement)
     statement_adds table empty = nothing_more table
-    statement_adds table (block statements) = all_add table statements
+    statement_adds table (block label statements) = all_add table statements
     statement_adds table (assign target amount value) = assignment_adds true table target amount value
     statement_adds table (nonblocking target amount value) = assignment_adds false table target amount value
     statement_adds table (trigger letters) = silent_adds of_lowered table [] (lower_event scope letters) _ (λ number. acted table _)

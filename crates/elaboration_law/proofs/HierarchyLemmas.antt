@@ -1,5 +1,6 @@
 -- The instances of a hierarchy: each of a text that has a design was elaborated, and a fault is that of one of them.
 use Rattle.std.proofs.Common.{◌≡◌, ℕ, zero, suc, ◌+◌, List, [], ◌∷◌, ◌++◌, map, length, Option, Some, None, Result, Ok, Err, refl, sym, ap, subst, ◌∙◌, ◌⊎◌, inl, inr, arith}
+use Rattle.std.specs.Prelude.{option_map}
 use Rattle.std.specs.List.{Contains, flat_map}
 use Rattle.std.proofs.lemmas.List.{map-append}
 use Rattle.vast.specs.Words.{Text}
@@ -10,15 +11,19 @@ use Rattle.vdesign.specs.Design.{Design}
 use Rattle.vmodules.specs.Names.{letters_of, first_again}
 use Rattle.vmodules.specs.Hierarchy.{module_names, module_of, top_of, rival_of}
 use Rattle.vmodules.specs.Ports.{ports_of}
+use Rattle.vmodules.specs.Misdeclared.{Misdeclared, misdeclared}
+use Rattle.vmodules.specs.declared.misdeclared.PortFlaw.{PortFlaw}
+use Rattle.vmodules.specs.declared.misdeclared.PortFlaw.TheVariants as flaw
 use Rattle.vmodules.specs.Connected.{open_names, misfit, misfit_if}
-use Rattle.velab_expr.specs.declared.fault.Rule.TheVariants.{Top, Doubled, Depth, TooMany, Ports}
+use Rattle.velab_expr.specs.declared.fault.Rule.{Rule}
+use Rattle.velab_expr.specs.declared.fault.Rule.TheVariants.{Top, Doubled, Unknown, Drivers, Ports, Width, Constant, Depth, TooMany, Kind}
 use Rattle.velab_expr.specs.declared.fault.ElabFault.{ElabFault}
 use Rattle.velab_expr.specs.Rules.{told}
 use Rattle.velab_expr.specs.Answers.{◌>>=◌, found}
 use Rattle.velab_expr.specs.Scopes.{Scope}
 use Rattle.velab_expr.specs.Symbols.{symbols_by}
 use Rattle.velab_declaration.specs.Variables.{port_names}
-use Rattle.vhierarchy.specs.Instances.{faultless, Instantiation, instantiation_by, lower_instance, lower_list, named_again, lower_instances_of, lower_instances_by, lower_instances, Part, Context, lower_names, lower_own, child_context, each, elaborate_instance, nothing, top_context, elaborate_top, design_by, broken_design, Whole, checked, whole_of, elaborated_whole, elaborated}
+use Rattle.vhierarchy.specs.Instances.{rule_of_port, broken_ports, unbroken, top_whole, faultless, Instantiation, instantiation_by, lower_instance, lower_list, named_again, lower_instances_of, lower_instances_by, lower_instances, Part, Context, lower_names, lower_own, child_context, each, elaborate_instance, nothing, top_context, elaborate_top, design_by, broken_design, Whole, checked, whole_of, elaborated_whole, elaborated}
 use Rattle.elaboration_law.specs.Hierarchy.{Instance, instance_by, instances_of, instances_by, instances_in, StandsBelow, top_instance}
 use Rattle.elaboration_law.proofs.StepLemmas.{same_value, then_ok, then_err, provided_ok, barring_ok, barring_err, found_ok, found_err, contains_first, contains_more, contains_none, contains_mapped, mapped_contains}
 
@@ -213,6 +218,7 @@ pub record Elaborated (modules : SourceTree) (top : Option Text) (scale : Timesc
   pub unit : ModuleTree
   pub part : Part
   pub modules_differ : first_again (module_names modules) ≡ None
+  pub ports_right : misdeclared modules ≡ None
   pub is_top : top_of modules top ≡ Some unit
   pub is_part : elaborate_top modules unit ≡ Ok part
   pub is_right : broken_design unit.name part ≡ None
@@ -221,6 +227,7 @@ pub record Elaborated (modules : SourceTree) (top : Option Text) (scale : Timesc
 -- or where the fault is told
 pub data Told (modules : SourceTree) (top : Option Text) (fault : ElabFault) : Type 0 where
   in_modules : (w : Word) → first_again (module_names modules) ≡ Some w → fault.rule ≡ Doubled → Told modules top fault
+  in_ports : (m : Misdeclared) → misdeclared modules ≡ Some m → rule_of_port m.flaw ≡ fault.rule → Told modules top fault
   in_top : top_of modules top ≡ None → fault.rule ≡ Top → Told modules top fault
   in_hierarchy : (unit : ModuleTree) → top_of modules top ≡ Some unit → elaborate_top modules unit ≡ Err fault → Told modules top fault
   in_design : (unit : ModuleTree) (part : Part) → top_of modules top ≡ Some unit → elaborate_top modules unit ≡ Ok part → broken_design unit.name part ≡ Some fault → Told modules top fault
@@ -236,26 +243,85 @@ faultless_err : {A : Type 0} (broken : Option ElabFault) (x : A) (fault : ElabFa
 faultless_err None x fault is = absurd cc
 faultless_err (Some f) x fault is = let same : f ≡ fault = cc in ap Some same
 
+-- what is told of ports that items declare, and of names of blocks
+ports_ok : {A : Type 0} (wrong : Option Misdeclared) (answer : Result A ElabFault) (x : A) →
+    unbroken (option_map (λ (m : Misdeclared). told (rule_of_port m.flaw) (Some m.word)) wrong) answer ≡ Ok x → (wrong ≡ None) × (answer ≡ Ok x)
+ports_ok None answer x is = (refl, is)
+ports_ok (Some m) answer x is = absurd cc
+
+ports_err : {A : Type 0} (wrong : Option Misdeclared) (answer : Result A ElabFault) (fault : ElabFault) →
+    unbroken (option_map (λ (m : Misdeclared). told (rule_of_port m.flaw) (Some m.word)) wrong) answer ≡ Err fault →
+    ((m : Misdeclared) × (wrong ≡ Some m) × (rule_of_port m.flaw ≡ fault.rule)) ⊎ (answer ≡ Err fault)
+ports_err None answer fault is = inr is
+ports_err (Some m) answer fault is =
+    let same : told (rule_of_port m.flaw) (Some m.word) ≡ fault = cc in inl (m, refl, ap (λ (f : ElabFault). f.rule) same)
+
+-- of other rules nothing is told there
+abbrev pub is_of_ports : Rule → Bool
+is_of_ports Top = false
+is_of_ports Doubled = true
+is_of_ports Unknown = true
+is_of_ports Drivers = false
+is_of_ports Ports = false
+is_of_ports Width = false
+is_of_ports Constant = false
+is_of_ports Depth = false
+is_of_ports TooMany = false
+is_of_ports Kind = true
+
+pub of_ports : (m : Misdeclared) (rule : Rule) → rule_of_port m.flaw ≡ rule → is_of_ports rule ≡ true
+of_ports m rule is = sym (ap is_of_ports is) ∙ by m.flaw
+  where
+    by : (f : PortFlaw) → is_of_ports (rule_of_port f) ≡ true
+    by flaw.Undeclared = refl
+    by flaw.Doubled = refl
+    by flaw.Input = refl
+
+-- and of these by one flaw each
+pub doubled_port : (f : PortFlaw) → rule_of_port f ≡ Doubled → f ≡ flaw.Doubled
+doubled_port flaw.Undeclared is = absurd cc
+doubled_port flaw.Doubled is = refl
+doubled_port flaw.Input is = absurd cc
+
+pub unknown_port : (f : PortFlaw) → rule_of_port f ≡ Unknown → f ≡ flaw.Undeclared
+unknown_port flaw.Undeclared is = refl
+unknown_port flaw.Doubled is = absurd cc
+unknown_port flaw.Input is = absurd cc
+
+pub input_port : (f : PortFlaw) → rule_of_port f ≡ Kind → f ≡ flaw.Input
+input_port flaw.Undeclared is = absurd cc
+input_port flaw.Doubled is = absurd cc
+input_port flaw.Input is = refl
+
 module _ (modules : SourceTree) (top : Option Text) (scale : Timescale) where
   abbrev topped : Result Whole ElabFault
-  topped = found (top_of modules top) Top (rival_of modules top) >>= λ m. whole_of modules m
+  topped = top_whole modules top
+
+  abbrev with_ports : Result Whole ElabFault
+  with_ports = unbroken (broken_ports modules) topped
 
   pub all_elaborated : (design : Design) → elaborated modules top scale ≡ Ok design → Elaborated modules top scale design
   all_elaborated design is =
       let whole = then_ok (elaborated_whole modules top) (λ whole. Ok (design_by scale whole.unit whole.part)) design is in
-      let differ = barring_ok (first_again (module_names modules)) Doubled topped whole.0 whole.1 in
-      let unit = then_ok (found (top_of modules top) Top (rival_of modules top)) (λ m. whole_of modules m) whole.0 differ.1 in
+      let differ = barring_ok (first_again (module_names modules)) Doubled with_ports whole.0 whole.1 in
+      let ports = ports_ok (misdeclared modules) topped whole.0 differ.1 in
+      let unit = then_ok (found (top_of modules top) Top (rival_of modules top)) (λ m. whole_of modules m) whole.0 ports.1 in
       let part = then_ok (elaborate_top modules unit.0) (λ p. checked unit.0 p) whole.0 unit.2 in
       let right = faultless_ok (broken_design unit.0.name part.0) (record { unit = unit.0; part = part.0 }) whole.0 part.2 in
       record {
         unit = unit.0;
         part = part.0;
         modules_differ = differ.0;
+        ports_right = ports.0;
         is_top = found_ok (top_of modules top) Top (rival_of modules top) unit.0 unit.1;
         is_part = part.1;
         is_right = right.0;
         is_design = same_design scale whole.0 (record { unit = unit.0; part = part.0 }) design right.1 whole.2;
       }
+
+  -- in a text that has a design nothing is wrong with ports
+  pub ports_never : (design : Design) (m : Misdeclared) → elaborated modules top scale ≡ Ok design → misdeclared modules ≡ Some m → ⊥
+  ports_never design m is wrong = let no : None ≡ Some m = sym (all_elaborated design is).ports_right ∙ wrong in cc
 
   module _ (fault : ElabFault) where
     checked_told : (unit : ModuleTree) → top_of modules top ≡ Some unit →
@@ -269,12 +335,16 @@ module _ (modules : SourceTree) (top : Option Text) (scale : Timescale) where
     top_told (inr (unit, ok, err)) =
         checked_told unit (found_ok (top_of modules top) Top (rival_of modules top) unit ok) (then_err (elaborate_top modules unit) (λ p. checked unit p) fault err)
 
-    modules_told : ((w : Word) × (first_again (module_names modules) ≡ Some w) × (fault.rule ≡ Doubled)) ⊎ ((first_again (module_names modules) ≡ None) × (topped ≡ Err fault)) → Told modules top fault
+    ports_told : ((m : Misdeclared) × (misdeclared modules ≡ Some m) × (rule_of_port m.flaw ≡ fault.rule)) ⊎ (topped ≡ Err fault) → Told modules top fault
+    ports_told (inl (m, is, rule)) = in_ports m is rule
+    ports_told (inr err) = top_told (then_err (found (top_of modules top) Top (rival_of modules top)) (λ m. whole_of modules m) fault err)
+
+    modules_told : ((w : Word) × (first_again (module_names modules) ≡ Some w) × (fault.rule ≡ Doubled)) ⊎ ((first_again (module_names modules) ≡ None) × (with_ports ≡ Err fault)) → Told modules top fault
     modules_told (inl (w, again, rule)) = in_modules w again rule
-    modules_told (inr (differ, err)) = top_told (then_err (found (top_of modules top) Top (rival_of modules top)) (λ m. whole_of modules m) fault err)
+    modules_told (inr (differ, err)) = ports_told (ports_err (misdeclared modules) topped fault err)
 
     whole_told : (elaborated_whole modules top ≡ Err fault) ⊎ ((whole : Whole) × (elaborated_whole modules top ≡ Ok whole) × (Ok (design_by scale whole.unit whole.part) ≡ Err fault)) → Told modules top fault
-    whole_told (inl err) = modules_told (barring_err (first_again (module_names modules)) Doubled topped fault err)
+    whole_told (inl err) = modules_told (barring_err (first_again (module_names modules)) Doubled with_ports fault err)
     whole_told (inr (whole, ok, err)) = absurd cc
 
     pub fault_told : elaborated modules top scale ≡ Err fault → Told modules top fault

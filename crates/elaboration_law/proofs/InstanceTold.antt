@@ -6,9 +6,9 @@ use Rattle.vast.specs.Words.{Text}
 use Rattle.vast.specs.NumberedWords.{Word}
 use Rattle.vast.specs.NumberedExpressions as text
 use Rattle.vast.specs.NumberedModules.{ConnectionsTree, InstanceTree, ItemTree, parameters, declaration, events, assignments, initial, always, instances, ModuleTree, SourceTree}
-use Rattle.vmodules.specs.Names.{letters_of, first_again}
+use Rattle.vmodules.specs.Names.{is_declared, letters_of, first_again}
 use Rattle.vmodules.specs.Hierarchy.{module_of}
-use Rattle.vmodules.specs.Ports.{Port, ports_of}
+use Rattle.vmodules.specs.Ports.{Port, plain_names, is_plain_list, own_items, ports_of}
 use Rattle.vmodules.specs.Connected.{NamedConnection, open_names, misfit, misfit_if, value_for}
 use Rattle.vdesign.specs.Design.{Variable}
 use Rattle.vvalue.specs.Value.{Environment}
@@ -18,11 +18,11 @@ use Rattle.velab_expr.specs.declared.fault.ElabFault.{ElabFault}
 use Rattle.velab_expr.specs.Answers.{◌>>=◌, provided}
 use Rattle.velab_expr.specs.Constants.{nothing}
 use Rattle.velab_expr.specs.Resolved.{lower_expression}
-use Rattle.velab_expr.specs.Scopes.{Scope, lower_variable}
+use Rattle.velab_expr.specs.Scopes.{Scope, at, lower_variable}
 use Rattle.velab_expr.specs.Symbols.{symbols_by}
 use Rattle.velab_declaration.specs.ActionFlaws.{action_flaw, blank_environment}
 use Rattle.velab_declaration.specs.Parameters.{item_scope}
-use Rattle.velab_declaration.specs.Variables.{port_declaration, declarations, port_names, declared_names, ScopeDrivers, lower_ports, lower_variables}
+use Rattle.velab_declaration.specs.Variables.{port_declaration, declarations, port_names, declared_names, ScopeDrivers, port_scope, lower_ports, lower_variables}
 use Rattle.velab_process.specs.Statements.{Table}
 use Rattle.velab_process.specs.Processes.{Processes, with_begins_before, lower_items}
 use Rattle.velab_process.specs.Connections.{only_name, lower_input, lower_output, lower_connection, lower_join, lower_joins}
@@ -216,17 +216,27 @@ module _ (part : Part) (context : Context) (outside : Text → Worth) (round : I
       abbrev drivers : ScopeDrivers
       drivers = scope_drivers_by context (ports_of context.unit) children scope
 
+      abbrev at_ports : Scope
+      at_ports = port_scope context.unit scope
+
+      worth_there : AreWorth true nothing at_ports constants
+      worth_there = by (is_plain_list context.unit.ports)
+        where
+          by : (b : Bool) → AreWorth true nothing (if b then at scope (length scope.others) else scope) constants
+          by true = record { of_parameter = worth.agrees.of_parameter; of_variable = worth.agrees.of_variable }
+          by false = worth.agrees
+
       undriven_judged : Judges is_width is_ranged (undriven_variables context children scope)
       undriven_judged =
-          two_judge is_width (list_all (is_port_ranged constants) (ports_of context.unit)) (list_all (is_item_ranged constants) context.unit.items) (lower_ports drivers scope (ports_of context.unit)) _
-          (ports_judged constants worth.vectors drivers scope worth.agrees (ports_of context.unit)) (λ front.
-          last_judges is_width (list_all (is_item_ranged constants) context.unit.items) (lower_variables drivers scope context.unit.items) _
-          (items_judged constants worth.vectors drivers scope worth.agrees context.unit.items) (λ others. refl))
+          two_judge is_width (list_all (is_port_ranged constants) (ports_of context.unit)) (list_all (is_item_ranged constants) context.unit.items) (lower_ports drivers at_ports (ports_of context.unit)) _
+          (ports_judged constants worth.vectors drivers at_ports worth_there (ports_of context.unit)) (λ front.
+          last_judges is_width (list_all (is_item_ranged constants) context.unit.items) (lower_variables drivers scope (own_items context.unit)) _
+          (items_judged constants worth.vectors drivers (is_declared (letters_of (plain_names context.unit.ports))) scope worth.agrees context.unit.items) (λ others. refl))
 
       all_declared : AreDeclared constants drivers (all_in context.unit) (undriven_variables context children scope)
       all_declared =
-          both_declared constants drivers (map port_declaration (ports_of context.unit)) (declarations context.unit) (lower_ports drivers scope (ports_of context.unit)) (lower_variables drivers scope context.unit.items)
-          (ports_declared constants drivers worth.vectors scope worth.agrees (ports_of context.unit)) (items_declared constants drivers worth.vectors scope worth.agrees context.unit.items)
+          both_declared constants drivers (map port_declaration (ports_of context.unit)) (declarations context.unit) (lower_ports drivers at_ports (ports_of context.unit)) (lower_variables drivers scope (own_items context.unit))
+          (ports_declared constants drivers worth.vectors at_ports worth_there (ports_of context.unit)) (items_declared constants drivers worth.vectors scope worth.agrees (own_items context.unit))
 
       module _ (vs : List Variable) (variables_are : lower_own_variables context (ports_of context.unit) children scope ≡ Ok vs) where
         undriven_are : undriven_variables context children scope ≡ Ok vs

@@ -5,34 +5,36 @@ use Rattle.std.proofs.lemmas.List.{append-nil}
 use Rattle.vast.specs.Words.{Text}
 use Rattle.vast.specs.NumberedWords.{Word}
 use Rattle.vast.specs.NumberedExpressions as text
-use Rattle.vast.specs.NumberedModules.{ConnectionsTree, InstanceTree, ParameterType, integer, typed, DeclarationKind, variables, integers, ItemTree, parameters, declaration, events, assignments, initial, always, instances, ModuleTree, SourceTree}
+use Rattle.vast.specs.NumberedModules.{ConnectionsTree, InstanceTree, ParameterType, integer, typed, DeclarationKind, variables, integers, directed, ItemTree, parameters, declaration, events, assignments, initial, always, instances, ModuleTree, SourceTree}
 use Rattle.vmodules.specs.Names.{is_declared, letters_of, first_again}
 use Rattle.vmodules.specs.Hierarchy.{module_of}
-use Rattle.vmodules.specs.Ports.{Port, ports_of}
+use Rattle.vmodules.specs.Ports.{Second, Port, type_in, plain_names, is_plain_list, own_item, own_items, ports_of}
 use Rattle.vmodules.specs.Connected.{NamedConnection, open_names, misfit, misfit_if, value_for}
 use Rattle.velab_expr.specs.declared.fault.Rule.{Rule}
-use Rattle.velab_expr.specs.declared.fault.Rule.TheVariants.{Top, Doubled, Drivers, Ports, Depth, TooMany}
+use Rattle.velab_expr.specs.declared.fault.Rule.TheVariants.{Top, Doubled, Drivers, Ports, Width, Depth, TooMany}
 use Rattle.velab_expr.specs.declared.fault.ElabFault.{ElabFault}
 use Rattle.velab_expr.specs.declared.scope.Meaning.TheVariants.{Event}
 use Rattle.velab_expr.specs.Answers.{◌>>=◌, required, provided}
-use Rattle.velab_expr.specs.Scopes.{Scope, lower_variable}
+use Rattle.vdesign.specs.declared.expression.Bounds.{Bounds}
+use Rattle.velab_expr.specs.Scopes.{Scope, at, lower_variable}
 use Rattle.velab_expr.specs.Ranges.{lower_bounds}
 use Rattle.velab_expr.specs.Resolved.{lower_constant, lower_expression}
 use Rattle.velab_expr.specs.Symbols.{Symbol, parameter_symbol, event_symbol, instance_symbol, name_in, valueless_by, symbols_in_head, symbols_by, behind_item}
 use Rattle.velab_declaration.specs.Parameters.{Overrides, Base, lower_type, lower_parameter_value, lower_setting, lower_meaning, with_meaning, add_symbol, add_symbols, first_scope, item_scope}
-use Rattle.velab_declaration.specs.Variables.{port_names, declared_names, ScopeDrivers, lower_kind, lower_declaration, lower_variables, lower_port, lower_ports}
+use Rattle.velab_declaration.specs.Variables.{port_names, declared_names, ScopeDrivers, lower_kind, lower_declaration, lower_variables, same_bounds, lower_again, lower_port, port_scope, lower_ports}
 use Rattle.velab_process.specs.Statements.{Table}
 use Rattle.velab_process.specs.Processes.{Processes, process_trees_by, lower_processes, lower_items, with_begins_before}
 use Rattle.velab_process.specs.Connections.{only_name, lower_input, lower_output, lower_connection, lower_join, lower_joins}
 use Rattle.vhierarchy.specs.Instances.{barring, Instantiation, instantiation_by, lower_instance, lower_list, named_again, lower_instances_of, lower_instances_by, lower_instances, driven_by, scope_drivers_by, lower_own_variables, lower_own_processes, with_own, few_enough, lower_own, base_of, lower_names, Part, Context, has_room}
 use Rattle.elaboration_law.specs.Uses.{Use, Read, Driven, use_of, used_in, used_in_range}
-use Rattle.elaboration_law.specs.Places.{Place, UseAt, at_place, all_fit, variables_of, place_behind, place_after, used_in_type, used_outside, used_by_output, used_at_port, used_if_connected, used_in_kind, used_in_declaration, used_in_processes, used_in_symbol, used_in_symbols, used_in_port, used_in_connection, used_by_items, used_in_instance}
+use Rattle.elaboration_law.specs.Places.{Place, UseAt, at_place, all_fit, variables_of, place_behind, place_after, used_in_type, used_outside, used_by_output, used_at_port, used_if_connected, used_in_kind, used_in_declaration, used_in_processes, used_in_symbol, used_in_symbols, used_again, port_place, used_in_port, used_in_connection, used_by_items, used_in_instance}
 use Rattle.elaboration_law.proofs.HierarchyLemmas.{Own, OwnFault, in_names, in_instances, in_own}
 use Rattle.elaboration_law.proofs.UseLemmas.{Judges, Question, Fits, then_judges, known_judges, nothing_more, last_judges, required_judges, provided_judges, barring_judges}
 use Rattle.elaboration_law.proofs.ExpressionUses.{constant_knows, bounds_know, driven_knows, expression_knows}
 use Rattle.elaboration_law.proofs.StatementUses.{processes_know}
 use Rattle.elaboration_law.proofs.NameRules.{names_added}
-use Rattle.elaboration_law.proofs.PlaceLemmas.{IsAt, Grown, grown_at, firm_by, firm_behind, first_grown, symbol_makes, symbol_grown, symbols_grown, Stands, stands_at, stands_on, names_stand}
+use Rattle.elaboration_law.proofs.PlaceLemmas.{IsAt, Grown, grown_at, firm_by, firm_behind, first_grown, symbol_makes, symbol_grown, symbols_grown, Stands, stands_at, stands_on, stands_last, names_stand}
+use Rattle.elaboration_law.proofs.AgainLemmas.{same_behind}
 
 -- a rule about what is used, that no other step tells
 pub record UseRule : Type 1 where
@@ -47,6 +49,7 @@ pub record UseRule : Type 1 where
   pub no_ports : question.asked Ports ≡ false
   pub no_depth : question.asked Depth ≡ false
   pub no_many : question.asked TooMany ≡ false
+  pub no_width : question.asked Width ≡ false
 
 -- the answer is one only where all of these fit, and a fault of the rule only where one doesn't
 abbrev pub Judged : {A : Type 0} → UseRule → List UseAt → Result A ElabFault → Type 0
@@ -131,6 +134,9 @@ module _ (r : UseRule) where
   kind_judged place scope (variables word type) h =
       last (at_place place (used_in_range type.range)) (lower_bounds scope type.range) _ (judged_by place scope (used_in_range type.range) (lower_bounds scope type.range) h (bounds_know r.question scope type.range)) (λ bounds. refl)
   kind_judged place scope integers h = refl
+  kind_judged place scope (directed direction) h =
+      let range = (type_in direction).range in
+      last (at_place place (used_in_range range)) (lower_bounds scope range) _ (judged_by place scope (used_in_range range) (lower_bounds scope range) h (bounds_know r.question scope range)) (λ bounds. refl)
 
   declaration_judged : (drivers : ScopeDrivers) (place : Place) (scope : Scope) (item : ItemTree) → IsAt place scope → Judged r (at_place place (used_in_declaration item)) (lower_declaration drivers scope item)
   declaration_judged drivers place scope (parameters local type settings) h = refl
@@ -145,13 +151,28 @@ module _ (r : UseRule) where
   begun_judged uses before a h = last uses a _ h (λ processes. refl)
 
   module _ (m : ModuleTree) where
-    variables_judged : (drivers : ScopeDrivers) (scope : Scope) (before items : List ItemTree) → Stands m before items scope → Judged r (used_by_items m used_in_declaration before items) (lower_variables drivers scope items)
-    variables_judged drivers scope before [] s = refl
-    variables_judged drivers scope before (item ∷ more) s =
-        both (at_place (place_behind m before) (used_in_declaration item)) (used_by_items m used_in_declaration (before ++ item ∷ []) more) (lower_declaration drivers scope item) _
-        (declaration_judged drivers (place_behind m before) scope item (stands_at m before (item ∷ more) scope s)) (λ front.
-        last (used_by_items m used_in_declaration (before ++ item ∷ []) more) (lower_variables drivers (behind_item scope item) more) _
-        (variables_judged drivers (behind_item scope item) (before ++ item ∷ []) more (stands_on m before more item scope s)) (λ others. refl))
+    -- without the names of ports an item uses the same
+    same_uses : (is_port : Text → Bool) (item : ItemTree) → used_in_declaration (own_item is_port item) ≡ used_in_declaration item
+    same_uses is_port (parameters local type settings) = refl
+    same_uses is_port (declaration kind list) = refl
+    same_uses is_port (events names) = refl
+    same_uses is_port (assignments settings) = refl
+    same_uses is_port (initial statement) = refl
+    same_uses is_port (always statement) = refl
+    same_uses is_port (instances letters overrides list) = refl
+
+    variables_judged : (is_port : Text → Bool) (drivers : ScopeDrivers) (scope : Scope) (before items : List ItemTree) → Stands m before items scope →
+        Judged r (used_by_items m used_in_declaration before items) (lower_variables drivers scope (map (own_item is_port) items))
+    variables_judged is_port drivers scope before [] s = refl
+    variables_judged is_port drivers scope before (item ∷ more) s =
+        let own = own_item is_port item in
+        let others = map (own_item is_port) more in
+        both (at_place (place_behind m before) (used_in_declaration item)) (used_by_items m used_in_declaration (before ++ item ∷ []) more) (lower_declaration drivers scope own) _
+        (subst (λ (l : List Use). Judged r (at_place (place_behind m before) l) (lower_declaration drivers scope own)) (same_uses is_port item)
+        (declaration_judged drivers (place_behind m before) scope own (stands_at m before (item ∷ more) scope s))) (λ front.
+        last (used_by_items m used_in_declaration (before ++ item ∷ []) more) (lower_variables drivers (behind_item scope own) others) _
+        (subst (λ (x : Scope). Judged r (used_by_items m used_in_declaration (before ++ item ∷ []) more) (lower_variables drivers x others)) (sym (same_behind is_port scope item))
+        (variables_judged is_port drivers (behind_item scope item) (before ++ item ∷ []) more (stands_on m before more item scope s))) (λ vs. refl))
 
     items_judged : (scope : Scope) (table : Table) (before items : List ItemTree) → Stands m before items scope → Judged r (used_by_items m used_in_processes before items) (lower_items scope table items)
     items_judged scope table before [] s = refl
@@ -162,11 +183,26 @@ module _ (r : UseRule) where
         begun_judged (used_by_items m used_in_processes (before ++ item ∷ []) more) front.begins (lower_items (behind_item scope item) front.table more)
         (items_judged (behind_item scope item) front.table (before ++ item ∷ []) more (stands_on m before more item scope s)))
 
-    ports_judged : (drivers : ScopeDrivers) (scope : Scope) (ports : List Port) → IsAt (place_behind m []) scope → Judged r (flat_map (used_in_port m) ports) (lower_ports drivers scope ports)
+    again_judged : (scope : Scope) (again : Option Second) (bounds : Option Bounds) → IsAt (port_place m) scope → Judged r (at_place (port_place m) (used_again again)) (lower_again scope again bounds)
+    again_judged scope None bounds h = refl
+    again_judged scope (Some second) bounds h =
+        let range = second.type.range in
+        last (at_place (port_place m) (used_in_range range)) (lower_bounds scope range) _
+        (judged_by (port_place m) scope (used_in_range range) (lower_bounds scope range) h (bounds_know r.question scope range)) (λ other.
+        required_judges asked (same_bounds bounds other) Width (Some second.name) bounds r.no_width)
+
+    port_judged : (drivers : ScopeDrivers) (scope : Scope) (p : Port) → IsAt (port_place m) scope → Judged r (used_in_port m p) (lower_port drivers scope p)
+    port_judged drivers scope p h =
+        let range = p.type.range in
+        both (at_place (port_place m) (used_in_range range)) (at_place (port_place m) (used_again p.again)) (lower_bounds scope range) _
+        (judged_by (port_place m) scope (used_in_range range) (lower_bounds scope range) h (bounds_know r.question scope range)) (λ bounds.
+        last (at_place (port_place m) (used_again p.again)) (lower_again scope p.again bounds) _ (again_judged scope p.again bounds h) (λ whole. refl))
+
+    ports_judged : (drivers : ScopeDrivers) (scope : Scope) (ports : List Port) → IsAt (port_place m) scope → Judged r (flat_map (used_in_port m) ports) (lower_ports drivers scope ports)
     ports_judged drivers scope [] h = refl
     ports_judged drivers scope (p ∷ more) h =
         both (used_in_port m p) (flat_map (used_in_port m) more) (lower_port drivers scope p) _
-        (last (used_in_port m p) (lower_bounds scope p.type.range) _ (judged_by (place_behind m []) scope (used_in_range p.type.range) (lower_bounds scope p.type.range) h (bounds_know r.question scope p.type.range)) (λ bounds. refl)) (λ one.
+        (port_judged drivers scope p h) (λ one.
         last (flat_map (used_in_port m) more) (lower_ports drivers scope more) _ (ports_judged drivers scope more h) (λ others. refl))
 
   -- ---- connections
@@ -327,13 +363,22 @@ module _ (r : UseRule) where
       at_first : IsAt (place_behind context.unit []) scope
       at_first = stands_at context.unit [] context.unit.items scope s
 
+      -- 12.3.2: the ports that items declare stand behind these
+      at_ports : IsAt (port_place context.unit) (port_scope context.unit scope)
+      at_ports = by (is_plain_list context.unit.ports)
+        where
+          by : (b : Bool) → IsAt (place_behind context.unit (if b then context.unit.items else [])) (if b then at scope (length scope.others) else scope)
+          by true = stands_last context.unit scope s
+          by false = at_first
+
       own_variables_judged : Judged r in_variables (lower_own_variables context ports children scope)
       own_variables_judged =
           let in_ports = flat_map (used_in_port context.unit) ports in
           let in_declarations = used_by_items context.unit used_in_declaration [] context.unit.items in
           barring_judges asked (all_fit r.fits in_variables) (first_again (driven_by context ports children scope)) Drivers _ r.no_drivers
-          (both in_ports in_declarations (lower_ports drivers scope ports) _ (ports_judged context.unit drivers scope ports at_first) (λ front.
-          last in_declarations (lower_variables drivers scope context.unit.items) _ (variables_judged context.unit drivers scope [] context.unit.items s) (λ others. refl)))
+          (both in_ports in_declarations (lower_ports drivers (port_scope context.unit scope) ports) _ (ports_judged context.unit drivers (port_scope context.unit scope) ports at_ports) (λ front.
+          last in_declarations (lower_variables drivers scope (own_items context.unit)) _
+          (variables_judged context.unit (is_declared (letters_of (plain_names context.unit.ports))) drivers scope [] context.unit.items s) (λ others. refl)))
 
       own_processes_judged : Judged r (in_connections ++ in_items) (lower_own_processes context ports scope part.table)
       own_processes_judged =

@@ -1,26 +1,28 @@
 -- Sizes in what an instance declares: what its scope says that names are worth, and the ranges of its ports and its variables.
-use Rattle.std.proofs.Common.{◌≡◌, ℕ, ◌+◌, nat_lt, Bool, true, false, if◌then◌else◌, List, [], ◌∷◌, ◌++◌, position, option_and_then, Option, None, Some, Result, Ok, Err, refl, subst, arith}
+use Rattle.std.proofs.Common.{◌≡◌, ℕ, ◌+◌, nat_lt, Bool, true, false, if◌then◌else◌, List, [], ◌∷◌, ◌++◌, position, option_and_then, Option, None, Some, Result, Ok, Err, refl, sym, ap, map, ◌&&◌, subst, arith}
 use Rattle.std.specs.List.{list_all, flat_map}
 use Rattle.std.specs.Str.{bytes_eq}
 use Rattle.std.proofs.lemmas.List.{length-map}
 use Rattle.vast.specs.Words.{Text}
 use Rattle.vast.specs.NumberedWords.{Word}
-use Rattle.vast.specs.NumberedModules.{RangeTree, DeclarationKind, variables, integers, ItemTree, parameters, declaration, events, assignments, initial, always, instances, ModuleTree}
+use Rattle.vast.specs.NumberedModules.{RangeTree, DeclarationKind, variables, integers, directed, ItemTree, parameters, declaration, events, assignments, initial, always, instances, ModuleTree}
 use Rattle.vdesign.specs.declared.expression.Bounds.{Bounds}
-use Rattle.vmodules.specs.Ports.{Port}
+use Rattle.vmodules.specs.Ports.{Second, Port, type_in, own_item}
 use Rattle.velab_expr.specs.declared.fault.ElabFault.{ElabFault}
 use Rattle.velab_expr.specs.declared.scope.Meaning.{Meaning}
 use Rattle.velab_expr.specs.declared.scope.Meaning.TheVariants.{Variable, Parameter, Event, Instance}
-use Rattle.velab_expr.specs.Answers.{◌>>=◌}
+use Rattle.velab_expr.specs.declared.fault.Rule.TheVariants.{Width}
+use Rattle.velab_expr.specs.Answers.{◌>>=◌, required}
 use Rattle.velab_expr.specs.Scopes.{Scope, at, meaning_at, meaning_of}
 use Rattle.velab_expr.specs.Constants.{nothing}
 use Rattle.velab_expr.specs.Ranges.{lower_bounds}
 use Rattle.velab_expr.specs.Symbols.{Symbol, symbols_in_head, symbols_by, valueless_by, behind_item}
 use Rattle.velab_declaration.specs.Parameters.{Overrides, Base, add_symbol, add_symbols, first_scope, item_scope}
-use Rattle.velab_declaration.specs.Variables.{declared_names, ScopeDrivers, lower_port, lower_ports, lower_kind, lower_declaration, lower_variables}
+use Rattle.velab_declaration.specs.Variables.{declared_names, ScopeDrivers, form_of, variable_in, same_bounds, lower_again, lower_port, lower_ports, lower_kind, lower_declaration, lower_variables}
 use Rattle.elaboration_law.specs.Places.{symbols_of}
 use Rattle.elaboration_law.specs.Widths.{Worth, is_range}
-use Rattle.elaboration_law.specs.Worths.{nothing_known, worths_in, are_set_in, range_of_kind, is_port_ranged, is_item_ranged}
+use Rattle.elaboration_law.specs.Worths.{nothing_known, worths_in, are_set_in, bounds_by, range_of_kind, is_again, is_port_ranged, is_item_ranged}
+use Rattle.elaboration_law.proofs.AgainLemmas.{same_range}
 use Rattle.elaboration_law.proofs.UseLemmas.{Judges, last_judges, then_judges, one_judges}
 use Rattle.elaboration_law.proofs.SizeLemmas.{AreVectors, none_sized}
 use Rattle.elaboration_law.proofs.ExpressionWidths.{is_width, AreWorth, IsRange, bounds_sizes}
@@ -126,9 +128,41 @@ module _ (named : Text → Worth) (vectors : AreVectors named) (drivers : ScopeD
       by (Ok bounds) k = k.1
       by (Err fault) k = k
 
+  -- where the first of two holds, the second tells
+  ranged_first : {A : Type 0} (b c : Bool) (a : Result A ElabFault) → b ≡ true → Judges is_width c a → Judges is_width (b && c) a
+  ranged_first b c a is h = subst (λ (x : Bool). Judges is_width (x && c) a) (sym is) h
+
+  same_judged : (holds : Bool) (word : Option Word) (bounds : Option Bounds) → Judges is_width holds (required holds Width word bounds)
+  same_judged true word bounds = refl
+  same_judged false word bounds = λ width. refl
+
+  -- 12.3.3: a port that is declared again
+  again_judged : (scope : Scope) → AreWorth true nothing scope named → (range : Option RangeTree) (again : Option Second) (bounds : Option Bounds) → bounds ≡ bounds_by named range →
+      Judges is_width (is_again named range again) (lower_again scope again bounds)
+  again_judged scope h range None bounds is = refl
+  again_judged scope h range (Some second) bounds is = by (lower_bounds scope second.type.range) (bounds_sizes scope named vectors h second.type.range)
+    where
+      same : Bool
+      same = same_bounds (bounds_by named range) (bounds_by named second.type.range)
+
+      by : (a : Result (Option Bounds) ElabFault) → IsRange named second.type.range (is_range named second.type.range) a →
+          Judges is_width (is_range named second.type.range && same) (a >>= λ other. required (same_bounds bounds other) Width (Some second.name) bounds)
+      by (Ok other) k =
+          ranged_first (is_range named second.type.range) same _ k.1
+          (subst (λ (b : Bool). Judges is_width b (required (same_bounds bounds other) Width (Some second.name) bounds)) (λ i. same_bounds (is i) (k.0 i))
+          (same_judged (same_bounds bounds other) (Some second.name) bounds))
+      by (Err fault) k = λ width. ap (λ (b : Bool). b && same) (k width)
+
   port_judged : (scope : Scope) → AreWorth true nothing scope named → (p : Port) → Judges is_width (is_port_ranged named p) (lower_port drivers scope p)
-  port_judged scope h p =
-      last_judges is_width (is_port_ranged named p) (lower_bounds scope p.type.range) _ (range_judged scope h p.type.range) (λ bounds. refl)
+  port_judged scope h p = by (lower_bounds scope p.type.range) (bounds_sizes scope named vectors h p.type.range)
+    where
+      by : (a : Result (Option Bounds) ElabFault) → IsRange named p.type.range (is_range named p.type.range) a →
+          Judges is_width (is_port_ranged named p)
+          (a >>= λ bounds. lower_again scope p.again bounds >>= λ whole. Ok (variable_in drivers (form_of p.net p.type.signed whole) p.name.letters))
+      by (Ok bounds) k =
+          ranged_first (is_range named p.type.range) (is_again named p.type.range p.again) _ k.1
+          (last_judges is_width (is_again named p.type.range p.again) (lower_again scope p.again bounds) _ (again_judged scope h p.type.range p.again bounds k.0) (λ whole. refl))
+      by (Err fault) k = λ width. ap (λ (b : Bool). b && is_again named p.type.range p.again) (k width)
 
   pub ports_judged : (scope : Scope) → AreWorth true nothing scope named → (list : List Port) → Judges is_width (list_all (is_port_ranged named) list) (lower_ports drivers scope list)
   ports_judged scope h [] = refl
@@ -140,6 +174,8 @@ module _ (named : Text → Worth) (vectors : AreVectors named) (drivers : ScopeD
   kind_judged : (scope : Scope) → AreWorth true nothing scope named → (kind : DeclarationKind) → Judges is_width (is_range named (range_of_kind kind)) (lower_kind scope kind)
   kind_judged scope h (variables word type) = last_judges is_width (is_range named type.range) (lower_bounds scope type.range) _ (range_judged scope h type.range) (λ bounds. refl)
   kind_judged scope h integers = refl
+  kind_judged scope h (directed direction) =
+      last_judges is_width (is_range named (type_in direction).range) (lower_bounds scope (type_in direction).range) _ (range_judged scope h (type_in direction).range) (λ bounds. refl)
 
   item_judged : (scope : Scope) → AreWorth true nothing scope named → (item : ItemTree) → Judges is_width (is_item_ranged named item) (lower_declaration drivers scope item)
   item_judged scope h (parameters local type settings) = refl
@@ -150,10 +186,14 @@ module _ (named : Text → Worth) (vectors : AreVectors named) (drivers : ScopeD
   item_judged scope h (always statement) = refl
   item_judged scope h (instances name overrides list) = refl
 
-  pub items_judged : (scope : Scope) → AreWorth true nothing scope named → (items : List ItemTree) → Judges is_width (list_all (is_item_ranged named) items) (lower_variables drivers scope items)
-  items_judged scope h [] = refl
-  items_judged scope h (item ∷ more) =
-      then_judges is_width (is_item_ranged named) (item ∷ []) more (lower_declaration drivers scope item) _
-      (one_judges is_width (is_item_ranged named) item (lower_declaration drivers scope item) (item_judged scope h item)) (λ front.
-      last_judges is_width (list_all (is_item_ranged named) more) (lower_variables drivers (behind_item scope item) more) _
-      (items_judged (behind_item scope item) (record { of_parameter = h.of_parameter; of_variable = h.of_variable }) more) (λ others. refl))
+  pub items_judged : (is_port : Text → Bool) (scope : Scope) → AreWorth true nothing scope named → (items : List ItemTree) →
+      Judges is_width (list_all (is_item_ranged named) items) (lower_variables drivers scope (map (own_item is_port) items))
+  items_judged is_port scope h [] = refl
+  items_judged is_port scope h (item ∷ more) =
+      let own = own_item is_port item in
+      let others = map (own_item is_port) more in
+      then_judges is_width (is_item_ranged named) (item ∷ []) more (lower_declaration drivers scope own) _
+      (one_judges is_width (is_item_ranged named) item (lower_declaration drivers scope own)
+      (subst (λ (b : Bool). Judges is_width b (lower_declaration drivers scope own)) (same_range named is_port item) (item_judged scope h own))) (λ front.
+      last_judges is_width (list_all (is_item_ranged named) more) (lower_variables drivers (behind_item scope own) others) _
+      (items_judged is_port (behind_item scope own) (record { of_parameter = h.of_parameter; of_variable = h.of_variable }) more) (λ vs. refl))

@@ -11,13 +11,13 @@ use Rattle.vbits.specs.declared.bit4.Bit4.TheVariants.{X}
 use Rattle.vbits.specs.Vectors.{Vector, filled}
 use Rattle.vast.specs.Words.{Text}
 use Rattle.vast.specs.NumberedWords.{Word}
-use Rattle.vast.specs.NumberedModules.{RangeTree, variables, integers, DeclaredTree, ItemTree, parameters, declaration, events, assignments, initial, always, instances, ModuleTree}
+use Rattle.vast.specs.NumberedModules.{RangeTree, variables, integers, directed, DeclaredTree, ItemTree, parameters, declaration, events, assignments, initial, always, instances, ModuleTree}
 use Rattle.vdesign.specs.Design as design
 use Rattle.vdesign.specs.declared.design.Kind.{Kind}
 use Rattle.vdesign.specs.declared.design.Kind.TheVariants.{Reg, Integer, Wire}
 use Rattle.vdesign.specs.declared.expression.Bounds.{Bounds}
 use Rattle.vvalue.specs.Value.{value_at, bounds_of}
-use Rattle.vmodules.specs.Ports.{Port, ports_of}
+use Rattle.vmodules.specs.Ports.{Port, plain_names, own_item, ports_of}
 use Rattle.velab_expr.specs.declared.scope.Meaning.TheVariants.{Variable, Parameter}
 use Rattle.velab_expr.specs.Scopes.{Scope, meaning_of, bounds_for}
 use Rattle.velab_expr.specs.Constants.{nothing}
@@ -26,15 +26,16 @@ use Rattle.velab_declaration.specs.ActionFlaws.{blank_environment}
 use Rattle.velab_declaration.specs.Variables.{Declaration, all_declared, kind_of, declarations_of, declarations, port_declaration, port_names, length_of, ScopeDrivers}
 use Rattle.elaboration_law.specs.Places.{variables_of}
 use Rattle.elaboration_law.specs.Doubles.{other_names}
-use Rattle.vmodules.specs.Names.{letters_of}
+use Rattle.vmodules.specs.Names.{is_declared, letters_of}
 use Rattle.elaboration_law.specs.Widths.{Worth, selected_by, is_bound, is_range}
-use Rattle.elaboration_law.specs.Worths.{bounds_by, is_port_ranged, is_item_ranged, are_ranged, declared_worth}
+use Rattle.elaboration_law.specs.Worths.{bounds_by, is_again, is_port_ranged, is_item_ranged, are_ranged, declared_worth}
 use Rattle.elaboration_law.specs.WrongWidths.{with_variables}
 use Rattle.elaboration_law.proofs.ConstantUses.{within}
 use Rattle.elaboration_law.proofs.PlaceLemmas.{got_behind, IsOf}
 use Rattle.elaboration_law.proofs.SizeLemmas.{IsSize, AreVectors}
 use Rattle.elaboration_law.proofs.ExpressionWidths.{is_within, AreWorth}
 use Rattle.elaboration_law.proofs.ParameterWidths.{vectors_behind, place_in_front, place_behind, looked_up, looked_in_vain}
+use Rattle.elaboration_law.proofs.AgainLemmas.{same_range}
 use Rattle.elaboration_law.proofs.VariableWidths.{variable_by, value_declared, bounds_declared}
 
 abbrev pub all_in : ModuleTree → List Declaration
@@ -130,7 +131,8 @@ module _ (constants : Text → Worth) where
   ports_ranged (p ∷ more) e =
       let one = is_port_ranged constants p in
       let others = list_all (is_port_ranged constants) more in
-      and_both one (ranged (map port_declaration more)) (and_left one others e) (ports_ranged more (and_right one others e))
+      and_both (is_range constants p.type.range) (ranged (map port_declaration more))
+      (and_left (is_range constants p.type.range) (is_again constants p.type.range p.again) (and_left one others e)) (ports_ranged more (and_right one others e))
 
   names_ranged : (kind : Kind) (signed : Bool) (range : Option RangeTree) (list : List DeclaredTree) → is_range constants range ≡ true → ranged (all_declared kind signed range list) ≡ true
   names_ranged kind signed range [] e = refl
@@ -140,19 +142,22 @@ module _ (constants : Text → Worth) where
   item_ranged (parameters local type settings) e = refl
   item_ranged (declaration (variables word type) list) e = names_ranged (kind_of word) type.signed type.range list e
   item_ranged (declaration integers list) e = names_ranged Integer true None list refl
+  item_ranged (declaration (directed direction) list) e = refl
   item_ranged (events list) e = refl
   item_ranged (assignments settings) e = refl
   item_ranged (initial statement) e = refl
   item_ranged (always statement) e = refl
   item_ranged (instances name overrides list) e = refl
 
-  items_ranged : (items : List ItemTree) → list_all (is_item_ranged constants) items ≡ true → ranged (flat_map declarations_of items) ≡ true
-  items_ranged [] e = refl
-  items_ranged (item ∷ more) e =
+  items_ranged : (is_port : Text → Bool) (items : List ItemTree) → list_all (is_item_ranged constants) items ≡ true → ranged (flat_map declarations_of (map (own_item is_port) items)) ≡ true
+  items_ranged is_port [] e = refl
+  items_ranged is_port (item ∷ more) e =
       let one = is_item_ranged constants item in
       let others = list_all (is_item_ranged constants) more in
-      list_all-append (λ (d : Declaration). is_range constants d.range) (declarations_of item) (flat_map declarations_of more)
-      ∙ and_both (ranged (declarations_of item)) (ranged (flat_map declarations_of more)) (item_ranged item (and_left one others e)) (items_ranged more (and_right one others e))
+      let own = own_item is_port item in
+      let rest = flat_map declarations_of (map (own_item is_port) more) in
+      list_all-append (λ (d : Declaration). is_range constants d.range) (declarations_of own) rest
+      ∙ and_both (ranged (declarations_of own)) (ranged rest) (item_ranged own (same_range constants is_port item ∙ and_left one others e)) (items_ranged is_port more (and_right one others e))
 
   pub names_sized : (m : ModuleTree) → are_ranged constants m ≡ true → AreVectors constants → AreVectors (with_variables constants (all_in m))
   names_sized m e v =
@@ -160,7 +165,7 @@ module _ (constants : Text → Worth) where
       let items = list_all (is_item_ranged constants) m.items in
       variables_sized (all_in m)
       (list_all-append (λ (d : Declaration). is_range constants d.range) (map port_declaration (ports_of m)) (declarations m)
-      ∙ and_both (ranged (map port_declaration (ports_of m))) (ranged (declarations m)) (ports_ranged (ports_of m) (and_left ports items e)) (items_ranged m.items (and_right ports items e))) v
+      ∙ and_both (ranged (map port_declaration (ports_of m))) (ranged (declarations m)) (ports_ranged (ports_of m) (and_left ports items e)) (items_ranged (is_declared (letters_of (plain_names m.ports))) m.items (and_right ports items e))) v
 
 -- ---- where a design has these variables
 

@@ -20,7 +20,7 @@ use Rattle.vhierarchy.specs.Instances.{Part, variable_paths, scope_paths, broken
 use Rattle.elaboration_law.specs.Laws.{IsMeant}
 use Rattle.elaboration_law.specs.Uses.{Way, Read, ReadIn, Written, WrittenIn, Driven, Triggered, Awaited, Use, use_of, use_of_time, use_of_formats, use_of_levels}
 use Rattle.elaboration_law.specs.Places.{Thing, a_variable, a_parameter, an_event, an_instance, Place, no_place, thing_of, UseAt, all_fit, used_in_instance, HasMisuse, of_top, of_instance}
-use Rattle.elaboration_law.specs.Kinds.{variable_suits, parameter_suits, event_suits, suits, is_suited, formats_fit, selects_no_variable, HasMiskind, of_use, of_variable_path}
+use Rattle.elaboration_law.specs.Kinds.{variable_suits, parameter_suits, event_suits, suits, is_suited, formats_fit, selects_no_variable, HasMiskind, of_use, of_input, of_variable_path}
 use Rattle.elaboration_law.specs.Unknowns.{all_below}
 use Rattle.velab_declaration.specs.Variables.{Declaration}
 use Rattle.velab_expr.specs.Selections.{levels_in}
@@ -28,7 +28,7 @@ use Rattle.elaboration_law.proofs.UseLemmas.{first_false, second_false}
 use Rattle.elaboration_law.proofs.MisuseLemmas.{used_by_listed}
 use Rattle.elaboration_law.proofs.ToldLemmas.{untold_fault}
 use Rattle.elaboration_law.proofs.DesignRules.{broken_tells, unless_tells}
-use Rattle.elaboration_law.proofs.HierarchyLemmas.{Told, in_modules, in_top, in_hierarchy, in_design, all_elaborated, fault_told}
+use Rattle.elaboration_law.proofs.HierarchyLemmas.{Told, in_modules, in_ports, input_port, ports_never, in_top, in_hierarchy, in_design, all_elaborated, fault_told}
 use Rattle.elaboration_law.proofs.NameLemmas.{variables_are, paths_are, or_none, or_some}
 use Rattle.elaboration_law.proofs.DepthLemmas.{one_top}
 use Rattle.elaboration_law.proofs.DumpUses.{dumped}
@@ -209,6 +209,7 @@ module _ (modules : SourceTree) (top : Option Text) (unit : ModuleTree) (part : 
 module _ (modules : SourceTree) (top : Option Text) where
   kinds_told : (fault : ElabFault) → fault.rule ≡ Kind → Told modules top fault → HasMiskind modules top
   kinds_told fault rule (in_modules w again other) = absurd cc
+  kinds_told fault rule (in_ports m is other) = of_input m is (input_port m.flaw (other ∙ rule))
   kinds_told fault rule (in_top missing other) = absurd cc
   kinds_told fault rule (in_hierarchy unit is_top err) = of_use (misuse_first modules top (unsuited_told modules top fault unit rule is_top err))
   kinds_told fault rule (in_design unit part is_top ok broken) = by (design_is_wrong modules top unit part ok fault rule broken)
@@ -225,6 +226,7 @@ module _ (modules : SourceTree) (top : Option Text) where
       by (inr later) =
           let all = all_elaborated modules top scale design is in
           right_never modules top all.unit all.part all.is_top all.is_part (design_is_right modules top all.unit all.part all.is_part all.is_right).1 later
+  kinds_never scale design is (of_input m wrong input) = ports_never modules top scale design m is wrong
   kinds_never scale design is (of_variable_path m is_top lacks) =
       let all = all_elaborated modules top scale design is in
       let same = one_top modules top m all.unit is_top all.is_top in

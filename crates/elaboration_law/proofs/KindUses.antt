@@ -13,9 +13,13 @@ use Rattle.vdesign.specs.Design.{Design}
 use Rattle.vdesign.specs.declared.action.Edge.{Edge}
 use Rattle.vdesign.specs.declared.action.Edge.TheVariants.{Any, Rise, Fall}
 use Rattle.vdesign.specs.declared.print.Piece.{Piece}
+use Rattle.vdesign.specs.declared.print.Form.{Form}
+use Rattle.vdesign.specs.declared.print.Notation.{Notation}
+use Rattle.vdesign.specs.declared.print.Notation.TheVariants.{Binary, Octal, Hexadecimal, Decimal, Time, Character, Letters}
+use Rattle.vdesign.specs.declared.print.Width.{Width}
 use Rattle.format_text.specs.declared.letters.Escape.TheVariants.{Plain}
-use Rattle.format_text.specs.Formats.{Run, letters_of, run_of}
-use Rattle.format_text.specs.Pieces.{Argument, string, value, text_piece, without_form, last_pieces, value_pieces, rest_of, both_pieces, pieces_by, pieces_of}
+use Rattle.format_text.specs.Formats.{FormatFront, letters_of, front_of}
+use Rattle.format_text.specs.Pieces.{Argument, string, value, Taken, text_piece, without_form, last_pieces, value_taken, string_by, string_shown, string_taken, format_left, pieces_with_taken, pieces_by, pieces_of, with_line_end}
 use Rattle.vmodules.specs.Hierarchy.{top_of}
 use Rattle.velab_expr.specs.declared.fault.Rule.{Rule}
 use Rattle.velab_expr.specs.declared.fault.Rule.TheVariants.{Top, Doubled, Unknown, Drivers, Ports, Width, Constant, Depth, TooMany, Kind}
@@ -33,7 +37,7 @@ use Rattle.velab_process.specs.Waits.{term_by}
 use Rattle.vhierarchy.specs.Instances.{elaborate_top, elaborated}
 use Rattle.elaboration_law.specs.Uses.{Way, Read, ReadIn, Written, WrittenIn, Driven, Triggered, Awaited, Use, use_of, use_of_time, use_of_formats, use_of_levels}
 use Rattle.elaboration_law.specs.Places.{Thing, a_variable, a_parameter, an_event, an_instance, Place, thing_of, HasMisuse}
-use Rattle.elaboration_law.specs.Kinds.{parameter_suits, event_suits, is_ended, formats_fit}
+use Rattle.elaboration_law.specs.Kinds.{parameter_suits, event_suits, is_ended, shows_letters, string_fits, takes_string, left_by, left_by_string, left_by_value, formats_fit}
 use Rattle.elaboration_law.proofs.StepLemmas.{same_value, then_ok}
 use Rattle.elaboration_law.proofs.UseLemmas.{Judges, required_judges, Question}
 use Rattle.elaboration_law.proofs.PlaceLemmas.{there_is, MeaningIs, IsAt}
@@ -151,47 +155,100 @@ term_kind edge name (Some Instance) = λ e. refl
 
 -- ---- formats
 
-last_ended : (run : Option Run) → is_some (last_pieces run) ≡ is_ended run
+last_ended : (front : Option FormatFront) → is_some (last_pieces front) ≡ is_ended front
 last_ended None = refl
-last_ended (Some run) = by run.form
+last_ended (Some front) = by front.form
   where
-    by : (form : Option _) → is_some (without_form form (text_piece run.letters)) ≡ not (is_some form)
+    by : (form : Option Form) → is_some (without_form form (text_piece front.letters)) ≡ not (is_some form)
     by None = refl
     by (Some form) = refl
 
-both_some : (front later : Option (List Piece)) → is_some (both_pieces front later) ≡ (is_some front && is_some later)
-both_some None later = refl
-both_some (Some front) None = refl
-both_some (Some front) (Some later) = refl
+taken_some : (taken : Option Taken) (later : Option (List Piece)) → is_some (pieces_with_taken taken later) ≡ (is_some taken && is_some later)
+taken_some None later = refl
+taken_some (Some taken) None = refl
+taken_some (Some taken) (Some later) = refl
 
-value_some : (run : Option Run) (watched : Bool) (e : _) → is_some (value_pieces run watched e) ≡ is_some run
-value_some None watched e = refl
-value_some (Some run) watched e = refl
+value_some : (default : Form) (front : Option FormatFront) (watched : Bool) (e : _) → is_some (value_taken default front watched e) ≡ is_some front
+value_some default None watched e = refl
+value_some default (Some front) watched e = refl
 
-formats_are : (scope : Scope) (format : List ℕ) (arguments : List ArgumentTree) (all : List Argument) → lower_arguments scope arguments ≡ Ok all → is_some (pieces_by format all) ≡ formats_fit format arguments
-formats_are scope format [] all is = sym (ap (λ (l : List Argument). is_some (pieces_by format l)) (same_value [] all is)) ∙ last_ended (run_of format)
-formats_are scope format (quoted letters ∷ more) all is =
+value_left : (default : Form) (front : Option FormatFront) (watched : Bool) (e : _) → format_left (value_taken default front watched e) ≡ left_by_value front
+value_left default None watched e = refl
+value_left default (Some front) watched e = refl
+
+module _ (letters : List ℕ) where
+  shown_some : (front : FormatFront) (width : Width) (notation : Notation) → is_some (string_shown front width notation letters) ≡ shows_letters notation
+  shown_some front width Binary = refl
+  shown_some front width Octal = refl
+  shown_some front width Hexadecimal = refl
+  shown_some front width Decimal = refl
+  shown_some front width Time = refl
+  shown_some front width Character = refl
+  shown_some front width Letters = refl
+
+  shown_left : (front : FormatFront) (width : Width) (notation : Notation) →
+      format_left (string_shown front width notation letters) ≡ (if shows_letters notation then front.rest else [])
+  shown_left front width Binary = refl
+  shown_left front width Octal = refl
+  shown_left front width Hexadecimal = refl
+  shown_left front width Decimal = refl
+  shown_left front width Time = refl
+  shown_left front width Character = refl
+  shown_left front width Letters = refl
+
+  string_some : (front : Option FormatFront) → is_some (string_taken front letters) ≡ takes_string front
+  string_some None = refl
+  string_some (Some front) = by front.form
+    where
+      by : (form : Option Form) → is_some (string_by front form letters) ≡ string_fits form
+      by None = refl
+      by (Some form) = shown_some front form.width form.notation
+
+  string_left : (front : Option FormatFront) → format_left (string_taken front letters) ≡ left_by_string front letters
+  string_left None = refl
+  string_left (Some front) = by front.form
+    where
+      by : (form : Option Form) → format_left (string_by front form letters) ≡ left_by form front.rest letters
+      by None = refl
+      by (Some form) = shown_left front form.width form.notation
+
+formats_are : (default : Form) (scope : Scope) (format : List ℕ) (arguments : List ArgumentTree) (all : List Argument) → lower_arguments scope arguments ≡ Ok all →
+    is_some (pieces_by default format all) ≡ formats_fit format arguments
+formats_are default scope format [] all is =
+    sym (ap (λ (l : List Argument). is_some (pieces_by default format l)) (same_value [] all is)) ∙ last_ended (front_of format)
+formats_are default scope format (quoted letters ∷ more) all is =
     let text = between_quotes letters.letters in
     let others = then_ok (lower_arguments scope more) (λ others. Ok (string text ∷ others)) all is in
-    sym (ap (λ (l : List Argument). is_some (pieces_by format l)) (same_value (string text ∷ others.0) all others.2))
-    ∙ both_some (last_pieces (run_of format)) (pieces_by (letters_of Plain text) others.0)
-    ∙ (λ i. last_ended (run_of format) i && formats_are scope (letters_of Plain text) more others.0 others.1 i)
-formats_are scope format (printed tree ∷ more) all is =
+    let taken = string_taken (front_of format) (letters_of Plain text) in
+    sym (ap (λ (l : List Argument). is_some (pieces_by default format l)) (same_value (string text ∷ others.0) all others.2))
+    ∙ taken_some taken (pieces_by default (format_left taken) others.0)
+    ∙ ap (λ (l : List ℕ). is_some taken && is_some (pieces_by default l others.0)) (string_left (letters_of Plain text) (front_of format))
+    ∙ (λ i. string_some (letters_of Plain text) (front_of format) i
+    && formats_are default scope (left_by_string (front_of format) (letters_of Plain text)) more others.0 others.1 i)
+formats_are default scope format (printed tree ∷ more) all is =
     let one = then_ok (lower_argument scope (printed tree)) (λ argument. lower_arguments scope more >>= λ others. Ok (argument ∷ others)) all is in
     let e = then_ok (lower_expression scope tree) (λ e. Ok (value (is_watched tree) e)) one.0 one.1 in
     let others = then_ok (lower_arguments scope more) (λ others. Ok (one.0 ∷ others)) all one.2 in
-    sym (ap (λ (l : List Argument). is_some (pieces_by format l)) (ap (λ (a : Argument). a ∷ others.0) (same_value (value (is_watched tree) e.0) one.0 e.2) ∙ same_value (one.0 ∷ others.0) all others.2))
-    ∙ both_some (value_pieces (run_of format) (is_watched tree) e.0) (pieces_by (rest_of (run_of format)) others.0)
-    ∙ (λ i. value_some (run_of format) (is_watched tree) e.0 i && formats_are scope (rest_of (run_of format)) more others.0 others.1 i)
+    let taken = value_taken default (front_of format) (is_watched tree) e.0 in
+    sym (ap (λ (l : List Argument). is_some (pieces_by default format l)) (ap (λ (a : Argument). a ∷ others.0) (same_value (value (is_watched tree) e.0) one.0 e.2) ∙ same_value (one.0 ∷ others.0) all others.2))
+    ∙ taken_some taken (pieces_by default (format_left taken) others.0)
+    ∙ ap (λ (l : List ℕ). is_some taken && is_some (pieces_by default l others.0)) (value_left default (front_of format) (is_watched tree) e.0)
+    ∙ (λ i. value_some default (front_of format) (is_watched tree) e.0 i && formats_are default scope (left_by_value (front_of format)) more others.0 others.1 i)
+
+ended_some : (ends : Bool) (pieces : Option (List Piece)) → is_some (with_line_end ends pieces) ≡ is_some pieces
+ended_some ends None = refl
+ended_some ends (Some pieces) = refl
 
 found_kind : {A : Type 0} (x : Option A) (word : Option Word) → Judges is_kind (is_some x) (found x Kind word)
 found_kind None word = λ e. refl
 found_kind (Some x) word = refl
 
-formats_kind : (scope : Scope) (arguments : List ArgumentTree) (all : List Argument) → lower_arguments scope arguments ≡ Ok all →
-    Judges is_kind (formats_fit [] arguments) (found (pieces_of all) Kind (first_argument arguments))
-formats_kind scope arguments all is =
-    subst (λ (b : Bool). Judges is_kind b (found (pieces_of all) Kind (first_argument arguments))) (formats_are scope [] arguments all is) (found_kind (pieces_of all) (first_argument arguments))
+formats_kind : (scope : Scope) (default : Form) (ends : Bool) (arguments : List ArgumentTree) (all : List Argument) → lower_arguments scope arguments ≡ Ok all →
+    Judges is_kind (formats_fit [] arguments) (found (pieces_of default ends all) Kind (first_argument arguments))
+formats_kind scope default ends arguments all is =
+    subst (λ (b : Bool). Judges is_kind b (found (pieces_of default ends all) Kind (first_argument arguments)))
+    (ended_some ends (pieces_by default [] all) ∙ formats_are default scope [] arguments all is)
+    (found_kind (pieces_of default ends all) (first_argument arguments))
 
 pub kinds : Question
 kinds = record {

@@ -109,7 +109,7 @@ names = record {
   of_driven = λ scope name. variable_known scope.known name (meaning_of scope name);
   of_event = λ scope name. event_known scope.known name (meaning_of scope name);
   of_term = λ scope edge name. term_known scope.known edge name (meaning_of scope name);
-  of_formats = λ scope arguments all is. found_judges is_unknown (pieces_of all) Kind (first_argument arguments) refl;
+  of_formats = λ scope default ends arguments all is. found_judges is_unknown (pieces_of default ends all) Kind (first_argument arguments) refl;
   of_levels = λ scope levels. found_judges is_unknown (levels_in levels) Kind (Some levels) refl;
   of_time = λ constant scope word x. required_judges is_unknown (not constant) Constant word x refl;
 }
@@ -221,6 +221,7 @@ names_rule = record {
   no_ports = refl;
   no_depth = refl;
   no_many = refl;
+  no_width = refl;
 }
 
 -- ---- in a text

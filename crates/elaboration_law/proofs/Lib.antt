@@ -3,6 +3,7 @@ pub mod ExpressionRules
 pub mod StatementRules
 pub mod ModuleRules
 pub mod StepLemmas
+pub mod AgainLemmas
 pub mod HierarchyLemmas
 pub mod ItemLemmas
 pub mod DesignRules

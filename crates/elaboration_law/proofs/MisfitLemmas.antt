@@ -33,7 +33,7 @@ use Rattle.elaboration_law.proofs.ModuleRules.{is_of_names, names_tell, undriven
 use Rattle.elaboration_law.proofs.DesignRules.{design_tells}
 use Rattle.elaboration_law.proofs.StepLemmas.{then_ok, then_err, provided_ok, provided_err, barring_ok, barring_err, few_err, contains_first, contains_more, contains_none}
 use Rattle.elaboration_law.proofs.ItemLemmas.{item_answered, item_told}
-use Rattle.elaboration_law.proofs.HierarchyLemmas.{instance_at, OwnFault, in_names, in_instances, in_own, ToldBelow, too_deep, by_own, Told, in_modules, in_top, in_hierarchy, in_design, fault_told, top_told_below}
+use Rattle.elaboration_law.proofs.HierarchyLemmas.{instance_at, OwnFault, in_names, in_instances, in_own, ToldBelow, too_deep, by_own, Told, in_modules, in_ports, is_of_ports, of_ports, in_top, in_hierarchy, in_design, fault_told, top_told_below}
 use Rattle.elaboration_law.proofs.OwnLemmas.{own_steps, undriven_variables, OwnTold, net_again, in_variables, in_processes, too_many, own_told}
 use Rattle.elaboration_law.proofs.NameLemmas.{was_elaborated}
 
@@ -281,6 +281,7 @@ module _ (modules : SourceTree) (top : Option Text) where
 
   misfits_told : (fault : ElabFault) → fault.rule ≡ Ports → Told modules top fault → HasMisfit modules top
   misfits_told fault rule (in_modules w again other) = absurd cc
+  misfits_told fault rule (in_ports m is other) = absurd (let no = sym (of_ports m fault.rule other) ∙ ap is_of_ports rule in cc)
   misfits_told fault rule (in_top missing other) = absurd cc
   misfits_told fault rule (in_hierarchy unit is_top err) = below_told fault unit is_top rule (top_told_below modules unit fault err)
   misfits_told fault rule (in_design unit part is_top ok broken) =

@@ -3,10 +3,11 @@ use Rattle.std.proofs.Common.{◌≡◌, ℕ, ◌+◌, nat_le, nat_lt, Bool, tru
 use Rattle.std.specs.List.{flat_map}
 use Rattle.vast.specs.NumberedExpressions as text
 use Rattle.vast.specs.NumberedWords.{Word}
-use Rattle.vast.specs.NumberedModules.{ParameterType, integer, typed, SettingTree, DeclarationKind, variables, integers, ConnectionsTree, InstanceTree, ItemTree, parameters, declaration, events, assignments, initial, always, instances, ModuleTree, SourceTree}
+use Rattle.vast.specs.NumberedModules.{ParameterType, integer, typed, SettingTree, DeclarationKind, variables, integers, directed, ConnectionsTree, InstanceTree, ItemTree, parameters, declaration, events, assignments, initial, always, instances, ModuleTree, SourceTree}
 use Rattle.vmodules.specs.Names.{is_declared, letters_of, first_again}
 use Rattle.vmodules.specs.Hierarchy.{module_of}
-use Rattle.vmodules.specs.Ports.{Port}
+use Rattle.vmodules.specs.Ports.{Second, Port, type_in, own_items}
+use Rattle.vdesign.specs.declared.expression.Bounds.{Bounds}
 use Rattle.vmodules.specs.Connected.{open_names, misfit, misfit_if, value_for}
 use Rattle.velab_expr.specs.declared.fault.Rule.{Rule}
 use Rattle.velab_expr.specs.declared.fault.Rule.TheVariants.{Top, Doubled, Unknown, Drivers, Ports, Width, Constant, Depth, TooMany, Kind}
@@ -18,7 +19,7 @@ use Rattle.velab_expr.specs.Resolved.{lower_constant}
 use Rattle.velab_expr.specs.Ranges.{lower_bounds}
 use Rattle.velab_expr.specs.Symbols.{Symbol, parameter_symbol, event_symbol, instance_symbol, name_in, symbols_in_head, symbols_by, valueless_by, behind_item}
 use Rattle.velab_declaration.specs.Parameters.{Overrides, Base, lower_type, lower_parameter_value, lower_setting, lower_meaning, with_meaning, add_symbol, add_symbols, first_scope, item_scope}
-use Rattle.velab_declaration.specs.Variables.{port_names, declared_names, ScopeDrivers, lower_kind, lower_declaration, lower_variables, lower_port, lower_ports}
+use Rattle.velab_declaration.specs.Variables.{port_names, declared_names, ScopeDrivers, lower_kind, lower_declaration, lower_variables, same_bounds, lower_again, lower_port, lower_ports, port_scope}
 use Rattle.velab_process.specs.Connections.{lower_joins}
 use Rattle.velab_process.specs.Processes.{lower_items}
 use Rattle.vhierarchy.specs.Instances.{barring, Instantiation, instantiation_by, lower_instance, lower_list, named_again, lower_instances_of, lower_instances_by, lower_instances, Part, Context, base_of, lower_names, lower_own_processes, with_own, few_enough, driven_by, scope_drivers_by, lower_own_variables, lower_own, has_room}
@@ -250,6 +251,7 @@ instances_tell modules before known (item ∷ more) =
 kind_tells : (scope : Scope) (kind : DeclarationKind) → Tells is_local (lower_kind scope kind)
 kind_tells scope (variables word type) = then_tells is_local (lower_bounds scope type.range) _ (bounds_tell scope type.range) (λ bounds. tt)
 kind_tells scope integers = tt
+kind_tells scope (directed direction) = then_tells is_local (lower_bounds scope (type_in direction).range) _ (bounds_tell scope (type_in direction).range) (λ bounds. tt)
 
 declaration_tells : (drivers : ScopeDrivers) (scope : Scope) (item : ItemTree) → Tells is_local (lower_declaration drivers scope item)
 declaration_tells drivers scope (parameters local type settings) = tt
@@ -266,10 +268,17 @@ variables_tell drivers scope (item ∷ more) =
     then_tells is_local (lower_declaration drivers scope item) _ (declaration_tells drivers scope item) (λ front.
     then_tells is_local (lower_variables drivers (behind_item scope item) more) _ (variables_tell drivers (behind_item scope item) more) (λ others. tt))
 
+again_tells : (scope : Scope) (again : Option Second) (bounds : Option Bounds) → Tells is_local (lower_again scope again bounds)
+again_tells scope None bounds = tt
+again_tells scope (Some second) bounds =
+    then_tells is_local (lower_bounds scope second.type.range) _ (bounds_tell scope second.type.range) (λ other.
+    required_tells is_local (same_bounds bounds other) Width (Some second.name) bounds refl)
+
 ports_tell : (drivers : ScopeDrivers) (scope : Scope) (ports : List Port) → Tells is_local (lower_ports drivers scope ports)
 ports_tell drivers scope [] = tt
 ports_tell drivers scope (p ∷ more) =
-    then_tells is_local (lower_port drivers scope p) _ (then_tells is_local (lower_bounds scope p.type.range) _ (bounds_tell scope p.type.range) (λ bounds. tt)) (λ one.
+    then_tells is_local (lower_port drivers scope p) _ (then_tells is_local (lower_bounds scope p.type.range) _ (bounds_tell scope p.type.range) (λ bounds.
+    then_tells is_local (lower_again scope p.again bounds) _ (again_tells scope p.again bounds) (λ whole. tt))) (λ one.
     then_tells is_local (lower_ports drivers scope more) _ (ports_tell drivers scope more) (λ others. tt))
 
 module _ (context : Context) (ports : List Port) (children : List Instantiation) (scope : Scope) where
@@ -277,10 +286,10 @@ module _ (context : Context) (ports : List Port) (children : List Instantiation)
   drivers = scope_drivers_by context ports children scope
 
   -- the variables, where no net has two drivers
-  pub undriven_tell : Tells is_local (lower_ports drivers scope ports >>= λ front. lower_variables drivers scope context.unit.items >>= λ others. Ok (front ++ others))
+  pub undriven_tell : Tells is_local (lower_ports drivers (port_scope context.unit scope) ports >>= λ front. lower_variables drivers scope (own_items context.unit) >>= λ others. Ok (front ++ others))
   undriven_tell =
-      then_tells is_local (lower_ports drivers scope ports) _ (ports_tell drivers scope ports) (λ front.
-      then_tells is_local (lower_variables drivers scope context.unit.items) _ (variables_tell drivers scope context.unit.items) (λ others. tt))
+      then_tells is_local (lower_ports drivers (port_scope context.unit scope) ports) _ (ports_tell drivers (port_scope context.unit scope) ports) (λ front.
+      then_tells is_local (lower_variables drivers scope (own_items context.unit)) _ (variables_tell drivers scope (own_items context.unit)) (λ others. tt))
 
   pub own_processes_tell : (part : Part) → Tells is_of_connections (lower_own_processes context ports scope part.table)
   own_processes_tell part =

@@ -20,12 +20,12 @@ use Rattle.velab_declaration.specs.ActionFlaws.{table_fault}
 use Rattle.vhierarchy.specs.Instances.{lower_own, Part, Context, scope_of, variable_paths, scope_paths, broken_selection, broken_paths, broken_table, broken_design, elaborate_top, elaborated}
 use Rattle.elaboration_law.specs.Hierarchy.{Instance, StandsBelow, StandsAt, top_instance, listed}
 use Rattle.elaboration_law.specs.Laws.{IsMeant}
-use Rattle.elaboration_law.specs.Doubles.{names_in_module, variable_paths_in, path_in, IsDeclaredTwice, module_twice, name_twice, head_twice, variable_twice, path_twice}
+use Rattle.elaboration_law.specs.Doubles.{names_in_module, variable_paths_in, path_in, IsDeclaredTwice, module_twice, port_twice, name_twice, head_twice, variable_twice, path_twice}
 use Rattle.elaboration_law.proofs.ToldLemmas.{is_local, untold, untold_fault}
 use Rattle.elaboration_law.proofs.ModuleRules.{is_of_meaning, is_of_own, own_tells}
 use Rattle.elaboration_law.proofs.DesignRules.{table_tells, selection_broken, broken_table_tells}
 use Rattle.elaboration_law.proofs.DoubleLemmas.{none_twice, one_twice}
-use Rattle.elaboration_law.proofs.HierarchyLemmas.{instance_at, OwnFault, in_names, in_instances, in_own, ToldBelow, too_deep, by_own, Told, in_modules, in_top, in_hierarchy, in_design, WasElaborated, all_elaborated, fault_told, top_elaborated, top_told_below}
+use Rattle.elaboration_law.proofs.HierarchyLemmas.{instance_at, OwnFault, in_names, in_instances, in_own, ToldBelow, too_deep, by_own, Told, in_modules, in_ports, doubled_port, ports_never, in_top, in_hierarchy, in_design, WasElaborated, all_elaborated, fault_told, top_elaborated, top_told_below}
 use Rattle.elaboration_law.proofs.OwnLemmas.{own_steps, own_named}
 use Rattle.elaboration_law.proofs.GatherLemmas.{Gathers, top_gathered}
 use Rattle.elaboration_law.proofs.NameRules.{names_once, names_twice, heads_once, heads_twice}
@@ -134,6 +134,7 @@ module _ (modules : SourceTree) (top : Option Text) where
 
   names_told : (fault : ElabFault) → fault.rule ≡ Doubled → Told modules top fault → IsDeclaredTwice modules top
   names_told fault rule (in_modules w again other) = module_twice (one_twice (module_names modules) w again)
+  names_told fault rule (in_ports m is other) = port_twice m is (doubled_port m.flaw (other ∙ rule))
   names_told fault rule (in_top missing other) = absurd cc
   names_told fault rule (in_hierarchy unit is_top err) = below_told fault unit is_top rule (top_told_below modules unit fault err)
   names_told fault rule (in_design unit part is_top ok broken) = design_twice unit part ok fault is_top rule broken
@@ -149,6 +150,7 @@ module _ (modules : SourceTree) (top : Option Text) where
 
     names_never : ¬ IsDeclaredTwice modules top
     names_never (module_twice twice) = let all = all_elaborated modules top scale design is in true≢false (sym twice ∙ none_twice (module_names modules) all.modules_differ)
+    names_never (port_twice m wrong doubled) = ports_never modules top scale design m is wrong
     names_never (name_twice levels one stands twice) =
         let found = (was_elaborated levels one stands).1 in
         true≢false (sym twice ∙ sym (ap (λ (i : Instance). has_double (names_in_module i.unit)) found.at) ∙ names_once found.part found.context found.own.scope found.own.names_are)

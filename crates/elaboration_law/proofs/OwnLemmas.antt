@@ -4,9 +4,9 @@ use Rattle.std.specs.List.{flat_map}
 use Rattle.std.proofs.lemmas.List.{map-append}
 use Rattle.vast.specs.Words.{Text}
 use Rattle.vast.specs.NumberedWords.{Word}
-use Rattle.vast.specs.NumberedModules.{DeclarationKind, variables, integers, DeclaredTree, ItemTree, parameters, declaration, events, assignments, initial, always, instances, SourceTree}
+use Rattle.vast.specs.NumberedModules.{DeclarationKind, variables, integers, directed, DeclaredTree, ItemTree, parameters, declaration, events, assignments, initial, always, instances, SourceTree}
 use Rattle.vmodules.specs.Names.{first_again}
-use Rattle.vmodules.specs.Ports.{Port, ports_of}
+use Rattle.vmodules.specs.Ports.{Port, ports_of, own_items}
 use Rattle.vdesign.specs.Design.{Variable}
 use Rattle.vdesign.specs.declared.design.Kind.{Kind}
 use Rattle.velab_expr.specs.declared.fault.Rule.TheVariants.{Drivers, TooMany}
@@ -16,7 +16,7 @@ use Rattle.velab_expr.specs.Ranges.{lower_bounds}
 use Rattle.velab_expr.specs.Scopes.{Scope}
 use Rattle.velab_expr.specs.Symbols.{behind_item}
 use Rattle.velab_declaration.specs.declared.variable.Form.{Form}
-use Rattle.velab_declaration.specs.Variables.{Declaration, all_declared, declared_as, declarations_of, ScopeDrivers, variable_in, variables_in, form_of, lower_kind, lower_declaration, lower_variables, lower_port, lower_ports, declared_names, port_names, declarations}
+use Rattle.velab_declaration.specs.Variables.{Declaration, all_declared, declared_as, declarations_of, ScopeDrivers, variable_in, variables_in, variables_as, form_of, lower_kind, lower_again, port_scope, lower_declaration, lower_variables, lower_port, lower_ports, declared_names, port_names, declarations}
 use Rattle.velab_process.specs.Processes.{Processes}
 use Rattle.vhierarchy.specs.Instances.{lower_own, Instantiation, driven_by, scope_drivers_by, lower_own_variables, lower_own_processes, with_own, few_enough, scope_of, Part, Context}
 use Rattle.elaboration_law.proofs.StepLemmas.{same_value, then_ok, then_err, provided_ok, required_ok, barring_ok, barring_err}
@@ -28,8 +28,8 @@ pub record OwnSteps (modules : SourceTree) (part : Part) (context : Context) (ow
   pub processes : Processes
   pub ports_are : List Variable
   pub others_are : List Variable
-  pub ports_made : lower_ports (scope_drivers_by context (ports_of context.unit) own.children own.scope) own.scope (ports_of context.unit) ≡ Ok ports_are
-  pub others_made : lower_variables (scope_drivers_by context (ports_of context.unit) own.children own.scope) own.scope context.unit.items ≡ Ok others_are
+  pub ports_made : lower_ports (scope_drivers_by context (ports_of context.unit) own.children own.scope) (port_scope context.unit own.scope) (ports_of context.unit) ≡ Ok ports_are
+  pub others_made : lower_variables (scope_drivers_by context (ports_of context.unit) own.children own.scope) own.scope (own_items context.unit) ≡ Ok others_are
   pub both_made : ports_are ++ others_are ≡ variables_made
   pub processes_made : lower_own_processes context (ports_of context.unit) own.scope part.table ≡ Ok processes
   pub few_processes : nat_le (length (part.begins ++ processes.begins)) 256 ≡ true
@@ -44,7 +44,9 @@ module _ (modules : SourceTree) (part : Part) (context : Context) (own : Own mod
   drivers = scope_drivers_by context ports own.children own.scope
 
   abbrev undriven : Result (List Variable) ElabFault
-  undriven = lower_ports drivers own.scope ports >>= λ front. lower_variables drivers own.scope context.unit.items >>= λ others. Ok (front ++ others)
+  undriven =
+      lower_ports drivers (port_scope context.unit own.scope) ports >>= λ front.
+      lower_variables drivers own.scope (own_items context.unit) >>= λ others. Ok (front ++ others)
 
   pub own_steps : OwnSteps modules part context own
   own_steps =
@@ -55,8 +57,8 @@ module _ (modules : SourceTree) (part : Part) (context : Context) (own : Own mod
       let few = provided_ok (nat_le (length whole.begins) 256) TooMany (Some context.name) (required (nat_le (length whole.scopes) 1025) TooMany (Some context.name) whole) own.whole processes.2 in
       let enough = required_ok (nat_le (length whole.scopes) 1025) TooMany (Some context.name) whole own.whole few.1 in
       let once = barring_ok (first_again (driven_by context ports own.children own.scope)) Drivers undriven made.0 made.1 in
-      let front = then_ok (lower_ports drivers own.scope ports) (λ front. lower_variables drivers own.scope context.unit.items >>= λ others. Ok (front ++ others)) made.0 once.1 in
-      let others = then_ok (lower_variables drivers own.scope context.unit.items) (λ others. Ok (front.0 ++ others)) made.0 front.2 in
+      let front = then_ok (lower_ports drivers (port_scope context.unit own.scope) ports) (λ front. lower_variables drivers own.scope (own_items context.unit) >>= λ others. Ok (front ++ others)) made.0 once.1 in
+      let others = then_ok (lower_variables drivers own.scope (own_items context.unit)) (λ others. Ok (front.0 ++ others)) made.0 front.2 in
       record {
         variables_made = made.0;
         processes = processes.0;
@@ -85,9 +87,10 @@ module _ (drivers : ScopeDrivers) where
   ports_named scope (p ∷ more) vs is =
       let one = then_ok (lower_port drivers scope p) (λ one. lower_ports drivers scope more >>= λ others. Ok (one ∷ others)) vs is in
       let others = then_ok (lower_ports drivers scope more) (λ others. Ok (one.0 ∷ others)) vs one.2 in
-      let bounds = then_ok (lower_bounds scope p.type.range) (λ bounds. Ok (variable_in drivers (form_of p.net p.type.signed bounds) p.name.letters)) one.0 one.1 in
+      let bounds = then_ok (lower_bounds scope p.type.range) (λ bounds. lower_again scope p.again bounds >>= λ whole. Ok (variable_in drivers (form_of p.net p.type.signed whole) p.name.letters)) one.0 one.1 in
+      let whole = then_ok (lower_again scope p.again bounds.0) (λ whole. Ok (variable_in drivers (form_of p.net p.type.signed whole) p.name.letters)) one.0 bounds.2 in
       sym (ap names (same_value (one.0 ∷ others.0) vs others.2))
-      ∙ (λ i. (sym (same_value (variable_in drivers (form_of p.net p.type.signed bounds.0) p.name.letters) one.0 bounds.2) i).name ∷ ports_named scope more others.0 others.1 i)
+      ∙ (λ i. (sym (same_value (variable_in drivers (form_of p.net p.type.signed whole.0) p.name.letters) one.0 whole.2) i).name ∷ ports_named scope more others.0 others.1 i)
 
   in_named : (form : Form) (kind : Kind) (signed : _) (range : _) (list : List DeclaredTree) →
       names (variables_in drivers form list) ≡ map (dotted drivers.name) (map (λ (d : Declaration). d.name) (all_declared kind signed range list))
@@ -95,9 +98,10 @@ module _ (drivers : ScopeDrivers) where
   in_named form kind signed range (one ∷ more) = ap (λ (l : List Text). (drivers.name ++ 46 ∷ one.name.letters) ∷ l) (in_named form kind signed range more)
 
   kind_named : (form : Form) (kind : DeclarationKind) (list : List DeclaredTree) →
-      names (variables_in drivers form list) ≡ map (dotted drivers.name) (map (λ (d : Declaration). d.name) (declared_as kind list))
+      names (variables_as drivers form kind list) ≡ map (dotted drivers.name) (map (λ (d : Declaration). d.name) (declared_as kind list))
   kind_named form (variables word type) list = in_named form _ _ _ list
   kind_named form integers list = in_named form _ _ _ list
+  kind_named form (directed direction) list = refl
 
   abbrev declared_by : ItemTree → List Text
   declared_by item = map (dotted drivers.name) (map (λ (d : Declaration). d.name) (declarations_of item))
@@ -105,8 +109,8 @@ module _ (drivers : ScopeDrivers) where
   item_named : (scope : Scope) (item : ItemTree) (vs : List Variable) → lower_declaration drivers scope item ≡ Ok vs → names vs ≡ declared_by item
   item_named scope (parameters local type settings) vs is = sym (ap names (same_value [] vs is))
   item_named scope (declaration kind list) vs is =
-      let form = then_ok (lower_kind scope kind) (λ form. Ok (variables_in drivers form list)) vs is in
-      sym (ap names (same_value (variables_in drivers form.0 list) vs form.2)) ∙ kind_named form.0 kind list
+      let form = then_ok (lower_kind scope kind) (λ form. Ok (variables_as drivers form kind list)) vs is in
+      sym (ap names (same_value (variables_as drivers form.0 kind list) vs form.2)) ∙ kind_named form.0 kind list
   item_named scope (events list) vs is = sym (ap names (same_value [] vs is))
   item_named scope (assignments settings) vs is = sym (ap names (same_value [] vs is))
   item_named scope (initial statement) vs is = sym (ap names (same_value [] vs is))
@@ -133,7 +137,7 @@ module _ (modules : SourceTree) (part : Part) (context : Context) (own : Own mod
       let d = scope_drivers_by context (ports_of context.unit) own.children own.scope in
       sym (ap names s.both_made)
       ∙ map-append (λ (v : Variable). v.name) s.ports_are s.others_are
-      ∙ (λ i. ports_named d own.scope (ports_of context.unit) s.ports_are s.ports_made i ++ variables_named d own.scope context.unit.items s.others_are s.others_made i)
+      ∙ (λ i. ports_named d (port_scope context.unit own.scope) (ports_of context.unit) s.ports_are s.ports_made i ++ variables_named d own.scope (own_items context.unit) s.others_are s.others_made i)
       ∙ sym (map-append (dotted context.path) (port_names context.unit) (map (λ (d : Declaration). d.name) (declarations context.unit)))
 
 -- ---- where its own tells a fault
@@ -142,8 +146,8 @@ module _ (context : Context) (children : List Instantiation) (scope : Scope) whe
   -- its variables, whatever drives them
   abbrev pub undriven_variables : Result (List Variable) ElabFault
   undriven_variables =
-      lower_ports (scope_drivers_by context (ports_of context.unit) children scope) scope (ports_of context.unit) >>= λ front.
-      lower_variables (scope_drivers_by context (ports_of context.unit) children scope) scope context.unit.items >>= λ others. Ok (front ++ others)
+      lower_ports (scope_drivers_by context (ports_of context.unit) children scope) (port_scope context.unit scope) (ports_of context.unit) >>= λ front.
+      lower_variables (scope_drivers_by context (ports_of context.unit) children scope) scope (own_items context.unit) >>= λ others. Ok (front ++ others)
 
   pub data OwnTold (part : Part) (fault : ElabFault) : Type 0 where
     net_again : (w : Word) → first_again (driven_by context (ports_of context.unit) children scope) ≡ Some w → fault.rule ≡ Drivers → OwnTold part fault

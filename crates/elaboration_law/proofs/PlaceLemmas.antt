@@ -413,6 +413,17 @@ module _ (m : ModuleTree) where
         known = omega (arith, known, further, one);
       }
 
+  -- and behind all of them
+  pub stands_last : (scope : Scope) → Stands m [] m.items scope → IsAt (place_behind m m.items) (at scope (length scope.others))
+  stands_last scope s =
+      let names : length scope.names ≡ length (names_behind m m.items) = ap length s.of.names in
+      let whole = s.of.whole in
+      let known = s.known in
+      let further : length (names_behind m m.items) ≡ length (names_behind m []) + length (flat_map symbols_by m.items) = count_further [] m.items in
+      let count : scope.known + length (flat_map symbols_by m.items) ≡ length scope.others = omega (arith, names, whole, known, further) in
+      subst (λ (n : ℕ). IsAt (place_behind m m.items) (at scope n)) count
+      (stands_at m.items [] (at scope (scope.known + length (flat_map symbols_by m.items))) (stands_behind [] m.items [] scope (append-nil m.items) refl s))
+
 -- ---- the scope of an instance
 
 pub first_grown : (base : Base) (m : ModuleTree) → Grown m 0 (symbols_of m) (first_scope base m)

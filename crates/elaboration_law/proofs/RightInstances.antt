@@ -8,8 +8,8 @@ use Rattle.basis.proofs.Bools.{and_assoc}
 use Rattle.vast.specs.Words.{Text}
 use Rattle.vast.specs.NumberedWords.{Word}
 use Rattle.vast.specs.NumberedExpressions as text
-use Rattle.vast.specs.NumberedModules.{RangeTree, ParameterType, integer, typed, DeclarationKind, variables, integers, DeclaredTree, ItemTree, parameters, declaration, events, assignments, initial, always, instances, ModuleTree, SourceTree}
-use Rattle.vmodules.specs.Ports.{Port, ports_of}
+use Rattle.vast.specs.NumberedModules.{RangeTree, ParameterType, integer, typed, DeclarationKind, variables, integers, directed, DeclaredTree, ItemTree, parameters, declaration, events, assignments, initial, always, instances, ModuleTree, SourceTree}
+use Rattle.vmodules.specs.Ports.{Second, Port, type_in, own_items, ports_of}
 use Rattle.vmodules.specs.Connected.{NamedConnection, value_for}
 use Rattle.vdesign.specs.Design.{Variable}
 use Rattle.vdesign.specs.declared.design.Kind.{Kind}
@@ -25,16 +25,17 @@ use Rattle.velab_expr.specs.Resolved.{lower_expression}
 use Rattle.velab_expr.specs.Symbols.{Symbol, parameter_symbol, event_symbol, instance_symbol, name_in, behind_item}
 use Rattle.velab_declaration.specs.declared.variable.Form.{Form}
 use Rattle.velab_declaration.specs.Right.{is_net, is_some_net}
-use Rattle.velab_declaration.specs.Variables.{Declaration, all_declared, declared_as, declarations_of, declarations, port_declaration, ScopeDrivers, variable_in, variables_in, form_of, kind_of, lower_kind, lower_declaration, lower_variables, lower_port, lower_ports}
+use Rattle.velab_declaration.specs.Variables.{Declaration, all_declared, declared_as, declarations_of, declarations, port_declaration, ScopeDrivers, variable_in, variables_in, variables_as, form_of, kind_of, lower_kind, lower_again, port_scope, lower_declaration, lower_variables, lower_port, lower_ports}
 use Rattle.velab_process.specs.Statements.{Table}
 use Rattle.velab_process.specs.Processes.{Processes, process_trees_by, lower_processes, lower_items, with_begins_before}
 use Rattle.velab_process.specs.Connections.{only_name, lower_input, lower_output, lower_connection, lower_join, lower_joins}
 use Rattle.vhierarchy.specs.Instances.{lower_own_processes, scope_drivers_by, Part, Context}
 use Rattle.elaboration_law.specs.Uses.{Use, Read, Driven, use_of, used_in, used_in_range}
-use Rattle.elaboration_law.specs.Places.{Place, a_variable, UseAt, at_place, all_fit, variables_of, symbols_of, thing_by, place_behind, place_after, used_in_type, used_outside, used_by_output, used_at_port, used_if_connected, used_in_declaration, used_in_processes, used_in_symbol, used_in_symbols, used_in_port, used_in_connection, used_by_items, used_in_instance}
+use Rattle.elaboration_law.specs.Places.{Place, a_variable, UseAt, at_place, all_fit, variables_of, symbols_of, thing_by, place_behind, place_after, used_in_type, used_again, port_place, used_outside, used_by_output, used_at_port, used_if_connected, used_in_declaration, used_in_processes, used_in_symbol, used_in_symbols, used_in_port, used_in_connection, used_by_items, used_in_instance}
 use Rattle.elaboration_law.specs.Kinds.{is_ranged}
 use Rattle.elaboration_law.proofs.StepLemmas.{same_value, then_ok}
 use Rattle.elaboration_law.proofs.HierarchyLemmas.{Own}
+use Rattle.elaboration_law.proofs.AgainLemmas.{again_keeps}
 use Rattle.elaboration_law.proofs.OwnLemmas.{own_steps}
 use Rattle.elaboration_law.proofs.PlaceLemmas.{there_is, got_in_front, got_behind, got_mapped, count_declared, IsAt, Stands, stands_at, stands_on}
 use Rattle.elaboration_law.proofs.RightLemmas.{bits_in, is_right}
@@ -80,6 +81,7 @@ declaration_suits : (place : Place) (item : ItemTree) → all_suit (at_place pla
 declaration_suits place (parameters local type settings) = refl
 declaration_suits place (declaration (variables word type) list) = range_suits place type.range
 declaration_suits place (declaration integers list) = refl
+declaration_suits place (declaration (directed direction) list) = range_suits place (type_in direction).range
 declaration_suits place (events names) = refl
 declaration_suits place (assignments settings) = refl
 declaration_suits place (initial statement) = refl
@@ -87,9 +89,14 @@ declaration_suits place (always statement) = refl
 declaration_suits place (instances name overrides list) = refl
 
 module _ (m : ModuleTree) where
+  again_suits : (place : Place) (again : Option Second) → all_suit (at_place place (used_again again)) ≡ true
+  again_suits place None = refl
+  again_suits place (Some second) = range_suits place second.type.range
+
   ports_suit : (ports : List Port) → all_suit (flat_map (used_in_port m) ports) ≡ true
   ports_suit [] = refl
-  ports_suit (p ∷ more) = both_suit (used_in_port m p) (flat_map (used_in_port m) more) (range_suits (place_behind m []) p.type.range) (ports_suit more)
+  ports_suit (p ∷ more) = both_suit (used_in_port m p) (flat_map (used_in_port m) more)
+      (both_suit (at_place (port_place m) (used_in_range p.type.range)) (at_place (port_place m) (used_again p.again)) (range_suits (port_place m) p.type.range) (again_suits (port_place m) p.again)) (ports_suit more)
 
   declarations_suit : (before items : List ItemTree) → all_suit (used_by_items m used_in_declaration before items) ≡ true
   declarations_suit before [] = refl
@@ -253,17 +260,19 @@ module _ (drivers : ScopeDrivers) where
   ports_shaped scope (p ∷ more) made is =
       let one = then_ok (lower_port drivers scope p) (λ one. lower_ports drivers scope more >>= λ others. Ok (one ∷ others)) made is in
       let others = then_ok (lower_ports drivers scope more) (λ others. Ok (one.0 ∷ others)) made one.2 in
-      let bounds = then_ok (lower_bounds scope p.type.range) (λ bounds. Ok (variable_in drivers (form_of p.net p.type.signed bounds) p.name.letters)) one.0 one.1 in
+      let bounds = then_ok (lower_bounds scope p.type.range) (λ bounds. lower_again scope p.again bounds >>= λ whole. Ok (variable_in drivers (form_of p.net p.type.signed whole) p.name.letters)) one.0 one.1 in
+      let whole = then_ok (lower_again scope p.again bounds.0) (λ whole. Ok (variable_in drivers (form_of p.net p.type.signed whole) p.name.letters)) one.0 bounds.2 in
+      let some = ap is_some (sym (again_keeps scope p.again bounds.0 whole.0 whole.1)) ∙ bounds_alike scope p.type.range bounds.0 bounds.1 in
       sym (ap (map shape) (same_value (one.0 ∷ others.0) made others.2))
-      ∙ ap (λ (v : Variable). shape v ∷ map shape others.0) (sym (same_value (variable_in drivers (form_of p.net p.type.signed bounds.0) p.name.letters) one.0 bounds.2))
-      ∙ (λ i. record { ranged = kind_has_bits (kind_of p.net) (bounds_alike scope p.type.range bounds.0 bounds.1 i); net = is_net (kind_of p.net) } ∷ ports_shaped scope more others.0 others.1 i)
+      ∙ ap (λ (v : Variable). shape v ∷ map shape others.0) (sym (same_value (variable_in drivers (form_of p.net p.type.signed whole.0) p.name.letters) one.0 whole.2))
+      ∙ (λ i. record { ranged = kind_has_bits (kind_of p.net) (some i); net = is_net (kind_of p.net) } ∷ ports_shaped scope more others.0 others.1 i)
 
   all_shaped : (form : Form) (kind : Kind) (signed : Bool) (range : Option RangeTree) (list : List DeclaredTree) → kind_has_bits form.kind (is_some form.bounds) ≡ kind_has_bits kind (is_some range) → is_net form.kind ≡ is_net kind →
       map shape (variables_in drivers form list) ≡ map declared_shape (all_declared kind signed range list)
   all_shaped form kind signed range [] e f = refl
   all_shaped form kind signed range (one ∷ more) e f = λ i. record { ranged = e i; net = f i } ∷ all_shaped form kind signed range more e f i
 
-  kind_shaped : (scope : Scope) (form : Form) (kind : DeclarationKind) (list : List DeclaredTree) → lower_kind scope kind ≡ Ok form → map shape (variables_in drivers form list) ≡ map declared_shape (declared_as kind list)
+  kind_shaped : (scope : Scope) (form : Form) (kind : DeclarationKind) (list : List DeclaredTree) → lower_kind scope kind ≡ Ok form → map shape (variables_as drivers form kind list) ≡ map declared_shape (declared_as kind list)
   kind_shaped scope form (variables word type) list is =
       let bounds = then_ok (lower_bounds scope type.range) (λ bounds. Ok (form_of word type.signed bounds)) form is in
       let same = same_value (form_of word type.signed bounds.0) form bounds.2 in
@@ -272,12 +281,13 @@ module _ (drivers : ScopeDrivers) where
   kind_shaped scope form integers list is =
       let same = same_value (record { kind = Integer; signed = true; bounds = None }) form is in
       all_shaped form Integer true None list (ap (λ (f : Form). kind_has_bits f.kind (is_some f.bounds)) (sym same)) (ap (λ (f : Form). is_net f.kind) (sym same))
+  kind_shaped scope form (directed direction) list is = refl
 
   item_shaped : (scope : Scope) (item : ItemTree) (made : List Variable) → lower_declaration drivers scope item ≡ Ok made → map shape made ≡ map declared_shape (declarations_of item)
   item_shaped scope (parameters local type settings) made is = sym (ap (map shape) (same_value [] made is))
   item_shaped scope (declaration kind list) made is =
-      let form = then_ok (lower_kind scope kind) (λ form. Ok (variables_in drivers form list)) made is in
-      sym (ap (map shape) (same_value (variables_in drivers form.0 list) made form.2)) ∙ kind_shaped scope form.0 kind list form.1
+      let form = then_ok (lower_kind scope kind) (λ form. Ok (variables_as drivers form kind list)) made is in
+      sym (ap (map shape) (same_value (variables_as drivers form.0 kind list) made form.2)) ∙ kind_shaped scope form.0 kind list form.1
   item_shaped scope (events names) made is = sym (ap (map shape) (same_value [] made is))
   item_shaped scope (assignments settings) made is = sym (ap (map shape) (same_value [] made is))
   item_shaped scope (initial statement) made is = sym (ap (map shape) (same_value [] made is))
@@ -307,7 +317,7 @@ module _ (modules : SourceTree) (part : Part) (context : Context) (own : Own mod
       let d = scope_drivers_by context (ports_of context.unit) own.children own.scope in
       sym (ap (map shape) s.both_made)
       ∙ map-append shape s.ports_are s.others_are
-      ∙ (λ i. ports_shaped d own.scope (ports_of context.unit) s.ports_are s.ports_made i ++ variables_shaped d own.scope context.unit.items s.others_are s.others_made i)
+      ∙ (λ i. ports_shaped d (port_scope context.unit own.scope) (ports_of context.unit) s.ports_are s.ports_made i ++ variables_shaped d own.scope (own_items context.unit) s.others_are s.others_made i)
       ∙ sym (map-append declared_shape (map port_declaration (ports_of context.unit)) (declarations context.unit))
 
   -- where the design's variables begin with those up to this instance

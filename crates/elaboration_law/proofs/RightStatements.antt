@@ -10,7 +10,6 @@ use Rattle.vast.specs.declared.statement.Dumping.TheVariants as dumps
 use Rattle.vdesign.specs.Design.{Variable}
 use Rattle.vdesign.specs.Expressions.{ExpressionTree}
 use Rattle.std.specs.Prelude.{unwrap_or}
-use Rattle.vdesign.specs.declared.print.Form.TheVariants.{Decimal}
 use Rattle.vdesign.specs.declared.print.Piece.TheVariants.{Value}
 use Rattle.vdesign.specs.declared.action.Action.{Action}
 use Rattle.vdesign.specs.declared.action.Action.TheVariants.{Forever, EventControl, Case}
@@ -18,9 +17,13 @@ use Rattle.vdesign.specs.declared.action.Target.{Target}
 use Rattle.vdesign.specs.declared.action.Edge.TheVariants.{Any}
 use Rattle.vdesign.specs.declared.print.Piece.{Piece}
 use Rattle.vdesign.specs.declared.print.Form.{Form}
+use Rattle.vdesign.specs.declared.print.Notation.{Notation}
+use Rattle.vdesign.specs.declared.print.Notation.TheVariants.{Binary, Octal, Hexadecimal, Decimal, Time, Character, Letters}
+use Rattle.vdesign.specs.declared.print.Width.{Width}
+use Rattle.vast.specs.declared.statement.Printing.{Printing}
 use Rattle.format_text.specs.declared.letters.Escape.TheVariants.{Plain}
-use Rattle.format_text.specs.Formats.{Run, letters_of, run_of}
-use Rattle.format_text.specs.Pieces.{Argument, string, value, text_piece, without_form, last_pieces, value_pieces, rest_of, both_pieces, pieces_by, pieces_of}
+use Rattle.format_text.specs.Formats.{FormatFront, letters_of, front_of}
+use Rattle.format_text.specs.Pieces.{Argument, string, value, Taken, text_piece, without_form, last_pieces, letters_in, value_taken, string_by, string_shown, string_taken, format_left, pieces_before, pieces_with_taken, pieces_by, pieces_of, line_end, with_line_end}
 use Rattle.velab_expr.specs.declared.fault.Rule.TheVariants.{Kind}
 use Rattle.velab_expr.specs.declared.fault.ElabFault.{ElabFault}
 use Rattle.velab_expr.specs.Answers.{◌>>=◌, found}
@@ -31,7 +34,7 @@ use Rattle.velab_expr.specs.Written.{lower_target}
 use Rattle.velab_expr.specs.Selections.{lower_selection}
 use Rattle.velab_declaration.specs.Right.{is_some_net, writes_net, writes_variables}
 use Rattle.velab_process.specs.Waits.{edge_of, lower_control}
-use Rattle.velab_process.specs.Prints.{lower_argument, lower_arguments, lower_line}
+use Rattle.velab_process.specs.Prints.{default_form, ends_line, lower_argument, lower_arguments, lower_line}
 use Rattle.velab_process.specs.Statements.{Table, Lowered, LoweredBranches, with_places_before, assignment_action, lower_amount, lower_own_amount, lower_assignment, lower_task, lower_label, lower_labels, lower_statement, lower_all, lower_branch, lower_branches}
 use Rattle.velab_process.specs.Processes.{ProcessTree, procedural, continuous, Processes, with_begins_before, lower_process, lower_processes}
 use Rattle.elaboration_law.specs.Uses.{Use, Driven, Triggered, use_of, use_of_formats, used_in, used_in_parts, used_in_target, used_in_delay, used_in_own, used_in_assignment, used_in_further, used_in_control, used_in_argument, used_in_arguments, used_in_selection, used_in_task, used_by, used_by_all, used_by_branch, used_by_branches, used_by_process, used_by_processes}
@@ -139,31 +142,71 @@ module _ (vs : List Variable) (place : Place) (scope : Scope) (h : IsAt place sc
   text_bits [] = refl
   text_bits (c ∷ cs) = refl
 
-  last_bits : (run : Option Run) → Pieces true (last_pieces run)
+  last_bits : (front : Option FormatFront) → Pieces true (last_pieces front)
   last_bits None = tt
-  last_bits (Some run) = by run.form
+  last_bits (Some front) = by front.form
     where
-      by : (form : Option Form) → Pieces true (without_form form (text_piece run.letters))
-      by None = text_bits run.letters
+      by : (form : Option Form) → Pieces true (without_form form (text_piece front.letters))
+      by None = text_bits front.letters
       by (Some form) = tt
 
-  value_bits : (run : Option Run) (watched : Bool) (e : ExpressionTree) → Pieces (bits_in vs e) (value_pieces run watched e)
-  value_bits None watched e = tt
-  value_bits (Some run) watched e = list_all-append (piece_bits vs) (text_piece run.letters) (Value (unwrap_or run.form Decimal) watched e ∷ []) ∙ ap (λ (b : Bool). b && (bits_in vs e && true)) (text_bits run.letters) ∙ sym (and_true (bits_in vs e))
+  abbrev TakenBits : Bool → Option Taken → Type 0
+  TakenBits b None = Unit {0}
+  TakenBits b (Some taken) = list_all (piece_bits vs) taken.pieces ≡ b
 
-  both_bits : (b c : Bool) (front later : Option (List Piece)) → Pieces b front → Pieces c later → Pieces (b && c) (both_pieces front later)
+  value_bits : (default : Form) (front : Option FormatFront) (watched : Bool) (e : ExpressionTree) → TakenBits (bits_in vs e) (value_taken default front watched e)
+  value_bits default None watched e = tt
+  value_bits default (Some front) watched e =
+      list_all-append (piece_bits vs) (text_piece front.letters) (Value (unwrap_or front.form default) watched e ∷ [])
+      ∙ ap (λ (b : Bool). b && (bits_in vs e && true)) (text_bits front.letters) ∙ sym (and_true (bits_in vs e))
+
+  shown_bits : (front : FormatFront) (width : Width) (notation : Notation) (letters : List ℕ) → TakenBits true (string_shown front width notation letters)
+  shown_bits front width Binary letters = tt
+  shown_bits front width Octal letters = tt
+  shown_bits front width Hexadecimal letters = tt
+  shown_bits front width Decimal letters = tt
+  shown_bits front width Time letters = tt
+  shown_bits front width Character letters = tt
+  shown_bits front width Letters letters =
+      list_all-append (piece_bits vs) (text_piece front.letters) (text_piece (letters_in width letters))
+      ∙ λ i. text_bits front.letters i && text_bits (letters_in width letters) i
+
+  string_bits : (front : Option FormatFront) (letters : List ℕ) → TakenBits true (string_taken front letters)
+  string_bits None letters = tt
+  string_bits (Some front) letters = by front.form
+    where
+      by : (form : Option Form) → TakenBits true (string_by front form letters)
+      by None = text_bits front.letters
+      by (Some form) = shown_bits front form.width form.notation letters
+
+  both_bits : (b c : Bool) (taken : Option Taken) (later : Option (List Piece)) → TakenBits b taken → Pieces c later → Pieces (b && c) (pieces_with_taken taken later)
   both_bits b c None later s t = tt
-  both_bits b c (Some front) None s t = tt
-  both_bits b c (Some front) (Some later) s t = list_all-append (piece_bits vs) front later ∙ λ i. s i && t i
+  both_bits b c (Some taken) None s t = tt
+  both_bits b c (Some taken) (Some later) s t = list_all-append (piece_bits vs) taken.pieces later ∙ λ i. s i && t i
 
-  pieces_are : (format : List ℕ) (all : List Argument) → Pieces (list_all argument_bits all) (pieces_by format all)
-  pieces_are format [] = last_bits (run_of format)
-  pieces_are format (string letters ∷ more) = both_bits true (list_all argument_bits more) (last_pieces (run_of format)) (pieces_by (letters_of Plain letters) more) (last_bits (run_of format)) (pieces_are (letters_of Plain letters) more)
-  pieces_are format (value watched e ∷ more) =
-      both_bits (bits_in vs e) (list_all argument_bits more) (value_pieces (run_of format) watched e) (pieces_by (rest_of (run_of format)) more) (value_bits (run_of format) watched e) (pieces_are (rest_of (run_of format)) more)
+  pieces_are : (default : Form) (format : List ℕ) (all : List Argument) → Pieces (list_all argument_bits all) (pieces_by default format all)
+  pieces_are default format [] = last_bits (front_of format)
+  pieces_are default format (string letters ∷ more) =
+      let taken = string_taken (front_of format) (letters_of Plain letters) in
+      both_bits true (list_all argument_bits more) taken (pieces_by default (format_left taken) more) (string_bits (front_of format) (letters_of Plain letters))
+      (pieces_are default (format_left taken) more)
+  pieces_are default format (value watched e ∷ more) =
+      let taken = value_taken default (front_of format) watched e in
+      both_bits (bits_in vs e) (list_all argument_bits more) taken (pieces_by default (format_left taken) more) (value_bits default (front_of format) watched e)
+      (pieces_are default (format_left taken) more)
 
-  line_says : (arguments : List ArgumentTree) → Says (λ l. list_all (piece_bits vs) l) (hold (used_in_arguments arguments)) (lower_line scope arguments)
-  line_says arguments = last_says (λ l. list_all argument_bits l) (λ l. list_all (piece_bits vs) l) (hold (used_in_arguments arguments)) (lower_arguments scope arguments) _ (arguments_say arguments) (λ all. by (list_all argument_bits all) (pieces_of all) (pieces_are [] all))
+  end_bits : (ends : Bool) → list_all (piece_bits vs) (line_end ends) ≡ true
+  end_bits true = refl
+  end_bits false = refl
+
+  ended_bits : (ends b : Bool) (pieces : Option (List Piece)) → Pieces b pieces → Pieces b (with_line_end ends pieces)
+  ended_bits ends b None s = tt
+  ended_bits ends b (Some pieces) s =
+      list_all-append (piece_bits vs) pieces (line_end ends) ∙ (λ i. s i && end_bits ends i) ∙ sym (and_true b)
+
+  line_says : (kind : Printing) (arguments : List ArgumentTree) → Says (λ l. list_all (piece_bits vs) l) (hold (used_in_arguments arguments)) (lower_line scope kind arguments)
+  line_says kind arguments = last_says (λ l. list_all argument_bits l) (λ l. list_all (piece_bits vs) l) (hold (used_in_arguments arguments)) (lower_arguments scope arguments) _ (arguments_say arguments) (λ all. by (list_all argument_bits all) (pieces_of (default_form kind) (ends_line kind) all)
+      (ended_bits (ends_line kind) (list_all argument_bits all) (pieces_by (default_form kind) [] all) (pieces_are (default_form kind) [] all)))
     where
       by : (b : Bool) (pieces : Option (List Piece)) → Pieces b pieces → Says (λ l. list_all (piece_bits vs) l) b (found pieces Kind (first_argument arguments))
       by b None s = tt
@@ -220,7 +263,7 @@ module _ (vs : List Variable) (place : Place) (scope : Scope) (h : IsAt place sc
   task_grows table (print kind arguments) =
       split table (used_in_arguments arguments) (use_of_formats arguments ∷ []) _
       (subst (λ (b : Bool). Grows table b (lower_task scope table (print kind arguments))) (and_true (hold (used_in_arguments arguments)))
-      (through (λ l. list_all (piece_bits vs) l) of_lowered (λ d. all table && d) (hold (used_in_arguments arguments)) (lower_line scope arguments) _ (line_says arguments) (λ pieces. acted table _)))
+      (through (λ l. list_all (piece_bits vs) l) of_lowered (λ d. all table && d) (hold (used_in_arguments arguments)) (lower_line scope kind arguments) _ (line_says kind arguments) (λ pieces. acted table _)))
   task_grows table (dump_file letters) = acted table _
   task_grows table (dump_vars selection) = anyway table (hold (used_in_selection selection)) _ (selection_holds selection) (silent_says of_lowered (all table && true) (lower_selection scope selection) _ (λ chosen. acted table _))
   task_grows table (dump dumps.On) = acted table _
@@ -252,7 +295,7 @@ module _ (vs : List Variable) (place : Place) (scope : Scope) (h : IsAt place sc
   mutual
     statement_grows : (table : Table) (statement : StatementTree) → Grows table (hold (used_by statement)) (lower_statement scope table statement)
     statement_grows table empty = and_true (all table)
-    statement_grows table (block statements) = all_grow table statements
+    statement_grows table (block label statements) = all_grow table statements
     statement_grows table (assign target amount v) = assignment_grows true table target amount v
     statement_grows table (nonblocking target amount v) = assignment_grows false table target amount v
     statement_grows table (trigger letters) =

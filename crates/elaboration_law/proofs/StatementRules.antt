@@ -21,7 +21,8 @@ use Rattle.velab_expr.specs.Resolved.{lower_expression}
 use Rattle.velab_expr.specs.Written.{lower_target}
 use Rattle.velab_expr.specs.Selections.{lower_selection}
 use Rattle.velab_process.specs.Waits.{edge_of, term_by, lower_term, lower_further, lower_control}
-use Rattle.velab_process.specs.Prints.{lower_argument, lower_arguments, lower_line}
+use Rattle.velab_process.specs.Prints.{default_form, ends_line, lower_argument, lower_arguments, lower_line}
+use Rattle.vast.specs.declared.statement.Printing.{Printing}
 use Rattle.velab_process.specs.Statements.{Table, Lowered, with_places_before, lower_amount, lower_own_amount, lower_assignment, lower_task, lower_label, lower_labels, lower_statement, lower_all, lower_branch, lower_branches}
 use Rattle.velab_process.specs.Processes.{ProcessTree, procedural, continuous, Processes, with_begins_before, lower_process, lower_processes, process_trees_by, lower_items}
 use Rattle.velab_process.specs.Connections.{only_name, lower_input, lower_output, lower_connection, lower_join, lower_joins}
@@ -68,12 +69,12 @@ arguments_tell scope (one ∷ more) =
     then_tells is_local (lower_argument scope one) _ (argument_tells scope one) (λ argument.
     then_tells is_local (lower_arguments scope more) _ (arguments_tell scope more) (λ others. tt))
 
-line_tells : (scope : Scope) (arguments : List ArgumentTree) → Tells is_local (lower_line scope arguments)
-line_tells scope arguments =
-    then_tells is_local (lower_arguments scope arguments) _ (arguments_tell scope arguments) (λ all. found_tells is_local (pieces_of all) Kind (first_argument arguments) refl)
+line_tells : (scope : Scope) (kind : Printing) (arguments : List ArgumentTree) → Tells is_local (lower_line scope kind arguments)
+line_tells scope kind arguments =
+    then_tells is_local (lower_arguments scope arguments) _ (arguments_tell scope arguments) (λ all. found_tells is_local (pieces_of (default_form kind) (ends_line kind) all) Kind (first_argument arguments) refl)
 
 task_tells : (scope : Scope) (table : Table) (call : TaskTree) → Tells is_local (lower_task scope table call)
-task_tells scope table (print kind arguments) = then_tells is_local (lower_line scope arguments) _ (line_tells scope arguments) (λ pieces. tt)
+task_tells scope table (print kind arguments) = then_tells is_local (lower_line scope kind arguments) _ (line_tells scope kind arguments) (λ pieces. tt)
 task_tells scope table (dump_file letters) = tt
 task_tells scope table (dump_vars selection) = then_tells is_local (lower_selection scope selection) _ (selection_tells scope selection) (λ chosen. tt)
 task_tells scope table (dump kind) = tt
@@ -109,7 +110,7 @@ labels_tell scope places (text.first item more) =
 mutual
   statement_tells : (scope : Scope) (table : Table) (statement : StatementTree) → Tells is_local (lower_statement scope table statement)
   statement_tells scope table empty = tt
-  statement_tells scope table (block statements) = all_tell scope table statements
+  statement_tells scope table (block label statements) = all_tell scope table statements
   statement_tells scope table (assign target amount value) = assignment_tells true scope table target amount value
   statement_tells scope table (nonblocking target amount value) = assignment_tells false scope table target amount value
   statement_tells scope table (trigger letters) = then_tells is_local (lower_event scope letters) _ (event_tells scope letters) (λ number. tt)

@@ -15,7 +15,8 @@ use Rattle.velab_expr.specs.Resolved.{lower_expression}
 use Rattle.velab_expr.specs.Written.{lower_target}
 use Rattle.velab_expr.specs.Selections.{lower_selection}
 use Rattle.velab_process.specs.Waits.{edge_of, lower_term, lower_further, lower_control}
-use Rattle.velab_process.specs.Prints.{lower_argument, lower_arguments, lower_line}
+use Rattle.velab_process.specs.Prints.{default_form, ends_line, lower_argument, lower_arguments, lower_line}
+use Rattle.vast.specs.declared.statement.Printing.{Printing}
 use Rattle.velab_process.specs.Statements.{Table, Lowered, with_places_before, lower_amount, lower_own_amount, lower_assignment, lower_task, lower_label, lower_labels, lower_statement, lower_all, lower_branch, lower_branches}
 use Rattle.velab_process.specs.Processes.{ProcessTree, procedural, continuous, Processes, with_begins_before, lower_process, lower_processes}
 use Rattle.elaboration_law.specs.Uses.{Use, Driven, Triggered, Awaited, use_of, use_of_formats, used_in_selection, used_in, used_in_parts, used_in_target, used_in_delay, used_in_own, used_in_assignment, used_in_further, used_in_control, used_in_argument, used_in_arguments, used_in_task, used_by, used_by_all, used_by_branch, used_by_branches, used_by_process, used_by_processes}
@@ -54,13 +55,14 @@ module _ (q : Question) (scope : Scope) where
       both q scope (used_in_argument one) (used_in_arguments more) (lower_argument scope one) _ (argument_knows one) (λ argument.
       last q scope (used_in_arguments more) (lower_arguments scope more) _ (arguments_know more) (λ others. refl))
 
-  line_knows : (arguments : List ArgumentTree) → Fits q scope (used_in_arguments arguments ++ use_of_formats arguments ∷ []) (lower_line scope arguments)
-  line_knows arguments =
+  line_knows : (kind : Printing) (arguments : List ArgumentTree) → Fits q scope (used_in_arguments arguments ++ use_of_formats arguments ∷ []) (lower_line scope kind arguments)
+  line_knows kind arguments =
       known_judges q.asked (q.fits scope) (used_in_arguments arguments) (use_of_formats arguments ∷ []) (lower_arguments scope arguments) _ (arguments_know arguments) (λ all is.
-      single q scope (use_of_formats arguments) (found (pieces_of all) Kind (first_argument arguments)) (q.of_formats scope arguments all is))
+      single q scope (use_of_formats arguments) (found (pieces_of (default_form kind) (ends_line kind) all) Kind (first_argument arguments))
+      (q.of_formats scope (default_form kind) (ends_line kind) arguments all is))
 
   task_knows : (table : Table) (call : TaskTree) → Fits q scope (used_in_task call) (lower_task scope table call)
-  task_knows table (print kind arguments) = last q scope (used_in_arguments arguments ++ use_of_formats arguments ∷ []) (lower_line scope arguments) _ (line_knows arguments) (λ pieces. refl)
+  task_knows table (print kind arguments) = last q scope (used_in_arguments arguments ++ use_of_formats arguments ∷ []) (lower_line scope kind arguments) _ (line_knows kind arguments) (λ pieces. refl)
   task_knows table (dump_file letters) = refl
   task_knows table (dump_vars selection) = last q scope (used_in_selection selection) (lower_selection scope selection) _ (selection_knows q scope selection) (λ chosen. refl)
   task_knows table (dump kind) = refl
@@ -96,7 +98,7 @@ module _ (q : Question) (scope : Scope) where
   mutual
     statement_knows : (table : Table) (statement : StatementTree) → Fits q scope (used_by statement) (lower_statement scope table statement)
     statement_knows table empty = refl
-    statement_knows table (block statements) = all_know table statements
+    statement_knows table (block label statements) = all_know table statements
     statement_knows table (assign target amount value) = assignment_knows true table target amount value
     statement_knows table (nonblocking target amount value) = assignment_knows false table target amount value
     statement_knows table (trigger letters) = last q scope (use_of Triggered false letters ∷ []) (lower_event scope letters) _ (event_knows q scope letters) (λ number. refl)

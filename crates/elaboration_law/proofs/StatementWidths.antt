@@ -21,10 +21,13 @@ use Rattle.vdesign.specs.declared.action.Edge.TheVariants.{Any, Rise, Fall}
 use Rattle.vdesign.specs.declared.print.Piece.{Piece}
 use Rattle.vdesign.specs.declared.print.Piece.TheVariants.{Value}
 use Rattle.vdesign.specs.declared.print.Form.{Form}
-use Rattle.vdesign.specs.declared.print.Form.TheVariants.{Decimal}
+use Rattle.vdesign.specs.declared.print.Notation.{Notation}
+use Rattle.vdesign.specs.declared.print.Notation.TheVariants.{Binary, Octal, Hexadecimal, Decimal, Time, Character, Letters}
+use Rattle.vdesign.specs.declared.print.Width.{Width}
+use Rattle.vast.specs.declared.statement.Printing.{Printing}
 use Rattle.format_text.specs.declared.letters.Escape.TheVariants.{Plain}
-use Rattle.format_text.specs.Formats.{Run, letters_of, run_of}
-use Rattle.format_text.specs.Pieces.{Argument, string, value, text_piece, without_form, last_pieces, value_pieces, rest_of, both_pieces, pieces_by, pieces_of}
+use Rattle.format_text.specs.Formats.{FormatFront, letters_of, front_of}
+use Rattle.format_text.specs.Pieces.{Argument, string, value, Taken, text_piece, without_form, last_pieces, letters_in, value_taken, string_by, string_shown, string_taken, format_left, pieces_before, pieces_with_taken, pieces_by, pieces_of, line_end, with_line_end}
 use Rattle.vvalue.specs.Value.{Environment}
 use Rattle.vvalue.specs.Flaws.{flaw_of, targets_flaw}
 use Rattle.vvalue.specs.declared.flaw.Flaw.{Flaw}
@@ -41,7 +44,7 @@ use Rattle.velab_expr.specs.Written.{lower_target}
 use Rattle.velab_expr.specs.Selections.{levels_in, lower_selection}
 use Rattle.velab_declaration.specs.ActionFlaws.{first_flaw, branch_flaw, piece_flaw, assignment_flaw, action_flaw}
 use Rattle.velab_process.specs.Waits.{edge_of, term_by, lower_term, lower_further, lower_control}
-use Rattle.velab_process.specs.Prints.{lower_argument, lower_arguments, lower_line}
+use Rattle.velab_process.specs.Prints.{default_form, ends_line, lower_argument, lower_arguments, lower_line}
 use Rattle.velab_process.specs.Statements.{Table, Lowered, LoweredBranches, lowered_action, with_places_before, with_branches_before, assignment_action, dump_action, end_action, lower_amount, lower_own_amount, lower_assignment, lower_task, lower_label, lower_labels, lower_statement, lower_all, lower_branch, lower_branches}
 use Rattle.velab_process.specs.Processes.{ProcessTree, procedural, continuous, Processes, with_begins_before, process_trees_by, lower_process, lower_processes, lower_items}
 use Rattle.elaboration_law.specs.Widths.{Worth, meant, is_sized, are_sized, is_target}
@@ -225,31 +228,67 @@ module _ (now : Environment) where
   Have flaw None = Unit {0}
   Have flaw (Some pieces) = first_flaw (piece_flaw now) pieces ≡ flaw
 
-  last_flawless : (run : Option Run) → Have None (last_pieces run)
+  last_flawless : (front : Option FormatFront) → Have None (last_pieces front)
   last_flawless None = tt
-  last_flawless (Some run) = by run.form
+  last_flawless (Some front) = by front.form
     where
-      by : (form : Option Form) → Have None (without_form form (text_piece run.letters))
-      by None = text_flawless run.letters
+      by : (form : Option Form) → Have None (without_form form (text_piece front.letters))
+      by None = text_flawless front.letters
       by (Some form) = tt
 
-  value_flaw : (run : Option Run) (watched : Bool) (e : ExpressionTree) → Have (flaw_of now e) (value_pieces run watched e)
-  value_flaw None watched e = tt
-  value_flaw (Some run) watched e =
-      flaws_joined (piece_flaw now) (text_piece run.letters) (Value (unwrap_or run.form Decimal) watched e ∷ [])
-      ∙ ap (λ (flaw : Option Flaw). option_or flaw (option_or (flaw_of now e) None)) (text_flawless run.letters) ∙ flaw_none (flaw_of now e)
+  abbrev TakenHave : Option Flaw → Option Taken → Type 0
+  TakenHave flaw None = Unit {0}
+  TakenHave flaw (Some taken) = first_flaw (piece_flaw now) taken.pieces ≡ flaw
 
-  both_have : (a b : Option Flaw) (front later : Option (List Piece)) → Have a front → Have b later → Have (option_or a b) (both_pieces front later)
+  value_flaw : (default : Form) (front : Option FormatFront) (watched : Bool) (e : ExpressionTree) → TakenHave (flaw_of now e) (value_taken default front watched e)
+  value_flaw default None watched e = tt
+  value_flaw default (Some front) watched e =
+      flaws_joined (piece_flaw now) (text_piece front.letters) (Value (unwrap_or front.form default) watched e ∷ [])
+      ∙ ap (λ (flaw : Option Flaw). option_or flaw (option_or (flaw_of now e) None)) (text_flawless front.letters) ∙ flaw_none (flaw_of now e)
+
+  shown_flawless : (front : FormatFront) (width : Width) (notation : Notation) (letters : List ℕ) → TakenHave None (string_shown front width notation letters)
+  shown_flawless front width Binary letters = tt
+  shown_flawless front width Octal letters = tt
+  shown_flawless front width Hexadecimal letters = tt
+  shown_flawless front width Decimal letters = tt
+  shown_flawless front width Time letters = tt
+  shown_flawless front width Character letters = tt
+  shown_flawless front width Letters letters =
+      flaws_joined (piece_flaw now) (text_piece front.letters) (text_piece (letters_in width letters))
+      ∙ λ i. option_or (text_flawless front.letters i) (text_flawless (letters_in width letters) i)
+
+  string_flawless : (front : Option FormatFront) (letters : List ℕ) → TakenHave None (string_taken front letters)
+  string_flawless None letters = tt
+  string_flawless (Some front) letters = by front.form
+    where
+      by : (form : Option Form) → TakenHave None (string_by front form letters)
+      by None = text_flawless front.letters
+      by (Some form) = shown_flawless front form.width form.notation letters
+
+  both_have : (a b : Option Flaw) (taken : Option Taken) (later : Option (List Piece)) → TakenHave a taken → Have b later → Have (option_or a b) (pieces_with_taken taken later)
   both_have a b None later s t = tt
-  both_have a b (Some front) None s t = tt
-  both_have a b (Some front) (Some later) s t = flaws_joined (piece_flaw now) front later ∙ λ i. option_or (s i) (t i)
+  both_have a b (Some taken) None s t = tt
+  both_have a b (Some taken) (Some later) s t = flaws_joined (piece_flaw now) taken.pieces later ∙ λ i. option_or (s i) (t i)
 
-  pieces_have : (format : List ℕ) (all : List Argument) → Have (first_flaw argument_flaw all) (pieces_by format all)
-  pieces_have format [] = last_flawless (run_of format)
-  pieces_have format (string letters ∷ more) =
-      both_have None (first_flaw argument_flaw more) (last_pieces (run_of format)) (pieces_by (letters_of Plain letters) more) (last_flawless (run_of format)) (pieces_have (letters_of Plain letters) more)
-  pieces_have format (value watched e ∷ more) =
-      both_have (flaw_of now e) (first_flaw argument_flaw more) (value_pieces (run_of format) watched e) (pieces_by (rest_of (run_of format)) more) (value_flaw (run_of format) watched e) (pieces_have (rest_of (run_of format)) more)
+  pieces_have : (default : Form) (format : List ℕ) (all : List Argument) → Have (first_flaw argument_flaw all) (pieces_by default format all)
+  pieces_have default format [] = last_flawless (front_of format)
+  pieces_have default format (string letters ∷ more) =
+      let taken = string_taken (front_of format) (letters_of Plain letters) in
+      both_have None (first_flaw argument_flaw more) taken (pieces_by default (format_left taken) more) (string_flawless (front_of format) (letters_of Plain letters))
+      (pieces_have default (format_left taken) more)
+  pieces_have default format (value watched e ∷ more) =
+      let taken = value_taken default (front_of format) watched e in
+      both_have (flaw_of now e) (first_flaw argument_flaw more) taken (pieces_by default (format_left taken) more) (value_flaw default (front_of format) watched e)
+      (pieces_have default (format_left taken) more)
+
+  end_flawless : (ends : Bool) → first_flaw (piece_flaw now) (line_end ends) ≡ None
+  end_flawless true = refl
+  end_flawless false = refl
+
+  ended_have : (ends : Bool) (flaw : Option Flaw) (pieces : Option (List Piece)) → Have flaw pieces → Have flaw (with_line_end ends pieces)
+  ended_have ends flaw None s = tt
+  ended_have ends flaw (Some pieces) s =
+      flaws_joined (piece_flaw now) pieces (line_end ends) ∙ (λ i. option_or (s i) (end_flawless ends i)) ∙ flaw_none flaw
 
 -- what branches of a `case` leave: a truth of the table and one of their items, which are together this one
 module _ (now : Environment) where
@@ -332,10 +371,11 @@ module _ (scope : Scope) (named : Text → Worth) (vectors : AreVectors named) (
       goes_on (first_flaw (argument_flaw now)) (first_flaw (argument_flaw now)) others (holds && others) (lower_arguments scope more) _ (second_false holds others) (arguments_told more) (λ rest k.
       both_say (argument_flaw now argument) (first_flaw (argument_flaw now) rest) holds others h k))
 
-  line_told : (arguments : List ArgumentTree) → Told (first_flaw (piece_flaw now)) (list_all (is_sized_argument named) arguments) (lower_line scope arguments)
-  line_told arguments =
+  line_told : (kind : Printing) (arguments : List ArgumentTree) → Told (first_flaw (piece_flaw now)) (list_all (is_sized_argument named) arguments) (lower_line scope kind arguments)
+  line_told kind arguments =
       goes_on (first_flaw (argument_flaw now)) (first_flaw (piece_flaw now)) holds holds (lower_arguments scope arguments) _ (λ e. e) (arguments_told arguments) (λ all h.
-      by (first_flaw (argument_flaw now) all) (pieces_of all) h (pieces_have now [] all))
+      by (first_flaw (argument_flaw now) all) (pieces_of (default_form kind) (ends_line kind) all) h
+      (ended_have now (ends_line kind) (first_flaw (argument_flaw now) all) (pieces_by (default_form kind) [] all) (pieces_have now (default_form kind) [] all)))
     where
       holds : Bool
       holds = list_all (is_sized_argument named) arguments
@@ -408,7 +448,7 @@ module _ (scope : Scope) (named : Text → Worth) (vectors : AreVectors named) (
   task_told : (table : Table) (b : Bool) → Says (table_flaw now table) b → (call : TaskTree) → Told (of_lowered now) (b && is_sized_task named call) (lower_task scope table call)
   task_told table b s (print kind arguments) =
       let holds = list_all (is_sized_argument named) arguments in
-      goes_on (first_flaw (piece_flaw now)) (of_lowered now) holds (b && holds) (lower_line scope arguments) _ (second_false b holds) (line_told arguments) (λ pieces h. acted now table b holds _ s h)
+      goes_on (first_flaw (piece_flaw now)) (of_lowered now) holds (b && holds) (lower_line scope kind arguments) _ (second_false b holds) (line_told kind arguments) (λ pieces h. acted now table b holds _ s h)
   task_told table b s (dump_file letters) = with_true b _ (acted_anyway now table b _ s refl)
   task_told table b s (dump_vars selection) = quietly (of_lowered now) (b && true) (lower_selection scope selection) _ (selection_quiet scope selection) (λ chosen. with_true b _ (acted_anyway now table b _ s refl))
   task_told table b s (dump kind) = with_true b _ (acted_anyway now table b (dump_action kind) s (dump_flawless kind))
@@ -454,7 +494,7 @@ module _ (scope : Scope) (named : Text → Worth) (vectors : AreVectors named) (
   mutual
     statement_told : (table : Table) (t : Bool) → Says (table_flaw now table) t → (statement : StatementTree) → Told (of_lowered now) (t && is_sized_statement named statement) (lower_statement scope table statement)
     statement_told table t s empty = with_true t (table_flaw now table) s
-    statement_told table t s (block statements) = all_told table t s statements
+    statement_told table t s (block label statements) = all_told table t s statements
     statement_told table t s (assign target amount v) = assignment_told true table t s target amount v
     statement_told table t s (nonblocking target amount v) = assignment_told false table t s target amount v
     statement_told table t s (trigger letters) = quietly (of_lowered now) (t && true) (lower_event scope letters) _ (event_quiet scope letters) (λ number. with_true t _ (acted_anyway now table t _ s refl))

@@ -19,7 +19,7 @@ use Rattle.elaboration_law.proofs.ModuleRules.{is_of_names, is_of_own, names_tel
 use Rattle.elaboration_law.proofs.DesignRules.{design_tells}
 use Rattle.elaboration_law.proofs.StepLemmas.{provided_err, barring_err}
 use Rattle.elaboration_law.proofs.ItemLemmas.{item_answered, item_told}
-use Rattle.elaboration_law.proofs.HierarchyLemmas.{instance_at, OwnFault, in_names, in_instances, in_own, ToldBelow, too_deep, by_own, Told, in_modules, in_top, in_hierarchy, in_design, all_elaborated, fault_told, top_told_below}
+use Rattle.elaboration_law.proofs.HierarchyLemmas.{instance_at, OwnFault, in_names, in_instances, in_own, ToldBelow, too_deep, by_own, Told, in_modules, in_ports, is_of_ports, of_ports, in_top, in_hierarchy, in_design, all_elaborated, fault_told, top_told_below}
 use Rattle.elaboration_law.proofs.NameLemmas.{was_elaborated}
 
 module _ (modules : SourceTree) where
@@ -66,6 +66,7 @@ module _ (modules : SourceTree) (top : Option Text) where
 
   tops_told : (fault : ElabFault) → fault.rule ≡ Top → Told modules top fault → LacksModule modules top
   tops_told fault rule (in_modules w again other) = absurd cc
+  tops_told fault rule (in_ports m is other) = absurd (let no = sym (of_ports m fault.rule other) ∙ ap is_of_ports rule in cc)
   tops_told fault rule (in_top missing other) = no_top missing
   tops_told fault rule (in_hierarchy unit is_top err) = below_told fault unit is_top rule (top_told_below modules unit fault err)
   tops_told fault rule (in_design unit part is_top ok broken) =

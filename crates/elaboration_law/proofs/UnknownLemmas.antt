@@ -18,10 +18,10 @@ use Rattle.velab_declaration.specs.ActionFlaws.{table_fault}
 use Rattle.vhierarchy.specs.Instances.{base_of, Part, variable_paths, scope_paths, broken_selection, broken_paths, broken_table, broken_design, elaborate_top, elaborated}
 use Rattle.elaboration_law.specs.Laws.{IsMeant}
 use Rattle.elaboration_law.specs.Selected.{paths_by_item, paths_in_instance}
-use Rattle.elaboration_law.specs.Unknowns.{all_below, is_all_there, HasUnknown, of_name, of_path}
+use Rattle.elaboration_law.specs.Unknowns.{all_below, is_all_there, HasUnknown, of_name, of_port, of_path}
 use Rattle.elaboration_law.proofs.ToldLemmas.{untold_fault}
 use Rattle.elaboration_law.proofs.DesignRules.{broken_tells, broken_table_tells}
-use Rattle.elaboration_law.proofs.HierarchyLemmas.{instance_at, Told, in_modules, in_top, in_hierarchy, in_design, all_elaborated, fault_told}
+use Rattle.elaboration_law.proofs.HierarchyLemmas.{instance_at, Told, in_modules, in_ports, unknown_port, ports_never, in_top, in_hierarchy, in_design, all_elaborated, fault_told}
 use Rattle.elaboration_law.proofs.OwnLemmas.{own_steps}
 use Rattle.elaboration_law.proofs.GatherLemmas.{Gathers, top_gathered}
 use Rattle.elaboration_law.proofs.NameLemmas.{listed_both, variables_are, paths_are, or_none, or_some}
@@ -102,12 +102,14 @@ module _ (modules : SourceTree) (top : Option Text) where
 
   names_unknown : (fault : ElabFault) → fault.rule ≡ Unknown → Told modules top fault → HasUnknown modules top
   names_unknown fault rule (in_modules w again other) = absurd cc
+  names_unknown fault rule (in_ports m is other) = of_port m is (unknown_port m.flaw (other ∙ rule))
   names_unknown fault rule (in_top missing other) = absurd cc
   names_unknown fault rule (in_hierarchy unit is_top err) = of_name (unknown_told modules top fault unit rule is_top err)
   names_unknown fault rule (in_design unit part is_top ok broken) = of_path unit is_top (design_lacks unit part ok fault rule broken)
 
   names_known : (scale : Timescale) (design : Design) → elaborated modules top scale ≡ Ok design → ¬ HasUnknown modules top
   names_known scale design is (of_name misuse) = unknown_never modules top scale design is misuse
+  names_known scale design is (of_port m wrong undeclared) = ports_never modules top scale design m is wrong
   names_known scale design is (of_path m is_top lacks) =
       let all = all_elaborated modules top scale design is in
       let same = one_top modules top m all.unit is_top all.is_top in

@@ -5,13 +5,14 @@ use Rattle.std.proofs.lemmas.List.{map-append}
 use Rattle.vbits.specs.declared.bit4.Bit4.TheVariants.{X}
 use Rattle.vbits.specs.Vectors.{Vector, filled}
 use Rattle.vast.specs.Words.{Text}
-use Rattle.vast.specs.NumberedModules.{RangeTree, DeclarationKind, variables, integers, DeclaredTree, ItemTree, parameters, declaration, events, assignments, initial, always, instances}
+use Rattle.vast.specs.NumberedModules.{RangeTree, DeclarationKind, variables, integers, directed, DeclaredTree, ItemTree, parameters, declaration, events, assignments, initial, always, instances}
 use Rattle.vdesign.specs.Design.{Variable}
 use Rattle.vdesign.specs.declared.design.Kind.{Kind}
 use Rattle.vdesign.specs.declared.design.Kind.TheVariants.{Integer}
 use Rattle.vdesign.specs.declared.expression.Bounds.{Bounds}
 use Rattle.vvalue.specs.Value.{value_at, bounds_of, whole_bounds}
-use Rattle.vmodules.specs.Ports.{Port}
+use Rattle.vast.specs.declared.module.NetKind.TheVariants as net
+use Rattle.vmodules.specs.Ports.{Port, type_in}
 use Rattle.velab_expr.specs.declared.fault.ElabFault.{ElabFault}
 use Rattle.velab_expr.specs.Answers.{◌>>=◌}
 use Rattle.velab_expr.specs.Scopes.{Scope}
@@ -19,9 +20,10 @@ use Rattle.velab_expr.specs.Constants.{nothing}
 use Rattle.velab_expr.specs.Ranges.{lower_bounds}
 use Rattle.velab_expr.specs.Symbols.{behind_item}
 use Rattle.velab_declaration.specs.ActionFlaws.{blank, blank_environment}
-use Rattle.velab_declaration.specs.Variables.{Declaration, all_declared, kind_of, declared_as, declarations_of, port_declaration, ScopeDrivers, form_of, variable_in, variables_in, lower_ports, lower_kind, lower_declaration, lower_variables}
+use Rattle.velab_declaration.specs.Variables.{Declaration, all_declared, kind_of, declared_as, declarations_of, port_declaration, ScopeDrivers, form_of, variable_in, variables_in, variables_as, lower_again, lower_ports, lower_kind, lower_declaration, lower_variables}
 use Rattle.elaboration_law.specs.Widths.{Worth, is_range}
 use Rattle.elaboration_law.specs.Worths.{bounds_by, declared_worth}
+use Rattle.elaboration_law.proofs.AgainLemmas.{again_keeps}
 use Rattle.elaboration_law.proofs.PlaceLemmas.{got_mapped}
 use Rattle.elaboration_law.proofs.SizeLemmas.{AreVectors}
 use Rattle.elaboration_law.proofs.ExpressionWidths.{AreWorth, IsRange, bounds_sizes}
@@ -53,15 +55,22 @@ module _ (named : Text → Worth) (drivers : ScopeDrivers) where
     ports_declared scope h (p ∷ more) =
         by (lower_bounds scope p.type.range) (lower_ports drivers scope more) (bounds_sizes scope named vectors h p.type.range) (ports_declared scope h more)
       where
+        whole : (bounds : Option Bounds) → bounds ≡ bounds_by named p.type.range → (w : Result (Option Bounds) ElabFault) → ((x : Option Bounds) → w ≡ Ok x → bounds ≡ x) →
+            (b : Result (List Variable) ElabFault) → AreDeclared (map port_declaration more) b →
+            AreDeclared (map port_declaration (p ∷ more))
+            ((w >>= λ same. Ok (variable_in drivers (form_of p.net p.type.signed same) p.name.letters)) >>= λ one. b >>= λ others. Ok (one ∷ others))
+        whole bounds is (Ok x) keeps (Ok others) e = λ i. variable_in drivers (form_of p.net p.type.signed ((sym (keeps x refl) ∙ is) i)) p.name.letters ∷ e i
+        whole bounds is (Ok x) keeps (Err fault) e = tt
+        whole bounds is (Err fault) keeps b e = tt
+
         by : (a : Result (Option Bounds) ElabFault) (b : Result (List Variable) ElabFault) → IsRange named p.type.range (is_range named p.type.range) a → AreDeclared (map port_declaration more) b →
             AreDeclared (map port_declaration (p ∷ more))
-            ((a >>= λ bounds. Ok (variable_in drivers (form_of p.net p.type.signed bounds) p.name.letters)) >>= λ one. b >>= λ others. Ok (one ∷ others))
-        by (Ok bounds) (Ok others) r e = λ i. variable_in drivers (form_of p.net p.type.signed (r.0 i)) p.name.letters ∷ e i
-        by (Ok bounds) (Err fault) r e = tt
+            ((a >>= λ bounds. lower_again scope p.again bounds >>= λ same. Ok (variable_in drivers (form_of p.net p.type.signed same) p.name.letters)) >>= λ one. b >>= λ others. Ok (one ∷ others))
+        by (Ok bounds) b r e = whole bounds r.0 (lower_again scope p.again bounds) (again_keeps scope p.again bounds) b e
         by (Err fault) b r e = tt
 
     kind_declared : (scope : Scope) → AreWorth true nothing scope named → (kind : DeclarationKind) (list : List DeclaredTree) →
-        AreDeclared (declared_as kind list) (lower_kind scope kind >>= λ form. Ok (variables_in drivers form list))
+        AreDeclared (declared_as kind list) (lower_kind scope kind >>= λ form. Ok (variables_as drivers form kind list))
     kind_declared scope h (variables word type) list = by (lower_bounds scope type.range) (bounds_sizes scope named vectors h type.range)
       where
         by : (a : Result (Option Bounds) ElabFault) → IsRange named type.range (is_range named type.range) a →
@@ -69,6 +78,11 @@ module _ (named : Text → Worth) (drivers : ScopeDrivers) where
         by (Ok bounds) r = list_declared (kind_of word) type.signed type.range bounds r.0 list
         by (Err fault) r = tt
     kind_declared scope h integers list = list_declared Integer true None None refl list
+    kind_declared scope h (directed direction) list = by (lower_bounds scope (type_in direction).range)
+      where
+        by : (a : Result (Option Bounds) ElabFault) → AreDeclared [] ((a >>= λ bounds. Ok (form_of net.Wire (type_in direction).signed bounds)) >>= λ form. Ok (variables_as drivers form (directed direction) list))
+        by (Ok bounds) = refl
+        by (Err fault) = tt
 
     item_declared : (scope : Scope) → AreWorth true nothing scope named → (item : ItemTree) → AreDeclared (declarations_of item) (lower_declaration drivers scope item)
     item_declared scope h (parameters local type settings) = refl

@@ -38,7 +38,7 @@ use Rattle.elaboration_law.proofs.StepLemmas.{same_value, then_ok, barring_ok, p
 use Rattle.elaboration_law.proofs.UseLemmas.{Judges, first_false, second_false}
 use Rattle.elaboration_law.proofs.ToldLemmas.{TellsFault, TellsRule}
 use Rattle.elaboration_law.proofs.DesignRules.{table_tells, unless_tells, broken_paths_tell}
-use Rattle.elaboration_law.proofs.HierarchyLemmas.{Told, in_modules, in_top, in_hierarchy, in_design, Own, OwnFault, in_names, in_instances, in_own, below, opened_ok, opened_err, all_elaborated, fault_told}
+use Rattle.elaboration_law.proofs.HierarchyLemmas.{Told, in_modules, in_ports, is_of_ports, of_ports, in_top, in_hierarchy, in_design, Own, OwnFault, in_names, in_instances, in_own, below, opened_ok, opened_err, all_elaborated, fault_told}
 use Rattle.velab_process.specs.Processes.{Processes}
 use Rattle.elaboration_law.proofs.DepthLemmas.{one_top}
 use Rattle.elaboration_law.proofs.PathUses.{JudgesIf, or_judged}
@@ -293,6 +293,7 @@ module _ (modules : SourceTree) (top : Option Text) where
 
   widths_told : (fault : ElabFault) → fault.rule ≡ Width → Told modules top fault → HasWrongWidth modules top
   widths_told fault rule (in_modules w again other) = absurd cc
+  widths_told fault rule (in_ports m is other) = absurd (let no = sym (of_ports m fault.rule other) ∙ ap is_of_ports rule in cc)
   widths_told fault rule (in_top missing other) = absurd cc
   widths_told fault rule (in_hierarchy unit is_top err) =
       record { unit = unit; is_top = is_top; wrong = subst (Grows nothing (all_right modules unit)) err (top_grows modules unit) (ap is_width rule) }

@@ -7,12 +7,16 @@ use Rattle.vast.specs.NumberedStatements.{ArgumentTree, quoted, printed}
 use Rattle.vast.specs.NumberedModules.{SourceTree, ModuleTree}
 use Rattle.vmodules.specs.Names.{is_declared}
 use Rattle.vmodules.specs.Hierarchy.{top_of}
+use Rattle.vmodules.specs.Misdeclared.{Misdeclared, misdeclared}
+use Rattle.vmodules.specs.declared.misdeclared.PortFlaw.TheVariants as flaw
 use Rattle.vdesign.specs.declared.action.Edge.{Edge}
 use Rattle.vdesign.specs.declared.action.Edge.TheVariants.{Any, Rise, Fall}
 use Rattle.vvalue.specs.Flaws.{kind_has_bits}
+use Rattle.vdesign.specs.declared.print.Form.{Form}
+use Rattle.vdesign.specs.declared.print.Notation.{Notation}
+use Rattle.vdesign.specs.declared.print.Notation.TheVariants.{Binary, Octal, Hexadecimal, Decimal, Time, Character, Letters}
 use Rattle.format_text.specs.declared.letters.Escape.TheVariants.{Plain}
-use Rattle.format_text.specs.Formats.{Run, letters_of, run_of}
-use Rattle.format_text.specs.Pieces.{rest_of}
+use Rattle.format_text.specs.Formats.{FormatFront, letters_of, front_of}
 use Rattle.velab_expr.specs.Selections.{levels_in}
 use Rattle.velab_declaration.specs.Right.{is_net}
 use Rattle.velab_declaration.specs.Variables.{Declaration}
@@ -75,16 +79,50 @@ suits constant way (Some an_instance) = false
 
 -- ---- formats (17.1.1)
 
--- no format is left without its expression
-abbrev pub is_ended : Option Run → Bool
+-- no form is left without its argument
+abbrev pub is_ended : Option FormatFront → Bool
 is_ended None = false
-is_ended (Some run) = not (is_some run.form)
+is_ended (Some front) = not (is_some front.form)
 
--- each string is of formats that are known, and each format has its expression, among what is left of a string and the arguments after it
+-- 17.1.1.7: `%s` alone shows a string
+abbrev pub shows_letters : Notation → Bool
+shows_letters Binary = false
+shows_letters Octal = false
+shows_letters Hexadecimal = false
+shows_letters Decimal = false
+shows_letters Time = false
+shows_letters Character = false
+shows_letters Letters = true
+
+-- a string is shown by the form that waits for it, or is a format where none does
+abbrev pub string_fits : Option Form → Bool
+string_fits None = true
+string_fits (Some form) = shows_letters form.notation
+
+abbrev pub takes_string : Option FormatFront → Bool
+takes_string None = false
+takes_string (Some front) = string_fits front.form
+
+-- what is left of the format then
+abbrev pub left_by : Option Form → List ℕ → List ℕ → List ℕ
+left_by None rest letters = letters
+left_by (Some form) rest letters = if shows_letters form.notation then rest else []
+
+abbrev pub left_by_string : Option FormatFront → List ℕ → List ℕ
+left_by_string None letters = []
+left_by_string (Some front) letters = left_by front.form front.rest letters
+
+abbrev pub left_by_value : Option FormatFront → List ℕ
+left_by_value None = []
+left_by_value (Some front) = front.rest
+
+-- each string is of forms that are known, and each form has an argument that it can show, among what is left of a string and the
+-- arguments after it
 abbrev pub formats_fit : List ℕ → List ArgumentTree → Bool
-formats_fit format [] = is_ended (run_of format)
-formats_fit format (quoted letters ∷ more) = is_ended (run_of format) && formats_fit (letters_of Plain (between_quotes letters.letters)) more
-formats_fit format (printed tree ∷ more) = is_some (run_of format) && formats_fit (rest_of (run_of format)) more
+formats_fit format [] = is_ended (front_of format)
+formats_fit format (quoted letters ∷ more) =
+    takes_string (front_of format) && formats_fit (left_by_string (front_of format) (letters_of Plain (between_quotes letters.letters))) more
+formats_fit format (printed tree ∷ more) = is_some (front_of format) && formats_fit (left_by_value (front_of format)) more
 
 -- ---- the rule
 
@@ -105,5 +143,7 @@ selects_no_variable top all = list_all (is_no_variable all) (flat_map (paths_in_
 pub data HasMiskind (modules : SourceTree) (top : Option Text) : Type 0 where
   -- a use that doesn't suit what is used;
   of_use : HasMisuse is_suited modules top → HasMiskind modules top
+  -- an input that is a variable (12.3.3);
+  of_input : (m : Misdeclared) → misdeclared modules ≡ Some m → m.flaw ≡ flaw.Input → HasMiskind modules top
   -- a path to a variable
   of_variable_path : (m : ModuleTree) → top_of modules top ≡ Some m → selects_no_variable m.name.letters (all_below modules m) ≡ false → HasMiskind modules top

@@ -1,14 +1,14 @@
 -- *trusted*: What instances use, and which names stand where they use it (IEEE 1364-2005, 4.10.1, 12.2, 12.3.9.2, 12.7).
-use Rattle.std.specs.Prelude.{◌≡◌, ℕ, Bool, true, false, List, [], ◌∷◌, ◌++◌, map, slice_get, position, Option, None, Some, option_and_then}
+use Rattle.std.specs.Prelude.{◌≡◌, ℕ, Bool, true, false, if◌then◌else◌, List, [], ◌∷◌, ◌++◌, map, slice_get, position, Option, None, Some, option_and_then}
 use Rattle.std.specs.List.{Contains, flat_map, list_all}
 use Rattle.std.specs.Str.{bytes_eq}
 use Rattle.vast.specs.Words.{Text}
 use Rattle.vast.specs.NumberedWords.{Word}
 use Rattle.vast.specs.NumberedExpressions.{ExpressionTree}
-use Rattle.vast.specs.NumberedModules.{ConnectionsTree, InstanceTree, ParameterType, integer, typed, DeclarationKind, variables, integers, ItemTree, parameters, declaration, events, assignments, initial, always, instances, ModuleTree, SourceTree}
+use Rattle.vast.specs.NumberedModules.{ConnectionsTree, InstanceTree, ParameterType, integer, typed, DeclarationKind, variables, integers, directed, ItemTree, parameters, declaration, events, assignments, initial, always, instances, ModuleTree, SourceTree}
 use Rattle.vmodules.specs.Names.{letters_of}
 use Rattle.vmodules.specs.Hierarchy.{module_of, top_of}
-use Rattle.vmodules.specs.Ports.{Port, ports_of}
+use Rattle.vmodules.specs.Ports.{Second, Port, type_in, is_plain_list, ports_of}
 use Rattle.vmodules.specs.Connected.{NamedConnection, open_names, named_connections, named_connections_if, value_for}
 use Rattle.velab_expr.specs.Symbols.{Symbol, parameter_symbol, event_symbol, instance_symbol, name_in, valueless_by, symbols_in_head, symbols_by}
 use Rattle.velab_declaration.specs.Variables.{Declaration, port_declaration, declarations, port_names, declared_names}
@@ -94,6 +94,7 @@ used_outside (Some value) = used_in true value
 abbrev pub used_in_kind : DeclarationKind → List Use
 used_in_kind (variables word type) = used_in_range type.range
 used_in_kind integers = []
+used_in_kind (directed direction) = used_in_range (type_in direction).range
 
 abbrev pub used_in_declaration : ItemTree → List Use
 used_in_declaration (parameters local type settings) = []
@@ -107,9 +108,18 @@ used_in_declaration (instances name overrides list) = []
 abbrev pub used_in_processes : ItemTree → List Use
 used_in_processes item = used_by_processes (process_trees_by item)
 
+-- 12.3.3: of a port that is declared again its second range
+abbrev pub used_again : Option Second → List Use
+used_again None = []
+used_again (Some second) = used_in_range second.type.range
+
 module _ (m : ModuleTree) where
+  -- 12.3.2: ports that items declare stand behind all of these
+  abbrev pub port_place : Place
+  port_place = place_behind m (if is_plain_list m.ports then m.items else [])
+
   abbrev pub used_in_port : Port → List UseAt
-  used_in_port p = at_place (place_behind m []) (used_in_range p.type.range)
+  used_in_port p = at_place port_place (used_in_range p.type.range) ++ at_place port_place (used_again p.again)
 
   -- items, each behind those before it
   abbrev pub used_by_items : (ItemTree → List Use) → List ItemTree → List ItemTree → List UseAt

@@ -28,7 +28,7 @@ paths_in_task top (end_run stops digits) = []
 abbrev mutual
   pub paths_by : Text → StatementTree → List Text
   paths_by top empty = []
-  paths_by top (block statements) = paths_by_all top statements
+  paths_by top (block label statements) = paths_by_all top statements
   paths_by top (assign target amount value) = []
   paths_by top (nonblocking target amount value) = []
   paths_by top (trigger letters) = []

@@ -118,7 +118,7 @@ used_in_task (end_run stops digits) = []
 abbrev mutual
   pub used_by : StatementTree → List Use
   used_by empty = []
-  used_by (block statements) = used_by_all statements
+  used_by (block label statements) = used_by_all statements
   used_by (assign target amount value) = used_in_assignment target amount value
   used_by (nonblocking target amount value) = used_in_assignment target amount value
   used_by (trigger letters) = use_of Triggered false letters ∷ []

@@ -7,16 +7,16 @@ use Rattle.vbits.specs.declared.bit4.Bit4.TheVariants.{X}
 use Rattle.vbits.specs.Vectors.{filled}
 use Rattle.vast.specs.Words.{Text}
 use Rattle.vast.specs.NumberedExpressions as text
-use Rattle.vast.specs.NumberedModules.{ParameterType, integer, typed, RangeTree, DeclarationKind, variables, integers, ItemTree, parameters, declaration, events, assignments, initial, always, instances, ModuleTree}
+use Rattle.vast.specs.NumberedModules.{ParameterType, integer, typed, RangeTree, DeclarationKind, variables, integers, directed, ItemTree, parameters, declaration, events, assignments, initial, always, instances, ModuleTree}
 use Rattle.vdesign.specs.Expressions as design
 use Rattle.vdesign.specs.declared.expression.Bounds.{Bounds}
 use Rattle.vvalue.specs.Value.{whole_bounds}
-use Rattle.vmodules.specs.Ports.{Port, ports_of}
+use Rattle.vmodules.specs.Ports.{Second, Port, type_in, ports_of}
 use Rattle.vmodules.specs.Connected.{NamedConnection, value_for}
 use Rattle.velab_expr.specs.Scopes.{bounds_for}
 use Rattle.velab_expr.specs.Symbols.{Symbol, parameter_symbol, event_symbol, instance_symbol, name_in}
 use Rattle.velab_declaration.specs.Parameters.{parameter_by}
-use Rattle.velab_declaration.specs.Variables.{Declaration, length_of}
+use Rattle.velab_declaration.specs.Variables.{Declaration, length_of, same_bounds}
 use Rattle.elaboration_law.specs.Places.{symbols_of}
 use Rattle.elaboration_law.specs.Widths.{Worth, meant, selected_by, is_sized, is_sized_if, is_range}
 
@@ -92,6 +92,7 @@ module _ (outside : Text → Worth) (values : List NamedConnection) (m : ModuleT
 abbrev pub range_of_kind : DeclarationKind → Option RangeTree
 range_of_kind (variables word type) = type.range
 range_of_kind integers = None
+range_of_kind (directed direction) = (type_in direction).range
 
 abbrev pub range_by : ItemTree → Option RangeTree
 range_by (parameters local type settings) = None
@@ -102,8 +103,14 @@ range_by (initial statement) = None
 range_by (always statement) = None
 range_by (instances name overrides list) = None
 
+-- 12.3.3: a port that is declared again has the same range there
+abbrev pub is_again : (Text → Worth) → Option RangeTree → Option Second → Bool
+is_again named range None = true
+is_again named range (Some second) =
+    is_range named second.type.range && same_bounds (bounds_by named range) (bounds_by named second.type.range)
+
 abbrev pub is_port_ranged : (Text → Worth) → Port → Bool
-is_port_ranged named p = is_range named p.type.range
+is_port_ranged named p = is_range named p.type.range && is_again named p.type.range p.again
 
 abbrev pub is_item_ranged : (Text → Worth) → ItemTree → Bool
 is_item_ranged named item = is_range named (range_by item)

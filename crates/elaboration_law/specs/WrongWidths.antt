@@ -44,7 +44,7 @@ module _ (named : Text → Worth) where
   abbrev mutual
     pub is_sized_statement : StatementTree → Bool
     is_sized_statement empty = true
-    is_sized_statement (block statements) = are_sized_statements statements
+    is_sized_statement (block label statements) = are_sized_statements statements
     is_sized_statement (assign target amount value) = is_sized_assignment target amount value
     is_sized_statement (nonblocking target amount value) = is_sized_assignment target amount value
     is_sized_statement (trigger letters) = true

@@ -1,26 +1,60 @@
--- Arguments, taken one by one: a line has the pieces of all of them (17.1.1).
-use Rattle.std.proofs.Common.{◌≡◌, List, [], ◌∷◌, true, false, Option, Some, None, refl, sym, ◌∙◌}
+-- Arguments, taken one by one: a text has the pieces of all of them (17.1.1).
+use Rattle.std.proofs.Common.{◌≡◌, List, [], ◌∷◌, true, false, not, ℕ, ◌++◌, Option, Some, None, append_assoc, refl, sym, ap, ◌∙◌}
+use Rattle.vdesign.specs.declared.print.Form.{Form}
+use Rattle.vdesign.specs.declared.print.Notation.{Notation}
+use Rattle.vdesign.specs.declared.print.Notation.TheVariants.{Binary, Octal, Hexadecimal, Decimal, Time, Character, Letters}
+use denote.Enum.Bare.{sameb}
+use Rattle.vdesign.specs.contracts.print.Notation.{the_type}
 use Rattle.vdesign.specs.declared.print.Piece.{Piece}
-use Rattle.format_text.specs.Pieces.{Argument, Printed, TakesArgument, HasTakenAllBut, behind, pieces_by, pieces_of, pieces_with}
+use Rattle.format_text.specs.declared.letters.Escape.TheVariants.{Plain}
+use Rattle.format_text.specs.Formats.{FormatFront, front_of, letters_of}
+use Rattle.format_text.specs.Pieces.{Argument, string, PrintedText, HasTakenAllBut, argument_taken, format_left, letters_in, pieces_before, pieces_by, pieces_with, pieces_with_taken, string_by, string_shown, string_taken, text_piece}
 
-behind_none : (pieces : Option (List Piece)) → behind [] pieces ≡ pieces
-behind_none None = refl
-behind_none (Some pieces) = refl
+before_none : (pieces : Option (List Piece)) → pieces_before [] pieces ≡ pieces
+before_none None = refl
+before_none (Some pieces) = refl
 
--- a new line has taken none
-pub none_taken : (arguments : List Argument) → HasTakenAllBut (record { pieces = []; format = [] }) arguments arguments
-none_taken arguments = behind_none (pieces_by [] arguments)
+-- a new text has taken none
+pub none_taken : (default : Form) (arguments : List Argument) →
+    HasTakenAllBut (record { pieces = []; format = []; default = default }) arguments arguments
+none_taken default arguments = before_none (pieces_by default [] arguments)
 
-pub one_taken : (old new : Printed) (argument : Argument) (left arguments : List Argument)
-    → HasTakenAllBut old (argument ∷ left) arguments → TakesArgument old argument true new → HasTakenAllBut new left arguments
-one_taken old new argument left arguments before takes = takes left ∙ before
+before_both : (front next : List Piece) (pieces : Option (List Piece)) → pieces_before (front ++ next) pieces ≡ pieces_before front (pieces_before next pieces)
+before_both front next None = refl
+before_both front next (Some pieces) = ap Some (append_assoc front next pieces)
 
--- one that is refused: there are no pieces of all
-pub one_refused : (old new : Printed) (argument : Argument) (left arguments : List Argument)
-    → HasTakenAllBut old (argument ∷ left) arguments → TakesArgument old argument false new → pieces_of arguments ≡ None
-one_refused old new argument left arguments before refuses = sym before ∙ refuses left
+-- a string that a form waits for
+pub shown_string : (old : PrintedText) (front : FormatFront) (form : Form) (letters format : List ℕ) (one both : List Piece) (arguments : List Argument)
+    → front_of old.format ≡ Some front → front.form ≡ Some form → form.notation ≡ Letters → one ≡ old.pieces ++ text_piece front.letters
+    → both ≡ one ++ text_piece (letters_in form.width (letters_of Plain letters)) → format ≡ front.rest
+    → pieces_with (record { pieces = both; format = format; default = old.default }) arguments ≡ pieces_with old (string letters ∷ arguments)
+shown_string old front form letters format one both arguments front_is form_is letters_is one_is both_is format_is =
+    ap (λ xs. pieces_before xs (pieces_by old.default format arguments)) (both_is ∙ ap (λ xs. xs ++ second) one_is ∙ append_assoc old.pieces first second)
+    ∙ ap (λ xs. pieces_before (old.pieces ++ (first ++ second)) (pieces_by old.default xs arguments)) format_is
+    ∙ before_both old.pieces (first ++ second) (pieces_by old.default front.rest arguments)
+    ∙ ap (λ t. pieces_before old.pieces (pieces_with_taken t (pieces_by old.default (format_left t) arguments))) (sym taken_is)
+  where
+    first : List Piece
+    first = text_piece front.letters
 
--- what a line is finished with, when none is left
-pub all_taken : (printed : Printed) (arguments : List Argument) (pieces : Option (List Piece))
-    → HasTakenAllBut printed [] arguments → pieces ≡ pieces_with printed [] → pieces ≡ pieces_of arguments
-all_taken printed arguments pieces before finishes = finishes ∙ before
+    second : List Piece
+    second = text_piece (letters_in form.width (letters_of Plain letters))
+
+    taken_is : argument_taken old.default (front_of old.format) (string letters) ≡ Some (record { pieces = first ++ second; format = front.rest })
+    taken_is =
+        ap (λ f. string_taken f (letters_of Plain letters)) front_is
+        ∙ ap (λ f. string_by front f (letters_of Plain letters)) form_is
+        ∙ ap (λ n. string_shown front form.width n (letters_of Plain letters)) letters_is
+
+apart : (P : Type 0) → false ≡ true → P
+apart P e = absurd cc
+
+-- a notation that isn't another than that of letters
+pub notation_is : (n : Notation) → false ≡ not (sameb the_type n Letters) → n ≡ Letters
+notation_is Binary e = apart _ e
+notation_is Octal e = apart _ e
+notation_is Hexadecimal e = apart _ e
+notation_is Decimal e = apart _ e
+notation_is Time e = apart _ e
+notation_is Character e = apart _ e
+notation_is Letters e = refl

@@ -1,2 +1,3 @@
 mod Ends
+mod FrontLemmas
 pub mod ArgumentLaws

@@ -1,12 +1,15 @@
--- *trusted*: Formats of printed lines (IEEE 1364-2005, 17.1.1; docs/LANGUAGE.md, "Printed lines"): what a string prints, and where it
--- shows the expressions after it.
-use Rattle.std.specs.Prelude.{ℕ, ◌+◌, ◌-◌, ◌*◌, ◌%◌, ◌==◌, ◌&&◌, ◌||◌, nat_le, Bool, if◌then◌else◌, List, [], ◌∷◌, ◌++◌, Option, Some, None}
-use Rattle.vdesign.specs.declared.print.Form.{Form}
-use Rattle.vdesign.specs.declared.print.Form.TheVariants.{Binary, Hexadecimal, Decimal, ShortDecimal, Time, ShortTime}
+-- *trusted*: Formats of printed texts (IEEE 1364-2005, 17.1.1; docs/LANGUAGE.md, "Printed lines"): what a string prints, and where it
+-- shows the arguments after it.
+use Rattle.std.specs.Prelude.{ℕ, ◌==◌, ◌+◌, ◌-◌, ◌*◌, ◌%◌, ◌&&◌, nat_le, nat_lt, ◌||◌, Bool, if◌then◌else◌, List, [], ◌∷◌, ◌++◌, take, drop, Option, Some, None, option_map}
 use Rattle.format_text.specs.declared.letters.Escape.{Escape}
 use Rattle.format_text.specs.declared.letters.Escape.TheVariants.{Plain, Backslash, One, Two}
-use Rattle.format_text.specs.declared.run.FormatState.{FormatState}
-use Rattle.format_text.specs.declared.run.FormatState.TheVariants.{Outside, Behind, Shortened}
+use Rattle.std.specs.Char.{is_ascii_digit}
+use Rattle.std.specs.List.{prefix_len}
+use Rattle.vdesign.specs.declared.print.Form.{Form}
+use Rattle.vdesign.specs.declared.print.Notation.{Notation}
+use Rattle.vdesign.specs.declared.print.Notation.TheVariants.{Binary, Octal, Hexadecimal, Decimal, Time, Character, Letters}
+use Rattle.vdesign.specs.declared.print.Width.{Width}
+use Rattle.vdesign.specs.declared.print.Width.TheVariants.{Natural, Least, Places, Zeros}
 
 -- ---- the letters of a string, of what stands between its quotes (3.6.3, table 3-1)
 
@@ -58,53 +61,79 @@ abbrev pub letters_of : Escape → List ℕ → List ℕ
 letters_of escape [] = letters_left escape
 letters_of escape (c ∷ cs) = letters_read escape (octal_of c) c ++ letters_of (after_letter escape (octal_of c) c) cs
 
--- ---- forms (17.1.1.2)
+-- ---- forms: what stands after a `%` (17.1.1.2, 17.1.1.3)
 
 -- a letter in either case
 abbrev pub is_letter : ℕ → ℕ → ℕ → Bool
 is_letter small large c = c == small || c == large
 
--- b, h, d, t after `%`
-abbrev pub form_of : ℕ → Option Form
-form_of c =
+-- b, o, h or x, d, t, c, s
+abbrev pub notation_of : ℕ → Option Notation
+notation_of c =
     if is_letter 98 66 c then Some Binary
+    else if is_letter 111 79 c then Some Octal
     else if is_letter 104 72 c then Some Hexadecimal
+    else if is_letter 120 88 c then Some Hexadecimal
     else if is_letter 100 68 c then Some Decimal
     else if is_letter 116 84 c then Some Time
+    else if is_letter 99 67 c then Some Character
+    else if is_letter 115 83 c then Some Letters
     else None
 
--- d, t after `%0`
-abbrev pub short_form_of : ℕ → Option Form
-short_form_of c = if is_letter 100 68 c then Some ShortDecimal else if is_letter 116 84 c then Some ShortTime else None
+abbrev pub notation_at : List ℕ → Option Notation
+notation_at [] = None
+notation_at (c ∷ cs) = notation_of c
 
-abbrev pub form_at : FormatState → ℕ → Option Form
-form_at Outside c = None
-form_at Behind c = form_of c
-form_at Shortened c = short_form_of c
+-- the number of so many places, after those digits that came before; at most 999 (own)
+abbrev pub places_by : ℕ → List ℕ → Option ℕ
+places_by n [] = Some n
+places_by n (c ∷ cs) = if nat_lt 99 n then None else places_by (10 * n + (c - 48)) cs
+
+-- what digits after a 0 say
+abbrev pub zeros_of : List ℕ → Option Width
+zeros_of [] = Some Least
+zeros_of (c ∷ cs) = if c == 48 then None else option_map Zeros (places_by 0 (c ∷ cs))
+
+-- what the digits before the letter say: `%d`, `%0d`, `%05d`, `%5d`
+abbrev pub width_of : List ℕ → Option Width
+width_of [] = Some Natural
+width_of (c ∷ cs) = if c == 48 then zeros_of cs else option_map Places (places_by 0 (c ∷ cs))
+
+abbrev pub form_by : Option Width → Option Notation → Option Form
+form_by None notation = None
+form_by (Some width) None = None
+form_by (Some width) (Some notation) = Some (record { notation = notation; width = width })
+
+abbrev pub digit_count : List ℕ → ℕ
+digit_count text = prefix_len is_ascii_digit text
+
+-- the form at the front of a text, and what stands after it
+abbrev pub form_of : List ℕ → Option Form
+form_of text = form_by (width_of (take (digit_count text) text)) (notation_at (drop (digit_count text) text))
+
+abbrev pub text_after_form : List ℕ → List ℕ
+text_after_form text = drop 1 (drop (digit_count text) text)
 
 -- ---- the front of a format: letters that are printed, the first form, if there is one, and what stands after it
 
-pub record Run : Type 0 where
+pub record FormatFront : Type 0 where
   pub letters : List ℕ
   pub form : Option Form
   pub rest : List ℕ
 
-abbrev pub run_with_form : List ℕ → Option Form → List ℕ → Option Run
-run_with_form letters None rest = None
-run_with_form letters (Some form) rest = Some (record { letters = letters; form = Some form; rest = rest })
+abbrev pub front_with_form : List ℕ → Option Form → List ℕ → Option FormatFront
+front_with_form letters None rest = None
+front_with_form letters (Some form) rest = Some (record { letters = letters; form = Some form; rest = rest })
 
--- letters so far, and those that are left: read outside of a form, after a `%` (37), or after `%0` (48); `%%` prints `%`
-abbrev pub run_by : FormatState → List ℕ → List ℕ → Option Run
-run_by Outside run [] = Some (record { letters = run; form = None; rest = [] })
-run_by Behind run [] = None
-run_by Shortened run [] = None
-run_by Outside run (c ∷ cs) = if c == 37 then run_by Behind run cs else run_by Outside (run ++ c ∷ []) cs
-run_by Behind run (c ∷ cs) =
-    if c == 48 then run_by Shortened run cs
-    else if c == 37 then run_by Outside (run ++ c ∷ []) cs
-    else run_with_form run (form_of c) cs
-run_by Shortened run (c ∷ cs) = run_with_form run (short_form_of c) cs
+-- letters so far, and those that are left; `%` (37) begins a form, and `%%` prints `%`
+abbrev pub front_by : List ℕ → List ℕ → Option FormatFront
+front_by letters [] = Some (record { letters = letters; form = None; rest = [] })
+front_by letters (c ∷ []) = if c == 37 then None else Some (record { letters = letters ++ c ∷ []; form = None; rest = [] })
+front_by letters (c ∷ d ∷ cs) =
+    if c == 37 then
+    (if d == 37 then front_by (letters ++ d ∷ []) cs else front_with_form letters (form_of (d ∷ cs)) (text_after_form (d ∷ cs)))
+    else front_by (letters ++ c ∷ []) (d ∷ cs)
 
--- none where a `%` stands in it at its end, or before what names no form
-abbrev pub run_of : List ℕ → Option Run
-run_of format = run_by Outside [] format
+-- none where a `%` stands in it at its end, or before what is no form
+abbrev pub front_of : List ℕ → Option FormatFront
+front_of format = front_by [] format

@@ -1,12 +1,16 @@
--- *trusted*: The pieces of a line (IEEE 1364-2005, 17.1.1): strings are formats that take the expressions after them.
+-- *trusted*: The pieces of a printed text (IEEE 1364-2005, 17.1.1): strings are formats that take the arguments after them.
 use Rattle.std.specs.Prelude.{◌≡◌, ℕ, Bool, true, false, List, [], ◌∷◌, ◌++◌, Option, Some, None, unwrap_or}
+use Rattle.value_text.specs.ValueText.{right_in}
 use Rattle.vdesign.specs.Expressions.{ExpressionTree}
 use Rattle.vdesign.specs.declared.print.Form.{Form}
-use Rattle.vdesign.specs.declared.print.Form.TheVariants.{Decimal}
+use Rattle.vdesign.specs.declared.print.Notation.{Notation}
+use Rattle.vdesign.specs.declared.print.Notation.TheVariants.{Binary, Octal, Hexadecimal, Decimal, Time, Character, Letters}
+use Rattle.vdesign.specs.declared.print.Width.{Width}
+use Rattle.vdesign.specs.declared.print.Width.TheVariants.{Natural, Least, Places, Zeros}
 use Rattle.vdesign.specs.declared.print.Piece.{Piece}
 use Rattle.vdesign.specs.declared.print.Piece.TheVariants.{Text, Value}
 use Rattle.format_text.specs.declared.letters.Escape.TheVariants.{Plain}
-use Rattle.format_text.specs.Formats.{Run, letters_of, run_of}
+use Rattle.format_text.specs.Formats.{FormatFront, letters_of, front_of}
 
 -- a string as it stands between its quotes, or an expression, and whether a monitor watches it (17.1.3)
 pub data Argument : Type 0 where
@@ -17,60 +21,111 @@ abbrev pub text_piece : List ℕ → List Piece
 text_piece [] = []
 text_piece (c ∷ cs) = Text (c ∷ cs) ∷ []
 
--- no expression is left for a form
+-- a text on its way: its pieces so far, what is left of the last format, and how a value is shown that no format takes
+pub record PrintedText : Type 0 where
+  pub pieces : List Piece
+  pub format : List ℕ
+  pub default : Form
+
+-- ---- a string
+
+-- in a width (17.1.1.7)
+abbrev pub letters_in : Width → List ℕ → List ℕ
+letters_in Natural letters = letters
+letters_in Least letters = letters
+letters_in (Places places) letters = right_in places letters
+letters_in (Zeros places) letters = right_in places letters
+
+-- pieces, and what is left of the format
+pub record Taken : Type 0 where
+  pub pieces : List Piece
+  pub format : List ℕ
+
+-- a string is shown by `%s` alone
+abbrev pub string_shown : FormatFront → Width → Notation → List ℕ → Option Taken
+string_shown front width Letters letters =
+    Some (record { pieces = text_piece front.letters ++ text_piece (letters_in width letters); format = front.rest })
+string_shown front width Binary letters = None
+string_shown front width Octal letters = None
+string_shown front width Hexadecimal letters = None
+string_shown front width Decimal letters = None
+string_shown front width Time letters = None
+string_shown front width Character letters = None
+
+-- where no form waits for it, it is a format
+abbrev pub string_by : FormatFront → Option Form → List ℕ → Option Taken
+string_by front None letters = Some (record { pieces = text_piece front.letters; format = letters })
+string_by front (Some form) letters = string_shown front form.width form.notation letters
+
+abbrev pub string_taken : Option FormatFront → List ℕ → Option Taken
+string_taken None letters = None
+string_taken (Some front) letters = string_by front front.form letters
+
+-- ---- an expression: it is shown in the next form, or as the task shows what no format takes
+
+abbrev pub value_taken : Form → Option FormatFront → Bool → ExpressionTree → Option Taken
+value_taken default None is_watched e = None
+value_taken default (Some front) is_watched e =
+    Some (record { pieces = text_piece front.letters ++ Value (unwrap_or front.form default) is_watched e ∷ []; format = front.rest })
+
+abbrev pub argument_taken : Form → Option FormatFront → Argument → Option Taken
+argument_taken default front (string letters) = string_taken front (letters_of Plain letters)
+argument_taken default front (value is_watched e) = value_taken default front is_watched e
+
+-- ---- all arguments
+
+-- no argument is left for a form
 abbrev pub without_form : Option Form → List Piece → Option (List Piece)
 without_form None pieces = Some pieces
 without_form (Some form) pieces = None
 
--- what is left of a format where its string's expressions end: it has no form
-abbrev pub last_pieces : Option Run → Option (List Piece)
+abbrev pub last_pieces : Option FormatFront → Option (List Piece)
 last_pieces None = None
-last_pieces (Some run) = without_form run.form (text_piece run.letters)
+last_pieces (Some front) = without_form front.form (text_piece front.letters)
 
--- an expression is shown in the next form; where no format has one left it is shown as by `%d`
-abbrev pub value_pieces : Option Run → Bool → ExpressionTree → Option (List Piece)
-value_pieces None is_watched e = None
-value_pieces (Some run) is_watched e = Some (text_piece run.letters ++ Value (unwrap_or run.form Decimal) is_watched e ∷ [])
+abbrev pub pieces_before : List Piece → Option (List Piece) → Option (List Piece)
+pieces_before front None = None
+pieces_before front (Some pieces) = Some (front ++ pieces)
 
-abbrev pub rest_of : Option Run → List ℕ
-rest_of None = []
-rest_of (Some run) = run.rest
+abbrev pub pieces_with_taken : Option Taken → Option (List Piece) → Option (List Piece)
+pieces_with_taken None later = None
+pieces_with_taken (Some taken) later = pieces_before taken.pieces later
 
-abbrev pub behind : List Piece → Option (List Piece) → Option (List Piece)
-behind front None = None
-behind front (Some pieces) = Some (front ++ pieces)
-
-abbrev pub both_pieces : Option (List Piece) → Option (List Piece) → Option (List Piece)
-both_pieces None later = None
-both_pieces (Some front) later = behind front later
+abbrev pub format_left : Option Taken → List ℕ
+format_left None = []
+format_left (Some taken) = taken.format
 
 -- the pieces of what is left of a format and of the arguments after it, from left to right
-abbrev pub pieces_by : List ℕ → List Argument → Option (List Piece)
-pieces_by format [] = last_pieces (run_of format)
-pieces_by format (string letters ∷ arguments) = both_pieces (last_pieces (run_of format)) (pieces_by (letters_of Plain letters) arguments)
-pieces_by format (value is_watched e ∷ arguments) =
-    both_pieces (value_pieces (run_of format) is_watched e) (pieces_by (rest_of (run_of format)) arguments)
+abbrev pub pieces_by : Form → List ℕ → List Argument → Option (List Piece)
+pieces_by default format [] = last_pieces (front_of format)
+pieces_by default format (argument ∷ arguments) =
+    pieces_with_taken (argument_taken default (front_of format) argument)
+    (pieces_by default (format_left (argument_taken default (front_of format) argument)) arguments)
 
--- the pieces of a line; none where a format isn't well formed, or has a form without its expression (E310)
-abbrev pub pieces_of : List Argument → Option (List Piece)
-pieces_of arguments = pieces_by [] arguments
+-- `$write` ends no line (17.1.1)
+abbrev pub line_end : Bool → List Piece
+line_end true = Text (10 ∷ []) ∷ []
+line_end false = []
 
--- ---- a line on its way
+abbrev pub with_line_end : Bool → Option (List Piece) → Option (List Piece)
+with_line_end ends None = None
+with_line_end ends (Some pieces) = Some (pieces ++ line_end ends)
 
--- the pieces so far, and what is left of the last format
-pub record Printed : Type 0 where
-  pub pieces : List Piece
-  pub format : List ℕ
+-- the pieces of a text; none where a format isn't well formed, or has a form without an argument that it can show (E310)
+abbrev pub pieces_of : Form → Bool → List Argument → Option (List Piece)
+pieces_of default ends arguments = with_line_end ends (pieces_by default [] arguments)
+
+-- ---- a text on its way
 
 -- its pieces, where these arguments are all that is still to come
-abbrev pub pieces_with : Printed → List Argument → Option (List Piece)
-pieces_with printed arguments = behind printed.pieces (pieces_by printed.format arguments)
+abbrev pub pieces_with : PrintedText → List Argument → Option (List Piece)
+pieces_with text arguments = pieces_before text.pieces (pieces_by text.default text.format arguments)
 
--- with whatever arguments after it, a line has the pieces that it would have had; or, with this argument, none
-abbrev pub TakesArgument : Printed → Argument → Bool → Printed → Type 0
+-- with whatever arguments after it, a text has the pieces that it would have had; or, with this argument, none
+abbrev pub TakesArgument : PrintedText → Argument → Bool → PrintedText → Type 0
 TakesArgument old argument true new = (arguments : List Argument) → pieces_with new arguments ≡ pieces_with old (argument ∷ arguments)
 TakesArgument old argument false new = (arguments : List Argument) → pieces_with old (argument ∷ arguments) ≡ None
 
--- all arguments but those that are left were taken: with them after it, a line has the pieces of all
-abbrev pub HasTakenAllBut : Printed → List Argument → List Argument → Type 0
-HasTakenAllBut printed left arguments = pieces_with printed left ≡ pieces_of arguments
+-- all arguments but those that are left were taken: with them after it, a text has the pieces of all
+abbrev pub HasTakenAllBut : PrintedText → List Argument → List Argument → Type 0
+HasTakenAllBut text left arguments = pieces_with text left ≡ pieces_by text.default [] arguments

@@ -3,8 +3,9 @@
 // The law: they are the pieces that specs/Pieces.antt says.
 #![tactic(auto)]
 
+mod form;
+mod front;
 mod letters;
 mod printer;
-mod run;
 
 pub use printer::Printer;

@@ -1,25 +1,27 @@
-// The pieces of a line, put together argument by argument (17.1.1).
+// The pieces of a printed text, put together argument by argument (17.1.1).
 
 ghost use Rattle.std.specs.Prelude.{◌≡◌, ◌++◌, [], ◌∷◌, unwrap_or, drop, OnOk, IfOk};
 ghost use Rattle.format_text.specs.Pieces as spec;
 ghost use Rattle.format_text.specs.Pieces.{TakesArgument, string as string_argument, value as value_argument};
 ghost use Rattle.format_text.specs.Reading.{Adds, IsEndOf};
 
+use crate::front::{FormatFront, front_of};
 use crate::letters::letters_of;
-use crate::run::{Run, run_of};
 use basis::NoMemory;
 use std::alloc::Global;
 use std::marker::Model;
+use value_text::put_right;
 use vdesign::expression::Expression;
-use vdesign::print::{Form, Piece, Pieces, Text};
+use vdesign::print::{Form, Notation, Piece, Pieces, Text, Width};
 
-/// The pieces of a line so far, and what is left of the last string, whose forms take the expressions that come. A clause sees it as
-/// the record `Printed` of specs/Pieces.antt.
+/// The pieces of a printed text so far, what is left of the last string, whose forms take the arguments that come, and how a value is
+/// shown that no form takes. A clause sees it as the record `PrintedText` of specs/Pieces.antt.
 #[derive(Drop)]
 pub struct Printer {
     pieces: Vec<Piece>,
     format: Vec<u8>,
     at: usize,
+    default: Form,
 }
 
 impl Model for Printer {
@@ -28,11 +30,11 @@ impl Model for Printer {
     ghost use Rattle.vdesign.specs.contracts.expression.Expression as expression;
     ghost use Rattle.std.specs.Coded.{codes};
 
-    ghost Value = { printing.Printed };
+    ghost Value = { printing.PrintedText };
 
     ghost coded = { Prim.hlevel (codes, expression.the_row.coded) };
 
-    ghost view = { λ p. record { pieces = p.pieces.items; format = drop p.at p.format.items } };
+    ghost view = { λ p. record { pieces = p.pieces.items; format = drop p.at p.format.items; default = p.default } };
 }
 
 // What is left of a format from a place on.
@@ -61,67 +63,107 @@ fn put_text(pieces: &mut Vec<Piece>, letters: Vec<u8>) -> Result<(), NoMemory>
     Ok(())
 }
 
-// Puts the letters of a run last, where it has no form.
-fn put_last(pieces: &mut Vec<Piece>, run: Option<Run<'_>>) -> Result<bool, NoMemory>
-    ensures { IfOk result (λ is_done. Adds pieces.old.items (spec.last_pieces run.entry) is_done
+// Puts the letters of a front last, where it has no form.
+fn put_last(pieces: &mut Vec<Piece>, front: Option<FormatFront<'_>>) -> Result<bool, NoMemory>
+    ensures { IfOk result (λ is_done. Adds pieces.old.items (spec.last_pieces front.entry) is_done
         pieces.new.items) }
 {
-    let Some(run) = run else {
+    let Some(front) = front else {
         return Ok(false);
     };
-    if run.form.is_some() {
+    if front.form.is_some() {
         return Ok(false);
     }
-    put_text(pieces, run.letters)?;
+    put_text(pieces, front.letters)?;
     Ok(true)
 }
 
-// Puts the letters of a run last, and an expression in its form.
+// Puts letters last, and an expression in its form.
 fn put_value(
     pieces: &mut Vec<Piece>,
     letters: Vec<u8>,
-    form: Option<Form>,
+    form: Form,
     watched: bool,
     value: Expression,
 ) -> Result<(), NoMemory>
     ensures { OnOk result (pieces.new.items ≡ pieces.old.items ++ (spec.text_piece letters.items
-        ++ Piece.Value (unwrap_or form Form.Decimal) watched value ∷ [])) }
+        ++ Piece.Value form watched value ∷ [])) }
 {
     put_text(pieces, letters)?;
     pieces.push(Piece::Value {
-        form: form.unwrap_or(Form::Decimal),
+        form,
         watched,
         value,
     })?;
     Ok(())
 }
 
+// Letters on the right of so many places.
+fn placed(alloc: Global, places: u32, letters: &[u8]) -> Result<Vec<u8>, NoMemory>
+    ensures { IfOk result (λ text. text.items ≡ spec.letters_in (Width.Places places) letters.now) }
+{
+    let mut text = Vec::new(alloc);
+    put_right(&mut text, places as usize, letters)?;
+    Ok(text)
+}
+
+// Letters in a width.
+fn letters_in(width: Width, letters: Vec<u8>) -> Result<Vec<u8>, NoMemory>
+    ensures { IfOk result (λ text. text.items ≡ spec.letters_in width letters.items) }
+{
+    let alloc = *letters.allocator();
+    match width {
+        Width::Natural => Ok(letters),
+        Width::Least => Ok(letters),
+        Width::Places(places) => placed(alloc, places, &letters),
+        Width::Zeros(places) => placed(alloc, places, &letters),
+    }
+}
+
 impl Printer {
-    /// A line of which no argument has come yet.
-    pub fn new(alloc: Global) -> Printer
-        ensures { result ≡ record { pieces = []; format = [] } }
+    /// A text of which no argument has come yet, and the form of values that no format takes.
+    pub fn new(alloc: Global, default: Form) -> Printer
+        ensures { result ≡ record { pieces = []; format = []; default = default } }
     {
         Printer {
             pieces: Vec::new(alloc),
             format: Vec::new(alloc),
             at: 0,
+            default,
         }
     }
 
-    /// Takes a string, of which what stands between its quotes is given. False where what is left of the one before isn't well formed,
-    /// or has a form without its expression. E901 is the only refusal.
+    /// Takes a string, of which what stands between its quotes is given: it is shown by a form that waits for it, or else a format.
+    /// False where what is left of the one before isn't well formed, or has a form that shows no string. E901 is the only refusal.
     pub fn string(&mut self, string: &[u8]) -> Result<bool, NoMemory>
         ensures { IfOk result (λ is_done.
             TakesArgument self.old (string_argument string.now) is_done self.new) }
     {
         let alloc = *self.format.allocator();
-        let run = run_of(alloc, left_of(&self.format, self.at))?;
-        if !put_last(&mut self.pieces, run)? {
+        let format = self.format.as_slice();
+        let Some(front) = front_of(alloc, left_of(format, self.at))? else {
             return Ok(false);
+        };
+        let at = place_of(format, front.rest);
+        let FormatFront { letters, form, .. } = front;
+        let string = letters_of(alloc, string)?;
+        match form {
+            None => {
+                put_text(&mut self.pieces, letters)?;
+                self.format = string;
+                self.at = 0;
+                Ok(true)
+            }
+            Some(form) => {
+                if form.notation != Notation::Letters {
+                    return Ok(false);
+                }
+                put_text(&mut self.pieces, letters)?;
+                put_text(&mut self.pieces, letters_in(form.width, string)?)?;
+                self.at = at;
+                Ok(true)
+            }
         }
-        self.format = letters_of(alloc, string)?;
-        self.at = 0;
-        Ok(true)
     }
 
     /// Takes an expression. False where what is left of the string before isn't well formed. E901 is the only refusal.
@@ -131,29 +173,37 @@ impl Printer {
     {
         let alloc = *self.format.allocator();
         let format = self.format.as_slice();
-        let Some(run) = run_of(alloc, left_of(format, self.at))? else {
+        let Some(front) = front_of(alloc, left_of(format, self.at))? else {
             return Ok(false);
         };
-        let at = place_of(format, run.rest);
-        put_value(&mut self.pieces, run.letters, run.form, watched, value)?;
+        let at = place_of(format, front.rest);
+        let form = front.form.unwrap_or(self.default);
+        put_value(&mut self.pieces, front.letters, form, watched, value)?;
         self.at = at;
         Ok(true)
     }
 
-    /// The pieces of the line; none where what is left of the last string isn't well formed, or has a form without its expression.
-    /// E901 is the only refusal.
-    pub fn finish(self) -> Result<Option<Pieces>, NoMemory>
+    /// The pieces of the text, with a line feed at its end, or without; none where what is left of the last string isn't well formed, or
+    /// has a form without its argument. E901 is the only refusal.
+    pub fn finish(self, ends_line: bool) -> Result<Option<Pieces>, NoMemory>
         ensures { IfOk result (λ pieces.
-            pieces ≡ spec.pieces_with self []) }
+            pieces ≡ spec.with_line_end ends_line (spec.pieces_with self [])) }
     {
-        let Printer { pieces, format, at } = self;
+        let Printer {
+            pieces,
+            format,
+            at,
+            ..
+        } = self;
         let mut pieces = pieces;
         let alloc = *format.allocator();
-        let run = run_of(alloc, left_of(&format, at))?;
-        if put_last(&mut pieces, run)? {
-            Ok(Some(Pieces::new(pieces)))
-        } else {
-            Ok(None)
+        let front = front_of(alloc, left_of(&format, at))?;
+        if !put_last(&mut pieces, front)? {
+            return Ok(None);
         }
+        if ends_line {
+            put_text(&mut pieces, Vec::from_slice(alloc, b"\n")?)?;
+        }
+        Ok(Some(Pieces::new(pieces)))
     }
 }

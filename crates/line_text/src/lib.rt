@@ -4,4 +4,4 @@
 
 mod line;
 
-pub use line::{put_line, put_watched};
+pub use line::{put_pieces, put_watched};

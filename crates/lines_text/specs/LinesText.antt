@@ -2,7 +2,7 @@
 use Rattle.std.specs.Prelude.{ℕ, if◌then◌else◌, List, [], ◌∷◌, ◌++◌, Option, Some, None}
 use Rattle.vbits.specs.Vectors.{Vector}
 use Rattle.vdesign.specs.Design.{Design}
-use Rattle.line_text.specs.LineText.{line_of, watched}
+use Rattle.line_text.specs.LineText.{pieces_text, watched}
 use Rattle.vmodel.specs.declared.history.Item.{Item}
 use Rattle.vmodel.specs.declared.history.Item.TheVariants.{SlotEnd, Dump, Line, Monitor}
 use Rattle.vmodel.specs.Same.{values_same}
@@ -17,7 +17,7 @@ abbrev pub watched_values : Design → ℕ → ℕ → List Vector → List Vect
 watched_values design place time values = watched (environment_at design values time) (pieces_at design place)
 
 abbrev pub line_at : Design → ℕ → ℕ → List Vector → List ℕ
-line_at design place time values = line_of (environment_at design values time) (pieces_at design place)
+line_at design place time values = pieces_text (environment_at design values time) (pieces_at design place)
 
 -- one that has printed prints again where an argument differs, at the end of a slot (own), from what it last showed
 abbrev pub due_again : Design → ℕ → List Vector → ℕ → List Vector → Option ℕ

@@ -5,7 +5,7 @@ ghost use Rattle.lines_text.specs.LinesText as spec;
 ghost use Rattle.vdesign.specs.Design.{Design};
 
 use basis::NoMemory;
-use line_text::{put_line, put_watched};
+use line_text::{put_pieces, put_watched};
 use std::alloc::Global;
 use vbits::Vec4;
 use vdesign::design::Design;
@@ -53,7 +53,7 @@ pub(crate) fn line_at(
     ensures { IfOk result (λ text. text.items ≡ spec.line_at design.now place time values.now) }
 {
     let mut text = Vec::new(alloc);
-    put_line(
+    put_pieces(
         &mut text,
         pieces_at(design, place),
         &environment_at(design, values, time),

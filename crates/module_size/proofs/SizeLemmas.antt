@@ -1,5 +1,5 @@
 -- What is left behind lists, and behind the trees whose parts stand in a list.
-use Rattle.std.proofs.Common.{◌≡◌, ◌<◌, ℕ, ◌+◌, ◌-◌, List, ◌∷◌, length, drop, get_or, Vec, Global, Box, sym, ap, ◌∙◌, arith}
+use Rattle.std.proofs.Common.{◌≡◌, ◌<◌, ℕ, ◌+◌, ◌-◌, List, ◌∷◌, length, drop, get_or, Vec, Global, Box, sym, ap, ◌∙◌, arith, Option}
 use Rattle.basis.proofs.Lists.{left_from}
 use Rattle.vast.specs.Words.{Text}
 use Rattle.vast.specs.NumberedWords.{numbered}
@@ -11,6 +11,7 @@ use Rattle.vast.specs.declared.statement.Branch.{Branch}
 use Rattle.vast.specs.declared.statement.Statement.{Statement, Block, Case}
 use Rattle.vast.proofs.ToldTrees.{told_concatenation, told_replication, told_joined, told_block, told_case}
 use Rattle.module_size.specs.Sizes.{expression_size, expressions_size, target_size, targets_size, statement_size, statements_size, branches_size}
+use Rattle.vast.specs.declared.token.Token.{Token}
 
 -- a loop over a list: what this one leaves, the others take from
 pub taken : {A : Type 0} (xs : List A) (i : ℕ) (x : A) → i < length xs → x ≡ get_or xs i x → (F : List A → ℕ) (size : A → ℕ) → ((y : A) (ys : List A) → F (y ∷ ys) ≡ size y + F ys) →
@@ -47,11 +48,11 @@ module _ (words : List Text) (left result : ℕ) where
       ap target_size (ap (target_tree words) is ∙ told_joined (numbered words) at targets) ∙ ap (λ (ts : List Target). 1 + targets_size (target_trees words ts)) (sym same) in
       omega (arith, g, h, size)
 
-  pub block_left : (s : Statement) (list : Vec Statement Global) (items : List Statement) → s ≡ Block list → items ≡ list.items →
+  pub block_left : (s : Statement) (label : Option Token) (list : Vec Statement Global) (items : List Statement) → s ≡ Block label list → items ≡ list.items →
       result ≡ (left - 1) - statements_size (statement_trees words items) → result ≡ left - statement_size (statement_tree words s)
-  block_left s list items is same h =
+  block_left s label list items is same h =
       let size : statement_size (statement_tree words s) ≡ 1 + statements_size (statement_trees words items) =
-      ap statement_size (ap (statement_tree words) is ∙ told_block (numbered words) list) ∙ ap (λ (ss : List Statement). 1 + statements_size (statement_trees words ss)) (sym same) in
+      ap statement_size (ap (statement_tree words) is ∙ told_block (numbered words) label list) ∙ ap (λ (ss : List Statement). 1 + statements_size (statement_trees words ss)) (sym same) in
       omega (arith, h, size)
 
   pub case_left : (s : Statement) (at : ℕ) (kind : CaseKind) (value : Box Expression Global) (branches : Vec Branch Global) (amount : Expression) (items : List Branch) (between : ℕ) →

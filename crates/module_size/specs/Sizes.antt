@@ -7,7 +7,7 @@ use Rattle.vast.specs.NumberedExpressions.{ExpressionTree, ExpressionTrees}
 use Rattle.vast.specs.NumberedStatements as written
 use Rattle.vast.specs.NumberedStatements.{TargetTree, TargetTrees, DelayTree, by_number, by_name, by_value, EventTree, by_event, by_any, by_any_enclosed, by_terms, ArgumentTree, quoted, printed, SelectionTree, TaskTree, print, dump_file, dump_vars, dump, end_run, StatementTree, StatementTrees, empty, block, assign, nonblocking, trigger, if_true, if_else, case_of, while_true, repeat_times, forever, for_loop, wait_for, delay, event, task, no_statement, first_statement, BranchTree, BranchTrees, labelled, default, no_branch, first_branch}
 use Rattle.vast.specs.NumberedModules as modules
-use Rattle.vast.specs.NumberedModules.{RangeTree, TypeTree, ParameterType, integer, typed, SettingTree, DeclaredTree, DirectionTree, input, output, PortTree, HeadParameter, ConnectionTree, ConnectionsTree, InstanceTree, DeclarationKind, variables, integers, ItemTree, parameters, declaration, events, assignments, initial, always, instances, ModuleTree}
+use Rattle.vast.specs.NumberedModules.{RangeTree, TypeTree, ParameterType, integer, typed, SettingTree, DeclaredTree, DirectionTree, input, output, PortTree, HeadParameter, ConnectionTree, ConnectionsTree, InstanceTree, DeclarationKind, variables, integers, directed, ItemTree, parameters, declaration, events, assignments, initial, always, instances, ModuleTree}
 
 -- of what may be left out
 abbrev pub size_if : {A : Type 0} → (A → ℕ) → Option A → ℕ
@@ -104,7 +104,7 @@ labels_size body (text.first item more) = (expression_size item + body) + labels
 abbrev mutual
   pub statement_size : StatementTree → ℕ
   statement_size empty = 1
-  statement_size (block list) = 1 + statements_size list
+  statement_size (block label list) = 1 + statements_size list
   statement_size (assign target amount value) = 1 + assignment_size target amount value
   statement_size (nonblocking target amount value) = 1 + assignment_size target amount value
   statement_size (trigger letters) = 1
@@ -175,6 +175,7 @@ instance_size overrides instance = 1 + (overrides + connections_size instance.co
 abbrev pub declaration_kind_size : DeclarationKind → ℕ
 declaration_kind_size (variables net type) = type_size type
 declaration_kind_size integers = 0
+declaration_kind_size (directed direction) = direction_size direction
 
 abbrev pub item_size : ItemTree → ℕ
 item_size (parameters local type settings) = parameter_type_size type + size_of setting_size settings

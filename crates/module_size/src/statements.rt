@@ -22,7 +22,7 @@ pub fn take_statement(tokens: &Tokens<'_>, statement: &Statement, left: usize) -
     let left = left - 1;
     match statement {
         Statement::Empty => left,
-        Statement::Block(list) => take_statements(tokens, list, left),
+        Statement::Block { statements, .. } => take_statements(tokens, statements, left),
         Statement::Assign {
             target,
             delay,

@@ -31,7 +31,6 @@ pub(crate) enum Construct {
     Fork,
     Format,
     FormatPath,
-    FormatText,
     Function,
     Gate,
     Generate,
@@ -60,7 +59,6 @@ pub(crate) enum Construct {
     NetTypeDirective,
     NewType,
     NumberGap,
-    OldPorts,
     OutputPart,
     Package,
     PartialAssign,
@@ -77,7 +75,6 @@ pub(crate) enum Construct {
     Pull,
     PulledNet,
     Queue,
-    RadixDisplay,
     Random,
     Range,
     ReadMemory,
@@ -100,7 +97,6 @@ pub(crate) enum Construct {
     WideNumber,
     WideVector,
     WiredNet,
-    Write,
 }
 
 /// A construct, what it is called, whether its word is told behind that, and what to write in its place.
@@ -111,11 +107,11 @@ pub(crate) struct Row {
     pub(crate) instead: &'static str,
 }
 
-const ROWS: [Row; 63] = [
+const ROWS: [Row; 59] = [
     Row {
         construct: Construct::Attribute,
         names_word: false,
-        what: "attributes",
+        what: "an attribute in this place, or of this form",
         instead: "take `(* .. *)` away: it changes no run",
     },
     Row {
@@ -127,8 +123,8 @@ const ROWS: [Row; 63] = [
     Row {
         construct: Construct::BlockName,
         names_word: false,
-        what: "names of blocks",
-        instead: "write `begin` and `end` alone",
+        what: "a name behind `fork`, `join` or `end`",
+        instead: "leave the name away",
     },
     Row {
         construct: Construct::Defparam,
@@ -202,14 +198,7 @@ const ROWS: [Row; 63] = [
         construct: Construct::Format,
         names_word: true,
         what: "the format",
-        instead: "write `%b`, `%h`, `%d`, `%0d`, `%t`, `%0t` or `%%`, without another width",
-    },
-    Row {
-        construct: Construct::FormatText,
-        names_word: true,
-        what: "the format",
-        instead: "write the letters into the string itself: a `$display` for each text, chosen by `if` or `case`; `%h` shows the \
-            codes of letters",
+        instead: "write `%b`, `%o`, `%h`, `%d`, `%t`, `%c` or `%s`, with at most three digits before the letter, or `%%`",
     },
     Row {
         construct: Construct::FormatPath,
@@ -351,12 +340,6 @@ const ROWS: [Row; 63] = [
         instead: "write it in one word, of 1 to 64 bits: `8'hff`",
     },
     Row {
-        construct: Construct::OldPorts,
-        names_word: false,
-        what: "ports declared in the body of a module",
-        instead: "declare them in its head: `module m(input a, output reg [3:0] b);`",
-    },
-    Row {
         construct: Construct::OutputPart,
         names_word: false,
         what: "an output on anything but a name",
@@ -420,12 +403,6 @@ const ROWS: [Row; 63] = [
         what: "`assign` as a statement",
         instead: "it holds the variable until `deassign`: test its condition at each assignment, `if (clear) q <= 0; else q <= \
             d;`, and wait for it, too: `@(posedge clk or posedge clear)`",
-    },
-    Row {
-        construct: Construct::RadixDisplay,
-        names_word: false,
-        what: "print tasks with a radix of their own",
-        instead: "write a format for each value: `$display(\"%h\", v)`",
     },
     Row {
         construct: Construct::Random,
@@ -518,12 +495,6 @@ const ROWS: [Row; 63] = [
         names_word: false,
         what: "vectors of more than 64 bits",
         instead: "split it: `reg [63:0] low; reg [63:0] high;`; in place of letters keep a number for each text",
-    },
-    Row {
-        construct: Construct::Write,
-        names_word: false,
-        what: "`$write`",
-        instead: "put the pieces into one `$display`",
     },
 ];
 

@@ -18,16 +18,14 @@ const SWITCHES: [&str; 9] = [
     "tran", "tranif0", "tranif1", "rtran", "rtranif0", "rtranif1", "rnmos", "rpmos", "rcmos",
 ];
 
-// Whether the word is the first name of a module's ports, without a direction.
-fn is_old_port(words: Words<'_>, walk: Walk) -> bool {
-    let next = words.after(1);
-    let is_alone = is_one_of(next, &[",", ")", "["]);
+// Whether the word begins a port that is a part of a net.
+fn is_part_port(words: Words<'_>, walk: Walk) -> bool {
     walk.level == Level::Head
         && walk.group == Group::Plain
         && walk.open == 1
-        && is(words.before(1), "(")
+        && is_one_of(words.before(1), &["(", ","])
         && words.is_name_after(0)
-        && is_alone
+        && is(words.after(1), "[")
 }
 
 // The construct of an item that this word begins.
@@ -60,8 +58,8 @@ pub(crate) fn by_name(words: Words<'_>, walk: Walk) -> Option<Construct> {
     if is_one_of(word, &["vectored", "scalared"]) && is_one_of(words.before(1), &NETS) {
         return Some(Construct::Vectored);
     }
-    if is_old_port(words, walk) {
-        return Some(Construct::OldPorts);
+    if is_part_port(words, walk) {
+        return Some(Construct::PortExpression);
     }
     by_item(words, walk)
 }

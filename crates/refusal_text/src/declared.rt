@@ -25,7 +25,7 @@ pub(crate) struct Declared<'a> {
     outputs: Vec<Output<'a>>,
 }
 
-// The module whose head is read, and whether its ports are outputs.
+// The module that is read, and whether the ports that are declared are outputs.
 #[derive(Clone, Copy)]
 struct Head<'a> {
     module: &'a [u8],
@@ -37,9 +37,17 @@ fn is_in_ports(walk: Walk) -> bool {
     walk.level == Level::Head && walk.group == Group::Plain && walk.open == 1
 }
 
-// Whether the word is the name of a port.
+// Whether the word stands in an item that declares ports or nets.
+fn is_in_item(walk: Walk) -> bool {
+    walk.level == Level::Items && walk.opening == Opening::Net && walk.open == 0
+}
+
+// Whether the word is the name of a port, where its direction was told before.
 fn is_port(words: Words<'_>, walk: Walk) -> bool {
-    is_in_ports(walk) && words.is_name_after(0) && is_one_of(words.after(1), &[",", ")", "="])
+    let next = words.after(1);
+    let is_listed = is_in_ports(walk) && is_one_of(next, &[",", ")", "="]);
+    let is_declared = is_in_item(walk) && is_one_of(next, &[",", ";"]);
+    words.is_name_after(0) && (is_listed || is_declared)
 }
 
 impl<'a> Head<'a> {
@@ -48,6 +56,10 @@ impl<'a> Head<'a> {
         let mut next = *self;
         if is(words.before(1), "module") {
             next.module = words.word();
+            next.is_output = false;
+        }
+        if walk.level == Level::Items && walk.starts {
+            next.is_output = is(words.word(), "output");
         }
         if is_in_ports(walk) && is_one_of(words.word(), &["input", "output", "inout"]) {
             next.is_output = is(words.word(), "output");

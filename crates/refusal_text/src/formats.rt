@@ -1,18 +1,39 @@
 // Formats of printed lines that the profile leaves out (docs/LANGUAGE.md, "Printed lines").
 
 use crate::construct::Construct;
+use basis::digits_len;
+
+// The most digits that a width has, beside a 0 in front of them.
+const WIDTH_DIGITS: usize = 3;
+
+// Whether these digits are a width: a number without a 0 in front, or a 0 with such a number behind it, or without.
+fn is_width(digits: &[u8]) -> bool {
+    let number = match digits.split_first() {
+        Some((b'0', behind)) => behind,
+        _ => digits,
+    };
+    number.first() != Some(&b'0') && number.len() <= WIDTH_DIGITS
+}
+
+// Whether it is the letter of a form.
+fn is_letter(letter: u8) -> bool {
+    match letter.to_ascii_lowercase() {
+        b'b' | b'o' | b'h' | b'x' | b'd' | b't' | b'c' | b's' => true,
+        _ => false,
+    }
+}
 
 // How many letters the format behind a percent sign has, if it is one of the profile.
 fn format_len(after: &[u8]) -> Option<usize> {
-    let first = after.first()?;
-    match first {
-        b'%' | b'b' | b'B' | b'h' | b'H' | b'd' | b'D' | b't' | b'T' => Some(1),
-        b'0' => match after.get(1)? {
-            b'd' | b'D' | b't' | b'T' => Some(2),
-            _ => None,
-        },
-        _ => None,
+    if after.first() == Some(&b'%') {
+        return Some(1);
     }
+    let (digits, behind) = after.split_at(digits_len(after));
+    let letter = behind.first()?;
+    if is_width(digits) && is_letter(*letter) {
+        return Some(digits.len().saturating_add(1));
+    }
+    None
 }
 
 // How many letters a width and the letter behind it have.
@@ -50,7 +71,6 @@ pub(crate) fn bad_format(letters: &[u8]) -> Option<(&[u8], &[u8])> {
 pub(crate) fn construct_of(format: &[u8]) -> Construct {
     match format.last() {
         Some(b'm') | Some(b'M') => Construct::FormatPath,
-        Some(b's') | Some(b'S') | Some(b'c') | Some(b'C') => Construct::FormatText,
         _ => Construct::Format,
     }
 }

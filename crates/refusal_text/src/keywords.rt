@@ -5,7 +5,7 @@ use crate::phrase::{Keywords, told_alone};
 use crate::words::{Words, is, is_one_of};
 use vlex::TokenKind;
 
-const KEYWORDS: [Keywords; 25] = [
+const KEYWORDS: [Keywords; 23] = [
     Keywords {
         words: &["disable"],
         construct: Construct::Disable,
@@ -88,10 +88,6 @@ const KEYWORDS: [Keywords; 25] = [
         construct: Construct::Power,
     },
     Keywords {
-        words: &["$write"],
-        construct: Construct::Write,
-    },
-    Keywords {
         words: &["$random", "$urandom", "$urandom_range"],
         construct: Construct::Random,
     },
@@ -141,30 +137,26 @@ const KEYWORDS: [Keywords; 25] = [
         ],
         construct: Construct::FileTask,
     },
-    Keywords {
-        words: &[
-            "$displayb",
-            "$displayo",
-            "$displayh",
-            "$writeb",
-            "$writeo",
-            "$writeh",
-            "$strobeb",
-            "$strobeo",
-            "$strobeh",
-            "$monitorb",
-            "$monitoro",
-            "$monitorh",
-        ],
-        construct: Construct::RadixDisplay,
-    },
 ];
 
 // The system names that the profile has.
-const SYSTEM_NAMES: [&str; 14] = [
+const SYSTEM_NAMES: [&str; 27] = [
     "$display",
+    "$displayb",
+    "$displayo",
+    "$displayh",
+    "$write",
+    "$writeb",
+    "$writeo",
+    "$writeh",
     "$strobe",
+    "$strobeb",
+    "$strobeo",
+    "$strobeh",
     "$monitor",
+    "$monitorb",
+    "$monitoro",
+    "$monitorh",
     "$dumpfile",
     "$dumpvars",
     "$dumpon",

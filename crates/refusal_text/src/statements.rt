@@ -52,9 +52,9 @@ fn by_call(words: Words<'_>, walk: Walk) -> Option<Construct> {
     }
 }
 
-// The construct of `:`: the name of a block, or a value of three.
+// The construct of `:`: a name that stands nowhere here, or a value of three.
 fn by_colon(words: Words<'_>, walk: Walk) -> Option<Construct> {
-    if is_in_statements(walk) && is_one_of(words.before(1), &["begin", "fork", "end", "join"]) {
+    if is_one_of(words.before(1), &["fork", "end", "join"]) {
         return Some(Construct::BlockName);
     }
     let is_delay = walk.group == Group::Delay && walk.open == 1;

@@ -52,10 +52,16 @@ fn declares(words: Words<'_>, walk: Walk) -> bool {
     }
 }
 
-// Whether the word names a module, a port or a parameter of an instance, or what is dumped.
+// Whether the word is the name of a block.
+fn names_block(words: Words<'_>) -> bool {
+    is(words.before(1), ":") && is(words.before(2), "begin")
+}
+
+// Whether the word names a module, a block, a port or a parameter of an instance, or what is dumped.
 fn is_elsewhere(words: Words<'_>, walk: Walk) -> bool {
     let names_module = is(words.before(1), "module") || (walk.level == Level::Items && walk.starts);
-    names_module || is(words.before(1), ".") || walk.group == Group::Dump
+    let is_named = names_module || names_block(words);
+    is_named || is(words.before(1), ".") || walk.group == Group::Dump
 }
 
 // Whether the word is a name, in a module.

@@ -94,7 +94,24 @@ const PROCESSES: [&str; 5] = [
 ];
 
 /// The tasks that print.
-pub(crate) const PRINTS: [&str; 3] = ["$display", "$strobe", "$monitor"];
+pub(crate) const PRINTS: [&str; 16] = [
+    "$display",
+    "$displayb",
+    "$displayo",
+    "$displayh",
+    "$write",
+    "$writeb",
+    "$writeo",
+    "$writeh",
+    "$strobe",
+    "$strobeb",
+    "$strobeo",
+    "$strobeh",
+    "$monitor",
+    "$monitorb",
+    "$monitoro",
+    "$monitorh",
+];
 
 // Names of tasks that print, here or elsewhere, as they are and behind an `f`; a letter for the radix may follow.
 const PRINT_NAMES: [&str; 4] = ["display", "write", "strobe", "monitor"];

@@ -23,7 +23,7 @@ use Rattle.velab_expr.specs.Resolved.{lower_expression}
 use Rattle.velab_process.specs.Connections.{only_name, lower_input, lower_output, one_process, lower_join, lower_joins}
 use Rattle.velab_process.specs.Processes.{Processes, lower_items}
 use Rattle.velab_process.specs.Statements.{Table}
-use Rattle.vhierarchy.specs.Instances.{barring, faultless, Part, Context, Instantiation, lower_names, lower_instances, lower_own_processes, with_own, few_enough, lower_own_variables, lower_own, child_context, each, elaborate_instance, nothing, no_scope, top_context, elaborate_top, Whole, design_by, broken_design, whole_of, elaborated_whole, elaborated, Elaborates}
+use Rattle.vhierarchy.specs.Instances.{barring, broken_ports, unbroken, top_whole, faultless, Part, Context, Instantiation, lower_names, lower_instances, lower_own_processes, with_own, few_enough, lower_own_variables, lower_own, child_context, each, elaborate_instance, nothing, no_scope, top_context, elaborate_top, Whole, design_by, broken_design, whole_of, elaborated_whole, elaborated, Elaborates}
 use Rattle.vmodel.specs.Step.{frames}
 use Rattle.vmodel.specs.Run.{Setting, state_after}
 use Rattle.statement_law.specs.RunLaws.{IsSomewhere}
@@ -65,6 +65,10 @@ told_joined P (Err fault) next last told = tt
 told_barring : {A : Type 0} (P : A → Type 0) (word : Option Word) (rule : Rule) (answer : Result A ElabFault) → Told P answer → Told P (barring word rule answer)
 told_barring P None rule answer told = told
 told_barring P (Some word) rule answer told = tt
+
+told_unbroken : {A : Type 0} (P : A → Type 0) (broken : Option ElabFault) (answer : Result A ElabFault) → Told P answer → Told P (unbroken broken answer)
+told_unbroken P None answer told = told
+told_unbroken P (Some fault) answer told = tt
 
 told_faultless : {A : Type 0} (P : A → Type 0) (fault : Option ElabFault) (x : A) → P x → Told P (faultless fault x)
 told_faultless P None x told = told
@@ -214,7 +218,8 @@ design_begins modules top scale design is =
     let P : Design → Type 0 = λ d. AllStand d.actions (begins_of_top modules (top_of modules top)) d.processes in
     told_of P (elaborated modules top scale) design is
     (told_then (WholeStands modules (top_of modules top)) P (elaborated_whole modules top) (λ whole. Ok (design_by scale whole.unit whole.part))
-    (told_barring (WholeStands modules (top_of modules top)) (first_again (module_names modules)) _ _ (found_stands modules (top_of modules top) _ _))
+    (told_barring (WholeStands modules (top_of modules top)) (first_again (module_names modules)) _ _
+    (told_unbroken (WholeStands modules (top_of modules top)) (broken_ports modules) (top_whole modules top) (found_stands modules (top_of modules top) _ _)))
     (λ whole stand. stand))
 
 -- ---- runs

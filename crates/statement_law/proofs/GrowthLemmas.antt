@@ -85,7 +85,7 @@ grown_assignment blocking scope table target amount value =
     told_next (Grown table) (lower_expression scope value) _ (λ e v. front_of_more table.actions _)))
 
 grown_task : (scope : Scope) (table : Table) (call : TaskTree) → Told (Grown table) (lower_task scope table call)
-grown_task scope table (print kind arguments) = told_next (Grown table) (lower_line scope arguments) _ (λ pieces is. front_of_more table.actions _)
+grown_task scope table (print kind arguments) = told_next (Grown table) (lower_line scope kind arguments) _ (λ pieces is. front_of_more table.actions _)
 grown_task scope table (dump_file letters) = front_of_more table.actions _
 grown_task scope table (dump_vars selection) = told_next (Grown table) (lower_selection scope selection) _ (λ chosen is. front_of_more table.actions _)
 grown_task scope table (dump kind) = front_of_more table.actions _
@@ -94,7 +94,7 @@ grown_task scope table (end_run stops digits) = front_of_more table.actions _
 mutual
   pub grown : (scope : Scope) (table : Table) (statement : StatementTree) → Told (Grown table) (lower_statement scope table statement)
   grown scope table empty = front_of_itself table.actions
-  grown scope table (block statements) = grown_all scope table statements
+  grown scope table (block label statements) = grown_all scope table statements
   grown scope table (assign target amount value) = grown_assignment true scope table target amount value
   grown scope table (nonblocking target amount value) = grown_assignment false scope table target amount value
   grown scope table (trigger letters) = told_next (Grown table) (lower_event scope letters) _ (λ e is. front_of_more table.actions _)

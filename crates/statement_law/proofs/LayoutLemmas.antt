@@ -49,7 +49,7 @@ own_of scope None = None
 own_of scope (Some amount) = Some (amount_of scope amount)
 
 abbrev pub task_action : Scope → TaskTree → Action
-task_action scope (print kind arguments) = Print (when_of kind) (line_for scope arguments)
+task_action scope (print kind arguments) = Print (when_of kind) (line_for scope kind arguments)
 task_action scope (dump_file letters) = NoOperation
 task_action scope (dump_vars selected) = DumpVars (selection_of scope selected)
 task_action scope (dump kind) = dump_action kind
@@ -57,7 +57,7 @@ task_action scope (end_run stops digits) = end_action stops
 
 abbrev pub Laid : Scope → List Action → StatementTree → ℕ → Type 0
 Laid scope actions empty place = Unit {0}
-Laid scope actions (block statements) place = Unit {0}
+Laid scope actions (block label statements) place = Unit {0}
 Laid scope actions (for_loop target value condition next_target next_value body) place = Unit {0}
 Laid scope actions (assign target amount value) place =
     slice_get actions place ≡ Some (assignment_action true (own_of scope amount) (row_of scope target) (resolved scope value))
@@ -154,7 +154,7 @@ module _ (scope : Scope) (actions : List Action) (table : Table) where
       (told_value (Puts actions _) no_parts (lower_expression scope value) _ (puts_action _ _)))
 
   puts_task : (call : TaskTree) → Told (Puts actions (λ place. slice_get actions place ≡ Some (task_action scope call))) (lower_task scope table call)
-  puts_task (print kind arguments) = told_value (Puts actions _) [] (lower_line scope arguments) _ (puts_action _ _)
+  puts_task (print kind arguments) = told_value (Puts actions _) [] (lower_line scope kind arguments) _ (puts_action _ _)
   puts_task (dump_file letters) = puts_action None NoOperation
   puts_task (dump_vars selected) = told_value (Puts actions _) [] (lower_selection scope selected) _ (puts_action _ _)
   puts_task (dump kind) = puts_action None (dump_action kind)
@@ -162,7 +162,7 @@ module _ (scope : Scope) (actions : List Action) (table : Table) where
 
   pub puts : (statement : StatementTree) → takes_step statement ≡ true → Told (Puts actions (Laid scope actions statement)) (lower_statement scope table statement)
   puts empty step = absurd cc
-  puts (block statements) step = absurd cc
+  puts (block label statements) step = absurd cc
   puts (for_loop target value condition next_target next_value body) step = absurd cc
   puts (assign target amount value) step = puts_assignment true target amount value
   puts (nonblocking target amount value) step = puts_assignment false target amount value

@@ -95,7 +95,7 @@ module _ (scope : Scope) (actions : List Action) where
     pub stands_before : (table : Table) (statement : StatementTree) (rest : List Pending) (after : List Frame) → StandAt scope actions rest after →
         Told (Standing (before statement rest) after) (lower_statement scope table statement)
     stands_before table empty rest after stand = λ front. stand
-    stands_before table (block statements) rest after stand = stands_before_all table statements rest after stand
+    stands_before table (block label statements) rest after stand = stands_before_all table statements rest after stand
     stands_before table (for_loop target value condition next_target next_value body) rest after stand =
         let turn : StatementTree = while_true condition (in_order body (assign next_target None next_value)) in
         let next : List Pending = executing turn ∷ rest in

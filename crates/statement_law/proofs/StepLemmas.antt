@@ -64,9 +64,10 @@ module _ (scope : Scope) (now : Environment) (held : Option Vector) (actions : L
 
     does_print : (kind : Printing) (pieces : List Piece) (place : ℕ) → slice_get actions place ≡ Some (Print (when_of kind) pieces) →
         Tells scope actions (prints kind pieces rest) (execute place (Print (when_of kind) pieces) after now)
-    does_print printing.Display pieces place there = record { effect = ap (λ a. record nothing { shown = Some (line (pieces_of a)) }) there; stands = stand }
-    does_print printing.Strobe pieces place there = record { effect = ap (λ a. record nothing { strobed = Some (pieces_of a) }) there; stands = stand }
-    does_print printing.Monitor pieces place there = record { effect = ap (λ a. record nothing { shown = Some (monitor (pieces_of a)) }) there; stands = stand }
+    does_print (printing.Display base) pieces place there = record { effect = ap (λ a. record nothing { shown = Some (line (pieces_of a)) }) there; stands = stand }
+    does_print (printing.Write base) pieces place there = record { effect = ap (λ a. record nothing { shown = Some (line (pieces_of a)) }) there; stands = stand }
+    does_print (printing.Strobe base) pieces place there = record { effect = ap (λ a. record nothing { strobed = Some (pieces_of a) }) there; stands = stand }
+    does_print (printing.Monitor base) pieces place there = record { effect = ap (λ a. record nothing { shown = Some (monitor (pieces_of a)) }) there; stands = stand }
 
     does_dump : (kind : Dumping) (place : ℕ) → Tells scope actions (dumps_by kind rest) (execute place (dump_action kind) after now)
     does_dump dumps.On place = record { effect = refl; stands = stand }
@@ -76,7 +77,7 @@ module _ (scope : Scope) (now : Environment) (held : Option Vector) (actions : L
 
     does_task : (call : TaskTree) (place : ℕ) → slice_get actions place ≡ Some (task_action scope call) →
         Tells scope actions (calls scope call rest) (execute place (task_action scope call) after now)
-    does_task (print kind arguments) place there = does_print kind (line_for scope arguments) place there
+    does_task (print kind arguments) place there = does_print kind (line_for scope kind arguments) place there
     does_task (dump_file letters) place there = record { effect = refl; stands = stand }
     does_task (dump_vars selected) place there = record { effect = ap (λ a. record nothing { shown = Some (selection (selection_in a)) }) there; stands = stand }
     does_task (dump kind) place there = does_dump kind place
@@ -89,7 +90,7 @@ module _ (scope : Scope) (now : Environment) (held : Option Vector) (actions : L
       does_statement : (statement : StatementTree) → takes_step statement ≡ true → Stands scope actions statement (place ∷ []) → Laid scope actions statement place →
           Does (executing statement) rest (Executing place) after
       does_statement empty step here laid = absurd cc
-      does_statement (block statements) step here laid = absurd cc
+      does_statement (block label statements) step here laid = absurd cc
       does_statement (for_loop target value condition next_target next_value body) step here laid = absurd cc
       does_statement (assign target None value) step here laid =
           record { action = Assign (row_of scope target) (resolved scope value); there = laid; tells = record { effect = refl; stands = stand } }

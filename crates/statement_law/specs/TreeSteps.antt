@@ -45,14 +45,14 @@ pub data Pending : Type 0 where
 
 -- 9.8.1: two statements in order
 abbrev pub in_order : StatementTree → StatementTree → StatementTree
-in_order one other = block (first_statement one (first_statement other no_statement))
+in_order one other = block None (first_statement one (first_statement other no_statement))
 
 -- A statement, before what is left. `;`, `begin` and `end` take no step (9.8.1); a `for` is its first assignment, and then a `while`
 -- whose body ends with the other one (9.6).
 abbrev mutual
   pub before : StatementTree → List Pending → List Pending
   before empty rest = rest
-  before (block statements) rest = before_all statements rest
+  before (block label statements) rest = before_all statements rest
   before (for_loop target value condition next_target next_value body) rest =
       executing (assign target None value) ∷ (executing (while_true condition (in_order body (assign next_target None next_value))) ∷ rest)
   before statement rest = executing statement ∷ rest
@@ -69,7 +69,7 @@ begin_of scope (continuous name value) = driving scope name scope value ∷ []
 -- `before` leaves none but these
 abbrev pub takes_step : StatementTree → Bool
 takes_step empty = false
-takes_step (block statements) = false
+takes_step (block label statements) = false
 takes_step (for_loop target value condition next_target next_value body) = false
 takes_step statement = true
 
@@ -133,8 +133,8 @@ amount_of scope amount = value_or no_parts (lower_amount scope amount)
 abbrev pub terms_of : Scope → EventTree → StatementTree → List Term
 terms_of scope control body = value_or [] (lower_control scope control body)
 
-abbrev pub line_for : Scope → List ArgumentTree → List Piece
-line_for scope arguments = value_or [] (lower_line scope arguments)
+abbrev pub line_for : Scope → Printing → List ArgumentTree → List Piece
+line_for scope kind arguments = value_or [] (lower_line scope kind arguments)
 
 -- ---- 9.5: `case`
 
@@ -191,9 +191,10 @@ turns_before (suc n) count body rest = repeating (suc n) count body ∷ rest
 
 -- 17.1
 abbrev pub prints : Printing → List Piece → List Pending → TreeStep
-prints printing.Display pieces rest = shows (line pieces) rest
-prints printing.Strobe pieces rest = record { effect = record nothing { strobed = Some pieces }; next = rest }
-prints printing.Monitor pieces rest = shows (monitor pieces) rest
+prints (printing.Display base) pieces rest = shows (line pieces) rest
+prints (printing.Write base) pieces rest = shows (line pieces) rest
+prints (printing.Strobe base) pieces rest = record { effect = record nothing { strobed = Some pieces }; next = rest }
+prints (printing.Monitor base) pieces rest = shows (monitor pieces) rest
 
 -- 18.1
 abbrev pub dumps_by : Dumping → List Pending → TreeStep
@@ -203,7 +204,7 @@ dumps_by dumps.All rest = shows (command switches.All) rest
 dumps_by dumps.Flush rest = moves rest
 
 abbrev pub calls : Scope → TaskTree → List Pending → TreeStep
-calls scope (print kind arguments) rest = prints kind (line_for scope arguments) rest
+calls scope (print kind arguments) rest = prints kind (line_for scope kind arguments) rest
 calls scope (dump_file letters) rest = moves rest
 calls scope (dump_vars selected) rest = shows (selection (selection_of scope selected)) rest
 calls scope (dump kind) rest = dumps_by kind rest

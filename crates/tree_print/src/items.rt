@@ -5,12 +5,12 @@ use crate::page::Page;
 use crate::statements::statement;
 use basis::NoMemory;
 use vast::module::{
-    Bounds, Connection, Connections, DeclarationKind, Declared, Instance, ModuleItem, NetKind,
-    ParameterType, Setting, SignAndRange,
+    Bounds, Connection, Connections, DeclarationKind, Declared, Direction, Instance, ModuleItem,
+    NetKind, ParameterType, Setting, SignAndRange,
 };
 
-/// The word of a net's kind.
-pub fn net_word(net: NetKind) -> &'static [u8] {
+// The word of a net's kind.
+fn net_word(net: NetKind) -> &'static [u8] {
     match net {
         NetKind::Wire => b"wire",
         NetKind::Reg => b"reg",
@@ -60,9 +60,35 @@ fn settings(page: &mut Page<'_>, list: &[Setting]) -> Result<(), NoMemory> {
     Ok(())
 }
 
+fn net(page: &mut Page<'_>, value: Option<NetKind>) -> Result<(), NoMemory> {
+    match value {
+        None => page.word(b"-"),
+        Some(net) => page.word(net_word(net)),
+    }
+}
+
+/// Which way ports go.
+pub fn direction(page: &mut Page<'_>, value: &Direction) -> Result<(), NoMemory> {
+    match value {
+        Direction::Input { wire, kind } => {
+            page.open(b"input")?;
+            page.mark(*wire, b"wire")?;
+            sign_and_range(page, kind)?;
+            page.close()
+        }
+        Direction::Output { net: written, kind } => {
+            page.open(b"output")?;
+            net(page, *written)?;
+            sign_and_range(page, kind)?;
+            page.close()
+        }
+    }
+}
+
 fn declaration_kind(page: &mut Page<'_>, value: &DeclarationKind) -> Result<(), NoMemory> {
     match value {
         DeclarationKind::Integers => page.empty(b"integer"),
+        DeclarationKind::Directed { direction: way } => direction(page, way),
         DeclarationKind::Variables { net, kind } => {
             page.open(net_word(*net))?;
             sign_and_range(page, kind)?;

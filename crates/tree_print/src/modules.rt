@@ -1,10 +1,10 @@
 // Modules, and texts of them.
 
-use crate::items::{item, net_word, parameter_type, setting, sign_and_range};
+use crate::items::{direction, item, parameter_type, setting};
 use crate::page::Page;
 use basis::NoMemory;
 use vast::module::{
-    Direction, HeadParameter, ModuleItem, ModuleTree, NetKind, ParameterType, Port, TextTree,
+    Direction, HeadParameter, ModuleItem, ModuleTree, ParameterType, Port, TextTree,
 };
 
 fn head_type(page: &mut Page<'_>, value: &Option<ParameterType>) -> Result<(), NoMemory> {
@@ -35,35 +35,17 @@ fn parameters(page: &mut Page<'_>, value: &Option<Vec<HeadParameter>>) -> Result
     }
 }
 
-fn net(page: &mut Page<'_>, value: Option<NetKind>) -> Result<(), NoMemory> {
+fn optional_direction(page: &mut Page<'_>, value: &Option<Direction>) -> Result<(), NoMemory> {
     match value {
         None => page.word(b"-"),
-        Some(net) => page.word(net_word(net)),
-    }
-}
-
-fn direction(page: &mut Page<'_>, value: &Option<Direction>) -> Result<(), NoMemory> {
-    match value {
-        None => page.word(b"-"),
-        Some(Direction::Input { wire, kind }) => {
-            page.open(b"input")?;
-            page.mark(*wire, b"wire")?;
-            sign_and_range(page, kind)?;
-            page.close()
-        }
-        Some(Direction::Output { net: written, kind }) => {
-            page.open(b"output")?;
-            net(page, *written)?;
-            sign_and_range(page, kind)?;
-            page.close()
-        }
+        Some(value) => direction(page, value),
     }
 }
 
 fn port_list(page: &mut Page<'_>, list: &[Port]) -> Result<(), NoMemory> {
     for port in list {
         page.open(b"port")?;
-        direction(page, &port.direction)?;
+        optional_direction(page, &port.direction)?;
         page.token(port.name)?;
         page.close()?;
     }

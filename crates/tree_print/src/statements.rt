@@ -10,7 +10,7 @@ use vast::statement::{Branch, CaseKind, Delay, Statement, Target};
 fn kind(value: &Statement) -> &'static [u8] {
     match value {
         Statement::Empty => b"empty",
-        Statement::Block(_) => b"block",
+        Statement::Block { .. } => b"block",
         Statement::Assign { .. } => b"assign",
         Statement::Nonblocking { .. } => b"nonblocking",
         Statement::Trigger { .. } => b"trigger",
@@ -70,6 +70,10 @@ fn heading(page: &mut Page<'_>, whole: &Statement) -> Result<(), NoMemory> {
             value,
             ..
         } => { assignment(page, target, delay, value) }
+        Statement::Block {
+            name: Some(name),
+            ..
+        } => page.token(*name),
         Statement::Trigger { name, .. } => page.token(*name),
         Statement::If { condition, .. } => expression(page, condition),
         Statement::IfElse { condition, .. } => expression(page, condition),
@@ -103,7 +107,10 @@ pub fn statement(page: &mut Page<'_>, whole: &Statement) -> Result<(), NoMemory>
     heading(page, whole)?;
     match whole {
         Statement::Empty => {}
-        Statement::Block(list) => statements(page, list)?,
+        Statement::Block {
+            statements: list,
+            ..
+        } => statements(page, list)?,
         Statement::Assign { .. } => {}
         Statement::Nonblocking { .. } => {}
         Statement::Trigger { .. } => {}

@@ -4,9 +4,9 @@ use crate::expressions::expression;
 use crate::page::Page;
 use basis::NoMemory;
 use vast::statement::{
-    Argument, Delay, Dumping, Edge, Event, FurtherTerm, Path, Printing, Selection, Target, Task,
-    Term,
+    Argument, Delay, Dumping, Edge, Event, FurtherTerm, Path, Selection, Target, Task, Term,
 };
+use vast::statement_parts_spelling::print_word;
 
 /// What an assignment writes to.
 #[cycle(targets)]
@@ -129,20 +129,10 @@ fn selection(page: &mut Page<'_>, value: &Option<Selection>) -> Result<(), NoMem
     }
 }
 
+// The word of a task, without the letter `$`.
 fn kind(value: &Task) -> &'static [u8] {
     match value {
-        Task::Print {
-            kind: Printing::Display,
-            ..
-        } => b"display",
-        Task::Print {
-            kind: Printing::Strobe,
-            ..
-        } => b"strobe",
-        Task::Print {
-            kind: Printing::Monitor,
-            ..
-        } => b"monitor",
+        Task::Print { kind, .. } => print_word(*kind).get(1..).unwrap_or(&[]),
         Task::DumpFile(_) => b"dumpfile",
         Task::DumpVars(_) => b"dumpvars",
         Task::Dump(Dumping::On) => b"dumpon",

@@ -13,7 +13,7 @@ use Rattle.vbits.specs.Vectors.{Vector, select, sign_letter}
 use Rattle.value_text.specs.ValueText.{is_negative, digit_of, digits_of}
 
 -- the letters from this one on
-from : (letters : List Bit4) (i : ℕ) (letter : Bit4) → slice_get letters i ≡ Some letter → letter ∷ drop (i + 1) letters ≡ drop i letters
+pub from : (letters : List Bit4) (i : ℕ) (letter : Bit4) → slice_get letters i ≡ Some letter → letter ∷ drop (i + 1) letters ≡ drop i letters
 from letters i letter at = left_from letters i letter (sym (get_or_from_slice_get letters i letter letter at)) (slice_get_within letters i letter at)
 
 pub all_on : (test : Bit4 → Bool) (letters : List Bit4) (i : ℕ) (letter : Bit4) → slice_get letters i ≡ Some letter →
@@ -82,27 +82,27 @@ small (suc (suc (suc (suc (suc k))))) h = omega (arith, h)
 pub below_16 : (letters : List Bit4) (n : ℕ) → length letters < 5 → number letters ≡ Some n → n < 16
 below_16 letters n few e = omega (arith, number_below letters n e, small (length letters) few)
 
--- the bits of a digit
-pub four_of : (letters : List Bit4) (n high : ℕ) → 4 * n < length letters → high ≡ min (4 * n + 3) (length letters - 1) →
-    take (high + 1 - 4 * n) (drop (4 * n) letters) ≡ take 4 (drop (4 * n) letters)
-four_of letters n high within is =
-    ap (λ count. take count (drop (4 * n) letters)) (omega (arith, within, is, length-drop (4 * n) letters))
-    ∙ take_min 4 (drop (4 * n) letters)
+-- the bits of a digit, of so many at most, from this one on
+group_of : (letters : List Bit4) (size low high : ℕ) → low < length letters → 0 < size → high ≡ min (low + (size - 1)) (length letters - 1) →
+    take (high + 1 - low) (drop low letters) ≡ take size (drop low letters)
+group_of letters size low high within some is =
+    ap (λ count. take count (drop low letters)) (omega (arith, within, some, is, length-drop low letters))
+    ∙ take_min size (drop low letters)
 
-pub selected_four : (v : Vector) (n high : ℕ) → 4 * n < length v.letters → high ≡ min (4 * n + 3) (length v.letters - 1) →
-    (select v high (4 * n)).letters ≡ take 4 (drop (4 * n) v.letters)
+pub selected_group : (v : Vector) (size low high : ℕ) → low < length v.letters → 0 < size → high ≡ min (low + (size - 1)) (length v.letters - 1) →
+    (select v high low).letters ≡ take size (drop low v.letters)
 unfolding select
-selected_four v n high within is = four_of v.letters n high within is
+selected_group v size low high within some is = group_of v.letters size low high within some is
 
 -- one digit more
-pub digit_more : (letters : List Bit4) (n : ℕ) (items new whole : List ℕ) (digit : ℕ) (group : List Bit4) → 0 < n → items ++ digits_of n letters ≡ whole →
-    group ≡ take 4 (drop (4 * (n - 1)) letters) → digit ≡ digit_of group → new ≡ items ++ digit ∷ [] → new ++ digits_of (n - 1) letters ≡ whole
-digit_more letters zero items new whole digit group some before fours is put = absurd (omega (arith, some))
-digit_more letters (suc m) items new whole digit group some before fours is put =
-    ap (λ k. new ++ digits_of k letters) less
-    ∙ ap (λ text. text ++ digits_of m letters) put
-    ∙ append_assoc items (digit ∷ []) (digits_of m letters)
-    ∙ ap (λ d. items ++ d ∷ digits_of m letters) (is ∙ ap digit_of (fours ∙ ap (λ k. take 4 (drop (4 * k) letters)) less))
+pub digit_more : (letters : List Bit4) (size n : ℕ) (items new whole : List ℕ) (digit : ℕ) (group : List Bit4) → 0 < n → items ++ digits_of size n letters ≡ whole →
+    group ≡ take size (drop (size * (n - 1)) letters) → digit ≡ digit_of group → new ≡ items ++ digit ∷ [] → new ++ digits_of size (n - 1) letters ≡ whole
+digit_more letters size zero items new whole digit group some before bits is put = absurd (omega (arith, some))
+digit_more letters size (suc m) items new whole digit group some before bits is put =
+    ap (λ k. new ++ digits_of size k letters) less
+    ∙ ap (λ text. text ++ digits_of size m letters) put
+    ∙ append_assoc items (digit ∷ []) (digits_of size m letters)
+    ∙ ap (λ d. items ++ d ∷ digits_of size m letters) (is ∙ ap digit_of (bits ∙ ap (λ k. take size (drop (size * k) letters)) less))
     ∙ before
   where
     less : suc m - 1 ≡ m

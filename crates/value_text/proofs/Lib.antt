@@ -1,2 +1,3 @@
 pub mod BinaryLemmas
+pub mod KnownLemmas
 pub mod LetterLemmas

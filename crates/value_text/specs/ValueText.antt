@@ -1,6 +1,6 @@
 -- *trusted*: Values as printed lines show them (IEEE 1364-2005, 17.1.1.2 to 17.1.1.4). Letters of a vector stand lowest first, those of a
 -- text leftmost first.
-use Rattle.std.specs.Prelude.{ℕ, zero, suc, ◌+◌, ◌-◌, ◌*◌, ◌/◌, ◌^◌, nat_lt, Bool, true, false, if◌then◌else◌, List, [], ◌∷◌, ◌++◌, length, map, reverse, take, drop, replicate, Option, Some, None, codes, decimal}
+use Rattle.std.specs.Prelude.{ℕ, zero, suc, ◌+◌, ◌-◌, ◌*◌, ◌/◌, ◌^◌, ◌==◌, nat_lt, Bool, true, false, if◌then◌else◌, List, [], ◌∷◌, ◌++◌, length, map, reverse, take, drop, replicate, Option, Some, None, codes, decimal}
 use Rattle.std.specs.List.{list_all, list_any}
 use Rattle.vbits.specs.declared.bit4.Bit4.{Bit4}
 use Rattle.vbits.specs.declared.bit4.Bit4.TheVariants.{Zero, One, X, Z}
@@ -31,7 +31,7 @@ binary_digit Z = 122
 abbrev pub binary : Vector → List ℕ
 binary v = map binary_digit (reverse v.letters)
 
--- ---- hexadecimal: bits are taken by fours from the right, the leftmost digit has those that are left
+-- ---- hexadecimal and octal: bits are taken by fours, or by threes, from the right, the leftmost digit has those that are left
 
 abbrev pub hexadecimal_digit : ℕ → ℕ
 hexadecimal_digit n = if nat_lt n 10 then 48 + n else 87 + n
@@ -43,13 +43,22 @@ digit_by letters None = unknown_letter letters
 abbrev pub digit_of : List Bit4 → ℕ
 digit_of letters = digit_by letters (number letters)
 
--- so many digits, the leftmost first
-abbrev pub digits_of : ℕ → List Bit4 → List ℕ
-digits_of zero letters = []
-digits_of (suc n) letters = digit_of (take 4 (drop (4 * n) letters)) ∷ digits_of n letters
+-- so many digits of so many bits each, the leftmost first
+abbrev pub digits_of : ℕ → ℕ → List Bit4 → List ℕ
+digits_of size zero letters = []
+digits_of size (suc n) letters = digit_of (take size (drop (size * n) letters)) ∷ digits_of size n letters
 
 abbrev pub hexadecimal : Vector → List ℕ
-hexadecimal v = digits_of ((length v.letters + 3) / 4) v.letters
+hexadecimal v = digits_of 4 ((length v.letters + 3) / 4) v.letters
+
+abbrev pub octal : Vector → List ℕ
+octal v = digits_of 3 ((length v.letters + 2) / 3) v.letters
+
+-- without zeros in front of other digits
+abbrev pub without_zeros : List ℕ → List ℕ
+without_zeros [] = []
+without_zeros (digit ∷ []) = digit ∷ []
+without_zeros (digit ∷ next ∷ digits) = if digit == 48 then without_zeros (next ∷ digits) else digit ∷ next ∷ digits
 
 -- ---- decimal
 
@@ -75,12 +84,65 @@ short_decimal v = amount_text v 1 (amount_of v)
 abbrev pub longest : Bool → ℕ → List ℕ
 longest signed count = if signed then minus true ++ decimal (2 ^ (count - 1)) else decimal (2 ^ count - 1)
 
--- on the right of so many places
+-- on the right of so many places, with this letter in those before it
+abbrev pub filled_in : ℕ → ℕ → List ℕ → List ℕ
+filled_in letter places text = replicate (places - length text) letter ++ text
+
+-- on the right of so many places, with blanks before it
 abbrev pub right_in : ℕ → List ℕ → List ℕ
-right_in places text = replicate (places - length text) 32 ++ text
+right_in places text = filled_in 32 places text
 
 abbrev pub decimal_text : Vector → List ℕ
 decimal_text v = right_in (length (longest v.signed (length v.letters))) (short_decimal v)
+
+-- in so many places, with zeros before the digits; a minus comes before the zeros
+abbrev pub zeros_in : ℕ → List ℕ → List ℕ
+zeros_in places [] = filled_in 48 places []
+zeros_in places (first ∷ digits) = if first == 45 then first ∷ filled_in 48 (places - 1) digits else filled_in 48 places (first ∷ digits)
+
+-- ---- letters: `%c` and `%s` (17.1.1.2, 17.1.1.7); a bit that isn't known counts as 0
+
+abbrev pub known_bit : Bit4 → ℕ
+known_bit letter = if is_one letter then 1 else 0
+
+abbrev pub known_number : List Bit4 → ℕ
+known_number [] = 0
+known_number (letter ∷ letters) = known_bit letter + 2 * known_number letters
+
+-- `%c`: the byte on the right
+abbrev pub character : Vector → List ℕ
+character v = known_number (take 8 v.letters) ∷ []
+
+-- a byte as it is shown; one of 0 is a blank, and nothing where no other stands before it
+abbrev pub letter_of : Bool → ℕ → List ℕ
+letter_of is_behind zero = if is_behind then codes " " else []
+letter_of is_behind byte = byte ∷ []
+
+-- whether a byte stands before the next one that isn't 0
+abbrev pub has_shown : Bool → ℕ → Bool
+has_shown is_behind zero = is_behind
+has_shown is_behind byte = true
+
+-- the byte at a place, counted from the right
+abbrev pub byte_at : ℕ → List Bit4 → ℕ
+byte_at n letters = known_number (take 8 (drop (8 * n) letters))
+
+-- the letters of so many bytes, the leftmost first
+abbrev pub letters_in : Bool → ℕ → List Bit4 → List ℕ
+letters_in is_behind zero letters = []
+letters_in is_behind (suc n) letters =
+    letter_of is_behind (byte_at n letters) ++ letters_in (has_shown is_behind (byte_at n letters)) n letters
+
+-- the leftmost byte has those bits that are left
+abbrev pub byte_count : Vector → ℕ
+byte_count v = (length v.letters + 7) / 8
+
+abbrev pub short_letters : Vector → List ℕ
+short_letters v = letters_in false (byte_count v) v.letters
+
+-- `%s`
+abbrev pub letters_text : Vector → List ℕ
+letters_text v = right_in (byte_count v) (short_letters v)
 
 -- ---- a time: the value in units of the precision, so many to one (19.8; how `%t` shows it, 17.3.2)
 

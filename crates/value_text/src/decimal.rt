@@ -1,24 +1,14 @@
 // Decimal numbers and times.
 
 ghost use Rattle.std.specs.Prelude.{◌≡◌, ◌++◌, ℕ, ◌*◌, OnOk, Option, option_map, length};
-ghost use Rattle.vbits.specs.Letters as letters;
 ghost use Rattle.value_text.specs.ValueText as spec;
 
+use crate::bits::is_one;
+use crate::places::put_right;
 use crate::unknown::unknown_letter;
 use basis::NoMemory;
 use itoa::Buffer;
-use vbits::{Bit4, Vec4};
-
-fn is_one(letter: Bit4) -> bool
-    ensures { result ≡ letters.is_one letter }
-{
-    match letter {
-        Bit4::Zero => false,
-        Bit4::One => true,
-        Bit4::X => false,
-        Bit4::Z => false,
-    }
-}
+use vbits::Vec4;
 
 #[tactic(auto, using(crate::proofs::LetterLemmas::signed_sign, crate::proofs::LetterLemmas::no_sign))]
 fn is_negative(value: Vec4) -> bool
@@ -78,19 +68,6 @@ fn places(value: Vec4) -> usize
     } else {
         digits.format((1u128 << value.len()) - 1).len()
     }
-}
-
-// Puts what is shown on the right of so many places.
-fn put_right(text: &mut Vec<u8>, places: usize, shown: &[u8]) -> Result<(), NoMemory>
-    ensures { OnOk result (text.new.items ≡ text.old.items ++ spec.right_in places shown.now) }
-{
-    let mut taken = shown.len();
-    while taken < places {
-        text.push(b' ')?;
-        taken += 1;
-    }
-    text.extend_from_slice(shown)?;
-    Ok(())
 }
 
 /// Puts a value after the text, in decimal digits, signed values with a minus; where a bit is unknown it is one letter, as of a

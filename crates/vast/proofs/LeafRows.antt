@@ -1,12 +1,13 @@
 -- The tokens that concatenations, targets between braces, blocks and cases keep are those of their lists.
-use Rattle.std.proofs.Common.{◌≡◌, ℕ, ◌++◌, Vec, Global, Box, refl, ap, ◌∙◌}
+use Rattle.std.proofs.Common.{◌≡◌, ℕ, ◌++◌, Vec, Global, Box, refl, ap, ◌∙◌, Option, [], ◌∷◌}
 use Rattle.std.specs.List.{flat_map}
 use Rattle.vast.specs.declared.expression.Expression.{Expression, Concatenation, Concatenation', Replication, Replication', Row_of-Expression, end_of-Expression, more_of-Expression, items-the_row-Expression, items_hidden-the_row-Expression-0}
 use Rattle.vast.specs.declared.statement.CaseKind.{CaseKind}
 use Rattle.vast.specs.declared.statement.Target.{Target, Joined, Joined', Row_of-Target, end_of-Target, more_of-Target, items-the_row-Target, items_hidden-the_row-Target-0}
 use Rattle.vast.specs.declared.statement.Branch.{Branch}
 use Rattle.vast.specs.declared.statement.Statement.{Statement, Block, Block', Case, Case', Row_of-Statement, end_of-Statement, more_of-Statement, Row_of-Branch, end_of-Branch, more_of-Branch, items-the_row-Statement, items_hidden-the_row-Statement-0, items-the_row-Branch, items_hidden-the_row-Branch-1}
-use Rattle.vast.specs.Leaves.{leaves_of, row_leaves, target_leaves, target_row_leaves, statement_leaves, statement_row_leaves, branch_leaves, branch_row_leaves}
+use Rattle.vast.specs.Leaves.{leaves_of, row_leaves, target_leaves, target_row_leaves, statement_leaves, statement_row_leaves, branch_leaves, branch_row_leaves, if_some}
+use Rattle.vast.specs.declared.token.Token.{Token}
 use mathlib.Core.Former.{Count}
 
 abbrev row_of : Expression → (n : Count) × Row_of-Expression n
@@ -48,17 +49,19 @@ joined_leaves at targets =
 -- blocks and cases
 
 abbrev statements_of : Statement → (n : Count) × Row_of-Statement n
-statements_of (Block' shape row) = (_, row)
+statements_of (Block' label shape row) = (_, row)
 statements_of _ = (_, end_of-Statement)
 
 leaves_of_statements : (n : _) (row : Row_of-Statement n) → statement_row_leaves row ≡ flat_map statement_leaves (items-the_row-Statement n row)
 leaves_of_statements n end_of-Statement = refl
 leaves_of_statements n (more_of-Statement one more) = ap (λ l. statement_leaves one ++ l) (leaves_of_statements _ more)
 
-pub block_leaves : (statements : Vec Statement Global) → statement_leaves (Block statements) ≡ flat_map statement_leaves statements.items
-block_leaves statements =
-    let row = statements_of (Block statements) in
-    leaves_of_statements row.0 row.1 ∙ ap (flat_map statement_leaves) (items_hidden-the_row-Statement-0 statements)
+pub block_leaves : (label : Option Token) (statements : Vec Statement Global) →
+    statement_leaves (Block label statements) ≡ if_some (λ word. word ∷ []) label ++ flat_map statement_leaves statements.items
+block_leaves label statements =
+    let row = statements_of (Block label statements) in
+    ap (λ l. if_some (λ word. word ∷ []) label ++ l)
+    (leaves_of_statements row.0 row.1 ∙ ap (flat_map statement_leaves) (items_hidden-the_row-Statement-0 statements))
 
 abbrev branches_of : Statement → (n : Count) × Row_of-Branch n
 branches_of (Case' at kind value shape row) = (_, row)

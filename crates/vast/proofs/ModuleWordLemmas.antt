@@ -1,7 +1,7 @@
 -- The words of modules of the program, as their trees tell them.
 use Rattle.std.proofs.Common.{◌≡◌, List, [], ◌∷◌, map, refl}
 use Rattle.std.specs.List.{flat_map}
-use Rattle.vast.specs.Modules.{typed, input, output, by_order, variables, parameters, declaration, events, assignments, initial, always, instances}
+use Rattle.vast.specs.Modules.{typed, input, output, by_order, variables, directed, parameters, declaration, events, assignments, initial, always, instances}
 use Rattle.vast.specs.Modules as written
 use Rattle.vast.specs.ExpressionTrees.{expression_told, boxed_told}
 use Rattle.vast.specs.ModuleTrees.{range_told, type_told, parameter_type_told, setting_told, declared_told, direction_told, port_told, head_told, connection_told, connections_told, instance_told, declaration_kind_told, item_told, module_told, source_told}
@@ -107,6 +107,7 @@ module _ {V W : Type 0} (f : V → W) (told : Token → V) where
       declaration_kind_with f (declaration_kind_told told kind) ≡ declaration_kind_told (λ x. f (told x)) kind
   declaration_kind_with_told (declaring.Variables net type) = λ i. variables net (type_with_told type i)
   declaration_kind_with_told declaring.Integers = refl
+  declaration_kind_with_told (declaring.Directed direction) = λ i. directed (direction_with_told direction i)
 
   settings_with_told : (list : List Setting) → map (setting_with f) (map (setting_told told) list) ≡ map (setting_told (λ x. f (told x))) list
   settings_with_told list = map_same (setting_with f) (setting_told told) (setting_told (λ x. f (told x))) setting_with_told list
@@ -204,6 +205,7 @@ module _ {W : Type 0} (told : Token → W) where
       declaration_kind_words (declaration_kind_told told kind) ≡ map told (declaration_kind_leaves kind)
   declaration_kind_words_told (declaring.Variables net type) = type_words_told type
   declaration_kind_words_told declaring.Integers = refl
+  declaration_kind_words_told (declaring.Directed direction) = direction_words_told direction
 
   settings_words_told : (list : List Setting) → flat_map setting_words (map (setting_told told) list) ≡ map told (flat_map setting_leaves list)
   settings_words_told list = flat_words told setting_words (setting_told told) setting_leaves setting_words_told list

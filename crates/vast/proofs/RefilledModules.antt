@@ -1,7 +1,7 @@
 -- Modules are told by their words and by what they are without them.
 use Rattle.std.proofs.Common.{◌≡◌, map}
 use Rattle.std.specs.List.{flat_map}
-use Rattle.vast.specs.Modules.{RangeOf, TypeOf, ParameterTypeOf, integer, typed, SettingOf, DeclaredOf, DirectionOf, input, output, PortOf, HeadParameterOf, ConnectionOf, ConnectionsOf, by_order, by_name, InstanceOf, DeclarationKindOf, variables, integers, ItemOf, parameters, declaration, events, assignments, initial, always, instances, ModuleOf, SourceOf}
+use Rattle.vast.specs.Modules.{RangeOf, TypeOf, ParameterTypeOf, integer, typed, SettingOf, DeclaredOf, DirectionOf, input, output, PortOf, HeadParameterOf, ConnectionOf, ConnectionsOf, by_order, by_name, InstanceOf, DeclarationKindOf, variables, integers, directed, ItemOf, parameters, declaration, events, assignments, initial, always, instances, ModuleOf, SourceOf}
 use Rattle.vast.specs.TreeWords.{expression_with, expression_words, range_with, range_words, type_with, type_words, parameter_type_with, parameter_type_words, setting_with, setting_words, declared_with, declared_words, direction_with, direction_words, port_with, port_words, head_with, head_words, connection_with, connection_words, connections_with, connections_words, instance_with, instance_words, declaration_kind_with, declaration_kind_words, item_with, item_words, module_with, module_words, source_with, source_words}
 use Rattle.vast.proofs.Refilling.{Filling, pure, word, both, made_to, fill_list, fill_option, two, three, four, Fills, pure_fills, word_fills, both_fills, made_fills, list_fills, words_fill, option_fills, filled_once}
 use Rattle.vast.proofs.RefilledExpressions.{fill_expression, expression_fills}
@@ -52,6 +52,7 @@ module _ {V W : Type 0} (spare : V) where
   abbrev pub fill_declaration_kind : DeclarationKindOf W → Filling V (DeclarationKindOf V)
   fill_declaration_kind (variables net type) = made_to (variables net) (fill_type type)
   fill_declaration_kind integers = pure integers
+  fill_declaration_kind (directed direction) = made_to directed (fill_direction direction)
 
   abbrev pub fill_item : ItemOf W → Filling V (ItemOf V)
   fill_item (parameters local type settings) = made_to (two (parameters local)) (both (fill_parameter_type type) (fill_list fill_setting settings))
@@ -144,6 +145,7 @@ module _ {V W : Type 0} (f : V → W) (spare : V) where
   pub declaration_kind_fills : (m : DeclarationKindOf V) → Fills (fill_declaration_kind spare (declaration_kind_with f m)) (declaration_kind_words m) m
   declaration_kind_fills (variables net type) = made_fills (variables net) (type_fills type)
   declaration_kind_fills integers = pure_fills integers
+  declaration_kind_fills (directed direction) = made_fills directed (direction_fills direction)
 
   -- items of a module
   pub item_fills : (m : ItemOf V) → Fills (fill_item spare (item_with f m)) (item_words m) m

@@ -2,7 +2,7 @@
 use Rattle.std.proofs.Common.{◌≡◌, map}
 use Rattle.vast.specs.Expressions.{ExpressionOf}
 use Rattle.vast.specs.Statements.{TargetOf, TargetsOf, whole, bit, part, joined, none, first, DelayOf, by_number, by_name, by_value, TermOf, FurtherOf, EventOf, by_event, by_any, by_any_enclosed, by_terms, ArgumentOf, quoted, printed, SelectionOf, TaskOf, print, dump_file, dump_vars, dump, end_run, StatementOf, StatementsOf, empty, block, assign, nonblocking, trigger, if_true, if_else, case_of, while_true, repeat_times, forever, for_loop, wait_for, delay, event, task, no_statement, first_statement, BranchOf, BranchesOf, labelled, default, no_branch, first_branch}
-use Rattle.vast.specs.TreeWords.{target_with, targets_with, target_words, targets_words, delay_with, delay_words, term_with, term_words, further_with, further_words, event_with, event_words, argument_with, argument_words, selection_with, path_words, selection_words, digits_words, task_with, task_words, statement_with, statements_with, statement_words, statements_words, branch_with, branches_with, branch_words, branches_words}
+use Rattle.vast.specs.TreeWords.{target_with, targets_with, target_words, targets_words, delay_with, delay_words, term_with, term_words, further_with, further_words, event_with, event_words, argument_with, argument_words, selection_with, path_words, selection_words, digits_words, task_with, task_words, statement_with, statements_with, statement_words, statements_words, branch_with, branches_with, branch_words, branches_words, name_words}
 use Rattle.vast.proofs.Refilling.{Filling, pure, word, both, made_to, fill_list, fill_option, Both, two, three, four, Fills, pure_fills, word_fills, both_fills, made_fills, list_fills, words_fill, option_fills, filled_once}
 use Rattle.vast.proofs.RefilledExpressions.{fill_expression, fill_expressions, expression_fills, expressions_fills}
 
@@ -59,7 +59,7 @@ module _ {V W : Type 0} (spare : V) where
   abbrev mutual
     pub fill_statement : StatementOf W → Filling V (StatementOf V)
     fill_statement empty = pure empty
-    fill_statement (block list) = made_to block (fill_statements list)
+    fill_statement (block label list) = made_to (two block) (both (fill_option (λ x. word spare) label) (fill_statements list))
     fill_statement (assign target amount value) =
         made_to (three assign) (both (fill_target target) (both (fill_option fill_delay amount) (fill_expression spare value)))
     fill_statement (nonblocking target amount value) =
@@ -154,7 +154,8 @@ module _ {V W : Type 0} (f : V → W) (spare : V) where
   mutual
     pub statement_fills : (m : StatementOf V) → Fills (fill_statement spare (statement_with f m)) (statement_words m) m
     statement_fills empty = pure_fills empty
-    statement_fills (block list) = made_fills block (statements_fills list)
+    statement_fills (block label list) =
+        made_fills (two block) (both_fills (option_fills (λ x. word spare) f name_words (word_fills spare) label) (statements_fills list))
     statement_fills (assign target amount value) =
         made_fills (three assign) (both_fills (target_fills target) (both_fills
         (option_fills (fill_delay spare) (delay_with f) delay_words delay_fills amount) (expression_fills f spare value)))

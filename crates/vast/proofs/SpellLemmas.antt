@@ -1,5 +1,5 @@
 -- The words of lists, of concatenations, of blocks and of cases.
-use Rattle.std.proofs.Common.{◌≡◌, ℕ, Bool, true, false, List, [], ◌∷◌, ◌++◌, codes, Result, OnOk, Vec, Box, Global, refl, sym, ap, ◌∙◌}
+use Rattle.std.proofs.Common.{◌≡◌, ℕ, Bool, true, false, List, [], ◌∷◌, ◌++◌, codes, Result, OnOk, Vec, Box, Global, refl, sym, ap, ◌∙◌, Option}
 use Rattle.vast.specs.Words.{Text}
 use Rattle.vast.specs.Expressions.{ExpressionTree, ExpressionTrees, first, spell_expression}
 use Rattle.vast.specs.Statements.{TargetTree, TargetTrees, spell_target, spell_statement}
@@ -16,6 +16,9 @@ use Rattle.vast.specs.ExpressionTrees.{tree_of, trees_of}
 use Rattle.vast.specs.Inner.{comma_words, parts_from, targets_from, listed_from, braces_words, doubled_words, joined_words, block_words, case_head_words, case_words}
 use Rattle.vast.specs.declared.expression.Expression.{Expression, Concatenation, Replication}
 use Rattle.vast.proofs.ExpressionLemmas.{tree_of_concatenation, tree_of_replication}
+use Rattle.std.specs.Option.{option_map}
+use Rattle.vast.specs.declared.token.Token.{Token}
+use Rattle.vast.specs.TokenTexts.{token_text}
 
 pub parts_first : (is_first : Bool) (one : ExpressionTree) (more : ExpressionTrees) →
     parts_from is_first (first one more) ≡ comma_words is_first ++ (spell_expression one ++ parts_from false more)
@@ -77,11 +80,12 @@ module _ (words : List Text) where
       ap (λ (xs : List Target). joined_words (target_trees words xs)) same
       ∙ sym (ap spell_target (ap (target_tree words) is ∙ tree_of_joined words at targets))
 
-  pub block_spelled : (e : Statement) (list : Vec Statement Global) (items : List Statement) → e ≡ Block list → items ≡ list.items →
-      block_words (statement_trees words items) ≡ spell_statement (statement_tree words e)
-  block_spelled e list items is same =
-      ap (λ (xs : List Statement). block_words (statement_trees words xs)) same
-      ∙ sym (ap spell_statement (ap (statement_tree words) is ∙ tree_of_whole_block words list))
+  pub block_spelled : (e : Statement) (label : Option Token) (list : Vec Statement Global) (items : List Statement) → e ≡ Block label list →
+      items ≡ list.items →
+      block_words (option_map (token_text words) label) (statement_trees words items) ≡ spell_statement (statement_tree words e)
+  block_spelled e label list items is same =
+      ap (λ (xs : List Statement). block_words (option_map (token_text words) label) (statement_trees words xs)) same
+      ∙ sym (ap spell_statement (ap (statement_tree words) is ∙ tree_of_whole_block words label list))
 
   pub case_spelled : (e : Statement) (at : ℕ) (kind : CaseKind) (value : Box Expression Global) (branches : Vec Branch Global) (amount : Expression)
       (items : List Branch) → e ≡ Case at kind value branches → amount ≡ value.value → items ≡ branches.items →

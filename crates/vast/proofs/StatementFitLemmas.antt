@@ -1,10 +1,10 @@
 -- A statement stands, level by level, where it fits and has no more levels.
-use Rattle.std.proofs.Common.{◌≡◌, ◌≢◌, ℕ, suc, ◌+◌, ◌-◌, Bool, true, false, not, List, [], ◌∷◌, Vec, Box, Global, length, map, nat_eq, ◌&&◌, max, nat_le, refl, sym, ap, ◌∙◌, arith}
+use Rattle.std.proofs.Common.{◌≡◌, ◌≢◌, ℕ, suc, ◌+◌, ◌-◌, Bool, true, false, not, List, [], ◌∷◌, Vec, Box, Global, length, map, nat_eq, ◌&&◌, max, nat_le, refl, sym, ap, ◌∙◌, arith, Option}
 use Rattle.std.specs.List.{list_all}
 use Rattle.std.proofs.lemmas.Bool.Decides.{nat_tests}
 use Rattle.vast.specs.Words.{Text, is_name}
 use Rattle.vast.specs.Expressions.{fits_expression, depth, fits_parts, greatest_depth, is_some_part}
-use Rattle.vast.specs.Statements.{TargetTree, whole, bit, part, joined, TargetTrees, none, first, target_depth, greatest_target_depth, fits_target, fits_targets, is_some_target, fits_delay, delay_depth, fits_optional_delay, optional_delay_depth, fits_event, event_depth, ArgumentTree, argument_depth, arguments_depth, fits_argument, fits_print, fits_task, task_depth, StatementTree, empty, block, assign, nonblocking, trigger, if_true, if_else, case_of, while_true, repeat_times, forever, for_loop, wait_for, delay, event, task, StatementTrees, no_statement, first_statement, BranchTree, labelled, default, BranchTrees, no_branch, first_branch, ends_in_if, is_some_branch, defaults, fits_statement, fits_statements, statement_depth, statements_depth, fits_branch, branch_depth, fits_branches, branches_depth}
+use Rattle.vast.specs.Statements.{TargetTree, whole, bit, part, joined, TargetTrees, none, first, target_depth, greatest_target_depth, fits_target, fits_targets, is_some_target, fits_delay, delay_depth, fits_optional_delay, optional_delay_depth, fits_event, event_depth, ArgumentTree, argument_depth, arguments_depth, fits_argument, fits_print, fits_task, task_depth, StatementTree, empty, block, assign, nonblocking, trigger, if_true, if_else, case_of, while_true, repeat_times, forever, for_loop, wait_for, delay, event, task, StatementTrees, no_statement, first_statement, BranchTree, labelled, default, BranchTrees, no_branch, first_branch, ends_in_if, is_some_branch, defaults, fits_statement, fits_statements, statement_depth, statements_depth, fits_branch, branch_depth, fits_branches, branches_depth, fits_block_name}
 use Rattle.vast.specs.StatementTrees.{argument_tree, task_tree, target_tree, target_trees, statement_tree, statement_trees, branch_trees}
 use Rattle.vast.specs.ExpressionTrees.{tree_of, boxed_tree}
 use Rattle.vast.specs.Modules.{fits_value, fits_body}
@@ -22,6 +22,8 @@ use Rattle.vast.specs.TokenTexts.{token_text}
 use Rattle.vast.proofs.ToldTrees.{told_joined}
 use Rattle.vast.proofs.WholeTreeLemmas.{tree_of_whole_block, tree_of_case}
 use Rattle.vast.proofs.FitLemmas.{leaf, bare, one_deeper, two_deeper, first_deeper, some_level}
+use Rattle.std.specs.Option.{option_map}
+use Rattle.vast.specs.declared.token.Token.{Token}
 
 pub target_nowhere : (tree : TargetTree) → target_stands 0 tree ≡ false
 target_nowhere (whole letters) = refl
@@ -56,7 +58,7 @@ arguments_are n (one ∷ more) =
 
 pub stands_nowhere : (tree : StatementTree) → statement_stands 0 tree ≡ false
 stands_nowhere empty = refl
-stands_nowhere (block statements) = refl
+stands_nowhere (block label statements) = refl
 stands_nowhere (assign target amount value) = refl
 stands_nowhere (nonblocking target amount value) = refl
 stands_nowhere (trigger letters) = refl
@@ -119,8 +121,9 @@ counted n a b c d e m f g h k l o =
 mutual
   pub statement_stands_is : (n : ℕ) (tree : StatementTree) → statement_stands n tree ≡ fits_body n tree
   statement_stands_is n empty = refl
-  statement_stands_is n (block list) =
-      ap (λ b. nat_le 1 n && b) (statements_stand_is (n - 1) list) ∙ bare n (statements_depth list) (fits_statements list)
+  statement_stands_is n (block label list) =
+      ap (λ b. nat_le 1 n && (fits_block_name label && b)) (statements_stand_is (n - 1) list)
+      ∙ one_deeper n (statements_depth list) (fits_block_name label) (fits_statements list)
   statement_stands_is n (assign target amount value) =
       assigned n (target_depth target) (optional_delay_depth amount) (depth value) (fits_target target) (fits_optional_delay amount) (fits_expression value)
   statement_stands_is n (nonblocking target amount value) =
@@ -215,12 +218,15 @@ module _ (words : List Text) where
         ∙ some_level n (is_some_target (target_trees words targets.items) && targets_stand (n - 1) (target_trees words targets.items)) positive
         ∙ sym (ap (target_stands n) (ap (target_tree words) is ∙ tree_of_joined at targets))
 
-    pub block_stands : (e : Statement) (list : Vec Statement Global) (items : List Statement) → e ≡ Block list → items ≡ list.items →
-        statements_stand (n - 1) (statement_trees words items) ≡ statement_stands n (statement_tree words e)
-    block_stands e list items is same =
-        ap (λ (xs : List Statement). statements_stand (n - 1) (statement_trees words xs)) same
-        ∙ some_level n (statements_stand (n - 1) (statement_trees words list.items)) positive
-        ∙ sym (ap (statement_stands n) (ap (statement_tree words) is ∙ tree_of_whole_block words list))
+    pub block_stands : (e : Statement) (label : Option Token) (list : Vec Statement Global) (items : List Statement) → e ≡ Block label list →
+        items ≡ list.items →
+        (fits_block_name (option_map (token_text words) label) && statements_stand (n - 1) (statement_trees words items))
+        ≡ statement_stands n (statement_tree words e)
+    block_stands e label list items is same =
+        let fits = fits_block_name (option_map (token_text words) label) in
+        ap (λ (xs : List Statement). fits && statements_stand (n - 1) (statement_trees words xs)) same
+        ∙ some_level n (fits && statements_stand (n - 1) (statement_trees words list.items)) positive
+        ∙ sym (ap (statement_stands n) (ap (statement_tree words) is ∙ tree_of_whole_block words label list))
 
     pub case_stands : (e : Statement) (at : ℕ) (kind : CaseKind) (value : Box Expression Global) (branches : Vec Branch Global) (amount : Expression)
         (one two : List Branch) → e ≡ Case at kind value branches → amount ≡ value.value → one ≡ branches.items → two ≡ branches.items →

@@ -6,7 +6,7 @@ use Rattle.vast.specs.Statements as written
 use Rattle.vast.specs.ExpressionTrees.{boxed_told}
 use Rattle.vast.specs.StatementTrees.{target_told, target_row_told, delay_told, term_told, further_told, event_told, argument_told, path_told, selection_told, task_told, statement_told, branch_told, statement_row_told, branch_row_told}
 use Rattle.vast.specs.Leaves.{target_leaves, target_row_leaves, delay_leaves, further_leaves, event_leaves, argument_leaves, path_leaves, selection_leaves, task_leaves, assignment_leaves, pair_leaves, statement_leaves, branch_leaves, statement_row_leaves, branch_row_leaves}
-use Rattle.vast.specs.TreeWords.{target_with, targets_with, target_words, targets_words, delay_with, delay_words, further_with, further_words, event_with, event_words, argument_with, argument_words, selection_with, path_words, selection_words, digits_words, task_with, task_words, assignment_words, pair_words, statement_with, statement_words, statements_with, statements_words, branch_with, branch_words, branches_with, branches_words}
+use Rattle.vast.specs.TreeWords.{target_with, targets_with, target_words, targets_words, delay_with, delay_words, further_with, further_words, event_with, event_words, argument_with, argument_words, selection_with, path_words, selection_words, digits_words, task_with, task_words, assignment_words, pair_words, statement_with, statement_words, statements_with, statements_words, branch_with, branch_words, branches_with, branches_words, name_words}
 use Rattle.vast.specs.declared.token.Token.{Token}
 use Rattle.vast.specs.declared.expression.Expression.{Expression}
 use Rattle.vast.specs.declared.statement.Target.{Target, Whole, Bit, Part, Joined', Row_of-Target, end_of-Target, more_of-Target}
@@ -90,7 +90,8 @@ module _ {V W : Type 0} (f : V → W) (told : Token → V) where
   mutual
     pub statement_with_told : (s : Statement) → statement_with f (statement_told told s) ≡ statement_told (λ x. f (told x)) s
     statement_with_told Empty = refl
-    statement_with_told (Block' shape row) = λ i. block (statement_row_with_told _ row i)
+    statement_with_told (Block' label shape row) =
+        λ i. block (option_same f told (λ x. f (told x)) (λ x. refl) label i) (statement_row_with_told _ row i)
     statement_with_told (Assign at target amount value) =
         λ i. assign (target_with_told target i) (delays_with_told amount i) (boxed_with_told f told value i)
     statement_with_told (Nonblocking at target amount value) =
@@ -191,7 +192,8 @@ module _ {W : Type 0} (told : Token → W) where
   mutual
     pub statement_words_told : (s : Statement) → statement_words (statement_told told s) ≡ map told (statement_leaves s)
     statement_words_told Empty = refl
-    statement_words_told (Block' shape row) = statement_row_words_told _ row
+    statement_words_told (Block' label shape row) =
+        joined_words told _ _ (words_if_some told name_words told (λ x. x ∷ []) (λ x. refl) label) (statement_row_words_told _ row)
     statement_words_told (Assign at target amount value) = assignment_words_told target amount value
     statement_words_told (Nonblocking at target amount value) = assignment_words_told target amount value
     statement_words_told (Trigger at word) = refl

@@ -1,5 +1,5 @@
 -- The trees of concatenations, replications, blocks and cases, of words that are told in any way.
-use Rattle.std.proofs.Common.{◌≡◌, ℕ, Vec, Global, Box, refl, ap, ◌∙◌}
+use Rattle.std.proofs.Common.{◌≡◌, ℕ, Vec, Global, Box, refl, ap, ◌∙◌, Option}
 use Rattle.vast.specs.Expressions.{concatenation, replication, first}
 use Rattle.vast.specs.Statements.{joined, block, case_of, first_statement, first_branch}
 use Rattle.vast.specs.Statements as targets
@@ -11,6 +11,7 @@ use Rattle.vast.specs.declared.statement.Target.{Target, Joined, Joined', Row_of
 use Rattle.vast.specs.declared.statement.CaseKind.{CaseKind}
 use Rattle.vast.specs.declared.statement.Branch.{Branch}
 use Rattle.vast.specs.declared.statement.Statement.{Statement, Block, Block', Case, Case', Row_of-Statement, end_of-Statement, more_of-Statement, Row_of-Branch, end_of-Branch, more_of-Branch, items-the_row-Statement, items_hidden-the_row-Statement-0, items-the_row-Branch, items_hidden-the_row-Branch-1}
+use Rattle.std.specs.Option.{option_map}
 use mathlib.Core.Former.{Count}
 
 abbrev parts_of : Expression → (n : Count) × Row_of-Expression n
@@ -23,7 +24,7 @@ joined_of (Joined' at shape row) = (_, row)
 joined_of _ = (_, end_of-Target)
 
 abbrev statements_of : Statement → (n : Count) × Row_of-Statement n
-statements_of (Block' shape row) = (_, row)
+statements_of (Block' label shape row) = (_, row)
 statements_of _ = (_, end_of-Statement)
 
 abbrev branches_of : Statement → (n : Count) × Row_of-Branch n
@@ -63,11 +64,12 @@ module _ {W : Type 0} (told : Token → W) where
   row_of_statements n end_of-Statement = refl
   row_of_statements n (more_of-Statement one more) = ap (first_statement (statement_told told one)) (row_of_statements _ more)
 
-  pub told_block : (statements : Vec Statement Global) → statement_told told (Block statements) ≡ block (statements_told told statements.items)
-  told_block statements =
-      let row = statements_of (Block statements) in
+  pub told_block : (label : Option Token) (statements : Vec Statement Global) →
+      statement_told told (Block label statements) ≡ block (option_map told label) (statements_told told statements.items)
+  told_block label statements =
+      let row = statements_of (Block label statements) in
       let same = items_hidden-the_row-Statement-0 statements in
-      ap block (row_of_statements row.0 row.1 ∙ ap (statements_told told) same)
+      ap (block (option_map told label)) (row_of_statements row.0 row.1 ∙ ap (statements_told told) same)
 
   row_of_branches : (n : _) (row : Row_of-Branch n) → branch_row_told told row ≡ branches_told told (items-the_row-Branch n row)
   row_of_branches n end_of-Branch = refl

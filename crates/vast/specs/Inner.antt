@@ -5,7 +5,7 @@ use Rattle.vast.specs.declared.statement.CaseKind.{CaseKind}
 use Rattle.vast.specs.Words.{Text}
 use Rattle.vast.specs.Spellings.{texts_of}
 use Rattle.vast.specs.Expressions.{ExpressionTree, ExpressionTrees, spell_expression, spell_parts, spell_more_parts}
-use Rattle.vast.specs.Statements.{TargetTree, TargetTrees, DelayTree, spell_target, spell_optional_delay, spell_setting, spell_condition, spell_path, case_word, spell_targets, spell_more_targets, listed, BranchTrees, spell_branches, StatementTrees, spell_statements}
+use Rattle.vast.specs.Statements.{TargetTree, TargetTrees, DelayTree, spell_target, spell_optional_delay, spell_setting, spell_condition, spell_path, case_word, spell_targets, spell_more_targets, listed, BranchTrees, spell_branches, StatementTrees, spell_statements, spell_block_name}
 
 -- where nothing was refused, these words were put behind those that there were
 abbrev pub Puts : {A T E : Type 0} → Vec Spelling A → Vec Spelling A → Result T E → List Text → Type 0
@@ -41,9 +41,9 @@ joined_words targets = codes "{" ∷ (spell_targets targets ++ codes "}" ∷ [])
 abbrev pub range_words : ExpressionTree → ExpressionTree → List Text
 range_words left right = codes "[" ∷ (spell_expression left ++ codes ":" ∷ (spell_expression right ++ codes "]" ∷ []))
 
--- begin statement .. end, and the branches of a case
-abbrev pub block_words : StatementTrees → List Text
-block_words statements = codes "begin" ∷ (spell_statements statements ++ codes "end" ∷ [])
+-- begin : name statement .. end, and the branches of a case
+abbrev pub block_words : Option Text → StatementTrees → List Text
+block_words label statements = codes "begin" ∷ (spell_block_name label ++ (spell_statements statements ++ codes "end" ∷ []))
 
 abbrev pub case_head_words : CaseKind → ExpressionTree → List Text
 case_head_words kind value = case_word kind ∷ spell_condition value

@@ -128,7 +128,7 @@ pair_leaves target value = target_leaves target ++ boxed_leaves value
 abbrev mutual
   pub statement_leaves : Statement → List Token
   statement_leaves Empty = []
-  statement_leaves (Block' shape row) = statement_row_leaves row
+  statement_leaves (Block' label shape row) = if_some (λ word. word ∷ []) label ++ statement_row_leaves row
   statement_leaves (Assign at target amount value) = assignment_leaves target amount value
   statement_leaves (Nonblocking at target amount value) = assignment_leaves target amount value
   statement_leaves (Trigger at name) = name ∷ []
@@ -199,6 +199,7 @@ instance_leaves instance = instance.name ∷ connections_leaves instance.connect
 abbrev pub declaration_kind_leaves : DeclarationKind → List Token
 declaration_kind_leaves (declaring.Variables net type) = type_leaves type
 declaration_kind_leaves declaring.Integers = []
+declaration_kind_leaves (declaring.Directed direction) = direction_leaves direction
 
 abbrev pub item_leaves : ModuleItem → List Token
 item_leaves (items.Parameters at local type settings) = parameter_type_leaves type ++ flat_map setting_leaves settings.items

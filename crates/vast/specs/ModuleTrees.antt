@@ -5,7 +5,7 @@ use Rattle.vast.specs.TokenTexts.{token_text}
 use Rattle.vast.specs.declared.token.Token.{Token}
 use Rattle.vast.specs.ExpressionTrees.{expression_told, boxed_told}
 use Rattle.vast.specs.StatementTrees.{statement_told}
-use Rattle.vast.specs.Modules.{RangeOf, TypeOf, ParameterTypeOf, SettingOf, DeclaredOf, DirectionOf, PortOf, HeadParameterOf, ConnectionOf, ConnectionsOf, InstanceOf, DeclarationKindOf, ItemOf, ModuleOf, SourceOf, RangeTree, TypeTree, ParameterType, integer, typed, SettingTree, DeclaredTree, DirectionTree, input, output, PortTree, HeadParameter, ConnectionTree, ConnectionsTree, by_order, by_name, InstanceTree, DeclarationKind, variables, integers, ItemTree, parameters, declaration, events, assignments, initial, always, instances, ModuleTree, SourceTree}
+use Rattle.vast.specs.Modules.{RangeOf, TypeOf, ParameterTypeOf, SettingOf, DeclaredOf, DirectionOf, PortOf, HeadParameterOf, ConnectionOf, ConnectionsOf, InstanceOf, DeclarationKindOf, ItemOf, ModuleOf, SourceOf, RangeTree, TypeTree, ParameterType, integer, typed, SettingTree, DeclaredTree, DirectionTree, input, output, PortTree, HeadParameter, ConnectionTree, ConnectionsTree, by_order, by_name, InstanceTree, DeclarationKind, variables, integers, directed, ItemTree, parameters, declaration, events, assignments, initial, always, instances, ModuleTree, SourceTree}
 use Rattle.vast.specs.declared.module.Bounds.{Bounds}
 use Rattle.vast.specs.declared.module.SignAndRange.{SignAndRange}
 use Rattle.vast.specs.declared.module.ParameterType.{ParameterType as ParameterWords}
@@ -68,6 +68,7 @@ module _ {W : Type 0} (told : Token → W) where
   abbrev pub declaration_kind_told : DeclarationWords → DeclarationKindOf W
   declaration_kind_told (declaring.Variables net type) = variables net (type_told type)
   declaration_kind_told declaring.Integers = integers
+  declaration_kind_told (declaring.Directed direction) = directed (direction_told direction)
 
   abbrev pub item_told : ModuleItem → ItemOf W
   item_told (items.Parameters at local type settings) = parameters local (parameter_type_told type) (map setting_told settings.items)

@@ -1,6 +1,6 @@
 -- *trusted*: Modules of the whole profile (IEEE 1364-2005, clauses 4 and 12, A.1 and A.2, narrowed to this product's profile): their
 -- trees, the words that these spell, and which stand as the grammar lets them. A source text is its modules.
-use Rattle.std.specs.Prelude.{◌≡◌, IsTrue, ℕ, nat_le, Bool, true, false, ◌&&◌, if◌then◌else◌, List, [], ◌∷◌, ◌++◌, Option, Some, None, length, codes, flat_map}
+use Rattle.std.specs.Prelude.{◌≡◌, IsTrue, ℕ, nat_le, Bool, true, false, not, ◌&&◌, if◌then◌else◌, List, [], ◌∷◌, ◌++◌, Option, Some, None, is_some, length, codes, flat_map}
 use Rattle.std.specs.List.{list_all}
 use Rattle.vast.specs.Words.{Text, is_name}
 use Rattle.vast.specs.Expressions.{ExpressionOf, ExpressionTree, spell_expression, depth, fits_expression}
@@ -38,7 +38,7 @@ pub data DirectionOf (W : Type 0) : Type 0 where
   input : Bool → TypeOf W → DirectionOf W  -- input type, or input wire type
   output : Option NetKind → TypeOf W → DirectionOf W  -- output type, output wire type or output reg type
 
--- a port; without a direction it has that of the one before it
+-- a port; without a direction it has that of the one before it, or, where none has a direction, that of the item which declares it
 pub record PortOf (W : Type 0) : Type 0 where
   pub direction : Option (DirectionOf W)
   pub name : W
@@ -67,6 +67,7 @@ pub record InstanceOf (W : Type 0) : Type 0 where
 pub data DeclarationKindOf (W : Type 0) : Type 0 where
   variables : NetKind → TypeOf W → DeclarationKindOf W  -- wire type, or reg type
   integers : DeclarationKindOf W  -- integer
+  directed : DirectionOf W → DeclarationKindOf W  -- ports: input type, output type and so on
 
 -- A.1.4
 pub data ItemOf (W : Type 0) : Type 0 where
@@ -209,6 +210,7 @@ spell_instance instance = instance.name ∷ spell_connections instance.connectio
 abbrev pub spell_declaration_kind : DeclarationKind → List Text
 spell_declaration_kind (variables kind type) = net_word kind ∷ spell_type type
 spell_declaration_kind integers = codes "integer" ∷ []
+spell_declaration_kind (directed direction) = spell_direction (Some direction)
 
 abbrev pub parameter_word : Bool → Text
 parameter_word local = if local then codes "localparam" else codes "parameter"
@@ -280,10 +282,18 @@ abbrev pub is_directed : Option DirectionTree → Bool
 is_directed None = false
 is_directed (Some direction) = true
 
--- the first port says which way it goes
+-- a port that is a name alone
+abbrev pub is_named_port : PortTree → Bool
+is_named_port port = not (is_directed port.direction) && is_name port.name
+
+-- 12.3.3: where the first port says which way it goes, each may; 12.3.2: else all are names alone, which items declare
+abbrev pub fits_behind : ℕ → Option DirectionTree → List PortTree → Bool
+fits_behind levels None list = list_all is_named_port list
+fits_behind levels (Some direction) list = list_all (fits_port levels) list
+
 abbrev pub fits_ports : ℕ → List PortTree → Bool
 fits_ports levels [] = true
-fits_ports levels (port ∷ more) = is_directed port.direction && list_all (fits_port levels) (port ∷ more)
+fits_ports levels (port ∷ more) = fits_behind levels port.direction (port ∷ more)
 
 abbrev pub fits_kind : ℕ → Option ParameterType → Bool
 fits_kind levels None = true
@@ -320,9 +330,20 @@ fits_instance levels instance = is_name instance.name && fits_connections levels
 abbrev pub fits_declaration_kind : ℕ → DeclarationKind → Bool
 fits_declaration_kind levels (variables kind type) = fits_type levels type
 fits_declaration_kind levels integers = true
+fits_declaration_kind levels (directed direction) = fits_direction levels (Some direction)
 
 abbrev pub are_some : {A : Type 0} → (A → Bool) → List A → Bool
 are_some test list = nat_le 1 (length list) && list_all test list
+
+-- a name that is declared without a value
+abbrev pub stands_alone : DeclaredTree → Bool
+stands_alone declared = is_name declared.name && not (is_some declared.value)
+
+-- the names of a declaration: of ports they stand alone (12.3.3)
+abbrev pub fits_names : ℕ → DeclarationKind → List DeclaredTree → Bool
+fits_names levels (variables kind type) list = are_some (fits_declared levels) list
+fits_names levels integers list = are_some (fits_declared levels) list
+fits_names levels (directed direction) list = are_some stands_alone list
 
 abbrev pub fits_body : ℕ → StatementTree → Bool
 fits_body levels statement = fits_statement statement && nat_le (statement_depth statement) levels
@@ -330,7 +351,7 @@ fits_body levels statement = fits_statement statement && nat_le (statement_depth
 abbrev pub fits_item : ℕ → ItemTree → Bool
 fits_item levels (parameters local type settings) = fits_parameter_type levels type && are_some (fits_setting levels) settings
 -- names with and without a value may stand in one declaration, of nets, too (own)
-fits_item levels (declaration kind declared) = fits_declaration_kind levels kind && are_some (fits_declared levels) declared
+fits_item levels (declaration kind declared) = fits_declaration_kind levels kind && fits_names levels kind declared
 fits_item levels (events names) = are_some is_name names
 fits_item levels (assignments list) = are_some (fits_setting levels) list
 fits_item levels (initial statement) = fits_body levels statement

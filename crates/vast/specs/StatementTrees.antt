@@ -76,7 +76,7 @@ module _ {W : Type 0} (told : Token → W) where
   abbrev mutual
     pub statement_told : Statement → StatementOf W
     statement_told Empty = empty
-    statement_told (Block' shape row) = block (statement_row_told row)
+    statement_told (Block' label shape row) = block (option_map told label) (statement_row_told row)
     statement_told (Assign at target amount value) = assign (target_told target) (option_map delay_told amount) (boxed_told told value)
     statement_told (Nonblocking at target amount value) = nonblocking (target_told target) (option_map delay_told amount) (boxed_told told value)
     statement_told (Trigger at word) = trigger (told word)

@@ -8,6 +8,8 @@ use Rattle.vast.specs.declared.statement.CaseKind.{CaseKind}
 use Rattle.vast.specs.declared.statement.CaseKind.TheVariants as case_kind
 use Rattle.vast.specs.declared.statement.Edge.{Edge}
 use Rattle.vast.specs.declared.statement.Edge.TheVariants as edge
+use Rattle.vast.specs.declared.statement.Base.{Base}
+use Rattle.vast.specs.declared.statement.Base.TheVariants as bases
 use Rattle.vast.specs.declared.statement.Printing.{Printing}
 use Rattle.vast.specs.declared.statement.Printing.TheVariants as printing
 use Rattle.vast.specs.declared.statement.Dumping.{Dumping}
@@ -70,7 +72,7 @@ pub data TaskOf (W : Type 0) : Type 0 where
 mutual
   pub data StatementOf (W : Type 0) : Type 0 where
     empty : StatementOf W  -- ;
-    block : StatementsOf W → StatementOf W  -- begin .. end
+    block : Option W → StatementsOf W → StatementOf W  -- begin .. end, or begin : name .. end
     assign : TargetOf W → Option (DelayOf W) → ExpressionOf W → StatementOf W  -- target = # delay value ;
     nonblocking : TargetOf W → Option (DelayOf W) → ExpressionOf W → StatementOf W  -- target <= # delay value ;
     trigger : W → StatementOf W  -- -> name ;
@@ -203,10 +205,17 @@ spell_argument (quoted letters) = letters ∷ []
 spell_argument (printed tree) = spell_expression tree
 
 -- 17.1
+abbrev pub base_letter : Base → Text
+base_letter bases.Decimal = []
+base_letter bases.Binary = codes "b"
+base_letter bases.Octal = codes "o"
+base_letter bases.Hexadecimal = codes "h"
+
 abbrev pub print_word : Printing → Text
-print_word printing.Display = codes "$display"
-print_word printing.Strobe = codes "$strobe"
-print_word printing.Monitor = codes "$monitor"
+print_word (printing.Display base) = codes "$display" ++ base_letter base
+print_word (printing.Write base) = codes "$write" ++ base_letter base
+print_word (printing.Strobe base) = codes "$strobe" ++ base_letter base
+print_word (printing.Monitor base) = codes "$monitor" ++ base_letter base
 
 -- 18.1
 abbrev pub dump_word : Dumping → Text
@@ -258,10 +267,15 @@ spell_setting target value = spell_target target ++ codes "=" ∷ spell_expressi
 abbrev pub spell_condition : ExpressionTree → List Text
 spell_condition condition = in_parentheses (spell_expression condition)
 
+-- 9.8.1: the name of a block, behind begin
+abbrev pub spell_block_name : Option Text → List Text
+spell_block_name None = []
+spell_block_name (Some letters) = codes ":" ∷ letters ∷ []
+
 abbrev mutual
   pub spell_statement : StatementTree → List Text
   spell_statement empty = codes ";" ∷ []
-  spell_statement (block statements) = codes "begin" ∷ (spell_statements statements ++ codes "end" ∷ [])
+  spell_statement (block label statements) = codes "begin" ∷ (spell_block_name label ++ (spell_statements statements ++ codes "end" ∷ []))
   spell_statement (assign target amount value) =
       spell_target target ++ codes "=" ∷ (spell_optional_delay amount ++ (spell_expression value ++ codes ";" ∷ []))
   spell_statement (nonblocking target amount value) =
@@ -296,7 +310,7 @@ abbrev mutual
   spell_branches (first_branch one more) = spell_branch one ++ spell_branches more
 
 -- Depth: a leaf counts 1, each statement round it 1 more; parentheses that belong to a statement count nothing, nor do numbers of
--- $finish, $stop and $dumpvars, nor paths.
+-- $finish, $stop and $dumpvars, nor paths, nor names of blocks.
 
 abbrev mutual
   pub target_depth : TargetTree → ℕ
@@ -342,7 +356,7 @@ task_depth (end_run stops number) = 0
 abbrev mutual
   pub statement_depth : StatementTree → ℕ
   statement_depth empty = 1
-  statement_depth (block statements) = 1 + statements_depth statements
+  statement_depth (block label statements) = 1 + statements_depth statements
   statement_depth (assign target amount value) = 1 + max (target_depth target) (max (optional_delay_depth amount) (depth value))
   statement_depth (nonblocking target amount value) = 1 + max (target_depth target) (max (optional_delay_depth amount) (depth value))
   statement_depth (trigger letters) = 2
@@ -378,7 +392,7 @@ abbrev mutual
 -- an if without else stands at its end, so that an else after it would belong to that
 abbrev pub ends_in_if : StatementTree → Bool
 ends_in_if empty = false
-ends_in_if (block statements) = false
+ends_in_if (block label statements) = false
 ends_in_if (assign target amount value) = false
 ends_in_if (nonblocking target amount value) = false
 ends_in_if (trigger letters) = false
@@ -433,9 +447,10 @@ fits_argument (printed tree) = fits_expression tree
 
 -- $monitor alone asks for arguments
 abbrev pub fits_print : Printing → List ArgumentTree → Bool
-fits_print printing.Display arguments = true
-fits_print printing.Strobe arguments = true
-fits_print printing.Monitor arguments = nat_le 1 (length arguments)
+fits_print (printing.Display base) arguments = true
+fits_print (printing.Write base) arguments = true
+fits_print (printing.Strobe base) arguments = true
+fits_print (printing.Monitor base) arguments = nat_le 1 (length arguments)
 
 abbrev pub fits_path : List Text → Bool
 fits_path path = nat_le 1 (length path) && list_all is_name path
@@ -468,10 +483,14 @@ abbrev pub is_some_branch : BranchTrees → Bool
 is_some_branch no_branch = false
 is_some_branch (first_branch one more) = true
 
+abbrev pub fits_block_name : Option Text → Bool
+fits_block_name None = true
+fits_block_name (Some letters) = is_name letters
+
 abbrev mutual
   pub fits_statement : StatementTree → Bool
   fits_statement empty = true
-  fits_statement (block statements) = fits_statements statements
+  fits_statement (block label statements) = fits_block_name label && fits_statements statements
   fits_statement (assign target amount value) = fits_target target && fits_optional_delay amount && fits_expression value
   fits_statement (nonblocking target amount value) = fits_target target && fits_optional_delay amount && fits_expression value
   fits_statement (trigger letters) = is_name letters

@@ -4,7 +4,7 @@ use Rattle.std.specs.List.{flat_map}
 use Rattle.vast.specs.Expressions.{ExpressionOf, ExpressionsOf, number, name, time, bit, part, parentheses, concatenation, replication, conversion, apply, combine, conditional, none, first}
 use Rattle.vast.specs.Statements.{TargetOf, TargetsOf, DelayOf, by_number, by_name, by_value, TermOf, FurtherOf, EventOf, by_event, by_any, by_any_enclosed, by_terms, ArgumentOf, quoted, printed, SelectionOf, TaskOf, print, dump_file, dump_vars, dump, end_run, StatementOf, StatementsOf, empty, block, assign, nonblocking, trigger, if_true, if_else, case_of, while_true, repeat_times, forever, for_loop, wait_for, delay, event, task, no_statement, first_statement, BranchOf, BranchesOf, labelled, default, no_branch, first_branch}
 use Rattle.vast.specs.Statements as written
-use Rattle.vast.specs.Modules.{RangeOf, TypeOf, ParameterTypeOf, integer, typed, SettingOf, DeclaredOf, DirectionOf, input, output, PortOf, HeadParameterOf, ConnectionOf, ConnectionsOf, by_order, InstanceOf, DeclarationKindOf, variables, integers, ItemOf, parameters, declaration, events, assignments, initial, always, instances, ModuleOf, SourceOf}
+use Rattle.vast.specs.Modules.{RangeOf, TypeOf, ParameterTypeOf, integer, typed, SettingOf, DeclaredOf, DirectionOf, input, output, PortOf, HeadParameterOf, ConnectionOf, ConnectionsOf, by_order, InstanceOf, DeclarationKindOf, variables, integers, directed, ItemOf, parameters, declaration, events, assignments, initial, always, instances, ModuleOf, SourceOf}
 use Rattle.vast.specs.Modules as modules
 
 -- ---- each word changed
@@ -75,7 +75,7 @@ module _ {V W : Type 0} (f : V → W) where
   abbrev mutual
     pub statement_with : StatementOf V → StatementOf W
     statement_with empty = empty
-    statement_with (block list) = block (statements_with list)
+    statement_with (block label list) = block (option_map f label) (statements_with list)
     statement_with (assign target amount value) = assign (target_with target) (option_map delay_with amount) (expression_with value)
     statement_with (nonblocking target amount value) = nonblocking (target_with target) (option_map delay_with amount) (expression_with value)
     statement_with (trigger letters) = trigger (f letters)
@@ -144,6 +144,7 @@ module _ {V W : Type 0} (f : V → W) where
   abbrev pub declaration_kind_with : DeclarationKindOf V → DeclarationKindOf W
   declaration_kind_with (variables net type) = variables net (type_with type)
   declaration_kind_with integers = integers
+  declaration_kind_with (directed direction) = directed (direction_with direction)
 
   abbrev pub item_with : ItemOf V → ItemOf W
   item_with (parameters local type settings) = parameters local (parameter_type_with type) (map setting_with settings)
@@ -241,6 +242,10 @@ module _ {W : Type 0} where
   task_words (dump kind) = []
   task_words (end_run stops digits) = words_if digits_words digits
 
+  -- the name of a block
+  abbrev pub name_words : W → List W
+  name_words letters = letters ∷ []
+
   -- target = # delay value
   abbrev pub assignment_words : TargetOf W → Option (DelayOf W) → ExpressionOf W → List W
   assignment_words target amount value = target_words target ++ (words_if delay_words amount ++ expression_words value)
@@ -252,7 +257,7 @@ module _ {W : Type 0} where
   abbrev mutual
     pub statement_words : StatementOf W → List W
     statement_words empty = []
-    statement_words (block list) = statements_words list
+    statement_words (block label list) = words_if name_words label ++ statements_words list
     statement_words (assign target amount value) = assignment_words target amount value
     statement_words (nonblocking target amount value) = assignment_words target amount value
     statement_words (trigger letters) = letters ∷ []
@@ -320,6 +325,7 @@ module _ {W : Type 0} where
   abbrev pub declaration_kind_words : DeclarationKindOf W → List W
   declaration_kind_words (variables net type) = type_words type
   declaration_kind_words integers = []
+  declaration_kind_words (directed direction) = direction_words direction
 
   abbrev pub item_words : ItemOf W → List W
   item_words (parameters local type settings) = parameter_type_words type ++ flat_map setting_words settings

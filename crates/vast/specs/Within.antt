@@ -2,7 +2,7 @@
 use Rattle.std.specs.Prelude.{ℕ, ◌-◌, nat_le, nat_lt, Bool, true, ◌&&◌, not, List, Option}
 use Rattle.vast.specs.Words.{is_name, is_number, is_time}
 use Rattle.vast.specs.Expressions.{ExpressionTree, number, name, time, bit, part, parentheses, concatenation, replication, conversion, apply, combine, conditional, ExpressionTrees, none, first, rank, rank_of, unary_rank, is_some_part, fits_parts, greatest_depth}
-use Rattle.vast.specs.Statements.{TargetTree, whole, joined, TargetTrees, target_depth, greatest_target_depth, fits_target, fits_targets, is_some_target, DelayTree, delay_depth, fits_delay, optional_delay_depth, fits_optional_delay, EventTree, event_depth, fits_event, ArgumentTree, argument_depth, arguments_depth, fits_argument, TaskTree, task_depth, fits_task, StatementTree, empty, block, assign, nonblocking, trigger, if_true, if_else, case_of, while_true, repeat_times, forever, for_loop, wait_for, delay, event, task, StatementTrees, no_statement, first_statement, BranchTree, labelled, default, BranchTrees, no_branch, first_branch, ends_in_if, is_some_branch, defaults}
+use Rattle.vast.specs.Statements.{TargetTree, whole, joined, TargetTrees, target_depth, greatest_target_depth, fits_target, fits_targets, is_some_target, DelayTree, delay_depth, fits_delay, optional_delay_depth, fits_optional_delay, EventTree, event_depth, fits_event, ArgumentTree, argument_depth, arguments_depth, fits_argument, TaskTree, task_depth, fits_task, StatementTree, empty, block, assign, nonblocking, trigger, if_true, if_else, case_of, while_true, repeat_times, forever, for_loop, wait_for, delay, event, task, StatementTrees, no_statement, first_statement, BranchTree, labelled, default, BranchTrees, no_branch, first_branch, ends_in_if, is_some_branch, defaults, fits_block_name}
 use Rattle.vast.specs.Statements as statements
 use Rattle.std.specs.List.{list_all}
 use Rattle.vast.specs.Modules.{fits_value}
@@ -90,7 +90,7 @@ case_within levels value branches = fits_value levels value && (is_some_branch b
 abbrev mutual
   pub statement_stands : ℕ → StatementTree → Bool
   statement_stands levels empty = nat_le 1 levels
-  statement_stands levels (block list) = nat_le 1 levels && statements_stand (levels - 1) list
+  statement_stands levels (block label list) = nat_le 1 levels && (fits_block_name label && statements_stand (levels - 1) list)
   statement_stands levels (assign target amount value) = nat_le 1 levels && assignment_within (levels - 1) target amount value
   statement_stands levels (nonblocking target amount value) = nat_le 1 levels && assignment_within (levels - 1) target amount value
   statement_stands levels (trigger letters) = nat_le 2 levels && is_name letters

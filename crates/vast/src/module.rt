@@ -65,7 +65,8 @@ pub enum Direction {
     },
 }
 
-/// A port; without a direction it has that of the one before it (12.3.4).
+/// A port; without a direction it has that of the one before it (12.3.4), or, where no port of the list has one, that of the item
+/// which declares it (12.3.2).
 #[derive(Drop)]
 pub struct Port {
     pub direction: Option<Direction>,
@@ -109,6 +110,8 @@ pub enum DeclarationKind {
     Variables { net: NetKind, kind: SignAndRange },
     /// `integer`
     Integers,
+    /// Ports that the list of a module names: `input type`, `output type` and so on (12.3.3)
+    Directed { direction: Direction },
 }
 
 /// What a module holds (A.1.4); `at` is the number of its first token.

@@ -1,10 +1,10 @@
 // Whether what stands in modules beside statements stands as the grammar lets it: types, settings, ports, connections.
 
-ghost use Rattle.std.specs.Prelude.{◌≡◌, map, option_map};
+ghost use Rattle.std.specs.Prelude.{◌≡◌, Some, map, option_map};
 ghost use Rattle.std.specs.List.{list_all};
 ghost use Rattle.vast.specs.TokenTexts.{texts};
 ghost use Rattle.vast.specs.ExpressionTrees.{tree_of, boxed_tree};
-ghost use Rattle.vast.specs.Modules.{fits_value, fits_optional, fits_range, fits_type, fits_parameter_type, fits_setting, fits_declared, fits_direction, fits_port, fits_ports, fits_kind, fits_head_parameter, fits_head_parameters, fits_connection, fits_connections, fits_instance};
+ghost use Rattle.vast.specs.Modules.{fits_value, fits_optional, fits_range, fits_type, fits_parameter_type, fits_setting, fits_declared, stands_alone, fits_direction, fits_port, is_named_port, fits_ports, fits_kind, fits_head_parameter, fits_head_parameters, fits_connection, fits_connections, fits_instance};
 ghost use Rattle.vast.specs.ModuleTrees.{range_tree, type_tree, parameter_type, setting_tree, declared_tree, direction_tree, port_tree, head_parameter, connection_tree, connections_tree, instance_tree};
 
 use crate::expression::Expression;
@@ -93,21 +93,50 @@ pub fn declared_fit(words: &[&[u8]], declared: &[Declared], levels: u32) -> bool
     true
 }
 
-fn direction_fits(words: &[&[u8]], direction: &Option<Direction>, levels: u32) -> bool
+fn is_alone(words: &[&[u8]], declared: &Declared) -> bool
+    ensures { result ≡ stands_alone (declared_tree (texts words.now) declared.now) }
+{
+    is_name(letters(words, declared.name)) && !declared.value.is_some()
+}
+
+/// Whether each is a name without a value.
+pub fn are_alone(words: &[&[u8]], declared: &[Declared]) -> bool
+    ensures { result ≡ list_all stands_alone
+        (map (declared_tree (texts words.now)) declared.now) }
+{
+    for one in declared {
+        if !is_alone(words, one) {
+            return false;
+        }
+    }
+    true
+}
+
+/// Whether the type that stands with a direction does so.
+pub fn direction_fits(words: &[&[u8]], direction: &Direction, levels: u32) -> bool
+    ensures { result ≡ fits_direction levels
+        (Some (direction_tree (texts words.now) direction.now)) }
+{
+    match direction {
+        Direction::Input { kind, .. } => type_fits(words, kind, levels),
+        Direction::Output { kind, .. } => type_fits(words, kind, levels),
+    }
+}
+
+fn optional_direction_fits(words: &[&[u8]], direction: &Option<Direction>, levels: u32) -> bool
     ensures { result ≡ fits_direction levels
         (option_map (direction_tree (texts words.now)) direction.now) }
 {
     match direction {
         None => true,
-        Some(Direction::Input { kind, .. }) => type_fits(words, kind, levels),
-        Some(Direction::Output { kind, .. }) => type_fits(words, kind, levels),
+        Some(direction) => direction_fits(words, direction, levels),
     }
 }
 
 fn port_fits(words: &[&[u8]], port: &Port, levels: u32) -> bool
     ensures { result ≡ fits_port levels (port_tree (texts words.now) port.now) }
 {
-    direction_fits(words, &port.direction, levels) && is_name(letters(words, port.name))
+    optional_direction_fits(words, &port.direction, levels) && is_name(letters(words, port.name))
 }
 
 fn each_port_fits(words: &[&[u8]], ports: &[Port], levels: u32) -> bool
@@ -122,13 +151,36 @@ fn each_port_fits(words: &[&[u8]], ports: &[Port], levels: u32) -> bool
     true
 }
 
-/// Whether the ports of a module stand so: the first says which way it goes.
+fn is_named(words: &[&[u8]], port: &Port) -> bool
+    ensures { result ≡ is_named_port (port_tree (texts words.now) port.now) }
+{
+    !port.direction.is_some() && is_name(letters(words, port.name))
+}
+
+fn are_named(words: &[&[u8]], ports: &[Port]) -> bool
+    ensures { result ≡ list_all is_named_port (map (port_tree (texts words.now)) ports.now) }
+{
+    for port in ports {
+        if !is_named(words, port) {
+            return false;
+        }
+    }
+    true
+}
+
+/// Whether the ports of a module stand so: the first says which way it goes, or all are names alone.
 pub fn ports_fit(words: &[&[u8]], ports: &[Port], levels: u32) -> bool
     ensures { result ≡ fits_ports levels (map (port_tree (texts words.now)) ports.now) }
 {
     match ports.split_first() {
         None => true,
-        Some((port, _)) => port.direction.is_some() && each_port_fits(words, ports, levels),
+        Some((port, _)) => {
+            if port.direction.is_some() {
+                each_port_fits(words, ports, levels)
+            } else {
+                are_named(words, ports)
+            }
+        }
     }
 }
 

@@ -1,6 +1,6 @@
 // The words of what stands in modules beside statements, in order: types, settings, ports, connections.
 
-ghost use Rattle.std.specs.Prelude.{◌≡◌, ◌∷◌, [], map, option_map};
+ghost use Rattle.std.specs.Prelude.{◌≡◌, ◌∷◌, [], Some, map, option_map};
 ghost use Rattle.vast.specs.TokenTexts.{token_text, texts};
 ghost use Rattle.vast.specs.ExpressionTrees.{tree_of, boxed_tree};
 ghost use Rattle.vast.specs.Expressions.{spell_expression};
@@ -166,7 +166,30 @@ fn put_wire<'t>(out: &mut Vec<Spelling<'t>>, wire: bool) -> Result<(), NoMemory>
     Ok(())
 }
 
-fn put_direction<'t>(
+/// Puts which way ports go.
+pub fn put_direction<'t>(
+    out: &mut Vec<Spelling<'t>>,
+    words: &[&'t [u8]],
+    direction: &Direction,
+) -> Result<(), NoMemory>
+    ensures { Puts out.old out.new result
+        (spell_direction (Some (direction_tree (texts words.now) direction.now))) }
+{
+    match direction {
+        Direction::Input { wire, kind } => {
+            put(out, b"input")?;
+            put_wire(out, *wire)?;
+            put_type(out, words, kind)
+        }
+        Direction::Output { net, kind } => {
+            put(out, b"output")?;
+            put_net(out, *net)?;
+            put_type(out, words, kind)
+        }
+    }
+}
+
+fn put_optional_direction<'t>(
     out: &mut Vec<Spelling<'t>>,
     words: &[&'t [u8]],
     direction: &Option<Direction>,
@@ -176,16 +199,7 @@ fn put_direction<'t>(
 {
     match direction {
         None => Ok(()),
-        Some(Direction::Input { wire, kind }) => {
-            put(out, b"input")?;
-            put_wire(out, *wire)?;
-            put_type(out, words, kind)
-        }
-        Some(Direction::Output { net, kind }) => {
-            put(out, b"output")?;
-            put_net(out, *net)?;
-            put_type(out, words, kind)
-        }
+        Some(direction) => put_direction(out, words, direction),
     }
 }
 
@@ -197,7 +211,7 @@ fn put_port<'t>(
     ensures { Puts out.old out.new result
         (spell_port (port_tree (texts words.now) port.now)) }
 {
-    put_direction(out, words, &port.direction)?;
+    put_optional_direction(out, words, &port.direction)?;
     put_token(out, words, port.name)
 }
 

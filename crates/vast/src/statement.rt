@@ -23,15 +23,30 @@ pub enum Edge {
     Falling,
 }
 
-/// When a line is printed (17.1).
+/// How a value is shown that no format takes (17.1.1).
+#[derive(Clone, Copy, PartialEq, Eq)]
+pub enum Base {
+    /// `$display`: as by `%d`
+    Decimal,
+    /// `$displayb`: as by `%b`
+    Binary,
+    /// `$displayo`: as by `%o`
+    Octal,
+    /// `$displayh`: as by `%h`
+    Hexadecimal,
+}
+
+/// A task that prints (17.1), and how it shows a value that no format takes.
 #[derive(Clone, Copy, PartialEq, Eq)]
 pub enum Printing {
-    /// `$display`: at once (17.1.1)
-    Display,
-    /// `$strobe`: at the slot's end (17.1.2)
-    Strobe,
-    /// `$monitor`: at each slot's end where a value has changed (17.1.3)
-    Monitor,
+    /// `$display`: a line, at once (17.1.1)
+    Display(Base),
+    /// `$write`: the same, without a line feed (17.1.1)
+    Write(Base),
+    /// `$strobe`: a line, at the slot's end (17.1.2)
+    Strobe(Base),
+    /// `$monitor`: a line at each slot's end where a value has changed (17.1.3)
+    Monitor(Base),
 }
 
 /// What is done to the dump (18.1).
@@ -160,8 +175,11 @@ pub enum Task {
 pub enum Statement {
     /// `;`
     Empty,
-    /// `begin .. end` (9.8.1)
-    Block(Vec<Statement>),
+    /// `begin .. end`, or `begin : name .. end` (9.8.1)
+    Block {
+        name: Option<Token>,
+        statements: Vec<Statement>,
+    },
     /// `target = #delay value;` (9.2.1)
     Assign {
         at: u32,

@@ -14,7 +14,7 @@ use crate::expression::Expression;
 use crate::expression_fits::{expression_fits, is_some, parts_fit};
 use crate::statement::{Branch, Statement};
 use crate::statement_parts_fit::{
-    assignment_fits, delay_fits, event_fits, setting_fits, task_fits,
+    assignment_fits, block_name_fits, delay_fits, event_fits, setting_fits, task_fits,
 };
 use crate::token::letters;
 use crate::words::is_name;
@@ -88,7 +88,8 @@ fn statement_stands(words: &[&[u8]], statement: &Statement, levels: u32) -> bool
     let below = levels - 1;
     match statement {
         Statement::Empty => true,
-        Statement::Block(list) => statements_stand(words, list, below),
+        Statement::Block { name, statements } => block_name_fits(words, name)
+            && statements_stand(words, statements, below),
         Statement::Assign {
             target,
             delay,

@@ -6,7 +6,7 @@ ghost use Rattle.std.specs.List.{list_all};
 ghost use Rattle.vast.specs.Words.{Text, is_name as is_name_text};
 ghost use Rattle.vast.specs.TokenTexts.{token_text, texts};
 ghost use Rattle.vast.specs.ExpressionTrees.{tree_of};
-ghost use Rattle.vast.specs.Statements.{is_some_target as is_some_tree, fits_further_term, fits_print, fits_path, fits_selection, fits_optional_number};
+ghost use Rattle.vast.specs.Statements.{is_some_target as is_some_tree, fits_further_term, fits_print, fits_path, fits_selection, fits_optional_number, fits_block_name};
 ghost use Rattle.vast.specs.StatementTrees.{target_tree, target_trees, delay_tree, further_term, event_tree, argument_tree, path_tree, selection_tree, task_tree};
 ghost use Rattle.vast.specs.Within.{target_stands as target_tree_stands, targets_stand as target_trees_stand, target_within, delay_within, optional_delay_within, setting_within, assignment_within, event_within, argument_within, task_within};
 
@@ -170,9 +170,10 @@ fn print_fits(kind: Printing, arguments: &[Argument]) -> bool
         result ≡ fits_print kind (map (argument_tree words) arguments.now) }
 {
     match kind {
-        Printing::Display => true,
-        Printing::Strobe => true,
-        Printing::Monitor => !arguments.is_empty(),
+        Printing::Display(_) => true,
+        Printing::Write(_) => true,
+        Printing::Strobe(_) => true,
+        Printing::Monitor(_) => !arguments.is_empty(),
     }
 }
 
@@ -224,6 +225,16 @@ fn number_fits(words: &[&[u8]], number: &Option<Token>) -> bool
     match number {
         None => true,
         Some(number) => is_number(letters(words, *number)),
+    }
+}
+
+/// Whether the name of a block stands so.
+pub fn block_name_fits(words: &[&[u8]], name: &Option<Token>) -> bool
+    ensures { result ≡ fits_block_name (option_map (token_text (texts words.now)) name.now) }
+{
+    match name {
+        None => true,
+        Some(name) => is_name(letters(words, *name)),
     }
 }
 

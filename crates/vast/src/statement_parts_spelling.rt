@@ -4,7 +4,7 @@
 ghost use Rattle.std.specs.Prelude.{◌≡◌, ◌∷◌, [], flat_map, map, option_map};
 ghost use Rattle.vast.specs.TokenTexts.{token_text, texts};
 ghost use Rattle.vast.specs.ExpressionTrees.{tree_of};
-ghost use Rattle.vast.specs.Statements.{spell_target, spell_targets, spell_delay, spell_optional_delay, edge_word as edge_text, spell_edge, spell_term, spell_further_term, spell_event, spell_argument, print_word as print_text, dump_word as dump_text, spell_arguments, spell_path, spell_selection, spell_number, end_word as end_text, spell_task, case_word as case_text, spell_setting, spell_condition, listed};
+ghost use Rattle.vast.specs.Statements.{spell_target, spell_targets, spell_delay, spell_optional_delay, edge_word as edge_text, spell_edge, spell_term, spell_further_term, spell_event, spell_argument, print_word as print_text, dump_word as dump_text, spell_arguments, spell_path, spell_selection, spell_number, end_word as end_text, spell_task, case_word as case_text, spell_setting, spell_condition, listed, spell_block_name};
 ghost use Rattle.vast.specs.StatementTrees.{target_tree, target_trees, delay_tree, term_tree, further_term, event_tree, argument_tree, path_tree, selection_tree, task_tree};
 ghost use Rattle.vast.specs.Inner.{Puts, joined_words, assigned_words, dotted_words, paths_words};
 
@@ -12,7 +12,7 @@ use crate::expression::Expression;
 use crate::expression_spelling::{put_expression, put_range};
 use crate::spelling::{Spelling, put, put_comma, put_token};
 use crate::statement::{
-    Argument, CaseKind, Delay, Dumping, Edge, Event, FurtherTerm, Path, Printing, Selection,
+    Argument, Base, CaseKind, Delay, Dumping, Edge, Event, FurtherTerm, Path, Printing, Selection,
     Target, Task, Term,
 };
 use crate::token::Token;
@@ -348,6 +348,24 @@ fn put_selection<'t>(
     }
 }
 
+/// Puts the name of a block, behind `begin`.
+pub fn put_block_name<'t>(
+    out: &mut Vec<Spelling<'t>>,
+    words: &[&'t [u8]],
+    name: &Option<Token>,
+) -> Result<(), NoMemory>
+    ensures { Puts out.old out.new result
+        (spell_block_name (option_map (token_text (texts words.now)) name.now)) }
+{
+    match name {
+        None => Ok(()),
+        Some(name) => {
+            put(out, b":")?;
+            put_token(out, words, *name)
+        }
+    }
+}
+
 fn put_number<'t>(
     out: &mut Vec<Spelling<'t>>,
     words: &[&'t [u8]],
@@ -366,13 +384,27 @@ fn put_number<'t>(
     }
 }
 
-fn print_word(kind: Printing) -> &'static [u8]
+/// The word of a task that prints.
+pub fn print_word(kind: Printing) -> &'static [u8]
     ensures { result.now ≡ print_text kind }
 {
     match kind {
-        Printing::Display => b"$display",
-        Printing::Strobe => b"$strobe",
-        Printing::Monitor => b"$monitor",
+        Printing::Display(Base::Decimal) => b"$display",
+        Printing::Display(Base::Binary) => b"$displayb",
+        Printing::Display(Base::Octal) => b"$displayo",
+        Printing::Display(Base::Hexadecimal) => b"$displayh",
+        Printing::Write(Base::Decimal) => b"$write",
+        Printing::Write(Base::Binary) => b"$writeb",
+        Printing::Write(Base::Octal) => b"$writeo",
+        Printing::Write(Base::Hexadecimal) => b"$writeh",
+        Printing::Strobe(Base::Decimal) => b"$strobe",
+        Printing::Strobe(Base::Binary) => b"$strobeb",
+        Printing::Strobe(Base::Octal) => b"$strobeo",
+        Printing::Strobe(Base::Hexadecimal) => b"$strobeh",
+        Printing::Monitor(Base::Decimal) => b"$monitor",
+        Printing::Monitor(Base::Binary) => b"$monitorb",
+        Printing::Monitor(Base::Octal) => b"$monitoro",
+        Printing::Monitor(Base::Hexadecimal) => b"$monitorh",
     }
 }
 

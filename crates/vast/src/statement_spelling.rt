@@ -12,7 +12,8 @@ use crate::expression_spelling::{put_expression, put_parts};
 use crate::spelling::{Spelling, put, put_token};
 use crate::statement::{Branch, CaseKind, Delay, Statement, Target};
 use crate::statement_parts_spelling::{
-    case_word, put_assigned, put_condition, put_delay, put_event, put_setting, put_target, put_task,
+    case_word, put_assigned, put_block_name, put_condition, put_delay, put_event, put_setting,
+    put_target, put_task,
 };
 use crate::token::Token;
 use basis::NoMemory;
@@ -111,7 +112,7 @@ pub fn put_statement<'t>(
 {
     match statement {
         Statement::Empty => put(out, b";"),
-        Statement::Block(list) => put_block(out, words, list),
+        Statement::Block { name, statements } => put_block(out, words, name, statements),
         Statement::Assign {
             target,
             delay,
@@ -216,12 +217,15 @@ pub fn put_statement<'t>(
 fn put_block<'t>(
     out: &mut Vec<Spelling<'t>>,
     words: &[&'t [u8]],
+    name: &Option<Token>,
     statements: &[Statement],
 ) -> Result<(), NoMemory>
-    ensures { Puts out.old out.new result
-        (block_words (statement_trees (texts words.now) statements.now)) }
+    ensures { Puts out.old out.new result (block_words
+        (option_map (token_text (texts words.now)) name.now)
+        (statement_trees (texts words.now) statements.now)) }
 {
     put(out, b"begin")?;
+    put_block_name(out, words, name)?;
     put_statements(out, words, statements)?;
     put(out, b"end")
 }

@@ -12,7 +12,7 @@ use crate::module::{
     Connections, DeclarationKind, HeadParameter, ModuleItem, ModuleTree, Port, TextTree,
 };
 use crate::module_parts_spelling::{
-    net_word, put_connections, put_declared, put_head_parameters, put_instances,
+    net_word, put_connections, put_declared, put_direction, put_head_parameters, put_instances,
     put_parameter_type, put_ports, put_settings, put_type,
 };
 use crate::spelling::{Spelling, put, put_comma, put_token};
@@ -53,6 +53,7 @@ fn put_declaration_kind<'t>(
             put_type(out, words, kind)
         }
         DeclarationKind::Integers => put(out, b"integer"),
+        DeclarationKind::Directed { direction } => put_direction(out, words, direction),
     }
 }
 

@@ -16,21 +16,43 @@ pub enum When {
     AtChange,
 }
 
-/// How a value is shown (17.1.1.2, 17.1.1.3).
+/// What a value is shown as (17.1.1.2).
 #[derive(Clone, Copy, PartialEq, Eq)]
-pub enum Form {
+pub enum Notation {
     /// `%b`
     Binary,
-    /// `%h`
+    /// `%o`
+    Octal,
+    /// `%h` or `%x`
     Hexadecimal,
     /// `%d`
     Decimal,
-    /// `%0d`
-    ShortDecimal,
     /// `%t`
     Time,
-    /// `%0t`
-    ShortTime,
+    /// `%c`
+    Character,
+    /// `%s`
+    Letters,
+}
+
+/// In how many places it is shown (17.1.1.3).
+#[derive(Clone, Copy, PartialEq, Eq)]
+pub enum Width {
+    /// `%d`: in as many as the longest value of its length and sign takes.
+    Natural,
+    /// `%0d`: in as few as it can be.
+    Least,
+    /// `%5d`: in five or more, with blanks before it.
+    Places(u32),
+    /// `%05d`: in five or more, with zeros before its digits.
+    Zeros(u32),
+}
+
+/// How a value is shown.
+#[derive(Clone, Copy, PartialEq, Eq)]
+pub struct Form {
+    pub notation: Notation,
+    pub width: Width,
 }
 
 /// Bytes that are printed as they are.

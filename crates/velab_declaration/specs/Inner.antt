@@ -1,20 +1,22 @@
 -- *internal*: What the steps of elaboration are told by and answer.
-use Rattle.std.specs.Prelude.{List, [], ◌++◌, Vec, map, Option, Some, option_map}
+use Rattle.std.specs.Prelude.{not, List, [], ◌++◌, Vec, map, Option, Some, option_map}
 use Rattle.std.specs.Borrow.{Bor}
 use Rattle.std.specs.List.{filter, flat_map, filter_map}
 use Rattle.vdesign.specs.Design as design
 use Rattle.vast.specs.Words.{Text}
 use Rattle.vast.specs.NumberedWords.{Word, numbered}
-use Rattle.vast.specs.NumberedModules.{ParameterType, ItemTree, declaration}
+use Rattle.vast.specs.NumberedModules.{ParameterType, DeclaredTree, ItemTree, declaration}
 use Rattle.vmodules.specs.Names.{is_declared, again_behind}
-use Rattle.vmodules.specs.Inner.{ConnectionEntry, entries_tree, port_form}
+use Rattle.vmodules.specs.Inner.{ConnectionEntry, entries_tree, port_form, own_in}
+use Rattle.vmodules.specs.Ports.{own_item, own_names}
 use Rattle.vmodules.specs.declared.ports.PortForm.{PortForm}
 use Rattle.vast.specs.declared.module.Instance.{Instance}
-use Rattle.vast.specs.NumberedTrees.{instance_tree, parameter_type, head_parameter, declaration_kind, declared_tree, setting_tree, item_tree}
+use Rattle.vast.specs.NumberedTrees.{instance_tree, parameter_type, head_parameter, declaration_kind, declared_tree, setting_tree, item_tree, module_tree}
 use Rattle.vast.specs.declared.module.DeclarationKind.{DeclarationKind as DeclarationWords}
 use Rattle.vast.specs.declared.module.NetKind.{NetKind}
 use Rattle.vast.specs.declared.module.NetKind.TheVariants.{Reg, Wire}
 use Rattle.vast.specs.declared.module.ModuleItem.{ModuleItem}
+use Rattle.vast.specs.declared.module.ModuleTree.{ModuleTree as Parsed}
 use Rattle.vast.specs.declared.module.Declared.{Declared}
 use Rattle.vast.specs.declared.module.Setting.{Setting}
 use Rattle.vast.specs.declared.token.Token.{Token}
@@ -28,7 +30,7 @@ use Rattle.velab_declaration.specs.declared.variable.Form.{Form}
 use Rattle.velab_declaration.specs.declared.driven.Driver.{Driver}
 use Rattle.velab_expr.specs.Symbols.{instance_symbol, Symbol, parameter_symbol, event_symbol, valueless_by, symbols_in_head}
 use Rattle.velab_declaration.specs.Parameters.{Overrides}
-use Rattle.velab_declaration.specs.Variables.{port_declaration, net_names, declarations_of, variables_in, ScopeDrivers, driver_of, drivers_by}
+use Rattle.velab_declaration.specs.Variables.{port_declaration, net_names, declarations_of, variables_in, variables_as, ScopeDrivers, declarations, driver_of, drivers_by}
 
 -- the names that an item declares, and those that items do
 abbrev pub names_of : ItemTree → List Word
@@ -83,8 +85,29 @@ texts_of words list = map (λ one. numbered words one.name) list
 abbrev pub port_texts : List Text → List PortForm → List Word
 port_texts words ports = map (λ p. p.name) (map (port_form words) ports)
 
-abbrev pub names_before : List Text → List PortForm → List ModuleItem → List Word
-names_before words ports items = port_texts words ports ++ declared_in (map (item_tree words) items)
+abbrev pub names_before : List Text → List Text → List PortForm → List ModuleItem → List Word
+names_before words made ports items = port_texts words ports ++ declared_in (own_in words made items)
+
+-- and those behind them that a module declares
+abbrev pub names_declared : List Text → List PortForm → Parsed → List Word
+names_declared words ports unit = port_texts words ports ++ map (λ d. d.name) (declarations (module_tree words unit))
+
+-- the names of a declaration that are none of these ports, and their variables
+abbrev pub own_texts : List Text → List Text → List Declared → List Word
+own_texts words made list = filter (λ word. not (is_declared made word.letters)) (texts_of words list)
+
+abbrev pub own_trees : List Text → List Text → List Declared → List DeclaredTree
+own_trees words made list = filter (λ one. not (is_declared made one.name.letters)) (map (declared_tree words) list)
+
+abbrev pub own_variables : List Text → List Text → ScopeDrivers → Form → List Declared → List design.Variable
+own_variables words made drivers form list = variables_in drivers form (own_trees words made list)
+
+abbrev pub formed_variables : List Text → List Text → ScopeDrivers → Form → DeclarationWords → List Declared → List design.Variable
+formed_variables words made drivers form kind list =
+    variables_as drivers form (declaration_kind words kind) (own_names (is_declared made) (declaration_kind words kind) (map (declared_tree words) list))
+
+abbrev pub own_tree : List Text → List Text → ModuleItem → ItemTree
+own_tree words made item = own_item (is_declared made) (item_tree words item)
 
 -- the variables of names declared in this form
 abbrev pub variables_by : List Text → ScopeDrivers → Form → List Declared → List design.Variable
@@ -93,6 +116,9 @@ variables_by words drivers form list = variables_in drivers form (map (declared_
 -- a declaration, as an item
 abbrev pub kind_item : List Text → DeclarationWords → List Declared → ItemTree
 kind_item words kind list = declaration (declaration_kind words kind) (map (declared_tree words) list)
+
+abbrev pub own_kind : List Text → List Text → DeclarationWords → List Declared → ItemTree
+own_kind words made kind list = own_item (is_declared made) (kind_item words kind list)
 
 -- the words that are driven, one driver each
 abbrev pub driver_word : Driver → Word

@@ -1,13 +1,13 @@
 -- *trusted*: The variables of an instance (IEEE 1364-2005, 4.2, 4.3.1, 4.8), and the nets that something drives in it (6.1).
-use Rattle.std.specs.Prelude.{ℕ, Bool, true, false, if◌then◌else◌, List, [], ◌∷◌, ◌++◌, map, Option, None, Some, option_map, Result, Ok}
+use Rattle.std.specs.Prelude.{ℕ, ◌==◌, Bool, true, false, ◌&&◌, if◌then◌else◌, List, [], ◌∷◌, ◌++◌, map, length, Option, None, Some, option_map, Result, Ok}
 use Rattle.std.specs.List.{filter, flat_map, filter_map}
 use Rattle.vbits.specs.declared.bit4.Bit4.TheVariants.{X, Z}
 use Rattle.vbits.specs.declared.bit4.Bit4.{Bit4}
 use Rattle.vast.specs.Words.{Text}
 use Rattle.vast.specs.NumberedWords.{Word}
-use Rattle.vmodules.specs.Ports.{Port, ports_of}
+use Rattle.vmodules.specs.Ports.{Second, Port, type_in, ports_of, own_items, is_plain_list}
 use Rattle.vmodules.specs.Names.{is_declared}
-use Rattle.vast.specs.NumberedModules.{RangeTree, DeclarationKind, variables, integers, DeclaredTree, ItemTree, parameters, declaration, events, assignments, initial, always, instances, ModuleTree}
+use Rattle.vast.specs.NumberedModules.{RangeTree, DeclarationKind, variables, integers, directed, DeclaredTree, ItemTree, parameters, declaration, events, assignments, initial, always, instances, ModuleTree}
 use Rattle.vast.specs.declared.module.NetKind.{NetKind}
 use Rattle.vast.specs.declared.module.NetKind.TheVariants as net
 use Rattle.vdesign.specs.Design as design
@@ -15,9 +15,10 @@ use Rattle.vdesign.specs.declared.design.Kind.{Kind}
 use Rattle.vdesign.specs.declared.design.Kind.TheVariants.{Reg, Integer, Wire}
 use Rattle.vdesign.specs.declared.expression.Bounds.{Bounds}
 use Rattle.velab_expr.specs.declared.fault.ElabFault.{ElabFault}
-use Rattle.velab_expr.specs.Scopes.{Scope}
+use Rattle.velab_expr.specs.Scopes.{Scope, at}
 use Rattle.velab_expr.specs.Ranges.{span, lower_bounds}
-use Rattle.velab_expr.specs.Answers.{◌>>=◌}
+use Rattle.velab_expr.specs.Answers.{◌>>=◌, required}
+use Rattle.velab_expr.specs.declared.fault.Rule.TheVariants as rule
 use Rattle.velab_declaration.specs.declared.variable.Form.{Form}
 use Rattle.velab_expr.specs.Symbols.{behind_item}
 
@@ -42,6 +43,7 @@ kind_of net.Reg = Reg
 abbrev pub declared_as : DeclarationKind → List DeclaredTree → List Declaration
 declared_as (variables word type) list = all_declared (kind_of word) type.signed type.range list
 declared_as integers list = all_declared Integer true None list
+declared_as (directed direction) list = []  -- 12.3.3: these stand with the ports
 
 abbrev pub declarations_of : ItemTree → List Declaration
 declarations_of (parameters local type settings) = []
@@ -52,9 +54,9 @@ declarations_of (initial statement) = []
 declarations_of (always statement) = []
 declarations_of (instances letters overrides list) = []
 
--- in the order of the text
+-- in the order of the text, without those that are ports (12.3.3)
 abbrev pub declarations : ModuleTree → List Declaration
-declarations m = flat_map declarations_of m.items
+declarations m = flat_map declarations_of (own_items m)
 
 abbrev pub port_names : ModuleTree → List Word
 port_names m = map (λ p. p.name) (ports_of m)
@@ -104,6 +106,7 @@ abbrev pub drivers_as : DeclarationKind → List DeclaredTree → List Word
 drivers_as (variables net.Wire type) list = filter_map driver_of list
 drivers_as (variables net.Reg type) list = []
 drivers_as integers list = []
+drivers_as (directed direction) list = []
 
 -- the names that an item drives, as often as it does (6.1)
 abbrev pub drivers_by : ItemTree → List Word
@@ -137,13 +140,19 @@ form_of word signed bounds = record { kind = kind_of word; signed = signed; boun
 abbrev pub lower_kind : Scope → DeclarationKind → Result Form ElabFault
 lower_kind scope (variables word type) = lower_bounds scope type.range >>= λ bounds. Ok (form_of word type.signed bounds)
 lower_kind scope integers = Ok (record { kind = Integer; signed = true; bounds = None })
+lower_kind scope (directed direction) = lower_bounds scope (type_in direction).range >>= λ bounds. Ok (form_of net.Wire (type_in direction).signed bounds)
 
 -- a variable for each name
 abbrev pub variables_in : ScopeDrivers → Form → List DeclaredTree → List design.Variable
 variables_in drivers form list = map (λ one. variable_in drivers form one.name.letters) list
 
+abbrev pub variables_as : ScopeDrivers → Form → DeclarationKind → List DeclaredTree → List design.Variable
+variables_as drivers form (variables word type) list = variables_in drivers form list
+variables_as drivers form integers list = variables_in drivers form list
+variables_as drivers form (directed direction) list = []  -- 12.3.3: these stand with the ports
+
 abbrev pub lower_names : ScopeDrivers → Scope → DeclarationKind → List DeclaredTree → Result (List design.Variable) ElabFault
-lower_names drivers scope kind list = lower_kind scope kind >>= λ form. Ok (variables_in drivers form list)
+lower_names drivers scope kind list = lower_kind scope kind >>= λ form. Ok (variables_as drivers form kind list)
 
 abbrev pub lower_declaration : ScopeDrivers → Scope → ItemTree → Result (List design.Variable) ElabFault
 lower_declaration drivers scope (parameters local type settings) = Ok []
@@ -160,10 +169,29 @@ lower_variables drivers scope [] = Ok []
 lower_variables drivers scope (item ∷ more) =
     lower_declaration drivers scope item >>= λ front. lower_variables drivers (behind_item scope item) more >>= λ others. Ok (front ++ others)
 
+-- 12.3.3: where a port is declared again its range is the same, which is told by the name that stands again
+abbrev pub same_bounds : Option Bounds → Option Bounds → Bool
+same_bounds None None = true
+same_bounds None (Some other) = false
+same_bounds (Some bounds) None = false
+same_bounds (Some bounds) (Some other) = bounds.left == other.left && bounds.right == other.right
+
+abbrev pub lower_again : Scope → Option Second → Option Bounds → Result (Option Bounds) ElabFault
+lower_again scope None bounds = Ok bounds
+lower_again scope (Some second) bounds =
+    lower_bounds scope second.type.range >>= λ other. required (same_bounds bounds other) rule.Width (Some second.name) bounds
+
 -- 12.3.3: a port is declared where it stands
 abbrev pub lower_port : ScopeDrivers → Scope → Port → Result design.Variable ElabFault
-lower_port drivers scope p = lower_bounds scope p.type.range >>= λ bounds. Ok (variable_in drivers (form_of p.net p.type.signed bounds) p.name.letters)
+lower_port drivers scope p =
+    lower_bounds scope p.type.range >>= λ bounds.
+    lower_again scope p.again bounds >>= λ whole.
+    Ok (variable_in drivers (form_of p.net p.type.signed whole) p.name.letters)
 
 abbrev pub lower_ports : ScopeDrivers → Scope → List Port → Result (List design.Variable) ElabFault
 lower_ports drivers scope [] = Ok []
 lower_ports drivers scope (p ∷ more) = lower_port drivers scope p >>= λ one. lower_ports drivers scope more >>= λ others. Ok (one ∷ others)
+
+-- 12.3.2: ports that items declare stand behind all of these
+abbrev pub port_scope : ModuleTree → Scope → Scope
+port_scope m scope = if is_plain_list m.ports then at scope (length scope.others) else scope

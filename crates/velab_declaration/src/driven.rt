@@ -101,6 +101,7 @@ fn add_item<'t>(
                 ..
             } => Ok(()),
             DeclarationKind::Integers => Ok(()),
+            DeclarationKind::Directed { .. } => Ok(()),
         },
         ModuleItem::Events { .. } => Ok(()),
         ModuleItem::Assignments { settings, .. } => add_settings(tokens, settings, into),

@@ -1,30 +1,33 @@
 // Variables and nets: ports, and what a module declares by `reg`, by `integer` and by `wire` (4.2, 4.3, 4.8, 12.3.3).
-ghost use Rattle.std.specs.Prelude.{◌≡◌, ◌<◌, ◌≤◌, ◌+◌, ◌^◌, [], ◌++◌, ◌∷◌, List, None, length, map, IfOk, OnOk};
-ghost use Rattle.vast.specs.NumberedTrees.{declaration_kind, item_tree};
+ghost use Rattle.std.specs.Prelude.{◌≡◌, ◌<◌, ◌≤◌, ◌+◌, ◌^◌, [], ◌++◌, ◌∷◌, List, None, length, map, option_map, IfOk, OnOk};
+ghost use Rattle.vast.specs.NumberedTrees.{declaration_kind, module_tree};
 ghost use Rattle.vexpr_parse.specs.Texts.{words_of};
 ghost use Rattle.velab_declaration.specs.Variables as variables;
 ghost use Rattle.velab_declaration.specs.Variables.{lower_kind, lower_declaration, lower_variables, lower_ports, variable_in};
-ghost use Rattle.vmodules.specs.Inner.{port_form};
+ghost use Rattle.vmodules.specs.Inner.{own_in, port_form, second_form};
+ghost use Rattle.vmodules.specs.Ports.{own_items};
 ghost use Rattle.vast.specs.Words.{Text};
 ghost use Rattle.velab_expr.specs.Answers.{Gives, Makes, behind};
 ghost use Rattle.velab_expr.specs.Inner.{symbols_in, IsNarrow};
 ghost use Rattle.velab_expr.specs.Ranges.{lower_bounds};
-ghost use Rattle.velab_declaration.specs.Inner.{kind_item, variables_by};
+ghost use Rattle.velab_declaration.specs.Inner.{own_kind, own_tree, own_variables, formed_variables, variables_by};
 
 use crate::drivers::ScopeDrivers;
 use basis::{NoMemory, OrMemory};
 use std::alloc::Global;
-use vast::module::{DeclarationKind, Declared, ModuleItem, NetKind};
+use vast::module::{DeclarationKind, Declared, ModuleItem, ModuleTree, NetKind};
 use vbits::Bit4;
 use vdesign::design::{Kind, Variable};
 use vdesign::expression::Bounds;
-use velab_expr::fault::ElabFault;
+use velab_expr::fault::{ElabFault, Rule};
 use velab_expr::range::{range_bounds, span};
+use velab_expr::refusal::refused;
 use velab_expr::scope::Scope;
 use velab_expr::symbol::symbol_count;
 use vlex::Tokens;
 use vmodules::letters::letters;
-use vmodules::ports::PortForm;
+use vmodules::names::Names;
+use vmodules::ports::{PortForm, SecondForm, is_plain_list, plain_names, type_in};
 
 /// How names are declared: what a declaration says of each of them.
 #[derive(Clone, Copy)]
@@ -115,6 +118,49 @@ fn put_all(
     Ok(())
 }
 
+// The same, save where the name is that of one of these ports.
+fn put_one(
+    alloc: Global,
+    tokens: &Tokens<'_>,
+    drivers: &ScopeDrivers<'_, '_>,
+    made: &Names<'_>,
+    form: Form,
+    one: &Declared,
+    into: &mut Vec<Variable>,
+) -> Result<(), NoMemory>
+    requires { IsNarrow form.bounds }
+    ensures { OnOk result (into.new.items ≡ into.old.items
+        ++ own_variables (words_of tokens.now) made.now drivers.now form (one.now ∷ [])) }
+{
+    let text = letters(tokens, one.name);
+    if made.place(text).is_some() {
+        return Ok(());
+    }
+    let variable = variable(alloc, drivers, form, text)?;
+    into.push(variable)?;
+    Ok(())
+}
+
+// A variable for each name that is none of these ports, in their order.
+fn put_own(
+    alloc: Global,
+    tokens: &Tokens<'_>,
+    drivers: &ScopeDrivers<'_, '_>,
+    made: &Names<'_>,
+    form: Form,
+    list: &[Declared],
+    into: &mut Vec<Variable>,
+) -> Result<(), NoMemory>
+    requires { IsNarrow form.bounds }
+    ensures { OnOk result (into.new.items ≡ into.old.items
+        ++ own_variables (words_of tokens.now) made.now drivers.now form list.now) }
+{
+    for one in list {
+        put_one(alloc, tokens, drivers, made, form, one, into)?;
+    }
+    Ok(())
+}
+
 // What a word declares.
 fn kind_of(net: NetKind) -> Kind
     ensures { result ≡ variables.kind_of net }
@@ -150,6 +196,39 @@ fn form_of(
             signed: true,
             bounds: None,
         }),
+        DeclarationKind::Directed { direction } => {
+            let kind = type_in(direction);
+            let bounds = range_bounds(alloc, scope, tokens, &kind.range)?;
+            Ok(Form {
+                kind: Kind::Wire,
+                signed: kind.signed,
+                bounds,
+            })
+        }
+    }
+}
+
+// The variables of names that are declared in this form.
+fn put_formed(
+    alloc: Global,
+    tokens: &Tokens<'_>,
+    drivers: &ScopeDrivers<'_, '_>,
+    made: &Names<'_>,
+    form: Form,
+    kind: &DeclarationKind,
+    list: &[Declared],
+    into: &mut Vec<Variable>,
+) -> Result<(), NoMemory>
+    requires { IsNarrow form.bounds }
+    ensures { OnOk result (into.new.items ≡ into.old.items ++ formed_variables
+        (words_of tokens.now) made.now drivers.now form kind.now list.now) }
+{
+    match kind {
+        DeclarationKind::Variables { .. } => {
+            put_own(alloc, tokens, drivers, made, form, list, into)
+        }
+        DeclarationKind::Integers => put_all(alloc, tokens, drivers, form, list, into),
+        DeclarationKind::Directed { .. } => Ok(()),
     }
 }
 
@@ -158,16 +237,17 @@ fn put_names(
     alloc: Global,
     tokens: &Tokens<'_>,
     drivers: &ScopeDrivers<'_, '_>,
+    made: &Names<'_>,
     scope: &Scope<'_, '_>,
     kind: &DeclarationKind,
     list: &[Declared],
     into: &mut Vec<Variable>,
 ) -> Result<(), OrMemory<ElabFault>>
-    ensures { Makes result into.new.items (behind into.old.items
-        (lower_declaration drivers.now scope.now (kind_item (words_of tokens.now) kind.now list.now))) }
+    ensures { Makes result into.new.items (behind into.old.items (lower_declaration
+        drivers.now scope.now (own_kind (words_of tokens.now) made.now kind.now list.now))) }
 {
     let form = form_of(alloc, scope, tokens, kind)?;
-    put_all(alloc, tokens, drivers, form, list, into)?;
+    put_formed(alloc, tokens, drivers, made, form, kind, list, into)?;
     Ok(())
 }
 
@@ -176,16 +256,17 @@ fn put_item(
     alloc: Global,
     tokens: &Tokens<'_>,
     drivers: &ScopeDrivers<'_, '_>,
+    made: &Names<'_>,
     scope: &Scope<'_, '_>,
     item: &ModuleItem,
     into: &mut Vec<Variable>,
 ) -> Result<(), OrMemory<ElabFault>>
-    ensures { Makes result into.new.items (behind into.old.items
-        (lower_declaration drivers.now scope.now (item_tree (words_of tokens.now) item.now))) }
+    ensures { Makes result into.new.items (behind into.old.items (lower_declaration
+        drivers.now scope.now (own_tree (words_of tokens.now) made.now item.now))) }
 {
     match item {
         ModuleItem::Declaration { kind, declared, .. } => {
-            put_names(alloc, tokens, drivers, scope, kind, declared, into)
+            put_names(alloc, tokens, drivers, made, scope, kind, declared, into)
         }
         ModuleItem::Parameters { .. } => Ok(()),
         ModuleItem::Events { .. } => Ok(()),
@@ -213,13 +294,56 @@ fn port_bounds(
     }
 }
 
-// Whether a port is signed.
+// Whether a port is signed: where it says so, or where it is declared again.
 fn port_signed(port: &PortForm<'_>) -> bool
     ensures { (words : List Text) → result ≡ (port_form words port.now).type.signed }
 {
-    match port.kind {
+    let signed = match port.kind {
         None => false,
         Some(kind) => kind.signed,
+    };
+    match port.again {
+        None => signed,
+        Some(second) => signed || second.kind.signed,
+    }
+}
+
+// Whether two ranges are the same, or both are left out.
+fn same_bounds(one: Option<Bounds>, other: Option<Bounds>) -> bool
+    ensures { result ≡ variables.same_bounds one other }
+{
+    match one {
+        None => other.is_none(),
+        Some(one) => match other {
+            None => false,
+            Some(other) => one.left == other.left && one.right == other.right,
+        },
+    }
+}
+
+// The bounds of a port that may be declared again. E303, E306 or E307 where the range there is none, and E306 where it is another one.
+fn whole_bounds(
+    alloc: Global,
+    tokens: &Tokens<'_>,
+    scope: &Scope<'_, '_>,
+    again: Option<SecondForm<'_>>,
+    bounds: Option<Bounds>,
+) -> Result<Option<Bounds>, OrMemory<ElabFault>>
+    requires { IsNarrow bounds }
+    ensures gives { Gives result (variables.lower_again scope.now
+        (option_map (second_form (words_of tokens.now)) again.entry) bounds) }
+    ensures few { IfOk result IsNarrow }
+{
+    match again {
+        None => Ok(bounds),
+        Some(second) => {
+            let other = range_bounds(alloc, scope, tokens, &second.kind.range)?;
+            if same_bounds(bounds, other) {
+                Ok(bounds)
+            } else {
+                Err(refused(Rule::Width, Some(second.name.number)))
+            }
+        }
     }
 }
 
@@ -235,7 +359,8 @@ fn put_port(
     ensures { Makes result into.new.items (behind into.old.items
         (lower_ports drivers.now scope.now (port_form (words_of tokens.now) port.now ∷ []))) }
 {
-    let bounds = port_bounds(alloc, tokens, scope, port)?;
+    let own = port_bounds(alloc, tokens, scope, port)?;
+    let bounds = whole_bounds(alloc, tokens, scope, port.again, own)?;
     let form = Form {
         kind: kind_of(port.net),
         signed: port_signed(port),
@@ -246,8 +371,8 @@ fn put_port(
     Ok(())
 }
 
-/// The variables of ports, in their order. `scope` is that of the first item. Errors: E303, E306, E307, E310, E901.
-pub fn put_ports(
+// The variables of ports, in their order.
+fn put_each_port(
     alloc: Global,
     tokens: &Tokens<'_>,
     drivers: &ScopeDrivers<'_, '_>,
@@ -264,24 +389,74 @@ pub fn put_ports(
     Ok(())
 }
 
-/// The variables that items declare, in the order of the text. `scope` is that of the first item. Errors: E303, E306, E307, E310, E901.
-pub fn put_variables(
+// The scope in which the ports of a module stand: those that items declare behind all of them.
+fn port_scope<'s, 't>(unit: &ModuleTree, scope: &Scope<'s, 't>) -> Scope<'s, 't>
+    ensures { (words : List Text) →
+        result ≡ variables.port_scope (module_tree words unit.now) scope.now }
+{
+    if is_plain_list(unit) {
+        scope.at(scope.others.len())
+    } else {
+        scope.at(scope.known)
+    }
+}
+
+/// The variables of the ports of a module, in their order. `scope` is that of the first item. Errors: E303, E306, E307, E310, E901.
+pub fn put_ports(
     alloc: Global,
     tokens: &Tokens<'_>,
     drivers: &ScopeDrivers<'_, '_>,
+    scope: &Scope<'_, '_>,
+    unit: &ModuleTree,
+    ports: &[PortForm<'_>],
+    into: &mut Vec<Variable>,
+) -> Result<(), OrMemory<ElabFault>>
+    ensures { Makes result into.new.items (behind into.old.items (lower_ports drivers.now
+        (variables.port_scope (module_tree (words_of tokens.now) unit.now) scope.now)
+        (map (port_form (words_of tokens.now)) ports.now))) }
+{
+    let here = port_scope(unit, scope);
+    put_each_port(alloc, tokens, drivers, &here, ports, into)
+}
+
+// The variables that items declare, in the order of the text, without these ports.
+fn put_items(
+    alloc: Global,
+    tokens: &Tokens<'_>,
+    drivers: &ScopeDrivers<'_, '_>,
+    made: &Names<'_>,
     scope: &Scope<'_, '_>,
     items: &[ModuleItem],
     into: &mut Vec<Variable>,
 ) -> Result<(), OrMemory<ElabFault>>
     requires small { scope.now.known + length (symbols_in (words_of tokens.now) items.now) < 2 ^ 64 }
     ensures { Makes result into.new.items (behind into.old.items
-        (lower_variables drivers.now scope.now (map (item_tree (words_of tokens.now)) items.now))) }
+        (lower_variables drivers.now scope.now (own_in (words_of tokens.now) made.now items.now))) }
 {
     let mut known = scope.known;
     for item in items {
         let here = scope.at(known);
-        put_item(alloc, tokens, drivers, &here, item, into)?;
+        put_item(alloc, tokens, drivers, made, &here, item, into)?;
         known += symbol_count(item);
     }
     Ok(())
+}
+
+/// The variables that the items of a module declare, in the order of the text. `scope` is that of the first item. Errors: E303, E306, E307,
+/// E310, E901.
+pub fn put_variables(
+    alloc: Global,
+    tokens: &Tokens<'_>,
+    drivers: &ScopeDrivers<'_, '_>,
+    scope: &Scope<'_, '_>,
+    unit: &ModuleTree,
+    into: &mut Vec<Variable>,
+) -> Result<(), OrMemory<ElabFault>>
+    requires small { scope.now.known
+        + length (symbols_in (words_of tokens.now) unit.now.items.items) < 2 ^ 64 }
+    ensures { Makes result into.new.items (behind into.old.items (lower_variables
+        drivers.now scope.now (own_items (module_tree (words_of tokens.now) unit.now)))) }
+{
+    let made = plain_names(alloc, tokens, unit)?;
+    put_items(alloc, tokens, drivers, &made, scope, &unit.items, into)
 }

@@ -1,5 +1,5 @@
 -- A loop over a list that builds another: what was done and what is left to do make the whole.
-use Rattle.std.proofs.Common.{◌≡◌, ◌<◌, ℕ, zero, suc, ◌+◌, Bool, false, ◌&&◌, List, [], ◌∷◌, ◌++◌, length, drop, get_or, refl, sym, ap, subst, ◌∙◌, append_assoc, length-append, arith}
+use Rattle.std.proofs.Common.{◌≡◌, ◌<◌, ℕ, ◌+◌, Bool, false, ◌&&◌, List, ◌∷◌, ◌++◌, length, drop, get_or, refl, sym, ap, subst, ◌∙◌, append_assoc, length-append, arith}
 use Rattle.basis.proofs.Lists.{left_from}
 
 module _ {A : Type 0} (xs : List A) (i : ℕ) (x : A) (within : i < length xs) (is : x ≡ get_or xs i x) where
@@ -26,12 +26,6 @@ module _ {A : Type 0} (xs : List A) (i : ℕ) (x : A) (within : i < length xs) (
 
     pub fails_at : p x ≡ false → all ≡ false
     fails_at e = sym parts ∙ ap (λ b. b && F (drop (i + 1) xs)) e
-
--- what stands within a list is the same, whatever stands for what doesn't
-pub either_default : {A : Type 0} (xs : List A) (i : ℕ) (x y : A) → i < length xs → get_or xs i x ≡ get_or xs i y
-either_default [] i x y within = absurd (omega (arith, within))
-either_default (z ∷ zs) zero x y within = refl
-either_default (z ∷ zs) (suc i) x y within = either_default zs i x y (omega (arith, within))
 
 -- a list that begins with a long one is long
 pub longer : {B : Type 0} (n : ℕ) (piece rest all : List B) → n < length piece → piece ++ rest ≡ all → n < length all

@@ -16,7 +16,7 @@ use Rattle.vbits.specs.Vectors.{Vector, filled, of_number, select, concat, with_
 use Rattle.vbits.proofs.LettersOf.{digits-letters_of, letters_of-low, zero_low}
 use Rattle.vast.specs.Words.{Text}
 use Rattle.vlex.specs.Bytes.{is_underscore, is_x_digit, is_z_digit}
-use Rattle.vlex.specs.Forms.{with_digit, spelled_number, unblanked}
+use Rattle.vlex.specs.Forms.{with_digit, spelled_number, skip_blanks}
 use Rattle.velab_expr.specs.Literals.{digit_letters, spelled_letters, filling_letters, lettered_value, decimal_value, digit_value, is_marked, without_mark, digits_behind, first_byte, size_of, based_value, spreads_by, based_constant, plain_constant}
 use Rattle.vdesign.specs.declared.expression.Constant.{Constant}
 
@@ -205,13 +205,13 @@ plain_from ds n value signed low is marked = λ i. record { value = (marked ∙ 
     number = is ∙ ap (of_number 32) low ∙ of_low_number 32 (spelled_number ds) (lit≤ tt)
 
 pub based_from : (size text behind rest : Text) (marked spreads : Bool) (n base : ℕ) (value signed : Vector) → marked ≡ is_marked text → behind ≡ without_mark text →
-    n ≡ size_of size → base ≡ first_byte behind → rest ≡ unblanked (drop 1 behind) → value ≡ based_value n base rest → signed ≡ with_sign value marked → spreads ≡ spreads_by size marked value →
+    n ≡ size_of size → base ≡ first_byte behind → rest ≡ skip_blanks (drop 1 behind) → value ≡ based_value n base rest → signed ≡ with_sign value marked → spreads ≡ spreads_by size marked value →
     let made : Constant = record { value = signed; spreads = spreads } in made ≡ based_constant size text
 based_from size text behind rest marked spreads n base value signed mark behind_is n_is base_is rest_is value_is signed_is spreads_is =
     λ i. record { value = (signed_is ∙ (λ j. with_sign (number j) (mark j))) i; spreads = (spreads_is ∙ (λ j. spreads_by size (mark j) (number j))) i }
   where
     number : value ≡ based_value (size_of size) (first_byte (without_mark text)) (digits_behind text)
-    number = value_is ∙ (λ i. based_value (n_is i) ((base_is ∙ ap first_byte behind_is) i) ((rest_is ∙ ap (λ l. unblanked (drop 1 l)) behind_is) i))
+    number = value_is ∙ (λ i. based_value (n_is i) ((base_is ∙ ap first_byte behind_is) i) ((rest_is ∙ ap (λ l. skip_blanks (drop 1 l)) behind_is) i))
 
 -- how many letters stand behind the lost ones and the new ones
 pub length_both : (count c : ℕ) (value selection_of letters : Vector) → count ≤ 63 → length value.letters ≡ 64 → selection_of ≡ select value (63 - count) 0 →

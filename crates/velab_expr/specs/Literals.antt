@@ -7,7 +7,7 @@ use Rattle.vbits.specs.Letters.{is_unknown}
 use Rattle.vbits.specs.Numbers.{digits}
 use Rattle.vbits.specs.Vectors.{Vector, filled, of_number, with_sign}
 use Rattle.vlex.specs.Bytes.{is_apostrophe, is_underscore, is_x_digit, is_z_digit}
-use Rattle.vlex.specs.Forms.{leading_digits, spelled_number, unblanked}
+use Rattle.vlex.specs.Forms.{leading_digits, spelled_number, skip_blanks}
 use Rattle.vast.specs.Words.{Text}
 use Rattle.vdesign.specs.declared.expression.Constant.{Constant}
 
@@ -85,7 +85,7 @@ spreads_by size marked value = (length size == 0) && not marked && is_unknown_at
 
 -- the digits after the base, behind blanks or none
 abbrev pub digits_behind : Text → Text
-digits_behind text = unblanked (drop 1 (without_mark text))
+digits_behind text = skip_blanks (drop 1 (without_mark text))
 
 -- a size, or none, and what stands after the apostrophe
 abbrev pub based_constant : Text → Text → Constant

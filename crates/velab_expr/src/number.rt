@@ -9,7 +9,7 @@ ghost use Rattle.velab_expr.specs.Inner.{shifted_letters};
 
 use vbits::{Bit4, Vec4};
 use vdesign::expression::Constant;
-use vlex::digits::{is_x_digit, is_z_digit, leading_digits, unblanked};
+use vlex::digits::{is_x_digit, is_z_digit, leading_digits, skip_blanks};
 
 /// The widest number or variable, in bits.
 pub(crate) const WIDEST: u32 = 64;
@@ -239,7 +239,7 @@ fn based_constant(size: &[u8], text: &[u8]) -> Constant
 {
     let marked = is_marked(text);
     let behind = without_mark(text);
-    let digits = unblanked(behind_first(behind));
+    let digits = skip_blanks(behind_first(behind));
     let value = based_value(size_of(size), first_byte(behind), digits);
     Constant {
         value: value.with_sign(marked),

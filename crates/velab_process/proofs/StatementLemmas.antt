@@ -1,5 +1,5 @@
 -- What statements put on the table, one behind another.
-use Rattle.std.proofs.Common.{◌≡◌, ℕ, List, [], ◌++◌, Vec, Global, Result, Ok, Err, refl, sym, ap, ◌∙◌, append_assoc}
+use Rattle.std.proofs.Common.{◌≡◌, ℕ, List, [], ◌++◌, Vec, Global, Result, Ok, Err, refl, sym, ap, ◌∙◌, append_assoc, Option}
 use Rattle.basis.specs.declared.memory.OrMemory.{OrMemory}
 use Rattle.basis.specs.declared.memory.OrMemory.TheVariants.{Fault, Memory}
 use Rattle.vast.specs.Words.{Text}
@@ -12,11 +12,15 @@ use Rattle.velab_expr.specs.declared.fault.ElabFault.{ElabFault}
 use Rattle.velab_expr.specs.Answers.{◌>>=◌, Makes}
 use Rattle.velab_process.specs.Statements.{Table, Lowered, with_places_before}
 use Rattle.velab_process.specs.Inner.{Begins}
+use Rattle.std.specs.Option.{option_map}
+use Rattle.vast.specs.declared.token.Token.{Token}
 
 -- the statements of a block
-module _ (words : List Text) (statement : Statement) (statements : Vec Statement Global) (items : List Statement) (is : statement ≡ Block statements) (same : items ≡ statements.items) where
-  pub block_trees : block (statement_trees words items) ≡ statement_tree words statement
-  block_trees = sym (ap (statement_tree words) is ∙ told_block (numbered words) statements ∙ ap (λ (xs : List Statement). block (statement_trees words xs)) (sym same))
+module _ (words : List Text) (statement : Statement) (label : Option Token) (statements : Vec Statement Global) (items : List Statement) (is : statement ≡ Block label statements) (same : items ≡ statements.items) where
+  pub block_trees : block (option_map (numbered words) label) (statement_trees words items) ≡ statement_tree words statement
+  block_trees =
+      sym (ap (statement_tree words) is ∙ told_block (numbered words) label statements
+      ∙ ap (λ (xs : List Statement). block (option_map (numbered words) label) (statement_trees words xs)) (sym same))
 
 -- nothing stands in front
 pub none_in_front : (answer : Result Lowered ElabFault) → with_places_before [] answer ≡ answer

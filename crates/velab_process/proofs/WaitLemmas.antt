@@ -1,5 +1,5 @@
 -- What event controls listen to, and what a block reads.
-use Rattle.std.proofs.Common.{◌≡◌, List, ◌∷◌, ◌++◌, map, Vec, Global, None, Result, Ok, Err, refl, sym, ap, ◌∙◌, append_assoc, append-nil}
+use Rattle.std.proofs.Common.{◌≡◌, List, ◌∷◌, ◌++◌, map, Vec, Global, None, Result, Ok, Err, refl, sym, ap, ◌∙◌, append_assoc, append-nil, Option}
 use Rattle.std.proofs.lemmas.Grind.{flat_map-append}
 use Rattle.vast.specs.Words.{Text}
 use Rattle.vast.specs.NumberedTrees.{statement_tree, statement_trees}
@@ -16,15 +16,16 @@ use Rattle.velab_expr.proofs.AnswerLemmas.{goes_behind}
 use Rattle.velab_process.specs.Inner.{own_read, inner_read}
 use Rattle.velab_process.specs.Waits.{edge_of, lower_term, lower_further, names_in, read_by, read_by_all, read_by_assignment, read_by_task, heard_by, any_of}
 use Rattle.velab_process.proofs.StatementLemmas.{block_trees}
+use Rattle.vast.specs.declared.token.Token.{Token}
 
-module _ (words : List Text) (statement : Statement) (statements : Vec Statement Global) (items : List Statement) (is : statement ≡ Block statements) (same : items ≡ statements.items) where
+module _ (words : List Text) (statement : Statement) (label : Option Token) (statements : Vec Statement Global) (items : List Statement) (is : statement ≡ Block label statements) (same : items ≡ statements.items) where
   pub block_reads : read_by_all (statement_trees words items) ≡ inner_read (statement_tree words statement)
-  block_reads = ap inner_read (block_trees words statement statements items is same)
+  block_reads = ap inner_read (block_trees words statement label statements items is same)
 
 -- a statement reads what it reads itself, and then what the statements in it read
 both_parts : (s : StatementTree) → own_read s ++ inner_read s ≡ read_by s
 both_parts empty = refl
-both_parts (block statements) = refl
+both_parts (block label statements) = refl
 both_parts (assign target amount value) = append-nil (read_by_assignment target amount value)
 both_parts (nonblocking target amount value) = append-nil (read_by_assignment target amount value)
 both_parts (trigger letters) = refl

@@ -14,7 +14,7 @@ use Rattle.vdesign.specs.declared.print.Piece.{Piece}
 use Rattle.vmodules.specs.Connected.{value_for}
 use Rattle.vmodules.specs.Inner.{ConnectionEntry, entries_tree, port_form}
 use Rattle.vmodules.specs.declared.ports.PortForm.{PortForm}
-use Rattle.format_text.specs.Pieces.{Argument, Printed, pieces_with}
+use Rattle.format_text.specs.Pieces.{Argument, PrintedText, pieces_with}
 use Rattle.velab_expr.specs.declared.fault.ElabFault.{ElabFault}
 use Rattle.velab_expr.specs.Answers.{◌>>=◌, Refuses}
 use Rattle.velab_expr.specs.Scopes.{Scope}
@@ -48,7 +48,7 @@ lower_loop scope table condition body next_target next_value =
 -- outside of the statements that stand in it
 abbrev pub own_read : StatementTree → List Word
 own_read empty = []
-own_read (block statements) = []
+own_read (block label statements) = []
 own_read (assign target amount value) = read_by_assignment target amount value
 own_read (nonblocking target amount value) = read_by_assignment target amount value
 own_read (trigger letters) = []
@@ -68,7 +68,7 @@ own_read (task call) = read_by_task call
 -- in the statements that stand in it
 abbrev pub inner_read : StatementTree → List Word
 inner_read empty = []
-inner_read (block statements) = read_by_all statements
+inner_read (block label statements) = read_by_all statements
 inner_read (assign target amount value) = []
 inner_read (nonblocking target amount value) = []
 inner_read (trigger letters) = []
@@ -121,7 +121,7 @@ right_pieces true pieces = pieces
 right_pieces false pieces = None
 
 -- a line takes these arguments, or has no pieces by them
-abbrev pub Prints : Printed → List Argument → Bool → Printed → Type 0
+abbrev pub Prints : PrintedText → List Argument → Bool → PrintedText → Type 0
 Prints old arguments true new = pieces_with new [] ≡ pieces_with old arguments
 Prints old arguments false new = pieces_with old arguments ≡ None
 

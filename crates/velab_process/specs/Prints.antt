@@ -3,10 +3,16 @@ use Rattle.std.specs.Prelude.{◌-◌, Bool, true, false, List, [], ◌∷◌, l
 use Rattle.vast.specs.Words.{Text}
 use Rattle.vast.specs.NumberedExpressions as text
 use Rattle.vast.specs.NumberedStatements.{ArgumentTree, quoted, printed}
+use Rattle.vast.specs.declared.statement.Base.{Base}
+use Rattle.vast.specs.declared.statement.Base.TheVariants as bases
 use Rattle.vast.specs.declared.statement.Printing.{Printing}
 use Rattle.vast.specs.declared.statement.Printing.TheVariants as printing
 use Rattle.vdesign.specs.declared.print.When.{When}
 use Rattle.vdesign.specs.declared.print.When.TheVariants.{Now, AtSlotEnd, AtChange}
+use Rattle.vdesign.specs.declared.print.Form.{Form}
+use Rattle.vdesign.specs.declared.print.Notation.{Notation}
+use Rattle.vdesign.specs.declared.print.Notation.TheVariants.{Binary, Octal, Hexadecimal, Decimal}
+use Rattle.vdesign.specs.declared.print.Width.TheVariants.{Natural}
 use Rattle.vdesign.specs.declared.print.Piece.{Piece}
 use Rattle.format_text.specs.Pieces.{Argument, string, value, pieces_of}
 use Rattle.velab_expr.specs.declared.fault.ElabFault.{ElabFault}
@@ -18,9 +24,33 @@ use Rattle.velab_expr.specs.Resolved.{lower_expression}
 
 -- 17.1.1, 17.1.2, 17.1.3
 abbrev pub when_of : Printing → When
-when_of printing.Display = Now
-when_of printing.Strobe = AtSlotEnd
-when_of printing.Monitor = AtChange
+when_of (printing.Display base) = Now
+when_of (printing.Write base) = Now
+when_of (printing.Strobe base) = AtSlotEnd
+when_of (printing.Monitor base) = AtChange
+
+-- 17.1.1: all but `$write` end a line
+abbrev pub ends_line : Printing → Bool
+ends_line (printing.Display base) = true
+ends_line (printing.Write base) = false
+ends_line (printing.Strobe base) = true
+ends_line (printing.Monitor base) = true
+
+-- 17.1.1: how a value is shown that no format takes
+abbrev pub notation_of : Base → Notation
+notation_of bases.Decimal = Decimal
+notation_of bases.Binary = Binary
+notation_of bases.Octal = Octal
+notation_of bases.Hexadecimal = Hexadecimal
+
+abbrev pub base_of : Printing → Base
+base_of (printing.Display base) = base
+base_of (printing.Write base) = base
+base_of (printing.Strobe base) = base
+base_of (printing.Monitor base) = base
+
+abbrev pub default_form : Printing → Form
+default_form kind = record { notation = notation_of (base_of kind); width = Natural }
 
 -- what stands between the quotes of a string (3.6)
 abbrev pub between_quotes : Text → Text
@@ -39,6 +69,7 @@ abbrev pub lower_arguments : Scope → List ArgumentTree → Result (List Argume
 lower_arguments scope [] = Ok []
 lower_arguments scope (one ∷ more) = lower_argument scope one >>= λ argument. lower_arguments scope more >>= λ others. Ok (argument ∷ others)
 
--- the pieces of a line, where its formats are right (17.1.1); they are told by the first word of the arguments
-abbrev pub lower_line : Scope → List ArgumentTree → Result (List Piece) ElabFault
-lower_line scope arguments = lower_arguments scope arguments >>= λ all. found (pieces_of all) Kind (first_argument arguments)
+-- the pieces that a task prints, where its formats are right (17.1.1); they are told by the first word of the arguments
+abbrev pub lower_line : Scope → Printing → List ArgumentTree → Result (List Piece) ElabFault
+lower_line scope kind arguments =
+    lower_arguments scope arguments >>= λ all. found (pieces_of (default_form kind) (ends_line kind) all) Kind (first_argument arguments)

@@ -5,7 +5,7 @@ use Rattle.vast.specs.NumberedWords.{Word}
 use Rattle.vast.specs.NumberedExpressions as text
 use Rattle.vast.specs.NumberedStatements.{StatementTree, assign, forever}
 use Rattle.vast.specs.NumberedStatements as written
-use Rattle.vast.specs.NumberedModules.{DeclarationKind, variables, integers, SettingTree, DeclaredTree, ItemTree, parameters, declaration, events, assignments, initial, always, instances}
+use Rattle.vast.specs.NumberedModules.{DeclarationKind, variables, integers, directed, SettingTree, DeclaredTree, ItemTree, parameters, declaration, events, assignments, initial, always, instances}
 use Rattle.vast.specs.declared.module.NetKind.{NetKind}
 use Rattle.vast.specs.declared.module.NetKind.TheVariants as net
 use Rattle.vdesign.specs.declared.action.Action.TheVariants.{ContinuousAssign}
@@ -59,6 +59,7 @@ process_of word declared = option_map (process_by word declared.name) declared.v
 abbrev pub starts_of : DeclarationKind → List DeclaredTree → List ProcessTree
 starts_of (variables word type) list = filter_map (process_of word) list
 starts_of integers list = filter_map (process_of net.Reg) list
+starts_of (directed direction) list = []
 
 -- 6.1.2
 abbrev pub driven_by : SettingTree → ProcessTree

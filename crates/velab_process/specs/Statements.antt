@@ -88,7 +88,7 @@ end_action stops = if stops then Stop else Finish
 
 abbrev pub lower_task : Scope → Table → TaskTree → Result Lowered ElabFault
 lower_task scope table (print kind arguments) =  -- 17.1
-    lower_line scope arguments >>= λ pieces. Ok (lowered_action table (first_argument arguments) (Print (when_of kind) pieces))
+    lower_line scope kind arguments >>= λ pieces. Ok (lowered_action table (first_argument arguments) (Print (when_of kind) pieces))
 lower_task scope table (dump_file letters) = Ok (lowered_action table None NoOperation)  -- 18.1.1
 lower_task scope table (dump_vars selection) =  -- 18.1.2
     lower_selection scope selection >>= λ chosen. Ok (lowered_action table (option_map (λ s. s.levels) selection) (DumpVars chosen))
@@ -122,7 +122,7 @@ lower_labels scope places (text.first item more) =
 abbrev mutual
   pub lower_statement : Scope → Table → StatementTree → Result Lowered ElabFault
   lower_statement scope table empty = Ok (record { table = table; places = [] })
-  lower_statement scope table (block statements) = lower_all scope table statements
+  lower_statement scope table (block label statements) = lower_all scope table statements
   lower_statement scope table (assign target amount value) = lower_assignment true scope table target amount value
   lower_statement scope table (nonblocking target amount value) = lower_assignment false scope table target amount value
   lower_statement scope table (trigger letters) =  -- 9.7.3

@@ -132,7 +132,7 @@ read_by_items (text.first item more) = names_in item ++ read_by_items more
 abbrev mutual
   pub read_by : StatementTree → List Word
   read_by empty = []
-  read_by (block statements) = read_by_all statements
+  read_by (block label statements) = read_by_all statements
   read_by (assign target amount value) = read_by_assignment target amount value
   read_by (nonblocking target amount value) = read_by_assignment target amount value
   read_by (trigger letters) = []

@@ -15,8 +15,8 @@ use crate::elaborator::Elaborator;
 use basis::OrMemory;
 use format_text::Printer;
 use vast::expression::Expression as Value;
-use vast::statement::{Argument, Printing};
-use vdesign::print::{Pieces, When};
+use vast::statement::{Argument, Base, Printing};
+use vdesign::print::{Form, Notation, Pieces, When, Width};
 use velab_expr::fault::{ElabFault, Rule};
 use velab_expr::first::first_argument;
 use velab_expr::refusal::refused;
@@ -27,9 +27,54 @@ pub fn when_of(kind: Printing) -> When
     ensures { result ≡ spec.when_of kind }
 {
     match kind {
-        Printing::Display => When::Now,
-        Printing::Strobe => When::AtSlotEnd,
-        Printing::Monitor => When::AtChange,
+        Printing::Display(_) => When::Now,
+        Printing::Write(_) => When::Now,
+        Printing::Strobe(_) => When::AtSlotEnd,
+        Printing::Monitor(_) => When::AtChange,
+    }
+}
+
+// Whether it ends a line.
+fn ends_line(kind: Printing) -> bool
+    ensures { result ≡ spec.ends_line kind }
+{
+    match kind {
+        Printing::Display(_) => true,
+        Printing::Write(_) => false,
+        Printing::Strobe(_) => true,
+        Printing::Monitor(_) => true,
+    }
+}
+
+fn notation_of(base: Base) -> Notation
+    ensures { result ≡ spec.notation_of base }
+{
+    match base {
+        Base::Decimal => Notation::Decimal,
+        Base::Binary => Notation::Binary,
+        Base::Octal => Notation::Octal,
+        Base::Hexadecimal => Notation::Hexadecimal,
+    }
+}
+
+fn base_of(kind: Printing) -> Base
+    ensures { result ≡ spec.base_of kind }
+{
+    match kind {
+        Printing::Display(base) => base,
+        Printing::Write(base) => base,
+        Printing::Strobe(base) => base,
+        Printing::Monitor(base) => base,
+    }
+}
+
+// How a value is shown that no format takes.
+fn default_form(kind: Printing) -> Form
+    ensures { result ≡ spec.default_form kind }
+{
+    Form {
+        notation: notation_of(base_of(kind)),
+        width: Width::Natural,
     }
 }
 
@@ -104,14 +149,18 @@ impl<'a> Elaborator<'a> {
         Ok(is_right)
     }
 
-    /// The pieces of a line (17.1.1). E310 where a format isn't right; E303, E306 and E307 as its expressions have them.
-    pub(crate) fn pieces(&self, arguments: &[Argument]) -> Result<Pieces, OrMemory<ElabFault>>
+    /// The pieces that a task prints (17.1.1). E310 where a format isn't right; E303, E306 and E307 as its expressions have them.
+    pub(crate) fn pieces(
+        &self,
+        kind: Printing,
+        arguments: &[Argument],
+    ) -> Result<Pieces, OrMemory<ElabFault>>
         ensures { Gives result
-            (lower_line self.now.scope.now (map (argument_tree (words_of self.now.tokens.now)) arguments.now)) }
+            (lower_line self.now.scope.now kind (map (argument_tree (words_of self.now.tokens.now)) arguments.now)) }
     {
-        let mut printer = Printer::new(self.alloc);
+        let mut printer = Printer::new(self.alloc, default_form(kind));
         let is_right = self.put_arguments(&mut printer, arguments)?;
-        let pieces = printer.finish()?;
+        let pieces = printer.finish(ends_line(kind))?;
         match right_pieces(is_right, pieces) {
             Some(line) => Ok(line),
             None => Err(refused(Rule::Kind, first_argument(arguments))),

@@ -266,7 +266,7 @@ impl<'a> Elaborator<'a> {
             (with_places_before into.old.items (spec.lower_task self.now.scope.now table.old
             (print kind (map (argument_tree (words_of self.now.tokens.now)) arguments.now)))) }
     {
-        let pieces = self.pieces(arguments)?;
+        let pieces = self.pieces(kind, arguments)?;
         let action = print_action(kind, pieces);
         put(table, into, first_argument(arguments), action)
     }
@@ -324,7 +324,7 @@ impl<'a> Elaborator<'a> {
     {
         match statement {
             Statement::Empty => Ok(()),
-            Statement::Block(list) => self.lower_all(list, table, into),
+            Statement::Block { statements, .. } => self.lower_all(statements, table, into),
             Statement::Assign {
                 target,
                 delay,
@@ -835,6 +835,7 @@ impl<'a> Elaborator<'a> {
                 DeclarationKind::Integers => {
                     self.lower_starts(NetKind::Reg, declared, table, into)
                 }
+                DeclarationKind::Directed { .. } => Ok(()),
             },
             ModuleItem::Events { .. } => Ok(()),
             ModuleItem::Assignments { settings, .. } => self.lower_drives(settings, table, into),

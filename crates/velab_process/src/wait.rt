@@ -303,7 +303,7 @@ fn put_own_read(
 {
     match statement {
         Statement::Empty => Ok(()),
-        Statement::Block(_) => Ok(()),
+        Statement::Block { .. } => Ok(()),
         Statement::Assign {
             target,
             delay,
@@ -355,7 +355,7 @@ fn put_inner_read(
 {
     match statement {
         Statement::Empty => Ok(()),
-        Statement::Block(list) => put_all_read(scope, tokens, list, terms),
+        Statement::Block { statements, .. } => put_all_read(scope, tokens, statements, terms),
         Statement::Assign { .. } => Ok(()),
         Statement::Nonblocking { .. } => Ok(()),
         Statement::Delayed { body, .. } => put_read(scope, tokens, body, terms),

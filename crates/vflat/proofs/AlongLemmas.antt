@@ -32,9 +32,9 @@ use Rattle.vcompile.specs.Laws.{point_of, first_of as first_point_of, IsCounted,
 use Rattle.vflat.specs.Flat.{point_in, Woken, with_terms, told, frame_at, numbered, comes_to, goes_from, stands_by, waits_in, left_in, stand_of, IsSuspended, StandsAlong, StandsFor}
 use Rattle.vflat.proofs.ContinueLemmas.{before_left, continues, no_turns, own_turns, turns_many, has_counters}
 use Rattle.vflat.proofs.ToldLemmas.{covers}
+use Rattle.vflat.proofs.WakeLemmas.{IsParked, Stand, set_else, set_length, AreWoken, woken_by_lists}
 use Rattle.vmodel.proofs.AwakeLemmas.{get_awake}
 use Rattle.vcompile.proofs.LinkLemmas.{number_of_place}
-use Rattle.vflat.proofs.WakeLemmas.{IsParked, Stand, set_else, set_length, AreWoken, woken_by_lists}
 use Rattle.vcompile.proofs.StepLemmas.{within_limit}
 use Rattle.vmodel.proofs.ProcessLemmas.{same_back}
 

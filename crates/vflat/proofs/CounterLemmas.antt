@@ -21,8 +21,8 @@ use Rattle.vcompile.specs.Links.{is_repeat, counter_by, next_counter, counters_f
 use Rattle.vcompile.specs.CodeOf.{no_code, code_by, code_of}
 use Rattle.vcompile.specs.Laws.{IsCounted, AreLed, turns_behind, HasCounters}
 use Rattle.vflat.specs.Flat.{left_in, IsCounterOf, AreCounted, counter_count}
-use Rattle.vmodel.proofs.AwakeLemmas.{get_awake}
 use Rattle.vflat.proofs.WakeLemmas.{listed_first, listed_later, listed_cases}
+use Rattle.vmodel.proofs.AwakeLemmas.{get_awake}
 
 -- ---- numbers of counters
 

@@ -1,12 +1,12 @@
 -- Connections, instances and the items of modules.
-use Rattle.std.proofs.Common.{◌≡◌, ℕ, suc, ◌<◌, Bool, true, false, ◌&&◌, not, List, [], ◌∷◌, ◌++◌, Option, None, Some, length, flat_map, refl, sym, ap, ◌∙◌, subst, codes, zero-lt-suc}
+use Rattle.std.proofs.Common.{◌≡◌, ℕ, suc, ◌<◌, Bool, true, false, ◌&&◌, not, List, [], ◌∷◌, ◌++◌, Option, None, Some, is_some, length, flat_map, refl, sym, ap, ◌∙◌, subst, codes, zero-lt-suc}
 use Rattle.basis.proofs.Bools.{and_left, and_right, and_both, and_assoc}
 use Rattle.basis.proofs.Numbers.{one_within}
 use Rattle.basis.proofs.Lists.{longer}
 use Rattle.vast.specs.Words.{Text, is_name, reserved_words}
 use Rattle.vast.specs.Expressions.{ExpressionTree, spell_expression}
 use Rattle.vast.specs.Statements.{StatementTree, empty}
-use Rattle.vast.specs.Modules.{SettingTree, DeclaredTree, ConnectionTree, ConnectionsTree, by_order, by_name, InstanceTree, variables, integers, ItemTree, parameters, declaration, events, assignments, initial, always as always_item, instances, integer, spell_value, spell_declared, spell_connection, spell_connections, spell_instance, spell_item, parameter_word, net_word, fits_value, fits_type, fits_parameter_type, fits_setting, fits_declared, fits_connection, fits_connections, fits_overrides, fits_instance, fits_item, are_some}
+use Rattle.vast.specs.Modules.{SettingTree, DeclaredTree, ConnectionTree, ConnectionsTree, by_order, by_name, InstanceTree, variables, integers, directed, ItemTree, parameters, declaration, events, assignments, initial, always as always_item, instances, integer, spell_value, spell_declared, spell_connection, spell_connections, spell_instance, spell_item, parameter_word, net_word, fits_value, fits_type, fits_parameter_type, fits_setting, fits_declared, fits_connection, fits_connections, fits_overrides, fits_instance, fits_item, fits_direction, stands_alone, are_some, input, output}
 use Rattle.vast.specs.declared.module.NetKind.{NetKind}
 use Rattle.vast.specs.declared.module.NetKind.TheVariants as net
 use Rattle.vexpr_parse.specs.declared.beginning.Beginning.TheVariants as start
@@ -17,7 +17,7 @@ use Rattle.vexpr_parse.proofs.ReaderRules.{same_text, parts_of}
 use Rattle.vgrammar.specs.Parts.{Both, both, Either, one_way, other_way, made, paired, worded, many}
 use Rattle.vgrammar.specs.Starts.{is_meant}
 use Rattle.vgrammar.specs.Statements.{named, word_only, List_of, comma_list, statement, ends_statement}
-use Rattle.vgrammar.specs.Modules.{free_value, type, parameter_type, setting, declared, Value, value_in, connection_of, connection, Connections, connections_of, connections, instance_of, instance_behind, overrides, ended, net_of, local_of, Parameters, Variables, Instances, Item, item_of, item_parts, item}
+use Rattle.vgrammar.specs.Modules.{free_value, type, parameter_type, setting, declared, direction, is_direction, alone_of, alone, Directed, Value, value_in, connection_of, connection, Connections, connections_of, connections, instance_of, instance_behind, overrides, ended, net_of, local_of, Parameters, Variables, Instances, Item, item_of, item_parts, item}
 use Rattle.vgrammar.proofs.Phrases.{Shape, Phrase, Example, Worded, Opens, Makes, From, always, phrase_within, made_phrase, past_shape, past_phrase, past_example, nothing_phrase, worded_shape, worded_phrase, paired_shape, before_phrase, paired_example, free_phrase, next_phrase}
 use Rattle.vgrammar.proofs.PhraseChoices.{ends_maybe, maybe_shape, maybe_phrase, either_shape, either_phrase, either_tested, either_worded, Tested, allows_all}
 use Rattle.vgrammar.proofs.LevelFacts.{and_true}
@@ -26,6 +26,7 @@ use Rattle.vgrammar.proofs.WordPhrases.{as_written, refused_first, value_refuses
 use Rattle.vgrammar.proofs.PartPhrases.{text_shape, a_name, named_phrase}
 use Rattle.vgrammar.proofs.StatementShapes.{closes_statement, statement_shape, statement_closed}
 use Rattle.vgrammar.proofs.StatementLevels.{statement_phrase}
+use Rattle.vgrammar.proofs.DirectionPhrases.{net_shape, net_phrase, ends_direction, name_ends_direction, no_direction, direction_shape, direction_phrase}
 use Rattle.vgrammar.proofs.HeadPhrases.{name_isnt, name_means_not, Free, free_phrase_value, free_example, ends_type, type_shape, type_phrase, ends_parameter_type, parameter_type_shape, parameter_type_phrase, name_ends_type, setting_shape, setting_phrase, a_setting, declared_shape, declared_phrase, a_declared, ended_shape, ended_phrase, ended_example, some_valid}
 
 abbrev close : Option Text → Bool
@@ -54,22 +55,11 @@ local_phrase = worded_phrase local_of parameter_word (λ local. true) always
     meant true e = refl
     meant false e = refl
 
-abbrev pub net_shape : Shape NetKind
-net_shape = worded_shape net_word (λ kind. true) always
-
-pub net_phrase : Phrase (worded net_of) always net_shape
-net_phrase = worded_phrase net_of net_word (λ kind. true) always
-    (λ text kind e. (as_written net_word (net.Wire ∷ net.Reg ∷ []) text kind e, refl)) meant
-  where
-    meant : (kind : NetKind) → true ≡ true → net_of (net_word kind) ≡ Some kind
-    meant net.Wire e = refl
-    meant net.Reg e = refl
+a_net : Example net_shape
+a_net = record { tree = net.Wire; valid = refl }
 
 a_local : Example local_shape
 a_local = record { tree = false; valid = refl }
-
-a_net : Example net_shape
-a_net = record { tree = net.Wire; valid = refl }
 
 abbrev Names : Shape (Both (List_of Text) (Unit {0}))
 Names = ended_shape always (text_shape is_name)
@@ -98,6 +88,9 @@ EventOrLater = Either (Both (List_of Text) (Unit {0})) AssignOrLater
 abbrev IntegerOrLater : Type 0
 IntegerOrLater = Either (Both (List_of DeclaredTree) (Unit {0})) EventOrLater
 
+abbrev DirectedOrLater : Type 0
+DirectedOrLater = Either Directed IntegerOrLater
+
 loose : {A : Type 0} {r : Reader A} {s : Shape A} → Phrase r always s → Phrase r ends_statement s
 loose q = phrase_within ends_statement q (λ next e. refl)
 
@@ -124,6 +117,39 @@ item_closed (assignments list) next e = refl
 item_closed (initial body) next e = statement_closed body next e
 item_closed (always_item body) next e = statement_closed body next e
 item_closed (instances letters tree list) next e = refl
+
+abbrev pub alone_shape : Shape DeclaredTree
+alone_shape = record { spell = spell_declared; valid = stands_alone; closes = λ tree. always; stops = λ tree next. true }
+
+pub alone_phrase : Phrase alone always alone_shape
+alone_phrase = made_phrase alone_of alone_shape back makes (λ tree next e. refl) named_phrase
+  where
+    by_value : (tree : DeclaredTree) (o : Option ExpressionTree) → tree.value ≡ o → not (is_some o) ≡ true → From alone_of tree
+    by_value tree None e v = record { parts = tree.name; is = λ i. record { name = tree.name; value = sym e i } }
+    by_value tree (Some one) e v = let none : false ≡ true = v in absurd cc
+
+    back : (tree : DeclaredTree) → stands_alone tree ≡ true → From alone_of tree
+    back tree v = by_value tree tree.value refl (and_right (is_name tree.name) _ v)
+
+    makes : Makes alone_of (text_shape is_name) alone_shape []
+    makes = record {
+      spelled = λ letters. refl;
+      valid = λ letters. and_true (is_name letters);
+      closes = λ letters next e. refl;
+      stops = λ letters next e. refl;
+    }
+
+an_alone : Example alone_shape
+an_alone = record { tree = alone_of a_name.tree; valid = and_both _ true a_name.valid refl }
+
+abbrev AloneList : Shape (Both (List_of DeclaredTree) (Unit {0}))
+AloneList = ended_shape always alone_shape
+
+alone_list_phrase : Phrase (ended alone) always AloneList
+alone_list_phrase = ended_phrase alone_phrase an_alone refl refl
+
+alone_list_example : Example AloneList
+alone_list_example = ended_example always an_alone
 
 module _ (below : ℕ) where
   abbrev levels : ℕ
@@ -388,6 +414,9 @@ module _ (below : ℕ) where
   abbrev VariablesShape : Shape Variables
   VariablesShape = paired_shape net_shape (paired_shape (type_shape below) Declared)
 
+  abbrev DirectedShape : Shape Directed
+  DirectedShape = paired_shape (direction_shape below) AloneList
+
   abbrev InstancesShape : Shape Instances
   InstancesShape = paired_shape (text_shape is_name) (paired_shape Overrides InstanceList)
 
@@ -452,6 +481,29 @@ module _ (below : ℕ) where
           by_value None = ends_here
           by_value (Some one) = ends_here
 
+  alone_list_worded : Worded AloneList
+  alone_list_worded (both (both tree more) end) v = by_value tree.value
+    where
+      by_value : (o : Option ExpressionTree) → 0 < length ((spell_value tree.name o
+          ++ flat_map (λ other. codes "," ∷ spell_declared other) more) ++ codes ";" ∷ [])
+      by_value None = zero-lt-suc _
+      by_value (Some one) = zero-lt-suc _
+
+  directed_phrase : Phrase (paired (direction levels) (ended alone)) always DirectedShape
+  directed_phrase = next_phrase (direction_phrase below) alone_list_phrase alone_list_example alone_list_worded opens
+    where
+      opens : Opens ends_direction AloneList
+      opens (both (both tree more) end) v rest c = by_value tree.value
+        where
+          ends_here : ends_direction (Some tree.name) ≡ true
+          ends_here =
+              name_ends_direction tree.name (and_left (is_name tree.name) _ (and_left (stands_alone tree) _ (and_left _ true v)))
+
+          by_value : (o : Option ExpressionTree) → ends_direction (front (((spell_value tree.name o
+              ++ flat_map (λ other. codes "," ∷ spell_declared other) more) ++ codes ";" ∷ []) ++ rest)) ≡ true
+          by_value None = ends_here
+          by_value (Some one) = ends_here
+
   instances_phrase : Phrase (paired named (paired (overrides levels) (ended (instance_behind levels)))) always InstancesShape
   unfolding reserved_words
   instances_phrase =
@@ -487,8 +539,11 @@ module _ (below : ℕ) where
   abbrev FromInteger : Shape IntegerOrLater
   FromInteger = either_shape (past_shape (codes "integer") Declared) FromEvent
 
-  abbrev FromVariables : Shape (Either Variables IntegerOrLater)
-  FromVariables = either_shape VariablesShape FromInteger
+  abbrev FromDirected : Shape DirectedOrLater
+  FromDirected = either_shape DirectedShape FromInteger
+
+  abbrev FromVariables : Shape (Either Variables DirectedOrLater)
+  FromVariables = either_shape VariablesShape FromDirected
 
   abbrev ItemParts : Shape Item
   ItemParts = either_shape ParametersShape FromVariables
@@ -532,8 +587,15 @@ module _ (below : ℕ) where
   from_integer_worded : Worded FromInteger
   from_integer_worded = either_worded (past_shape (codes "integer") Declared) FromEvent (λ tree v. zero-lt-suc _) from_event_worded
 
+  directed_worded : Worded DirectedShape
+  directed_worded (both (input wire kind) more) v = zero-lt-suc _
+  directed_worded (both (output net kind) more) v = zero-lt-suc _
+
+  from_directed_worded : Worded FromDirected
+  from_directed_worded = either_worded DirectedShape FromInteger directed_worded from_integer_worded
+
   from_variables_worded : Worded FromVariables
-  from_variables_worded = either_worded VariablesShape FromInteger variables_worded from_integer_worded
+  from_variables_worded = either_worded VariablesShape FromDirected variables_worded from_directed_worded
 
   -- a reserved word is no name
   not_named : (text : Text) → is_name text ≡ false → Tested (is_front text) false InstancesShape
@@ -560,6 +622,19 @@ module _ (below : ℕ) where
       Tested test false FromInteger
   from_integer_not test a r = either_tested test false (past_shape (codes "integer") Declared) FromEvent (λ tree v rest. a) r
 
+  -- the words that a direction begins with
+  directed_begins : (test : Option Text → Bool) (answer : Bool) → test (Some (codes "input")) ≡ answer →
+      test (Some (codes "output")) ≡ answer → Tested test answer DirectedShape
+  directed_begins test answer a b (both (input wire kind) more) v rest = a
+  directed_begins test answer a b (both (output net kind) more) v rest = b
+
+  from_directed_not : (test : Option Text → Bool) → test (Some (codes "input")) ≡ false → test (Some (codes "output")) ≡ false →
+      Tested test false FromInteger → Tested test false FromDirected
+  from_directed_not test a b r = either_tested test false DirectedShape FromInteger (directed_begins test false a b) r
+
+  not_directed : Tested is_direction false InstancesShape
+  not_directed = instances_not is_direction no_direction
+
   not_net : Tested (is_meant net_of) false InstancesShape
   not_net = instances_not (is_meant net_of) (name_means_not net_word (net.Wire ∷ net.Reg ∷ []) no_net_name)
 
@@ -570,6 +645,7 @@ module _ (below : ℕ) where
   item_parts_phrase =
       either_phrase (is_meant local_of) (loose parameters_phrase)
       (either_phrase (is_meant net_of) (loose variables_phrase)
+      (either_phrase is_direction (loose directed_phrase)
       (either_phrase (is_front (codes "integer")) (loose (past_phrase (codes "integer") declared_list_phrase declared_example))
       (either_phrase (is_front (codes "event")) (loose (past_phrase (codes "event") names_phrase names_example))
       (either_phrase (is_front (codes "assign")) (loose (past_phrase (codes "assign") settings_phrase settings_example))
@@ -588,16 +664,20 @@ module _ (below : ℕ) where
       (from_event_not (is_front (codes "integer")) refl
       (from_assign_not (is_front (codes "integer")) refl (from_initial_not (is_front (codes "integer")) refl
       (from_always_not (is_front (codes "integer")) refl (not_named (codes "integer") no_names.4))))))
-      variables_worded from_integer_worded net_begins
-      (from_integer_not (is_meant net_of) refl
+      directed_worded from_integer_worded (directed_begins is_direction true refl refl)
+      (from_integer_not is_direction refl
+      (from_event_not is_direction refl (from_assign_not is_direction refl (from_initial_not is_direction refl
+      (from_always_not is_direction refl not_directed))))))
+      variables_worded from_directed_worded net_begins
+      (from_directed_not (is_meant net_of) refl refl (from_integer_not (is_meant net_of) refl
       (from_event_not (is_meant net_of) refl (from_assign_not (is_meant net_of) refl (from_initial_not (is_meant net_of) refl
-      (from_always_not (is_meant net_of) refl not_net))))))
+      (from_always_not (is_meant net_of) refl not_net)))))))
       parameters_worded from_variables_worded local_begins
-      (either_tested (is_meant local_of) false VariablesShape FromInteger (variables_not (is_meant local_of) net_not_local)
-      (from_integer_not (is_meant local_of) refl
+      (either_tested (is_meant local_of) false VariablesShape FromDirected (variables_not (is_meant local_of) net_not_local)
+      (from_directed_not (is_meant local_of) refl refl (from_integer_not (is_meant local_of) refl
       (from_event_not (is_meant local_of) refl
       (from_assign_not (is_meant local_of) refl (from_initial_not (is_meant local_of) refl
-      (from_always_not (is_meant local_of) refl not_local))))))
+      (from_always_not (is_meant local_of) refl not_local)))))))
     where
       net_begins : Tested (is_meant net_of) true VariablesShape
       net_begins (both net.Wire more) v rest = refl
@@ -617,17 +697,15 @@ module _ (below : ℕ) where
       spelled : (tree : Item) → spell_item (item_of tree) ≡ ItemParts.spell tree
       spelled (one_way (both local (both kind (both (both one more) end)))) = refl
       spelled (other_way (one_way (both kind (both tree (both (both one more) end))))) = refl
-      spelled (other_way (other_way (one_way (both (both one more) end)))) = refl
+      spelled (other_way (other_way (one_way (both (input wire tree) (both (both one more) end))))) = refl
+      spelled (other_way (other_way (one_way (both (output net tree) (both (both one more) end))))) = refl
       spelled (other_way (other_way (other_way (one_way (both (both one more) end))))) = refl
       spelled (other_way (other_way (other_way (other_way (one_way (both (both one more) end)))))) = refl
-      spelled (other_way (other_way (other_way (other_way (other_way (one_way tree)))))) = refl
+      spelled (other_way (other_way (other_way (other_way (other_way (one_way (both (both one more) end))))))) = refl
       spelled (other_way (other_way (other_way (other_way (other_way (other_way (one_way tree))))))) = refl
-      spelled (other_way (other_way
-          (other_way (other_way (other_way (other_way (other_way (both letters (both None (both (both one more) end)))))))))) =
-          refl
-      spelled (other_way (other_way
-          (other_way (other_way
-          (other_way (other_way (other_way (both letters (both (Some tree) (both (both one more) end)))))))))) = refl
+      spelled (other_way (other_way (other_way (other_way (other_way (other_way (other_way (one_way tree)))))))) = refl
+      spelled (other_way (other_way (other_way (other_way (other_way (other_way (other_way (other_way (both letters (both None (both (both one more) end))))))))))) = refl
+      spelled (other_way (other_way (other_way (other_way (other_way (other_way (other_way (other_way (both letters (both (Some tree) (both (both one more) end))))))))))) = refl
 
       overridden : (letters : Text) (tree : Option ConnectionsTree) (one : InstanceTree) (more : List InstanceTree) →
           ((is_name letters && fits_overrides levels tree) && are_some (fits_instance levels) (one ∷ more))
@@ -645,26 +723,26 @@ module _ (below : ℕ) where
           ap (λ b. fits_parameter_type levels kind && b) (some_valid (fits_setting levels) one more)
       valid (other_way (one_way (both kind (both tree (both (both one more) end))))) =
           ap (λ b. fits_type levels tree && b) (some_valid (fits_declared levels) one more)
-      valid (other_way (other_way (one_way (both (both one more) end)))) = some_valid (fits_declared levels) one more
-      valid (other_way (other_way (other_way (one_way (both (both one more) end))))) = some_valid is_name one more
-      valid (other_way (other_way (other_way (other_way (one_way (both (both one more) end)))))) =
-          some_valid (fits_setting levels) one more
-      valid (other_way (other_way (other_way (other_way (other_way (one_way tree)))))) = refl
+      valid (other_way (other_way (one_way (both tree (both (both one more) end))))) =
+          ap (λ b. fits_direction levels (Some tree) && b) (some_valid stands_alone one more)
+      valid (other_way (other_way (other_way (one_way (both (both one more) end))))) = some_valid (fits_declared levels) one more
+      valid (other_way (other_way (other_way (other_way (one_way (both (both one more) end)))))) = some_valid is_name one more
+      valid (other_way (other_way (other_way (other_way (other_way (one_way (both (both one more) end))))))) = some_valid (fits_setting levels) one more
       valid (other_way (other_way (other_way (other_way (other_way (other_way (one_way tree))))))) = refl
-      valid (other_way (other_way
-          (other_way (other_way (other_way (other_way (other_way (both letters (both tree (both (both one more) end)))))))))) =
+      valid (other_way (other_way (other_way (other_way (other_way (other_way (other_way (one_way tree)))))))) = refl
+      valid (other_way (other_way (other_way (other_way (other_way (other_way (other_way (other_way (both letters (both tree (both (both one more) end))))))))))) =
           overridden letters tree one more
 
       closes : (tree : Item) (next : Option Text) → closes_item (item_of tree) next ≡ true → ItemParts.closes tree next ≡ true
       closes (one_way (both local (both kind (both list end)))) next e = refl
       closes (other_way (one_way (both kind (both tree (both list end))))) next e = refl
-      closes (other_way (other_way (one_way (both list end)))) next e = refl
+      closes (other_way (other_way (one_way (both tree (both list end))))) next e = refl
       closes (other_way (other_way (other_way (one_way (both list end))))) next e = refl
       closes (other_way (other_way (other_way (other_way (one_way (both list end)))))) next e = refl
-      closes (other_way (other_way (other_way (other_way (other_way (one_way tree)))))) next e = e
+      closes (other_way (other_way (other_way (other_way (other_way (one_way (both list end))))))) next e = refl
       closes (other_way (other_way (other_way (other_way (other_way (other_way (one_way tree))))))) next e = e
-      closes (other_way (other_way
-          (other_way (other_way (other_way (other_way (other_way (both letters (both tree (both list end)))))))))) next e = refl
+      closes (other_way (other_way (other_way (other_way (other_way (other_way (other_way (one_way tree)))))))) next e = e
+      closes (other_way (other_way (other_way (other_way (other_way (other_way (other_way (other_way (both letters (both tree (both list end))))))))))) next e = refl
 
   pub item_phrase : Phrase (item levels) ends_statement item_shape
   item_phrase = made_phrase item_of item_shape back item_makes item_closed item_parts_phrase
@@ -674,41 +752,21 @@ module _ (below : ℕ) where
 
       back : (tree : ItemTree) → fits_item levels tree ≡ true → From item_of tree
       back (parameters local kind []) v = absurd (no_list (fits_parameter_type levels kind) true v)
-      back (parameters local kind (one ∷ more)) v = record {
-        parts = one_way (both local (both kind (both (both one more) tt)));
-        is = refl;
-      }
+      back (parameters local kind (one ∷ more)) v = record { parts = one_way (both local (both kind (both (both one more) tt))); is = refl }
       back (declaration (variables kind tree) []) v = absurd (no_list (fits_type levels tree) true v)
-      back (declaration (variables kind tree) (one ∷ more)) v = record {
-        parts = other_way (one_way (both kind (both tree (both (both one more) tt))));
-        is = refl;
-      }
+      back (declaration (variables kind tree) (one ∷ more)) v = record { parts = other_way (one_way (both kind (both tree (both (both one more) tt)))); is = refl }
+      back (declaration (directed tree) []) v = absurd (no_list (fits_direction levels (Some tree)) true v)
+      back (declaration (directed tree) (one ∷ more)) v = record { parts = other_way (other_way (one_way (both tree (both (both one more) tt)))); is = refl }
       back (declaration integers []) v = absurd (no_list true true v)
-      back (declaration integers (one ∷ more)) v = record {
-        parts = other_way (other_way (one_way (both (both one more) tt)));
-        is = refl;
-      }
+      back (declaration integers (one ∷ more)) v = record { parts = other_way (other_way (other_way (one_way (both (both one more) tt)))); is = refl }
       back (events []) v = absurd (no_list true true v)
-      back (events (one ∷ more)) v = record {
-        parts = other_way (other_way (other_way (one_way (both (both one more) tt))));
-        is = refl;
-      }
+      back (events (one ∷ more)) v = record { parts = other_way (other_way (other_way (other_way (one_way (both (both one more) tt))))); is = refl }
       back (assignments []) v = absurd (no_list true true v)
-      back (assignments (one ∷ more)) v = record {
-        parts = other_way (other_way (other_way (other_way (one_way (both (both one more) tt)))));
-        is = refl;
-      }
-      back (initial body) v = record {
-        parts = other_way (other_way (other_way (other_way (other_way (one_way body)))));
-        is = refl;
-      }
-      back (always_item body) v = record {
-        parts = other_way (other_way (other_way (other_way (other_way (other_way (one_way body))))));
-        is = refl;
-      }
+      back (assignments (one ∷ more)) v = record { parts = other_way (other_way (other_way (other_way (other_way (one_way (both (both one more) tt)))))); is = refl }
+      back (initial body) v = record { parts = other_way (other_way (other_way (other_way (other_way (other_way (one_way body)))))); is = refl }
+      back (always_item body) v = record { parts = other_way (other_way (other_way (other_way (other_way (other_way (other_way (one_way body))))))); is = refl }
       back (instances letters tree []) v = absurd (no_list (is_name letters && fits_overrides levels tree) true v)
       back (instances letters tree (one ∷ more)) v = record {
-        parts = other_way (other_way
-            (other_way (other_way (other_way (other_way (other_way (both letters (both tree (both (both one more) tt)))))))));
+        parts = other_way (other_way (other_way (other_way (other_way (other_way (other_way (other_way (both letters (both tree (both (both one more) tt))))))))));
         is = refl;
       }

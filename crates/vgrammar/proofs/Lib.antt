@@ -18,6 +18,7 @@ pub mod StatementGrowth
 pub mod PhrasePlaces
 pub mod StatementStops
 pub mod HeadPhrases
+pub mod DirectionPhrases
 pub mod ItemPhrases
 pub mod ManyTurns
 pub mod ModulePhrases

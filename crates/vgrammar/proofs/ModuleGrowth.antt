@@ -1,16 +1,22 @@
 -- With three levels more: modules and whole texts.
 use Rattle.std.proofs.Common.{ℕ, suc, not, codes}
 use Rattle.basis.proofs.Numbers.{one_within}
+use Rattle.vast.specs.Modules.{PortTree}
 use Rattle.vexpr_parse.specs.Readers.{Reader, is_front}
 use Rattle.vgrammar.specs.Starts.{is_meant}
 use Rattle.vgrammar.specs.Statements.{statement}
-use Rattle.vgrammar.specs.Modules.{free_value, range_of, range, type_of, type, parameter_type_of, parameter_type, setting_of, setting, declared_of, declared, value_in, connection_of, connection, connections_of, connections, instance_of, instance_behind, overrides, ended, net_of, local_of, item_of, item_parts, item, first_parameter_of, head_parameter_of, first_parameter, head_parameter, head_parameters, direction_of, direction, is_direction, first_port_of, port_of, first_port, port, ports_of, ports, head_list_of, module_of, module_tree, is_some_word, source}
+use Rattle.vgrammar.specs.Modules.{free_value, range_of, range, type_of, type, parameter_type_of, parameter_type, setting_of, setting, declared_of, declared, value_in, connection_of, connection, connections_of, connections, instance_of, instance_behind, overrides, ended, net_of, local_of, alone_of, alone, item_of, item_parts, item, first_parameter_of, head_parameter_of, first_parameter, head_parameter, head_parameters, direction_of, direction, is_direction, port_of, port, named_port_of, named_port, ports_behind, port_list, ports_of, ports, head_list_of, module_of, module_tree, is_some_word, source}
 use Rattle.vgrammar.proofs.Growth.{up, Growth, past_growth, made_growth, paired_growth, worded_growth, either_growth, maybe_growth, many_growth}
 use Rattle.vgrammar.proofs.PartGrowth.{value_growth, only_growth, comma_growth, named_word}
 use Rattle.vgrammar.proofs.StatementGrowth.{statement_growth}
 
 ended_growth : {A : Type 0} {read more : Reader A} → Growth read more → Growth (ended read) (ended more)
 ended_growth g = paired_growth (comma_growth g) (only_growth (codes ";"))
+
+ports_behind_growth : {A : Type 0} {first more : Reader A} {read next : Reader PortTree} → Growth first more → Growth read next →
+    Growth (ports_behind first read) (ports_behind more next)
+ports_behind_growth f g =
+    paired_growth (paired_growth f (many_growth (is_front (codes ",")) (λ list. past_growth (codes ",") g))) (only_growth (codes ")"))
 
 module _ (below : ℕ) where
   abbrev levels : ℕ
@@ -69,18 +75,29 @@ module _ (below : ℕ) where
 
   -- Items
 
+  direction_growth : Growth (direction levels) (direction (up levels))
+  direction_growth =
+      made_growth direction_of (either_growth (is_front (codes "input"))
+      (past_growth (codes "input")
+      (paired_growth (maybe_growth (is_front (codes "wire")) (only_growth (codes "wire"))) type_growth))
+      (past_growth (codes "output") (paired_growth (maybe_growth (is_meant net_of) (worded_growth net_of)) type_growth)))
+
+  alone_growth : Growth alone alone
+  alone_growth = made_growth alone_of named_word
+
   item_parts_growth : Growth (item_parts levels) (item_parts (up levels))
   item_parts_growth =
       either_growth (is_meant local_of) (paired_growth (worded_growth local_of)
       (paired_growth parameter_type_growth (ended_growth setting_growth)))
       (either_growth (is_meant net_of) (paired_growth (worded_growth net_of)
       (paired_growth type_growth (ended_growth declared_growth)))
+      (either_growth is_direction (paired_growth direction_growth (ended_growth alone_growth))
       (either_growth (is_front (codes "integer")) (past_growth (codes "integer") (ended_growth declared_growth))
       (either_growth (is_front (codes "event")) (past_growth (codes "event") (ended_growth named_word))
       (either_growth (is_front (codes "assign")) (past_growth (codes "assign") (ended_growth setting_growth))
       (either_growth (is_front (codes "initial")) (past_growth (codes "initial") body_growth)
       (either_growth (is_front (codes "always")) (past_growth (codes "always") body_growth)
-      (paired_growth named_word (paired_growth overrides_growth (ended_growth instance_growth)))))))))
+      (paired_growth named_word (paired_growth overrides_growth (ended_growth instance_growth))))))))))
 
   item_growth : Growth (item levels) (item (up levels))
   item_growth = made_growth item_of item_parts_growth
@@ -101,24 +118,20 @@ module _ (below : ℕ) where
       past_growth (codes "(") (paired_growth (paired_growth first_parameter_growth
       (many_growth (is_front (codes ",")) (λ list. past_growth (codes ",") head_parameter_growth))) (only_growth (codes ")")))
 
-  direction_growth : Growth (direction levels) (direction (up levels))
-  direction_growth =
-      made_growth direction_of (either_growth (is_front (codes "input"))
-      (past_growth (codes "input")
-      (paired_growth (maybe_growth (is_front (codes "wire")) (only_growth (codes "wire"))) type_growth))
-      (past_growth (codes "output") (paired_growth (maybe_growth (is_meant net_of) (worded_growth net_of)) type_growth)))
-
-  first_port_growth : Growth (first_port levels) (first_port (up levels))
-  first_port_growth = made_growth first_port_of (paired_growth direction_growth named_word)
-
   port_growth : Growth (port levels) (port (up levels))
   port_growth = made_growth port_of (paired_growth (maybe_growth is_direction direction_growth) named_word)
 
+  named_port_growth : Growth named_port named_port
+  named_port_growth = made_growth named_port_of named_word
+
+  port_list_growth : Growth (port_list levels) (port_list (up levels))
+  port_list_growth =
+      either_growth is_direction
+      (ports_behind_growth (paired_growth direction_growth named_word) port_growth) (ports_behind_growth named_word named_port_growth)
+
   ports_growth : Growth (ports levels) (ports (up levels))
   ports_growth =
-      made_growth ports_of (past_growth (codes "(") (either_growth (is_front (codes ")")) (only_growth (codes ")"))
-      (paired_growth (paired_growth first_port_growth
-      (many_growth (is_front (codes ",")) (λ list. past_growth (codes ",") port_growth))) (only_growth (codes ")")))))
+      made_growth ports_of (past_growth (codes "(") (either_growth (is_front (codes ")")) (only_growth (codes ")")) port_list_growth))
 
   -- Modules and texts
 

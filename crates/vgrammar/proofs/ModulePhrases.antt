@@ -1,31 +1,27 @@
 -- Heads of modules, modules and whole texts.
-use Rattle.std.proofs.Common.{◌≡◌, ℕ, suc, ◌<◌, Bool, true, false, ◌&&◌, not, List, [], ◌∷◌, ◌++◌, Option, None, Some, length, flat_map, refl, sym, ap, ◌∙◌, subst, codes, zero-lt-suc}
+use Rattle.std.proofs.Common.{◌≡◌, ℕ, suc, ◌<◌, Bool, true, false, ◌&&◌, not, List, [], ◌∷◌, ◌++◌, Option, None, Some, refl, sym, ap, ◌∙◌, codes, zero-lt-suc}
 use Rattle.std.specs.List.{list_all}
-use Rattle.std.specs.Str.{bytes_eq}
-use Rattle.std.proofs.lemmas.Bool.{false_from_ne_true}
-use Rattle.basis.proofs.Bools.{and_left, and_right, and_both, clash, and_assoc}
+use Rattle.basis.proofs.Bools.{and_left, and_both, and_assoc}
 use Rattle.vast.specs.Words.{Text, is_name, reserved_words}
 use Rattle.vast.specs.Statements.{listed, in_parentheses}
-use Rattle.vast.specs.Modules.{RangeTree, TypeTree, ParameterType, typed, SettingTree, DirectionTree, input, output, PortTree, HeadParameter, ItemTree, parameters, declaration, variables, integers, events, assignments, initial, always as always_item, instances, ModuleTree, SourceTree, spell_range, spell_signed, spell_type, spell_direction, spell_port, spell_head_parameter, spell_module, fits_type, fits_direction, fits_port, is_directed, fits_ports, fits_head_parameter, is_kind, fits_head_parameters, fits_item, fits_module, net_word}
-use Rattle.vast.specs.declared.module.NetKind.{NetKind}
+use Rattle.vast.specs.Modules.{ParameterType, typed, SettingTree, DirectionTree, input, output, PortTree, HeadParameter, ItemTree, parameters, declaration, variables, integers, directed, events, assignments, initial, always as always_item, instances, ModuleTree, SourceTree, spell_port, spell_head_parameter, spell_module, fits_direction, fits_port, is_directed, is_named_port, fits_ports, fits_head_parameter, is_kind, fits_head_parameters, fits_item, fits_module}
 use Rattle.vast.specs.declared.module.NetKind.TheVariants as net
 use Rattle.vexpr_parse.specs.declared.stop.Stop.TheVariants.{NoTree}
-use Rattle.vexpr_parse.specs.Readers.{got, stop, front, is_front, past}
-use Rattle.vexpr_parse.specs.Words.{binary_of, written, ends}
-use Rattle.vexpr_parse.specs.Lawful.{Ends}
+use Rattle.vexpr_parse.specs.Readers.{Reader, got, stop, is_front, past}
+use Rattle.vexpr_parse.specs.Words.{binary_of, ends}
 use Rattle.vexpr_parse.proofs.ReaderRules.{same_text, stop_got}
-use Rattle.vgrammar.specs.Parts.{Both, both, one_way, other_way, made, paired, worded, many, maybe}
-use Rattle.vgrammar.specs.Starts.{is_meant, is_some_meaning}
-use Rattle.vgrammar.specs.Statements.{word_only, List_of, ends_statement}
-use Rattle.vgrammar.specs.Modules.{type, parameter_type, setting, net_of, item, first_parameter_of, head_parameter_of, first_parameter, head_parameter, head_parameters, Direction, direction_of, direction, is_direction, first_port_of, port_of, first_port, port, Ports, ports_of, ports, head_list_of, Module, module_of, module_tree, is_some_word, source}
-use Rattle.vgrammar.proofs.Phrases.{Shape, Phrase, Example, Worded, Opens, Makes, From, always, phrase_within, made_phrase, past_shape, past_phrase, past_example, nothing_phrase, paired_shape, paired_phrase, before_phrase, paired_example, free_phrase, next_phrase}
-use Rattle.vgrammar.proofs.PhraseChoices.{ends_maybe, maybe_shape, maybe_phrase, either_shape, either_phrase, Tested, ends_many, allows_all, many_shape, many_phrase}
+use Rattle.vgrammar.specs.Parts.{Both, both, Either, one_way, other_way, made, paired, many, maybe}
+use Rattle.vgrammar.specs.Statements.{word_only, List_of, ends_statement, named}
+use Rattle.vgrammar.specs.Modules.{parameter_type, setting, item, first_parameter_of, head_parameter_of, first_parameter, head_parameter, head_parameters, direction, is_direction, port_of, port, named_port_of, named_port, PortsBehind, ports_behind, PortList, port_list, ports_of, ports, head_list_of, Module, module_of, module_tree, is_some_word, source}
+use Rattle.vgrammar.proofs.Phrases.{Shape, Phrase, Example, Worded, Opens, Makes, From, always, made_phrase, past_shape, past_phrase, past_example, nothing_phrase, paired_shape, before_phrase, paired_example, free_phrase, next_phrase}
+use Rattle.vgrammar.proofs.PhraseChoices.{ends_maybe, maybe_shape, maybe_phrase, either_shape, either_phrase, either_tested, either_worded, Tested, ends_many, allows_all, many_shape, many_phrase}
 use Rattle.vgrammar.proofs.LevelFacts.{and_true}
 use Rattle.vgrammar.proofs.ValuePhrases.{nothing_example, only_shape, only_phrase, comma, list_phrase, allows_each}
 use Rattle.vgrammar.proofs.WordPhrases.{refused_first}
 use Rattle.vgrammar.proofs.PartPhrases.{text_shape, a_name, named_phrase}
-use Rattle.vgrammar.proofs.HeadPhrases.{name_isnt, name_means_not, phrase_closing, ends_type, type_phrase, ends_parameter_type, parameter_type_shape, parameter_type_phrase, name_ends_type, setting_shape, setting_phrase, a_setting}
-use Rattle.vgrammar.proofs.ItemPhrases.{net_shape, net_phrase, item_shape, item_phrase}
+use Rattle.vgrammar.proofs.HeadPhrases.{name_isnt, ends_parameter_type, parameter_type_shape, parameter_type_phrase, name_ends_type, setting_shape, setting_phrase, a_setting}
+use Rattle.vgrammar.proofs.DirectionPhrases.{ends_direction, name_ends_direction, no_direction, direction_shape, direction_phrase}
+use Rattle.vgrammar.proofs.ItemPhrases.{item_shape, item_phrase}
 
 no_list : (b : Bool) → (false && b) ≡ true → ⊥
 no_list b e = let none : false ≡ true = e in cc
@@ -33,64 +29,12 @@ no_list b e = let none : false ≡ true = e in cc
 abbrev parameter_next : Option Text → Bool
 parameter_next = is_front (codes "parameter")
 
-abbrev net_next : Option Text → Bool
-net_next = is_meant net_of
-
-abbrev wire_next : Option Text → Bool
-wire_next = is_front (codes "wire")
-
-abbrev ends_direction : Ends
-ends_direction next = ends_type next && not (net_next next)
-
-no_wire : (next : Option Text) → not (net_next next) ≡ true → not (wire_next next) ≡ true
-no_wire None e = refl
-no_wire (Some word) e =
-    ap not (false_from_ne_true (bytes_eq (codes "wire") word)
-    (λ f. false_true (subst (λ w. not (net_next (Some w)) ≡ true) (sym (same_text (codes "wire") word f)) e)))
-  where
-    false_true : false ≡ true → ⊥
-    false_true e = cc
-
-no_wire_part : Example (maybe_shape wire_next always (only_shape (codes "wire")))
-no_wire_part = record { tree = None; valid = refl }
-
-no_net_part : Example (maybe_shape net_next always net_shape)
-no_net_part = record { tree = None; valid = refl }
-
--- a name stands behind a direction
-name_ends_direction : (letters : Text) → is_name letters ≡ true → ends_direction (Some letters) ≡ true
-unfolding reserved_words
-name_ends_direction letters is =
-    and_both (ends_type (Some letters)) (not (net_next (Some letters)))
-    (and_left (ends_type (Some letters)) _ (name_ends_type letters is))
-    (ap not (name_means_not net_word (net.Wire ∷ net.Reg ∷ []) no_net_name letters is))
-  where
-    no_net_name : (kind : NetKind) → is_name (net_word kind) ≡ false
-    no_net_name net.Wire = refl
-    no_net_name net.Reg = refl
-
-no_direction : (letters : Text) → is_name letters ≡ true → is_direction (Some letters) ≡ false
-unfolding reserved_words
-no_direction letters is = by_meaning (written (λ text. text) (codes "input" ∷ codes "output" ∷ []) letters) refl
-  where
-    by_meaning : (m : Option Text) → written (λ text. text) (codes "input" ∷ codes "output" ∷ []) letters ≡ m →
-        is_some_meaning m ≡ false
-    by_meaning None e = refl
-    by_meaning (Some text) e = by_tests (bytes_eq (codes "input") letters) (bytes_eq (codes "output") letters) refl refl e
-      where
-        by_tests : (a b : Bool) → bytes_eq (codes "input") letters ≡ a → bytes_eq (codes "output") letters ≡ b →
-            written (λ text. text) (codes "input" ∷ codes "output" ∷ []) letters ≡ Some text → true ≡ false
-        by_tests true b p q e = absurd (clash (is_name letters) is (sym (ap is_name (same_text (codes "input") letters p))))
-        by_tests false true p q e = absurd (clash (is_name letters) is (sym (ap is_name (same_text (codes "output") letters q))))
-        by_tests false false p q e =
-            let none : None ≡ Some text = sym (nothing_written p q) ∙ e in absurd cc
-          where
-            nothing_written : bytes_eq (codes "input") letters ≡ false → bytes_eq (codes "output") letters ≡ false →
-                written (λ text. text) (codes "input" ∷ codes "output" ∷ []) letters ≡ None
-            nothing_written p q = rw p (rw q refl)
-
 abbrev close : Option Text → Bool
 close = is_front (codes ")")
+
+no_close_name : is_name (codes ")") ≡ false
+unfolding reserved_words
+no_close_name = refl
 
 abbrev not_endmodule : Option Text → Bool
 not_endmodule next = not (is_front (codes "endmodule") next)
@@ -269,163 +213,36 @@ module _ (below : ℕ) where
   unfolding a_first
   heads_example = record { tree = a_first.tree ∷ []; valid = and_both _ true a_first.valid refl }
 
-  abbrev LastType : Shape TypeTree
-  LastType = record { spell = spell_type; valid = fits_type levels; closes = λ tree. ends_direction; stops = λ tree next. true }
-
-  last_type_phrase : Phrase (type levels) ends_direction LastType
-  last_type_phrase =
-      phrase_closing (λ tree. ends_direction)
-      (phrase_within ends_direction (type_phrase below) (λ next e. and_left (ends_type next) _ e))
-      (λ tree next e. and_left (ends_type next) _ e) (λ tree next e. e)
-
-  plain_type : Example LastType
-  plain_type = record { tree = record { signed = false; range = None }; valid = refl }
-
-  -- what ends before a type: what doesn't begin one, and what ends it
-  type_opens : (here : Ends) → here (Some (codes "signed")) ≡ true → here (Some (codes "[")) ≡ true →
-      ((next : Option Text) → ends_direction next ≡ true → here next ≡ true) → Opens here LastType
-  type_opens here a b c tree v rest e = by_parts tree.signed tree.range
-    where
-      by_parts : (sign : Bool) (bounds : Option RangeTree) →
-          here (front ((spell_signed sign ++ spell_range bounds) ++ rest)) ≡ true
-      by_parts true bounds = a
-      by_parts false None = c (front rest) e
-      by_parts false (Some tree) = b
-
-  abbrev InputParts : Shape (Both (Option (Unit {0})) TypeTree)
-  InputParts = past_shape (codes "input") (paired_shape (maybe_shape wire_next always (only_shape (codes "wire"))) LastType)
-
-  abbrev OutputParts : Shape (Both (Option NetKind) TypeTree)
-  OutputParts = past_shape (codes "output") (paired_shape (maybe_shape net_next always net_shape) LastType)
-
-  input_phrase : Phrase (past (codes "input")
-      (paired (maybe wire_next (word_only (codes "wire"))) (type levels))) ends_direction InputParts
-  input_phrase =
-      past_phrase (codes "input")
-      (paired_phrase (maybe_phrase wire_next (only_phrase (codes "wire")) (λ tree v. zero-lt-suc _)
-      (λ tree v rest. refl)) last_type_phrase
-      plain_type
-      (type_opens (λ next. not (wire_next next)) refl refl (λ next e. no_wire next (and_right (ends_type next) _ e)))
-      (λ y v none next e. no_wire next (and_right (ends_type next) _ e)))
-      (paired_example no_wire_part plain_type)
-
-  output_phrase : Phrase (past (codes "output")
-      (paired (maybe net_next (worded net_of)) (type levels))) ends_direction OutputParts
-  output_phrase =
-      past_phrase (codes "output")
-      (paired_phrase (maybe_phrase net_next net_phrase (λ tree v. zero-lt-suc 0) begins) last_type_phrase plain_type
-      (type_opens (λ next. not (net_next next)) refl refl (λ next e. and_right (ends_type next) _ e))
-      (λ y v none next e. and_right (ends_type next) _ e))
-      (paired_example no_net_part plain_type)
-    where
-      begins : Tested net_next true net_shape
-      begins net.Wire v rest = refl
-      begins net.Reg v rest = refl
-
-  abbrev direction_shape : Shape DirectionTree
-  direction_shape = record {
-    spell = λ tree. spell_direction (Some tree);
-    valid = λ tree. fits_direction levels (Some tree);
-    closes = λ tree. ends_direction;
-    stops = λ tree next. true;
-  }
-
-  direction_phrase : Phrase (direction levels) ends_direction direction_shape
-  direction_phrase =
-      made_phrase direction_of direction_shape back makes (λ tree next e. e)
-      (either_phrase (is_front (codes "input")) input_phrase output_phrase (λ tree v. zero-lt-suc _) (λ tree v. zero-lt-suc _)
-      (λ tree v rest. refl)
-      (λ tree v rest. refl))
-    where
-      back : (tree : DirectionTree) → fits_direction levels (Some tree) ≡ true → From direction_of tree
-      back (input true tree) v = record { parts = one_way (both (Some tt) tree); is = refl }
-      back (input false tree) v = record { parts = one_way (both None tree); is = refl }
-      back (output kind tree) v = record { parts = other_way (both kind tree); is = refl }
-
-      makes : Makes direction_of (either_shape InputParts OutputParts) direction_shape []
-      makes = record { spelled = spelled; valid = valid; closes = closes; stops = λ tree next e. refl }
-        where
-          spelled : (tree : Direction) → spell_direction (Some (direction_of tree))
-              ≡ (either_shape InputParts OutputParts).spell tree
-          spelled (one_way (both None tree)) = refl
-          spelled (one_way (both (Some end) tree)) = refl
-          spelled (other_way (both None tree)) = refl
-          spelled (other_way (both (Some kind) tree)) = refl
-
-          valid : (tree : Direction) → fits_direction levels (Some (direction_of tree))
-              ≡ (either_shape InputParts OutputParts).valid tree
-          valid (one_way (both None tree)) = refl
-          valid (one_way (both (Some end) tree)) = refl
-          valid (other_way (both None tree)) = refl
-          valid (other_way (both (Some kind) tree)) = refl
-
-          closes : (tree : Direction) (next : Option Text) → ends_direction next ≡ true →
-              (either_shape InputParts OutputParts).closes tree next ≡ true
-          closes (one_way (both wire tree)) next e = e
-          closes (other_way (both kind tree)) next e = e
-
   -- Ports
 
   abbrev PortPart : Shape (Option DirectionTree)
-  PortPart = maybe_shape is_direction ends_direction direction_shape
+  PortPart = maybe_shape is_direction ends_direction (direction_shape below)
 
   abbrev pub port_shape : Shape PortTree
   port_shape = record { spell = spell_port; valid = fits_port levels; closes = λ tree. always; stops = λ tree next. true }
 
-  abbrev first_port_shape : Shape PortTree
-  first_port_shape = record {
-    spell = spell_port;
-    valid = λ tree. is_directed tree.direction && fits_port levels tree;
-    closes = λ tree. always;
-    stops = λ tree next. true;
-  }
+  abbrev FirstPort : Shape (Both DirectionTree Text)
+  FirstPort = paired_shape (direction_shape below) (text_shape is_name)
 
-  first_port_phrase : Phrase (first_port levels) always first_port_shape
+  first_port_phrase : Phrase (paired (direction levels) named) always FirstPort
   first_port_phrase =
-      made_phrase first_port_of first_port_shape back makes (λ tree next e. refl)
-      (next_phrase direction_phrase named_phrase a_name (λ letters v. zero-lt-suc 0)
-      (λ letters v rest c. name_ends_direction letters v))
-    where
-      by_direction : (tree : PortTree) (o : Option DirectionTree) → tree.direction ≡ o → is_directed o ≡ true →
-          From first_port_of tree
-      by_direction tree None e v = let none : false ≡ true = v in absurd cc
-      by_direction tree (Some way) e v = record {
-        parts = both way tree.name;
-        is = λ i. record { direction = sym e i; name = tree.name };
-      }
-
-      back : (tree : PortTree) → (is_directed tree.direction && fits_port levels tree) ≡ true → From first_port_of tree
-      back tree v = by_direction tree tree.direction refl (and_left (is_directed tree.direction) _ v)
-
-      makes : Makes first_port_of (paired_shape direction_shape (text_shape is_name)) first_port_shape []
-      makes = record { spelled = spelled; valid = valid; closes = λ tree next e. closes tree next; stops = λ tree next e. refl }
-        where
-          spelled : (tree : Both DirectionTree Text) →
-              spell_port (first_port_of tree) ≡ (paired_shape direction_shape (text_shape is_name)).spell tree
-          spelled (both way letters) = refl
-
-          valid : (tree : Both DirectionTree Text) →
-              first_port_shape.valid (first_port_of tree) ≡ (paired_shape direction_shape (text_shape is_name)).valid tree
-          valid (both way letters) = refl
-
-          closes : (tree : Both DirectionTree Text) (next : Option Text) →
-              (paired_shape direction_shape (text_shape is_name)).closes tree next ≡ true
-          closes (both way letters) next = refl
+      next_phrase (direction_phrase below) named_phrase a_name (λ letters v. zero-lt-suc 0)
+      (λ letters v rest c. name_ends_direction letters v)
 
   pub port_phrase : Phrase (port levels) always port_shape
   port_phrase =
       made_phrase port_of port_shape (λ tree v. record { parts = both tree.direction tree.name; is = refl }) makes
       (λ tree next e. refl)
-      (next_phrase (maybe_phrase is_direction direction_phrase some begins) named_phrase a_name (λ letters v. zero-lt-suc 0)
+      (next_phrase (maybe_phrase is_direction (direction_phrase below) some begins) named_phrase a_name (λ letters v. zero-lt-suc 0)
       (λ letters v rest c. and_both (ends_direction (Some letters)) (not (is_direction (Some letters)))
       (name_ends_direction letters v)
       (ap not (no_direction letters v))))
     where
-      some : Worded direction_shape
+      some : Worded (direction_shape below)
       some (input wire tree) v = zero-lt-suc _
       some (output kind tree) v = zero-lt-suc _
 
-      begins : Tested is_direction true direction_shape
+      begins : Tested is_direction true (direction_shape below)
       begins (input wire tree) v rest = refl
       begins (output kind tree) v rest = refl
 
@@ -449,14 +266,75 @@ module _ (below : ℕ) where
   a_port : Example port_shape
   a_port = record { tree = record { direction = None; name = a_name.tree }; valid = a_name.valid }
 
-  abbrev PortList : Shape (Both (List_of PortTree) (Unit {0}))
-  PortList =
-      paired_shape (paired_shape first_port_shape
-      (many_shape comma always (past_shape (codes ",") port_shape) (λ list. fits_port levels)))
-      (only_shape (codes ")"))
+  abbrev pub named_port_shape : Shape PortTree
+  named_port_shape = record { spell = spell_port; valid = is_named_port; closes = λ tree. always; stops = λ tree next. true }
 
-  abbrev PortsParts : Shape Ports
-  PortsParts = past_shape (codes "(") (either_shape (only_shape (codes ")")) PortList)
+  pub named_port_phrase : Phrase named_port always named_port_shape
+  named_port_phrase = made_phrase named_port_of named_port_shape back makes (λ tree next e. refl) named_phrase
+    where
+      by_direction : (tree : PortTree) (o : Option DirectionTree) → tree.direction ≡ o → not (is_directed o) ≡ true → From named_port_of tree
+      by_direction tree None e v = record { parts = tree.name; is = λ i. record { direction = sym e i; name = tree.name } }
+      by_direction tree (Some way) e v = let none : false ≡ true = v in absurd cc
+
+      back : (tree : PortTree) → is_named_port tree ≡ true → From named_port_of tree
+      back tree v = by_direction tree tree.direction refl (and_left (not (is_directed tree.direction)) _ v)
+
+      makes : Makes named_port_of (text_shape is_name) named_port_shape []
+      makes = record {
+        spelled = λ letters. refl;
+        valid = λ letters. refl;
+        closes = λ letters next e. refl;
+        stops = λ letters next e. refl;
+      }
+
+  a_named_port : Example named_port_shape
+  a_named_port = record { tree = named_port_of a_name.tree; valid = a_name.valid }
+
+  abbrev BehindShape : {A : Type 0} → Shape A → Shape PortTree → Shape (PortsBehind A)
+  BehindShape s t =
+      paired_shape (paired_shape s (many_shape comma always (past_shape (codes ",") t) (λ list. t.valid))) (only_shape (codes ")"))
+
+  ports_behind_phrase : {A : Type 0} {first : Reader A} {read : Reader PortTree} {s : Shape A} {t : Shape PortTree} →
+      Phrase first always s → Phrase read always t → Example t → Phrase (ports_behind first read) always (BehindShape s t)
+  ports_behind_phrase p q e = before_phrase (codes ")") (list_phrase p q e refl) (nothing_phrase always) nothing_example refl
+
+  abbrev DirectedList : Shape (PortsBehind (Both DirectionTree Text))
+  DirectedList = BehindShape FirstPort port_shape
+
+  abbrev NamedList : Shape (PortsBehind Text)
+  NamedList = BehindShape (text_shape is_name) named_port_shape
+
+  directed_worded : Worded DirectedList
+  directed_worded (both (both (both (input wire kind) letters) more) end) v = zero-lt-suc _
+  directed_worded (both (both (both (output net kind) letters) more) end) v = zero-lt-suc _
+
+  named_worded : Worded NamedList
+  named_worded (both (both letters more) end) v = zero-lt-suc _
+
+  -- what a list with directions begins with, and one of names
+  directed_begins : (test : Option Text → Bool) (answer : Bool) → test (Some (codes "input")) ≡ answer →
+      test (Some (codes "output")) ≡ answer → Tested test answer DirectedList
+  directed_begins test answer a b (both (both (both (input wire kind) letters) more) end) v rest = a
+  directed_begins test answer a b (both (both (both (output net kind) letters) more) end) v rest = b
+
+  names_begin : (test : Option Text → Bool) → ((letters : Text) → is_name letters ≡ true → test (Some letters) ≡ false) →
+      Tested test false NamedList
+  names_begin test none (both (both letters more) end) v rest = none letters (and_left (is_name letters) _ (and_left _ true v))
+
+  abbrev ListShape : Shape PortList
+  ListShape = either_shape DirectedList NamedList
+
+  list_worded : Worded ListShape
+  list_worded = either_worded DirectedList NamedList directed_worded named_worded
+
+  port_list_phrase : Phrase (port_list levels) always ListShape
+  port_list_phrase =
+      either_phrase is_direction (ports_behind_phrase first_port_phrase port_phrase a_port)
+      (ports_behind_phrase named_phrase named_port_phrase a_named_port) directed_worded named_worded
+      (directed_begins is_direction true refl refl) (names_begin is_direction no_direction)
+
+  abbrev PortsParts : Shape (Either (Unit {0}) PortList)
+  PortsParts = past_shape (codes "(") (either_shape (only_shape (codes ")")) ListShape)
 
   abbrev ports_shape : Shape (List PortTree)
   ports_shape = record {
@@ -470,58 +348,52 @@ module _ (below : ℕ) where
   ports_phrase =
       made_phrase ports_of ports_shape back makes (λ list next e. refl)
       (past_phrase (codes "(")
-      (either_phrase close (only_phrase (codes ")"))
-      (before_phrase (codes ")") (list_phrase first_port_phrase port_phrase a_port refl)
-      (nothing_phrase always) nothing_example refl)
-      (λ tree v. zero-lt-suc _) some (λ tree v rest. refl) not_close)
+      (either_phrase close (only_phrase (codes ")")) port_list_phrase (λ tree v. zero-lt-suc _) list_worded (λ tree v rest. refl)
+      (either_tested close false DirectedList NamedList (directed_begins close false refl refl)
+      (names_begin close (name_isnt (codes ")") no_close_name))))
       (record { tree = one_way tt; valid = refl }))
     where
-      some : Worded PortList
-      some (both (both tree more) end) v = by_direction tree.direction
-        where
-          by_direction : (o : Option DirectionTree) → 0 < length (((spell_direction o ++ tree.name ∷ [])
-              ++ flat_map (λ other. codes "," ∷ spell_port other) more) ++ codes ")" ∷ [])
-          by_direction None = zero-lt-suc _
-          by_direction (Some (input wire kind)) = zero-lt-suc _
-          by_direction (Some (output kind way)) = zero-lt-suc _
-
-      not_close : Tested close false PortList
-      not_close (both (both tree more) end) v rest =
-          by_direction tree.direction (and_left (is_directed tree.direction) _ (and_left _ _ (and_left _ true v)))
-        where
-          by_direction : (o : Option DirectionTree) → is_directed o ≡ true → close (front ((((spell_direction o ++ tree.name ∷ [])
-              ++ flat_map (λ other. codes "," ∷ spell_port other) more) ++ codes ")" ∷ []) ++ rest)) ≡ false
-          by_direction None e = let none : false ≡ true = e in absurd cc
-          by_direction (Some (input wire kind)) e = refl
-          by_direction (Some (output kind way)) e = refl
+      by_direction : (tree : PortTree) (more : List PortTree) (o : Option DirectionTree) → tree.direction ≡ o → From ports_of (tree ∷ more)
+      by_direction tree more None e = record {
+        parts = other_way (other_way (both (both tree.name more) tt));
+        is = λ i. record { direction = sym e i; name = tree.name } ∷ more;
+      }
+      by_direction tree more (Some way) e = record {
+        parts = other_way (one_way (both (both (both way tree.name) more) tt));
+        is = λ i. record { direction = sym e i; name = tree.name } ∷ more;
+      }
 
       back : (list : List PortTree) → fits_ports levels list ≡ true → From ports_of list
       back [] v = record { parts = one_way tt; is = refl }
-      back (tree ∷ more) v = record { parts = other_way (both (both tree more) tt); is = refl }
+      back (tree ∷ more) v = by_direction tree more tree.direction refl
 
       makes : Makes ports_of PortsParts ports_shape []
       makes = record { spelled = spelled; valid = valid; closes = λ tree next e. closes tree next; stops = λ tree next e. refl }
         where
-          spelled : (tree : Ports) → ports_shape.spell (ports_of tree) ≡ PortsParts.spell tree
+          spelled : (tree : Either (Unit {0}) PortList) → ports_shape.spell (ports_of tree) ≡ PortsParts.spell tree
           spelled (one_way end) = refl
-          spelled (other_way (both (both tree more) end)) = refl
+          spelled (other_way (one_way (both (both (both way letters) more) end))) = refl
+          spelled (other_way (other_way (both (both letters more) end))) = refl
 
-          valid : (tree : Ports) → fits_ports levels (ports_of tree) ≡ PortsParts.valid tree
+          valid : (tree : Either (Unit {0}) PortList) → fits_ports levels (ports_of tree) ≡ PortsParts.valid tree
           valid (one_way end) = refl
-          valid (other_way (both (both tree more) end)) =
-              sym (and_assoc (is_directed tree.direction) (fits_port levels tree) (list_all (fits_port levels) more))
-              ∙ ap (λ b. (is_directed tree.direction && fits_port levels tree) && b)
-              (sym (allows_each (fits_port levels) [] more))
+          valid (other_way (one_way (both (both (both way letters) more) end))) =
+              ap (λ b. (fits_direction levels (Some way) && is_name letters) && b) (sym (allows_each (fits_port levels) [] more))
               ∙ sym (and_true _)
+          valid (other_way (other_way (both (both letters more) end))) =
+              ap (λ b. is_name letters && b) (sym (allows_each is_named_port [] more)) ∙ sym (and_true _)
 
-          closes : (tree : Ports) (next : Option Text) → PortsParts.closes tree next ≡ true
+          closes : (tree : Either (Unit {0}) PortList) (next : Option Text) → PortsParts.closes tree next ≡ true
           closes (one_way end) next = refl
-          closes (other_way (both list end)) next = refl
+          closes (other_way (one_way (both list end))) next = refl
+          closes (other_way (other_way (both list end))) next = refl
 
   pub item_worded : Worded (item_shape below)
   item_worded (parameters local kind list) v = zero-lt-suc _
   item_worded (declaration (variables kind tree) list) v = zero-lt-suc _
   item_worded (declaration integers list) v = zero-lt-suc _
+  item_worded (declaration (directed (input wire tree)) list) v = zero-lt-suc _
+  item_worded (declaration (directed (output net tree)) list) v = zero-lt-suc _
   item_worded (events list) v = zero-lt-suc _
   item_worded (assignments list) v = zero-lt-suc _
   item_worded (initial body) v = zero-lt-suc _

@@ -5,7 +5,7 @@ use Rattle.basis.proofs.Bools.{and_left, and_right, and_both}
 use Rattle.vast.specs.Words.{Text, is_name}
 use Rattle.vast.specs.Expressions.{ExpressionTree, depth, fits_expression}
 use Rattle.vast.specs.Statements.{StatementTree, statement_depth, fits_statement}
-use Rattle.vast.specs.Modules.{RangeTree, TypeTree, ParameterType, integer, typed, SettingTree, DeclaredTree, DirectionTree, input, output, PortTree, HeadParameter, ConnectionTree, ConnectionsTree, by_order, by_name, InstanceTree, DeclarationKind, variables, integers, ItemTree, parameters, declaration, events, assignments, initial, always, instances, ModuleTree, SourceTree, fits_value, fits_optional, fits_range, fits_type, fits_parameter_type, fits_setting, fits_declared, fits_direction, fits_port, is_directed, fits_ports, fits_kind, fits_head_parameter, is_kind, fits_head_parameters, fits_connection, fits_connections, fits_overrides, fits_instance, fits_declaration_kind, are_some, fits_body, fits_item, fits_optional_parameters, fits_optional_ports, fits_module, DerivesWithin}
+use Rattle.vast.specs.Modules.{RangeTree, TypeTree, ParameterType, integer, typed, SettingTree, DeclaredTree, DirectionTree, input, output, PortTree, HeadParameter, ConnectionTree, ConnectionsTree, by_order, by_name, InstanceTree, DeclarationKind, variables, integers, directed, ItemTree, parameters, declaration, events, assignments, initial, always, instances, ModuleTree, SourceTree, fits_value, fits_optional, fits_range, fits_type, fits_parameter_type, fits_setting, fits_declared, fits_direction, fits_port, fits_behind, fits_ports, fits_kind, fits_head_parameter, is_kind, fits_head_parameters, fits_connection, fits_connections, fits_overrides, fits_instance, fits_declaration_kind, are_some, fits_names, fits_body, fits_item, fits_optional_parameters, fits_optional_ports, fits_module, DerivesWithin}
 use Rattle.vgrammar.proofs.LevelFacts.{within_more}
 
 both_more : (a b c d : Bool) → (a ≡ true → c ≡ true) → (b ≡ true → d ≡ true) → (a && b) ≡ true → (c && d) ≡ true
@@ -65,11 +65,13 @@ module _ (n m : ℕ) (fewer : n ≤ m) where
       both_more (fits_direction n tree.direction) (is_name tree.name) (fits_direction m tree.direction) (is_name tree.name)
       (direction_more tree.direction) (λ e. e) v
 
+  behind_more : (first : Option DirectionTree) (list : List PortTree) → fits_behind n first list ≡ true → fits_behind m first list ≡ true
+  behind_more None list v = v
+  behind_more (Some direction) list v = all_more (fits_port n) (fits_port m) port_more list v
+
   ports_more : (list : List PortTree) → fits_ports n list ≡ true → fits_ports m list ≡ true
   ports_more [] v = refl
-  ports_more (tree ∷ list) v =
-      same_and (is_directed tree.direction) (list_all (fits_port n) (tree ∷ list)) (list_all (fits_port m) (tree ∷ list))
-      (all_more (fits_port n) (fits_port m) port_more (tree ∷ list)) v
+  ports_more (tree ∷ list) v = behind_more tree.direction (tree ∷ list) v
 
   kind_more : (tree : Option ParameterType) → fits_kind n tree ≡ true → fits_kind m tree ≡ true
   kind_more None v = refl
@@ -107,6 +109,12 @@ module _ (n m : ℕ) (fewer : n ≤ m) where
   declaration_more : (tree : DeclarationKind) → fits_declaration_kind n tree ≡ true → fits_declaration_kind m tree ≡ true
   declaration_more (variables kind tree) v = type_more tree v
   declaration_more integers v = refl
+  declaration_more (directed direction) v = direction_more (Some direction) v
+
+  names_more : (kind : DeclarationKind) (list : List DeclaredTree) → fits_names n kind list ≡ true → fits_names m kind list ≡ true
+  names_more (variables kind tree) list v = some_more (fits_declared n) (fits_declared m) declared_more list v
+  names_more integers list v = some_more (fits_declared n) (fits_declared m) declared_more list v
+  names_more (directed direction) list v = v
 
   body_more : (tree : StatementTree) → fits_body n tree ≡ true → fits_body m tree ≡ true
   body_more tree v =
@@ -121,9 +129,8 @@ module _ (n m : ℕ) (fewer : n ≤ m) where
       both_more (fits_parameter_type n kind) (are_some (fits_setting n) list) (fits_parameter_type m kind)
       (are_some (fits_setting m) list) (parameter_type_more kind) (settings_more list) v
   item_more (declaration kind list) v =
-      both_more (fits_declaration_kind n kind) (are_some (fits_declared n) list) (fits_declaration_kind m kind)
-      (are_some (fits_declared m) list) (declaration_more kind)
-      (some_more (fits_declared n) (fits_declared m) declared_more list) v
+      both_more (fits_declaration_kind n kind) (fits_names n kind list) (fits_declaration_kind m kind)
+      (fits_names m kind list) (declaration_more kind) (names_more kind list) v
   item_more (events names) v = v
   item_more (assignments list) v = settings_more list v
   item_more (initial body) v = body_more body v

@@ -14,7 +14,7 @@ use Rattle.vgrammar.specs.declared.start.StatementStart.{StatementStart}
 use Rattle.vgrammar.specs.declared.start.StatementStart.TheVariants as start
 use Rattle.vgrammar.specs.Parts.{Both, both, made, paired, worded, maybe, roomy}
 use Rattle.vgrammar.specs.Starts.{start_of, begins_target, is_target, is_some_meaning, meant_if, sign_of}
-use Rattle.vgrammar.specs.Statements.{value, word_only, optional_delay, assignment_of, assignment_parts, assignment, target_lead, target, guarded, if_of, guarded_of, setting, for_of, delayed_of, event_body_of, block_of, has_default, branch_of, default_branch, branch, case_parts_of, case_parts, arguments, print_of, optional_print_of, dump_file_of, dump_vars_of, dump_of, end_of, trigger_of, statement_by, lead_by, statement, ends_statement}
+use Rattle.vgrammar.specs.Statements.{value, word_only, optional_delay, assignment_of, assignment_parts, assignment, target_lead, target, guarded, if_of, guarded_of, setting, for_of, delayed_of, event_body_of, block_of, has_default, branch_of, default_branch, branch, case_parts_of, case_parts, arguments, print_of, optional_print_of, dump_file_of, dump_vars_of, dump_of, end_of, trigger_of, statement_by, lead_by, statement, ends_statement, block_name}
 use Rattle.vgrammar.proofs.PartPhrases.{arguments_inner_phrase, arguments_phrase}
 use Rattle.vgrammar.proofs.StatementPhrases.{signed_phrase, assignment_phrase}
 use Rattle.vgrammar.proofs.StatementLevels.{statement_phrase, statement_leads}
@@ -33,12 +33,14 @@ statement_open n level start.Forever = room_open ends_statement n _ level (state
 statement_open n level start.For = room_open ends_statement n _ level (statement_leads n start.For)
 statement_open n level start.Delay = room_open ends_statement n _ level (statement_leads n start.Delay)
 statement_open n level start.Event = room_open ends_statement n _ level (statement_leads n start.Event)
-statement_open n level (start.Print printing.Display) = lead_open ends_statement _
-    (statement_leads n (start.Print printing.Display))
-statement_open n level (start.Print printing.Strobe) = lead_open ends_statement _
-    (statement_leads n (start.Print printing.Strobe))
-statement_open n level (start.Print printing.Monitor) = room_open ends_statement n _ level
-    (statement_leads n (start.Print printing.Monitor))
+statement_open n level (start.Print (printing.Display base)) = lead_open ends_statement _
+    (statement_leads n (start.Print (printing.Display base)))
+statement_open n level (start.Print (printing.Write base)) = lead_open ends_statement _
+    (statement_leads n (start.Print (printing.Write base)))
+statement_open n level (start.Print (printing.Strobe base)) = lead_open ends_statement _
+    (statement_leads n (start.Print (printing.Strobe base)))
+statement_open n level (start.Print (printing.Monitor base)) = room_open ends_statement n _ level
+    (statement_leads n (start.Print (printing.Monitor base)))
 statement_open n level start.DumpFile = room_open ends_statement n _ level (statement_leads n start.DumpFile)
 statement_open n level start.DumpVars = lead_open ends_statement _ (statement_leads n start.DumpVars)
 statement_open n level (start.Dump kind) = lead_open ends_statement _ (statement_leads n (start.Dump kind))
@@ -134,11 +136,14 @@ module _ (below : ℕ) (g : Growth (statement below) (statement (up below))) whe
   rising {r = r} {m = m} l h = room_rises below r m (λ level. (h level).rises)
       (room_keep ends_statement (up below) m (some_left below) l)
 
+  block_name_growth : Growth block_name block_name
+  block_name_growth = maybe_growth (is_front (codes ":")) (past_growth (codes ":") (worded_growth (meant_if is_name)))
+
   leads_rise : (kind : StatementStart) → LeadGrows (statement_by below read kind) (statement_by (up below) more kind)
   leads_rise start.Empty = λ words. refl
   leads_rise start.Begin =
-      (made_growth block_of
-      (paired_growth (many_growth (λ next. not (is_front (codes "end") next)) (λ list. g)) (only_growth (codes "end")))).rises
+      (made_growth block_of (paired_growth block_name_growth
+      (paired_growth (many_growth (λ next. not (is_front (codes "end") next)) (λ list. g)) (only_growth (codes "end"))))).rises
   leads_rise start.Trigger = rising (statement_leads (up below) start.Trigger)
       (λ level. made_growth trigger_of (paired_growth (worded_growth (meant_if is_name))
       (only_growth (codes ";"))))
@@ -159,12 +164,14 @@ module _ (below : ℕ) (g : Growth (statement below) (statement (up below))) whe
       (λ level. made_growth delayed_of (paired_growth (amount_growth below level) g))
   leads_rise start.Event = rising (statement_leads (up below) start.Event)
       (λ level. made_growth event_body_of (paired_growth control_growth g))
-  leads_rise (start.Print printing.Display) =
-      (made_growth (optional_print_of printing.Display) (optional_growth optional_arguments)).rises
-  leads_rise (start.Print printing.Strobe) =
-      (made_growth (optional_print_of printing.Strobe) (optional_growth optional_arguments)).rises
-  leads_rise (start.Print printing.Monitor) = rising (statement_leads (up below) (start.Print printing.Monitor))
-      (λ level. made_growth (print_of printing.Monitor)
+  leads_rise (start.Print (printing.Display base)) =
+      (made_growth (optional_print_of (printing.Display base)) (optional_growth optional_arguments)).rises
+  leads_rise (start.Print (printing.Write base)) =
+      (made_growth (optional_print_of (printing.Write base)) (optional_growth optional_arguments)).rises
+  leads_rise (start.Print (printing.Strobe base)) =
+      (made_growth (optional_print_of (printing.Strobe base)) (optional_growth optional_arguments)).rises
+  leads_rise (start.Print (printing.Monitor base)) = rising (statement_leads (up below) (start.Print (printing.Monitor base)))
+      (λ level. made_growth (print_of (printing.Monitor base))
       (paired_growth (arguments_growth below level) (only_growth (codes ";"))))
   leads_rise start.DumpFile = rising (statement_leads (up below) start.DumpFile)
       (λ level. made_growth dump_file_of (past_growth (codes "(")

@@ -8,6 +8,7 @@ use Rattle.vast.specs.Words.{Text, is_name, is_string, reserved_words}
 use Rattle.vast.specs.Expressions.{ExpressionTree, fits_expression, depth}
 use Rattle.vast.specs.Statements.{TargetTree, whole, bit, part, joined, TaskTree, print, dump_file, dump_vars, dump, end_run, StatementTree, empty, block, assign, nonblocking, trigger, if_true, if_else, case_of, while_true, repeat_times, forever, for_loop, wait_for, delay, event, task, StatementTrees, no_statement, first_statement, BranchTree, BranchTrees, no_branch, first_branch, spell_target, spell_statement, target_depth, statement_depth, fits_target, fits_statement}
 use Rattle.vast.specs.declared.statement.CaseKind.TheVariants as case_kind
+use Rattle.vast.specs.declared.statement.Base.TheVariants as bases
 use Rattle.vast.specs.declared.statement.Printing.TheVariants as printing
 use Rattle.vast.specs.declared.statement.Dumping.TheVariants as dumping
 use Rattle.vast.proofs.ExpressionLemmas.{depth_positive}
@@ -58,9 +59,22 @@ start_found start.Forever = refl
 start_found start.For = refl
 start_found start.Delay = refl
 start_found start.Event = refl
-start_found (start.Print printing.Display) = refl
-start_found (start.Print printing.Strobe) = refl
-start_found (start.Print printing.Monitor) = refl
+start_found (start.Print (printing.Display bases.Decimal)) = refl
+start_found (start.Print (printing.Display bases.Binary)) = refl
+start_found (start.Print (printing.Display bases.Octal)) = refl
+start_found (start.Print (printing.Display bases.Hexadecimal)) = refl
+start_found (start.Print (printing.Write bases.Decimal)) = refl
+start_found (start.Print (printing.Write bases.Binary)) = refl
+start_found (start.Print (printing.Write bases.Octal)) = refl
+start_found (start.Print (printing.Write bases.Hexadecimal)) = refl
+start_found (start.Print (printing.Strobe bases.Decimal)) = refl
+start_found (start.Print (printing.Strobe bases.Binary)) = refl
+start_found (start.Print (printing.Strobe bases.Octal)) = refl
+start_found (start.Print (printing.Strobe bases.Hexadecimal)) = refl
+start_found (start.Print (printing.Monitor bases.Decimal)) = refl
+start_found (start.Print (printing.Monitor bases.Binary)) = refl
+start_found (start.Print (printing.Monitor bases.Octal)) = refl
+start_found (start.Print (printing.Monitor bases.Hexadecimal)) = refl
 start_found start.DumpFile = refl
 start_found start.DumpVars = refl
 start_found (start.Dump dumping.On) = refl
@@ -86,9 +100,22 @@ no_target start.Forever = refl
 no_target start.For = refl
 no_target start.Delay = refl
 no_target start.Event = refl
-no_target (start.Print printing.Display) = refl
-no_target (start.Print printing.Strobe) = refl
-no_target (start.Print printing.Monitor) = refl
+no_target (start.Print (printing.Display bases.Decimal)) = refl
+no_target (start.Print (printing.Display bases.Binary)) = refl
+no_target (start.Print (printing.Display bases.Octal)) = refl
+no_target (start.Print (printing.Display bases.Hexadecimal)) = refl
+no_target (start.Print (printing.Write bases.Decimal)) = refl
+no_target (start.Print (printing.Write bases.Binary)) = refl
+no_target (start.Print (printing.Write bases.Octal)) = refl
+no_target (start.Print (printing.Write bases.Hexadecimal)) = refl
+no_target (start.Print (printing.Strobe bases.Decimal)) = refl
+no_target (start.Print (printing.Strobe bases.Binary)) = refl
+no_target (start.Print (printing.Strobe bases.Octal)) = refl
+no_target (start.Print (printing.Strobe bases.Hexadecimal)) = refl
+no_target (start.Print (printing.Monitor bases.Decimal)) = refl
+no_target (start.Print (printing.Monitor bases.Binary)) = refl
+no_target (start.Print (printing.Monitor bases.Octal)) = refl
+no_target (start.Print (printing.Monitor bases.Hexadecimal)) = refl
 no_target start.DumpFile = refl
 no_target start.DumpVars = refl
 no_target (start.Dump dumping.On) = refl
@@ -149,7 +176,7 @@ module _ (below : ℕ) (read : Reader StatementTree) (p : Phrase read ends_state
   worded tree v = statement_worded tree
 
   block_phrase : Phrase (block_parts read) ends_statement (parts.block_shape below read p)
-  block_phrase = loose (parts.block_phrase below read p worded no_end no_else)
+  block_phrase = loose (parts.block_phrase below read p worded no_end no_else no_colon)
 
   case_phrase : (level : nat_le 1 below ≡ true) →
       Phrase (case_parts below read) ends_statement (cases.case_shape below level read p worded no_colon)
@@ -178,13 +205,16 @@ module _ (below : ℕ) (read : Reader StatementTree) (p : Phrase read ends_state
   leads_by start.Event = lead_room ends_statement below 1 _
       (λ level. made_lead event_body_of (parts.event_phrase below read p level)
       (parts.event_example below read p level))
-  leads_by (start.Print printing.Display) = made_lead (optional_print_of printing.Display)
+  leads_by (start.Print (printing.Display base)) = made_lead (optional_print_of (printing.Display base))
       (loose (tasks.optional_print_phrase below))
       (tasks.optional_example (tasks.Arg below))
-  leads_by (start.Print printing.Strobe) = made_lead (optional_print_of printing.Strobe)
+  leads_by (start.Print (printing.Write base)) = made_lead (optional_print_of (printing.Write base))
       (loose (tasks.optional_print_phrase below))
       (tasks.optional_example (tasks.Arg below))
-  leads_by (start.Print printing.Monitor) = lead_room ends_statement below 1 _ (λ level. made_lead (print_of printing.Monitor)
+  leads_by (start.Print (printing.Strobe base)) = made_lead (optional_print_of (printing.Strobe base))
+      (loose (tasks.optional_print_phrase below))
+      (tasks.optional_example (tasks.Arg below))
+  leads_by (start.Print (printing.Monitor base)) = lead_room ends_statement below 1 _ (λ level. made_lead (print_of (printing.Monitor base))
       (loose (tasks.print_phrase below level)) (tasks.print_example below level))
   leads_by start.DumpFile = lead_room ends_statement below 1 _
       (λ level. made_lead dump_file_of (loose (tasks.dump_file_phrase below))
@@ -228,12 +258,14 @@ module _ (below : ℕ) (read : Reader StatementTree) (p : Phrase read ends_state
   sound_by start.Event = room_sound Out (codes "@") below 1 _
       (λ level. made_lead_sound event_body_of (codes "@") Out (parts.event_makes below read p level)
       (parts.event_phrase below read p level))
-  sound_by (start.Print printing.Display) = made_lead_sound (optional_print_of printing.Display) (codes "$display") Out
-      (tasks.optional_print_makes below printing.Display refl) (tasks.optional_print_phrase below)
-  sound_by (start.Print printing.Strobe) = made_lead_sound (optional_print_of printing.Strobe) (codes "$strobe") Out
-      (tasks.optional_print_makes below printing.Strobe refl) (tasks.optional_print_phrase below)
-  sound_by (start.Print printing.Monitor) = room_sound Out (codes "$monitor") below 1 _
-      (λ level. made_lead_sound (print_of printing.Monitor) (codes "$monitor") Out (tasks.print_makes below printing.Monitor)
+  sound_by (start.Print (printing.Display base)) = made_lead_sound (optional_print_of (printing.Display base)) (start_word (start.Print (printing.Display base))) Out
+      (tasks.optional_print_makes below (printing.Display base) refl) (tasks.optional_print_phrase below)
+  sound_by (start.Print (printing.Write base)) = made_lead_sound (optional_print_of (printing.Write base)) (start_word (start.Print (printing.Write base))) Out
+      (tasks.optional_print_makes below (printing.Write base) refl) (tasks.optional_print_phrase below)
+  sound_by (start.Print (printing.Strobe base)) = made_lead_sound (optional_print_of (printing.Strobe base)) (start_word (start.Print (printing.Strobe base))) Out
+      (tasks.optional_print_makes below (printing.Strobe base) refl) (tasks.optional_print_phrase below)
+  sound_by (start.Print (printing.Monitor base)) = room_sound Out (start_word (start.Print (printing.Monitor base))) below 1 _
+      (λ level. made_lead_sound (print_of (printing.Monitor base)) (start_word (start.Print (printing.Monitor base))) Out (tasks.print_makes below (printing.Monitor base))
       (tasks.print_phrase below level))
   sound_by start.DumpFile = room_sound Out (codes "$dumpfile") below 1 _
       (λ level. made_lead_sound dump_file_of (codes "$dumpfile") Out (tasks.dump_file_makes below level)
@@ -385,10 +417,10 @@ module _ (below : ℕ) (read : Reader StatementTree) (p : Phrase read ends_state
   two_level : (fits : Bool) → (fits && nat_le 2 (suc below)) ≡ true → nat_le 1 below ≡ true
   two_level fits v = sym (one_up 1 below) ∙ and_right fits _ v
 
-  block_read : (trees : StatementTrees) (rest : List Text) → Reads (block trees) rest
-  block_read trees rest =
-      subst (λ ts. Reads (block ts) rest) (statements_back trees)
-      (read_by start.Begin block_of (parts.block_makes below read p) block_phrase refl (both (statements_of trees) tt) rest)
+  block_read : (label : Option Text) (trees : StatementTrees) (rest : List Text) → Reads (block label trees) rest
+  block_read label trees rest =
+      subst (λ ts. Reads (block label ts) rest) (statements_back trees)
+      (read_by start.Begin block_of (parts.block_makes below read p) block_phrase refl (both label (both (statements_of trees) tt)) rest)
 
   case_read : (kind : _) (tree : ExpressionTree) (one : BranchTree) (more : BranchTrees) (rest : List Text) → nat_le 1 below
       ≡ true →
@@ -406,28 +438,36 @@ module _ (below : ℕ) (read : Reader StatementTree) (p : Phrase read ends_state
   no_branches a b c d e = false_true (and_right a false (and_left (a && false) b (and_left _ c (and_left _ d e))))
 
   task_read : (call : TaskTree) (rest : List Text) → Reads (task call) rest
-  task_read (print printing.Display []) rest =
-      read_by (start.Print printing.Display) (optional_print_of printing.Display)
-      (tasks.optional_print_makes below printing.Display refl)
+  task_read (print (printing.Display base) []) rest =
+      read_by (start.Print (printing.Display base)) (optional_print_of (printing.Display base))
+      (tasks.optional_print_makes below (printing.Display base) refl)
       (tasks.optional_print_phrase below) refl (both None tt) rest
-  task_read (print printing.Strobe []) rest =
-      read_by (start.Print printing.Strobe) (optional_print_of printing.Strobe)
-      (tasks.optional_print_makes below printing.Strobe refl)
+  task_read (print (printing.Write base) []) rest =
+      read_by (start.Print (printing.Write base)) (optional_print_of (printing.Write base))
+      (tasks.optional_print_makes below (printing.Write base) refl)
       (tasks.optional_print_phrase below) refl (both None tt) rest
-  task_read (print printing.Monitor []) rest = λ v c. absurd
+  task_read (print (printing.Strobe base) []) rest =
+      read_by (start.Print (printing.Strobe base)) (optional_print_of (printing.Strobe base))
+      (tasks.optional_print_makes below (printing.Strobe base) refl)
+      (tasks.optional_print_phrase below) refl (both None tt) rest
+  task_read (print (printing.Monitor base) []) rest = λ v c. absurd
       (false_true (and_left false true (and_left _ (nat_le (1 + 0) (suc below)) v)))
-  task_read (print printing.Display (one ∷ more)) rest =
-      read_by (start.Print printing.Display) (optional_print_of printing.Display)
-      (tasks.optional_print_makes below printing.Display refl)
+  task_read (print (printing.Display base) (one ∷ more)) rest =
+      read_by (start.Print (printing.Display base)) (optional_print_of (printing.Display base))
+      (tasks.optional_print_makes below (printing.Display base) refl)
       (tasks.optional_print_phrase below) refl (both (Some (both (both one more) tt)) tt) rest
-  task_read (print printing.Strobe (one ∷ more)) rest =
-      read_by (start.Print printing.Strobe) (optional_print_of printing.Strobe)
-      (tasks.optional_print_makes below printing.Strobe refl)
+  task_read (print (printing.Write base) (one ∷ more)) rest =
+      read_by (start.Print (printing.Write base)) (optional_print_of (printing.Write base))
+      (tasks.optional_print_makes below (printing.Write base) refl)
       (tasks.optional_print_phrase below) refl (both (Some (both (both one more) tt)) tt) rest
-  task_read (print printing.Monitor (one ∷ more)) rest = λ v c.
+  task_read (print (printing.Strobe base) (one ∷ more)) rest =
+      read_by (start.Print (printing.Strobe base)) (optional_print_of (printing.Strobe base))
+      (tasks.optional_print_makes below (printing.Strobe base) refl)
+      (tasks.optional_print_phrase below) refl (both (Some (both (both one more) tt)) tt) rest
+  task_read (print (printing.Monitor base) (one ∷ more)) rest = λ v c.
       let level = tasks.arguments_level below (both (both one more) tt)
-      (and_left _ true (sym ((tasks.print_makes below printing.Monitor).valid (both (both (both one more) tt) tt)) ∙ v)) in
-      room_read (start.Print printing.Monitor) (print_of printing.Monitor) (tasks.print_makes below printing.Monitor)
+      (and_left _ true (sym ((tasks.print_makes below (printing.Monitor base)).valid (both (both (both one more) tt) tt)) ∙ v)) in
+      room_read (start.Print (printing.Monitor base)) (print_of (printing.Monitor base)) (tasks.print_makes below (printing.Monitor base))
       (tasks.print_phrase below level) refl level (both (both (both one more) tt) tt) rest v c
   task_read (dump_file letters) rest = λ v c.
       let level = two_level (is_string letters) v in
@@ -455,7 +495,7 @@ module _ (below : ℕ) (read : Reader StatementTree) (p : Phrase read ends_state
   reading_complete empty rest v c =
       passed_over (is_target (Some (codes ";"))) (roomy below 1 (assignment below) (codes ";" ∷ rest)) _ (no_target start.Empty)
       ∙ ap (λ o. follow (lead_by below read o) (codes ";") rest) (start_found start.Empty)
-  reading_complete (block trees) rest v c = block_read trees rest v c
+  reading_complete (block label trees) rest v c = block_read label trees rest v c
   reading_complete (assign target wait right) rest v c =
       assigned (both target (both false (both wait (both right tt)))) rest target
       (and_left (fits_target target) _ (and_left _ (fits_expression right) (and_left _ _ v))) _ refl

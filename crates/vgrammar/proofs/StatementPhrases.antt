@@ -1,11 +1,11 @@
 -- Statements round others, behind their first words.
-use Rattle.std.proofs.Common.{◌≡◌, ℕ, suc, ◌+◌, ◌<◌, Bool, true, false, ◌&&◌, not, max, nat_le, List, [], ◌∷◌, ◌++◌, Option, None, Some, length, flat_map, refl, sym, ap, ◌∙◌, arith, subst, codes, zero-lt-suc}
+use Rattle.std.proofs.Common.{◌≡◌, ℕ, suc, ◌+◌, ◌<◌, Bool, true, false, ◌&&◌, not, max, nat_le, List, [], ◌∷◌, ◌++◌, Option, None, Some, length, flat_map, refl, sym, ap, ◌∙◌, arith, subst, codes, zero-lt-suc, append_assoc}
 use Rattle.std.proofs.lemmas.List.{append-nil}
 use Rattle.std.proofs.lemmas.Bool.Decides.{nat_tests}
-use Rattle.basis.proofs.Bools.{and_left, and_right, and_both}
+use Rattle.basis.proofs.Bools.{and_left, and_right, and_both, and_assoc}
 use Rattle.vast.specs.Words.{Text, is_name, reserved_words}
 use Rattle.vast.specs.Expressions.{ExpressionTree, spell_expression, fits_expression, depth}
-use Rattle.vast.specs.Statements.{TargetTree, DelayTree, EventTree, by_event, by_any, by_any_enclosed, by_terms, spell_target, spell_optional_delay, spell_event, delay_depth, optional_delay_depth, event_depth, target_depth, fits_target, fits_delay, fits_optional_delay, fits_event, StatementTree, empty, forever, spell_statement, spell_statements, statement_depth, statements_depth, ends_in_if, fits_statement, fits_statements}
+use Rattle.vast.specs.Statements.{TargetTree, DelayTree, EventTree, by_event, by_any, by_any_enclosed, by_terms, spell_target, spell_optional_delay, spell_event, delay_depth, optional_delay_depth, event_depth, target_depth, fits_target, fits_delay, fits_optional_delay, fits_event, StatementTree, empty, forever, spell_statement, spell_statements, statement_depth, statements_depth, ends_in_if, fits_statement, fits_statements, fits_block_name}
 use Rattle.vexpr_parse.specs.declared.beginning.Beginning.TheVariants as start
 use Rattle.vexpr_parse.specs.Readers.{got, Reader, front, is_front}
 use Rattle.vexpr_parse.specs.Words.{binary_of, unary_of, beginning_of, ends, ends_primary}
@@ -15,9 +15,9 @@ use Rattle.vgrammar.specs.declared.start.Guard.{Guard}
 use Rattle.vgrammar.specs.declared.start.Guard.TheVariants as guard
 use Rattle.vgrammar.specs.Parts.{Both, both, made, paired, worded}
 use Rattle.vgrammar.specs.Starts.{sign_of, sign_word, guard_word}
-use Rattle.vgrammar.specs.Statements.{value, named, word_only, amount, optional_delay, Assignment, assignment_of, assignment_parts, guarded, if_of, branches_of_if, guarded_of, setting, For, for_of, for_parts, delayed_of, control, event_body_of, statements_in, block_of, block_parts, trigger_of, ends_statement}
+use Rattle.vgrammar.specs.Statements.{value, named, word_only, amount, optional_delay, Assignment, assignment_of, assignment_parts, guarded, if_of, branches_of_if, guarded_of, setting, For, for_of, for_parts, delayed_of, control, event_body_of, statements_in, block_of, block_parts, trigger_of, ends_statement, Block, block_name, ended_statements}
 use Rattle.vgrammar.proofs.Phrases.{Shape, Phrase, Example, Worded, Opens, Makes, AreLinked, always, phrase_within, past_shape, past_phrase, past_example, nothing_phrase, worded_shape, worded_phrase, linked_shape, linked_phrase, paired_shape, before_phrase, paired_example, free_phrase, next_phrase}
-use Rattle.vgrammar.proofs.PhraseChoices.{maybe_shape, maybe_phrase, Tested, many_shape, many_phrase}
+use Rattle.vgrammar.proofs.PhraseChoices.{maybe_shape, maybe_phrase, Tested, many_shape, many_phrase, ends_maybe, allows_all}
 use Rattle.vgrammar.proofs.LevelFacts.{one_up, and_true}
 use Rattle.vgrammar.proofs.ValuePhrases.{value_shape, value_phrase, value_example, value_worded, nothing_example, only_shape, only_phrase, only_example, allows_each}
 use Rattle.vgrammar.proofs.TargetPhrases.{target_shape, target_phrase, target_example}
@@ -503,19 +503,55 @@ module _ (below : ℕ) (read : Reader StatementTree) (p : Phrase read ends_state
   abbrev not_end : Option Text → Bool
   not_end next = not (is_front (codes "end") next)
 
-  abbrev pub block_shape : Shape (Both (List StatementTree) (Unit {0}))
-  block_shape = paired_shape (many_shape not_end ends_statement S (λ list. S.valid)) (only_shape (codes "end"))
+  abbrev colon_next : Option Text → Bool
+  colon_next = is_front (codes ":")
 
-  pub block_phrase : Worded S → Tested (is_front (codes "end")) false S → Tested else_next false S →
-      Phrase (block_parts read) always block_shape
-  block_phrase some no_end no_else =
+  abbrev block_name_shape : Shape (Option Text)
+  block_name_shape = maybe_shape colon_next always (past_shape (codes ":") (text_shape is_name))
+
+  block_name_phrase : Phrase block_name (ends_maybe colon_next always) block_name_shape
+  block_name_phrase =
+      maybe_phrase colon_next (past_phrase (codes ":") named_phrase a_name) (λ letters v. zero-lt-suc _) (λ letters v rest. refl)
+
+  abbrev ended_shape : Shape (Both (List StatementTree) (Unit {0}))
+  ended_shape = paired_shape (many_shape not_end ends_statement S (λ list. S.valid)) (only_shape (codes "end"))
+
+  abbrev pub block_shape : Shape Block
+  block_shape = paired_shape block_name_shape ended_shape
+
+  ended_example : Example ended_shape
+  ended_example = record { tree = both [] tt; valid = refl }
+
+  ended_worded : Worded ended_shape
+  ended_worded (both list end) v = longer (flat_map spell_statement list)
+    where
+      longer : (words : List Text) → 0 < length (words ++ codes "end" ∷ [])
+      longer [] = zero-lt-suc _
+      longer (word ∷ words) = zero-lt-suc _
+
+  ended_opens : Tested colon_next false S → Opens (ends_maybe colon_next always) ended_shape
+  ended_opens no_colon (both [] end) v rest c = refl
+  ended_opens no_colon (both (tree ∷ more) end) v rest c =
+      let others = flat_map spell_statement more in
+      ap (λ words. not (colon_next (front words)))
+      (append_assoc (spell_statement tree ++ others) (codes "end" ∷ []) rest ∙ append_assoc (spell_statement tree) others (codes "end" ∷ rest))
+      ∙ ap not (no_colon tree (and_left (S.valid tree) _ (and_left _ true v)) (others ++ codes "end" ∷ rest))
+
+  ended_phrase : Worded S → Tested (is_front (codes "end")) false S → Tested else_next false S →
+      Phrase (ended_statements read) always ended_shape
+  ended_phrase some no_end no_else =
       before_phrase (codes "end")
       (many_phrase not_end (λ list. read) ends_statement S (λ list. S.valid) (λ list. p) (λ list tree v. some tree v)
       (λ list tree rest v. ap not (no_end tree v rest)) (λ list tree rest v. ap not (no_else tree v rest)))
       (nothing_phrase always) nothing_example refl
 
+  pub block_phrase : Worded S → Tested (is_front (codes "end")) false S → Tested else_next false S → Tested colon_next false S →
+      Phrase (block_parts read) always block_shape
+  block_phrase some no_end no_else no_colon =
+      next_phrase block_name_phrase (ended_phrase some no_end no_else) ended_example ended_worded (ended_opens no_colon)
+
   pub block_example : Example block_shape
-  block_example = record { tree = both [] tt; valid = refl }
+  block_example = record { tree = both None (both [] tt); valid = refl }
 
   pub block_makes : Makes block_of block_shape Out (codes "begin" ∷ [])
   block_makes = record {
@@ -529,12 +565,19 @@ module _ (below : ℕ) (read : Reader StatementTree) (p : Phrase read ends_state
       all_spelled [] = refl
       all_spelled (tree ∷ more) = ap (λ ws. spell_statement tree ++ ws) (all_spelled more)
 
-      spelled : (tree : Both (List StatementTree) (Unit {0})) → spell_statement (block_of tree)
-          ≡ codes "begin" ∷ block_shape.spell tree
-      spelled (both list end) = ap (λ ws. codes "begin" ∷ (ws ++ codes "end" ∷ [])) (all_spelled list)
+      spelled : (tree : Block) → spell_statement (block_of tree) ≡ codes "begin" ∷ block_shape.spell tree
+      spelled (both None (both list end)) = ap (λ ws. codes "begin" ∷ (ws ++ codes "end" ∷ [])) (all_spelled list)
+      spelled (both (Some letters) (both list end)) =
+          ap (λ ws. codes "begin" ∷ codes ":" ∷ letters ∷ (ws ++ codes "end" ∷ [])) (all_spelled list)
 
-      valid : (tree : Both (List StatementTree) (Unit {0})) → Out.valid (block_of tree) ≡ block_shape.valid tree
-      valid (both list end) =
+      named_first : (label : Option Text) → fits_block_name label ≡ block_name_shape.valid label
+      named_first None = refl
+      named_first (Some letters) = refl
+
+      listed : (list : List StatementTree) →
+          (fits_statements (statements_in list) && nat_le (1 + statements_depth (statements_in list)) (suc below))
+          ≡ (allows_all (λ l. S.valid) [] list && true)
+      listed list =
           ap (λ b. fits_statements (statements_in list) && b) (one_up (statements_depth (statements_in list)) below)
           ∙ all_within fits_statement statement_depth (λ l. fits_statements (statements_in l))
           (λ l. statements_depth (statements_in l)) refl refl
@@ -542,8 +585,13 @@ module _ (below : ℕ) (read : Reader StatementTree) (p : Phrase read ends_state
           ∙ sym (allows_each S.valid [] list)
           ∙ sym (and_true _)
 
-      closes : (tree : Both (List StatementTree) (Unit {0})) (next : Option Text) → block_shape.closes tree next ≡ true
-      closes (both list end) next = refl
+      valid : (tree : Block) → Out.valid (block_of tree) ≡ block_shape.valid tree
+      valid (both label (both list end)) =
+          and_assoc (fits_block_name label) (fits_statements (statements_in list)) _
+          ∙ (λ i. named_first label i && listed list i)
 
-      stops : (tree : Both (List StatementTree) (Unit {0})) (next : Option Text) → closes_statement (block_of tree) next ≡ true
-      stops (both list end) next = refl
+      closes : (tree : Block) (next : Option Text) → block_shape.closes tree next ≡ true
+      closes (both label (both list end)) next = refl
+
+      stops : (tree : Block) (next : Option Text) → closes_statement (block_of tree) next ≡ true
+      stops (both label (both list end)) next = refl

@@ -35,7 +35,7 @@ statement_closed tree next e = by_tests (ends_in_if tree) (is_front (codes "else
 -- a statement has words
 pub statement_worded : (tree : StatementTree) → 0 < length (spell_statement tree)
 statement_worded empty = omega arith
-statement_worded (block statements) = omega arith
+statement_worded (block label statements) = omega arith
 statement_worded (assign (whole letters) wait right) = omega arith
 statement_worded (assign (bit letters index) wait right) = omega arith
 statement_worded (assign (part letters one other) wait right) = omega arith
@@ -69,7 +69,7 @@ statement_worded (task (end_run stops number)) = omega arith
 -- a statement has a level
 pub statement_deep : (tree : StatementTree) → 0 < statement_depth tree
 statement_deep empty = omega arith
-statement_deep (block statements) = omega arith
+statement_deep (block label statements) = omega arith
 statement_deep (assign target wait right) = omega arith
 statement_deep (nonblocking target wait right) = omega arith
 statement_deep (trigger letters) = omega arith

@@ -54,9 +54,10 @@ arguments_within below one more =
     (one ∷ more)
 
 some_arguments : (kind : Printing) (one : ArgumentTree) (more : List ArgumentTree) → fits_print kind (one ∷ more) ≡ true
-some_arguments printing.Display one more = refl
-some_arguments printing.Strobe one more = refl
-some_arguments printing.Monitor one more = one_within (length more)
+some_arguments (printing.Display base) one more = refl
+some_arguments (printing.Write base) one more = refl
+some_arguments (printing.Strobe base) one more = refl
+some_arguments (printing.Monitor base) one more = one_within (length more)
 
 module _ (below : ℕ) where
   abbrev Out : Shape StatementTree

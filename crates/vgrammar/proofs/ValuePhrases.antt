@@ -142,7 +142,8 @@ more_behind text {read = read} {ends = ends} {s = s} p e opens =
     same text = text_same text
 
 -- one, and others behind commas
-pub list_phrase : {A : Type 0} {read more : Reader A} {ends : Ends} {s t : Shape A} → Phrase read ends s → Phrase more ends t →
+pub list_phrase : {A B : Type 0} {read : Reader A} {more : Reader B} {ends : Ends} {s : Shape A} {t : Shape B} → Phrase read ends s →
+    Phrase more ends t →
     Example t →
     ends (Some (codes ",")) ≡ true →
     Phrase (paired read (many comma (λ list. past (codes ",") more))) (ends_many comma ends)

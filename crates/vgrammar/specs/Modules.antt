@@ -4,7 +4,7 @@ use Rattle.std.specs.Prelude.{ℕ, Bool, true, false, not, List, [], ◌∷◌, 
 use Rattle.vast.specs.Words.{Text}
 use Rattle.vast.specs.Expressions.{ExpressionTree}
 use Rattle.vast.specs.Statements.{StatementTree}
-use Rattle.vast.specs.Modules.{RangeTree, TypeTree, ParameterType, integer, typed, SettingTree, DeclaredTree, DirectionTree, input, output, PortTree, HeadParameter, ConnectionTree, ConnectionsTree, by_order, by_name, InstanceTree, variables, integers, ItemTree, parameters, declaration, events, assignments, initial, always, instances, ModuleTree, SourceTree, net_word, parameter_word}
+use Rattle.vast.specs.Modules.{RangeTree, TypeTree, ParameterType, integer, typed, SettingTree, DeclaredTree, DirectionTree, input, output, PortTree, HeadParameter, ConnectionTree, ConnectionsTree, by_order, by_name, InstanceTree, variables, integers, directed, ItemTree, parameters, declaration, events, assignments, initial, always, instances, ModuleTree, SourceTree, net_word, parameter_word}
 use Rattle.vast.specs.declared.module.NetKind.{NetKind}
 use Rattle.vast.specs.declared.module.NetKind.TheVariants as net
 use Rattle.vexpr_parse.specs.Readers.{Reader, past, is_front}
@@ -104,13 +104,31 @@ instance_behind levels = made instance_of (paired named (connections levels))
 abbrev pub overrides : ℕ → Reader (Option ConnectionsTree)
 overrides levels = maybe (is_front (codes "#")) (past (codes "#") (connections levels))
 
+-- Which way ports go
+
+abbrev pub net_of : Text → Option NetKind
+net_of word = written net_word (net.Wire ∷ net.Reg ∷ []) word
+
+abbrev pub Direction : Type 0
+Direction = Either (Both (Option (Unit {0})) TypeTree) (Both (Option NetKind) TypeTree)
+
+abbrev pub direction_of : Direction → DirectionTree
+direction_of (one_way (both wire tree)) = input (is_there wire) tree
+direction_of (other_way (both kind tree)) = output kind tree
+
+abbrev pub direction : ℕ → Reader DirectionTree
+direction levels =
+    made direction_of (either (is_front (codes "input"))
+    (past (codes "input") (paired (maybe (is_front (codes "wire")) (word_only (codes "wire"))) (type levels)))
+    (past (codes "output") (paired (maybe (is_meant net_of) (worded net_of)) (type levels))))
+
+abbrev pub is_direction : Option Text → Bool
+is_direction = is_meant (λ word. written (λ text. text) (codes "input" ∷ codes "output" ∷ []) word)
+
 -- Items. Each stands behind its first word.
 
 abbrev pub ended : {A : Type 0} → Reader A → Reader (Both (List_of A) (Unit {0}))
 ended read = paired (comma_list read) (word_only (codes ";"))
-
-abbrev pub net_of : Text → Option NetKind
-net_of word = written net_word (net.Wire ∷ net.Reg ∷ []) word
 
 abbrev pub local_of : Text → Option Bool
 local_of word = written parameter_word (false ∷ true ∷ []) word
@@ -126,6 +144,19 @@ Variables = Both NetKind (Both TypeTree (Both (List_of DeclaredTree) (Unit {0}))
 
 abbrev pub variables_of : Variables → ItemTree
 variables_of (both kind (both tree (both list end))) = declaration (variables kind tree) (listed_of list)
+
+abbrev pub alone_of : Text → DeclaredTree
+alone_of letters = record { name = letters; value = None }
+
+-- a name without a value
+abbrev pub alone : Reader DeclaredTree
+alone = made alone_of named
+
+abbrev pub Directed : Type 0
+Directed = Both DirectionTree (Both (List_of DeclaredTree) (Unit {0}))
+
+abbrev pub directed_of : Directed → ItemTree
+directed_of (both tree (both list end)) = declaration (directed tree) (listed_of list)
 
 abbrev pub integers_of : Both (List_of DeclaredTree) (Unit {0}) → ItemTree
 integers_of (both list end) = declaration integers (listed_of list)
@@ -144,29 +175,32 @@ instances_of (both letters (both tree (both list end))) = instances letters tree
 
 abbrev pub Item : Type 0
 Item =
-    Either Parameters (Either Variables (Either (Both (List_of DeclaredTree) (Unit {0})) (Either (Both (List_of Text) (Unit {0}))
-    (Either (Both (List_of SettingTree) (Unit {0})) (Either StatementTree (Either StatementTree Instances))))))
+    Either Parameters (Either Variables (Either Directed (Either (Both (List_of DeclaredTree) (Unit {0}))
+    (Either (Both (List_of Text) (Unit {0}))
+    (Either (Both (List_of SettingTree) (Unit {0})) (Either StatementTree (Either StatementTree Instances)))))))
 
 abbrev pub item_of : Item → ItemTree
 item_of (one_way tree) = parameters_of tree
 item_of (other_way (one_way tree)) = variables_of tree
-item_of (other_way (other_way (one_way tree))) = integers_of tree
-item_of (other_way (other_way (other_way (one_way tree)))) = events_of tree
-item_of (other_way (other_way (other_way (other_way (one_way tree))))) = assignments_of tree
-item_of (other_way (other_way (other_way (other_way (other_way (one_way tree)))))) = initial tree
-item_of (other_way (other_way (other_way (other_way (other_way (other_way (one_way tree))))))) = always tree
-item_of (other_way (other_way (other_way (other_way (other_way (other_way (other_way tree))))))) = instances_of tree
+item_of (other_way (other_way (one_way tree))) = directed_of tree
+item_of (other_way (other_way (other_way (one_way tree)))) = integers_of tree
+item_of (other_way (other_way (other_way (other_way (one_way tree))))) = events_of tree
+item_of (other_way (other_way (other_way (other_way (other_way (one_way tree)))))) = assignments_of tree
+item_of (other_way (other_way (other_way (other_way (other_way (other_way (one_way tree))))))) = initial tree
+item_of (other_way (other_way (other_way (other_way (other_way (other_way (other_way (one_way tree)))))))) = always tree
+item_of (other_way (other_way (other_way (other_way (other_way (other_way (other_way (other_way tree)))))))) = instances_of tree
 
 abbrev pub item_parts : ℕ → Reader Item
 item_parts levels =
     either (is_meant local_of) (paired (worded local_of) (paired (parameter_type levels) (ended (setting levels))))
     (either (is_meant net_of) (paired (worded net_of) (paired (type levels) (ended (declared levels))))
+    (either is_direction (paired (direction levels) (ended alone))
     (either (is_front (codes "integer")) (past (codes "integer") (ended (declared levels)))
     (either (is_front (codes "event")) (past (codes "event") (ended named))
     (either (is_front (codes "assign")) (past (codes "assign") (ended (setting levels)))
     (either (is_front (codes "initial")) (past (codes "initial") (statement levels))
     (either (is_front (codes "always")) (past (codes "always") (statement levels))
-    (paired named (paired (overrides levels) (ended (instance_behind levels))))))))))
+    (paired named (paired (overrides levels) (ended (instance_behind levels)))))))))))
 
 abbrev pub item : ℕ → Reader ItemTree
 item levels = made item_of (item_parts levels)
@@ -192,46 +226,43 @@ head_parameters levels =
     past (codes "(") (paired (paired (first_parameter levels)
     (many (is_front (codes ",")) (λ list. past (codes ",") (head_parameter levels)))) (word_only (codes ")")))
 
-abbrev pub Direction : Type 0
-Direction = Either (Both (Option (Unit {0})) TypeTree) (Both (Option NetKind) TypeTree)
-
-abbrev pub direction_of : Direction → DirectionTree
-direction_of (one_way (both wire tree)) = input (is_there wire) tree
-direction_of (other_way (both kind tree)) = output kind tree
-
-abbrev pub direction : ℕ → Reader DirectionTree
-direction levels =
-    made direction_of (either (is_front (codes "input"))
-    (past (codes "input") (paired (maybe (is_front (codes "wire")) (word_only (codes "wire"))) (type levels)))
-    (past (codes "output") (paired (maybe (is_meant net_of) (worded net_of)) (type levels))))
-
-abbrev pub is_direction : Option Text → Bool
-is_direction = is_meant (λ word. written (λ text. text) (codes "input" ∷ codes "output" ∷ []) word)
-
 abbrev pub first_port_of : Both DirectionTree Text → PortTree
 first_port_of (both tree letters) = record { direction = Some tree; name = letters }
 
 abbrev pub port_of : Both (Option DirectionTree) Text → PortTree
 port_of (both tree letters) = record { direction = tree; name = letters }
 
-abbrev pub first_port : ℕ → Reader PortTree
-first_port levels = made first_port_of (paired (direction levels) named)
-
 abbrev pub port : ℕ → Reader PortTree
 port levels = made port_of (paired (maybe is_direction (direction levels)) named)
 
-abbrev pub Ports : Type 0
-Ports = Either (Unit {0}) (Both (List_of PortTree) (Unit {0}))
+abbrev pub named_port_of : Text → PortTree
+named_port_of letters = record { direction = None; name = letters }
 
-abbrev pub ports_of : Ports → List PortTree
+-- a port that an item declares
+abbrev pub named_port : Reader PortTree
+named_port = made named_port_of named
+
+-- behind one port, more, up to )
+abbrev pub PortsBehind : Type 0 → Type 0
+PortsBehind A = Both (Both A (List PortTree)) (Unit {0})
+
+abbrev pub ports_behind : {A : Type 0} → Reader A → Reader PortTree → Reader (PortsBehind A)
+ports_behind first read = paired (paired first (many (is_front (codes ",")) (λ list. past (codes ",") read))) (word_only (codes ")"))
+
+abbrev pub PortList : Type 0
+PortList = Either (PortsBehind (Both DirectionTree Text)) (PortsBehind Text)
+
+-- ports with their directions, or names alone
+abbrev pub port_list : ℕ → Reader PortList
+port_list levels = either is_direction (ports_behind (paired (direction levels) named) (port levels)) (ports_behind named named_port)
+
+abbrev pub ports_of : Either (Unit {0}) PortList → List PortTree
 ports_of (one_way end) = []
-ports_of (other_way (both list end)) = listed_of list
+ports_of (other_way (one_way (both (both first more) end))) = first_port_of first ∷ more
+ports_of (other_way (other_way (both (both letters more) end))) = named_port_of letters ∷ more
 
 abbrev pub ports : ℕ → Reader (List PortTree)
-ports levels =
-    made ports_of (past (codes "(") (either (is_front (codes ")")) (word_only (codes ")"))
-    (paired (paired (first_port levels) (many (is_front (codes ",")) (λ list. past (codes ",") (port levels))))
-    (word_only (codes ")")))))
+ports levels = made ports_of (past (codes "(") (either (is_front (codes ")")) (word_only (codes ")")) (port_list levels)))
 
 abbrev pub head_list_of : Both (List_of HeadParameter) (Unit {0}) → List HeadParameter
 head_list_of (both list end) = listed_of list

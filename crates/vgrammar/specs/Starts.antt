@@ -6,6 +6,7 @@ use Rattle.vast.specs.Statements.{case_word, edge_word, print_word, dump_word, e
 use Rattle.vast.specs.declared.statement.CaseKind.TheVariants as case_kind
 use Rattle.vast.specs.declared.statement.Edge.{Edge}
 use Rattle.vast.specs.declared.statement.Edge.TheVariants as edge
+use Rattle.vast.specs.declared.statement.Base.TheVariants as bases
 use Rattle.vast.specs.declared.statement.Printing.TheVariants as printing
 use Rattle.vast.specs.declared.statement.Dumping.TheVariants as dumping
 use Rattle.vexpr_parse.specs.Words.{written}
@@ -41,8 +42,17 @@ statement_starts =
     start.Empty ∷ start.Begin ∷ start.Trigger ∷ start.If ∷ start.Case case_kind.Exact
     ∷ start.Case case_kind.Z ∷ start.Case case_kind.X
     ∷ start.Guarded guard.While ∷ start.Guarded guard.Repeat ∷ start.Guarded guard.Wait ∷ start.Forever ∷ start.For ∷ start.Delay
-    ∷ start.Event ∷ start.Print printing.Display ∷ start.Print printing.Strobe ∷ start.Print printing.Monitor ∷ start.DumpFile
-    ∷ start.DumpVars ∷ start.Dump dumping.On ∷ start.Dump dumping.Off ∷ start.Dump dumping.All ∷ start.Dump dumping.Flush
+    ∷ start.Event
+    ∷ start.Print (printing.Display bases.Decimal) ∷ start.Print (printing.Display bases.Binary)
+    ∷ start.Print (printing.Display bases.Octal) ∷ start.Print (printing.Display bases.Hexadecimal)
+    ∷ start.Print (printing.Write bases.Decimal) ∷ start.Print (printing.Write bases.Binary)
+    ∷ start.Print (printing.Write bases.Octal) ∷ start.Print (printing.Write bases.Hexadecimal)
+    ∷ start.Print (printing.Strobe bases.Decimal) ∷ start.Print (printing.Strobe bases.Binary)
+    ∷ start.Print (printing.Strobe bases.Octal) ∷ start.Print (printing.Strobe bases.Hexadecimal)
+    ∷ start.Print (printing.Monitor bases.Decimal) ∷ start.Print (printing.Monitor bases.Binary)
+    ∷ start.Print (printing.Monitor bases.Octal) ∷ start.Print (printing.Monitor bases.Hexadecimal)
+    ∷ start.DumpFile ∷ start.DumpVars
+    ∷ start.Dump dumping.On ∷ start.Dump dumping.Off ∷ start.Dump dumping.All ∷ start.Dump dumping.Flush
     ∷ start.End true ∷ start.End false ∷ []
 
 -- what a statement's first word begins, if it isn't an assignment

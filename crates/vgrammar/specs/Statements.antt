@@ -197,11 +197,21 @@ abbrev pub statements_in : List StatementTree → StatementTrees
 statements_in [] = no_statement
 statements_in (tree ∷ more) = first_statement tree (statements_in more)
 
-abbrev pub block_of : Both (List StatementTree) (Unit {0}) → StatementTree
-block_of (both list end) = block (statements_in list)
+-- the name of a block, and its statements before end
+abbrev pub Block : Type 0
+Block = Both (Option Text) (Both (List StatementTree) (Unit {0}))
 
-abbrev pub block_parts : Reader StatementTree → Reader (Both (List StatementTree) (Unit {0}))
-block_parts read = paired (many (λ next. not (is_front (codes "end") next)) (λ list. read)) (word_only (codes "end"))
+abbrev pub block_of : Block → StatementTree
+block_of (both label (both list end)) = block label (statements_in list)
+
+abbrev pub block_name : Reader (Option Text)
+block_name = maybe (is_front (codes ":")) (past (codes ":") named)
+
+abbrev pub ended_statements : Reader StatementTree → Reader (Both (List StatementTree) (Unit {0}))
+ended_statements read = paired (many (λ next. not (is_front (codes "end") next)) (λ list. read)) (word_only (codes "end"))
+
+abbrev pub block_parts : Reader StatementTree → Reader Block
+block_parts read = paired block_name (ended_statements read)
 
 -- Cases
 
@@ -270,15 +280,16 @@ abbrev pub optional_print_of : Printing → Both (Option Arguments) (Unit {0}) �
 optional_print_of kind (both None end) = task (print kind [])
 optional_print_of kind (both (Some (both (both one more) closing)) end) = task (print kind (one ∷ more))
 
+abbrev pub optional_print : ℕ → Printing → Lead StatementTree
+optional_print below kind =
+    goes (made (optional_print_of kind) (paired (maybe (is_front (codes "(")) (roomy below 1 (arguments below))) (word_only (codes ";"))))
+
 abbrev pub print_lead : ℕ → Printing → Lead StatementTree
-print_lead below printing.Monitor = room below 1
-    (goes (made (print_of printing.Monitor) (paired (arguments below) (word_only (codes ";")))))
-print_lead below printing.Display =
-    goes (made (optional_print_of printing.Display) (paired (maybe (is_front (codes "(")) (roomy below 1 (arguments below)))
-    (word_only (codes ";"))))
-print_lead below printing.Strobe =
-    goes (made (optional_print_of printing.Strobe) (paired (maybe (is_front (codes "(")) (roomy below 1 (arguments below)))
-    (word_only (codes ";"))))
+print_lead below (printing.Display base) = optional_print below (printing.Display base)
+print_lead below (printing.Write base) = optional_print below (printing.Write base)
+print_lead below (printing.Strobe base) = optional_print below (printing.Strobe base)
+print_lead below (printing.Monitor base) = room below 1
+    (goes (made (print_of (printing.Monitor base)) (paired (arguments below) (word_only (codes ";")))))
 
 abbrev pub dump_file_of : Both Text (Unit {0}) → StatementTree
 dump_file_of (both letters end) = task (dump_file letters)

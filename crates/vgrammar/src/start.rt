@@ -2,11 +2,12 @@
 
 ghost use Rattle.std.specs.Prelude.{◌≡◌};
 ghost use Rattle.std.specs.Str.{bytes_eq};
-ghost use Rattle.vast.specs.Statements.{case_word as case_text, print_word as print_text, dump_word as dump_text};
+ghost use Rattle.vast.specs.Statements.{dump_word as dump_text};
 ghost use Rattle.vexpr_parse.specs.Words.{written};
 ghost use Rattle.vgrammar.specs.Starts.{guard_word as guard_text, start_word as start_text, start_of as start_of_text, begins_target as begins_target_text};
 
-use vast::statement::{CaseKind, Dumping, Printing};
+use vast::statement::{Base, CaseKind, Dumping, Printing};
+use vast::statement_parts_spelling::{case_word, print_word};
 use vast::words::is_name;
 
 /// What the first word of a statement begins, unless it begins what an assignment writes to (IEEE 1364-2005, A.6.4).
@@ -32,7 +33,7 @@ pub enum StatementStart {
     Delay,
     /// `@`
     Event,
-    /// `$display`, `$strobe` or `$monitor`
+    /// `$display`, and the like
     Print(Printing),
     /// `$dumpfile`
     DumpFile,
@@ -55,7 +56,7 @@ pub enum Guard {
     Wait,
 }
 
-static STARTS: [StatementStart; 25] = [
+static STARTS: [StatementStart; 38] = [
     StatementStart::Empty,
     StatementStart::Begin,
     StatementStart::Trigger,
@@ -70,9 +71,22 @@ static STARTS: [StatementStart; 25] = [
     StatementStart::For,
     StatementStart::Delay,
     StatementStart::Event,
-    StatementStart::Print(Printing::Display),
-    StatementStart::Print(Printing::Strobe),
-    StatementStart::Print(Printing::Monitor),
+    StatementStart::Print(Printing::Display(Base::Decimal)),
+    StatementStart::Print(Printing::Display(Base::Binary)),
+    StatementStart::Print(Printing::Display(Base::Octal)),
+    StatementStart::Print(Printing::Display(Base::Hexadecimal)),
+    StatementStart::Print(Printing::Write(Base::Decimal)),
+    StatementStart::Print(Printing::Write(Base::Binary)),
+    StatementStart::Print(Printing::Write(Base::Octal)),
+    StatementStart::Print(Printing::Write(Base::Hexadecimal)),
+    StatementStart::Print(Printing::Strobe(Base::Decimal)),
+    StatementStart::Print(Printing::Strobe(Base::Binary)),
+    StatementStart::Print(Printing::Strobe(Base::Octal)),
+    StatementStart::Print(Printing::Strobe(Base::Hexadecimal)),
+    StatementStart::Print(Printing::Monitor(Base::Decimal)),
+    StatementStart::Print(Printing::Monitor(Base::Binary)),
+    StatementStart::Print(Printing::Monitor(Base::Octal)),
+    StatementStart::Print(Printing::Monitor(Base::Hexadecimal)),
     StatementStart::DumpFile,
     StatementStart::DumpVars,
     StatementStart::Dump(Dumping::On),
@@ -83,16 +97,6 @@ static STARTS: [StatementStart; 25] = [
     StatementStart::End(false),
 ];
 
-fn case_word(kind: CaseKind) -> &'static [u8]
-    ensures { result.now ≡ case_text kind }
-{
-    match kind {
-        CaseKind::Exact => b"case",
-        CaseKind::Z => b"casez",
-        CaseKind::X => b"casex",
-    }
-}
-
 fn guard_word(kind: Guard) -> &'static [u8]
     ensures { result.now ≡ guard_text kind }
 {
@@ -100,16 +104,6 @@ fn guard_word(kind: Guard) -> &'static [u8]
         Guard::While => b"while",
         Guard::Repeat => b"repeat",
         Guard::Wait => b"wait",
-    }
-}
-
-fn print_word(kind: Printing) -> &'static [u8]
-    ensures { result.now ≡ print_text kind }
-{
-    match kind {
-        Printing::Display => b"$display",
-        Printing::Strobe => b"$strobe",
-        Printing::Monitor => b"$monitor",
     }
 }
 

@@ -19,7 +19,7 @@ use Rattle.velab_expr.specs.Rules.{told, broken_at, IsBroken}
 use Rattle.velab_expr.proofs.ListLemmas.{drop_at}
 use Rattle.velab_expr.proofs.AnswerLemmas.{still_refused}
 use Rattle.vhierarchy.proofs.StepLemmas.{barred, first_refused}
-use Rattle.vhierarchy.specs.Instances.{barring, faultless, Part, Context, nothing, top_context, elaborate_instance, elaborate_top, design_by, broken_design, Whole, checked, whole_of, elaborated_whole, as_design, elaborated, Elaborates}
+use Rattle.vhierarchy.specs.Instances.{barring, faultless, Part, Context, nothing, top_context, elaborate_instance, elaborate_top, design_by, broken_design, Whole, checked, whole_of, broken_ports, unbroken, top_whole, elaborated_whole, as_design, elaborated, Elaborates}
 use Rattle.vhierarchy.specs.Reasons.{IsDesignReason, IsOnlyDesign, HasNoDesign}
 use Rattle.vhierarchy.specs.Inner.{variable_names, scope_names}
 
@@ -84,19 +84,24 @@ module _ (tree : SourceTree) (top : Option Text) (scale : Timescale) where
   modules_doubled e h = first_refused (elaborated_whole tree top) (λ whole. Ok (design_by scale whole.unit whole.part)) e (barred Doubled (first_again (module_names tree)) _ e h)
 
   module _ (differ : first_again (module_names tree) ≡ None) where
-    abbrev with_top : Option ModuleTree → Result Design ElabFault
-    with_top unit = as_design scale (found unit Top (rival_of tree top) >>= λ m. whole_of tree m)
+    ports_first : elaborated tree top scale ≡ as_design scale (unbroken (broken_ports tree) (top_whole tree top))
+    ports_first = ap (λ (w : Option Word). as_design scale (barring w Doubled (unbroken (broken_ports tree) (top_whole tree top)))) differ
 
-    topped : (unit : Option ModuleTree) → top_of tree top ≡ unit → elaborated tree top scale ≡ with_top unit
-    topped unit is =
-        ap (λ (w : Option Word). as_design scale (barring w Doubled (found (top_of tree top) Top (rival_of tree top) >>= λ m. whole_of tree m))) differ
-        ∙ ap (λ (u : Option ModuleTree). with_top u) is
+    pub ports_broken : (e : OrMemory ElabFault) → Because (IsBroken (broken_ports tree)) e → Refuses e (elaborated tree top scale)
+    ports_broken (Fault fault) h = ports_first ∙ ap (λ (b : Option ElabFault). as_design scale (unbroken b (top_whole tree top))) h
+    ports_broken (Memory memory) h = tt
 
-    pub top_missing : top_of tree top ≡ None → elaborated tree top scale ≡ Err (told Top (rival_of tree top))
-    top_missing is = topped None is
+    pub ports_sound : broken_ports tree ≡ None → elaborated tree top scale ≡ as_design scale (top_whole tree top)
+    ports_sound none = ports_first ∙ ap (λ (b : Option ElabFault). as_design scale (unbroken b (top_whole tree top))) none
 
-    pub top_found : (m : ModuleTree) → top_of tree top ≡ Some m → elaborated tree top scale ≡ as_design scale (whole_of tree m)
-    top_found m is = topped (Some m) is
+  abbrev with_top : Option ModuleTree → Result Design ElabFault
+  with_top unit = as_design scale (found unit Top (rival_of tree top) >>= λ m. whole_of tree m)
+
+  pub top_missing : top_of tree top ≡ None → as_design scale (top_whole tree top) ≡ Err (told Top (rival_of tree top))
+  top_missing is = ap (λ (u : Option ModuleTree). with_top u) is
+
+  pub top_found : (m : ModuleTree) → top_of tree top ≡ Some m → as_design scale (top_whole tree top) ≡ as_design scale (whole_of tree m)
+  top_found m is = ap (λ (u : Option ModuleTree). with_top u) is
 
 -- ---- what an answer says
 

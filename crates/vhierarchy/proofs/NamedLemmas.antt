@@ -1,6 +1,6 @@
 -- The names of a design are names where those of its text are: paths of the grammar's names, one for each variable.
 use Rattle.std.proofs.Common.{◌≡◌, ◌≢◌, ℕ, zero, suc, ◌<◌, ◌+◌, Bool, true, false, ◌&&◌, ◌||◌, ◌==◌, not, List, [], ◌∷◌, ◌++◌, map, length, Option, Some, None, Result, Ok, Err, refl, sym, ap, subst, ◌∙◌, true≢false, arith}
-use Rattle.std.specs.Prelude.{slice_get, cond, nat_le, filter, option_map}
+use Rattle.std.specs.Prelude.{slice_get, cond, if◌then◌else◌, is_some, nat_le, filter, option_map}
 use Rattle.std.specs.List.{list_all, find}
 use Rattle.std.specs.Option.{option_or}
 use Rattle.std.specs.Str.{bytes_eq}
@@ -11,22 +11,22 @@ use Rattle.basis.specs.declared.timescale.Timescale.{Timescale}
 use Rattle.basis.specs.Letters.{begins_name, is_in_name}
 use Rattle.vast.specs.Words.{Text, is_name, is_reserved}
 use Rattle.vast.specs.Names.{has_letters_of_name, is_path_from, is_path}
-use Rattle.vast.specs.Modules.{DerivesText, SourceTree as PlainTree, fits, fits_module, fits_item, fits_declared, fits_optional, fits_optional_parameters, fits_optional_ports, fits_port, fits_direction, fits_declaration_kind, fits_overrides, fits_instance, fits_connections, is_directed, are_some}
+use Rattle.vast.specs.Modules.{DerivesText, SourceTree as PlainTree, fits, fits_module, fits_item, fits_declared, fits_optional, fits_optional_parameters, fits_optional_ports, fits_port, fits_direction, fits_declaration_kind, fits_overrides, fits_instance, fits_connections, fits_names, fits_behind, is_named_port, is_directed, are_some}
 use Rattle.vast.specs.NumberedWords.{Word}
-use Rattle.vast.specs.NumberedModules.{ConnectionsTree, InstanceTree, ItemTree, parameters, declaration, variables, integers, events, assignments, initial, always, instances, DeclarationKind, DirectionTree, input, output, PortTree, ModuleTree, SourceTree, RangeTree, DeclaredTree}
+use Rattle.vast.specs.NumberedModules.{ConnectionsTree, InstanceTree, ItemTree, parameters, declaration, variables, integers, directed, events, assignments, initial, always, instances, DeclarationKind, DirectionTree, input, output, PortTree, ModuleTree, SourceTree, RangeTree, DeclaredTree}
 use Rattle.vast.specs.NumberedTexts.{IsNumbered}
-use Rattle.vast.specs.TreeWords.{declared_with, instance_with, item_with, declaration_kind_with, connections_with, port_with, module_with, source_with}
+use Rattle.vast.specs.TreeWords.{declared_with, instance_with, item_with, declaration_kind_with, connections_with, direction_with, port_with, module_with, source_with}
 use Rattle.vmodules.specs.Names.{has_double, is_declared, letters_of, first_again}
 use Rattle.vmodules.specs.Connected.{open_names, misfit, misfit_if}
 use Rattle.vmodules.specs.Hierarchy.{instantiated_names, module_names, module_of, rival_of, roots, only_of, top_of}
-use Rattle.vmodules.specs.Ports.{Port, port_by, ports_behind, ports_listed, ports_of}
+use Rattle.vmodules.specs.Ports.{Port, port_by, ports_behind, direction_for, declared_port, ports_listed, ports_of, plain_names, own_names, own_item, own_items}
 use Rattle.vdesign.specs.Named.{AreNamed}
 use Rattle.vdesign.specs.Design.{Variable, Design}
 use Rattle.vdesign.specs.declared.design.Kind.{Kind}
 use Rattle.vdesign.specs.declared.design.Kind.TheVariants.{Integer}
 use Rattle.velab_expr.specs.Scopes.{Scope}
 use Rattle.velab_expr.specs.Symbols.{behind_item, symbols_by}
-use Rattle.velab_declaration.specs.Variables.{port_names, ScopeDrivers, Declaration, all_declared, kind_of, declared_as, declarations_of, port_declaration, variable_in, form_of, variables_in, lower_kind, lower_declaration, lower_variables, lower_ports}
+use Rattle.velab_declaration.specs.Variables.{port_names, ScopeDrivers, Declaration, all_declared, kind_of, declared_as, declarations_of, port_declaration, variable_in, form_of, variables_in, variables_as, lower_kind, lower_declaration, lower_variables, lower_again, port_scope, lower_ports}
 use Rattle.velab_declaration.specs.declared.variable.Form.{Form}
 use Rattle.velab_expr.specs.Answers.{◌>>=◌, provided, required, found}
 use Rattle.velab_expr.specs.Ranges.{lower_bounds}
@@ -36,7 +36,7 @@ use Rattle.velab_expr.specs.declared.fault.Rule.{Rule}
 use Rattle.velab_expr.specs.declared.fault.Rule.TheVariants.{Doubled, Drivers, Ports, TooMany, Top}
 use Rattle.velab_expr.specs.Rules.{broken_if}
 use Rattle.velab_expr.proofs.FaultLemmas.{first_right}
-use Rattle.vhierarchy.specs.Instances.{barring, faultless, Instantiation, instantiation_by, lower_instance, lower_list, named_again, lower_instances_of, lower_instances_by, lower_instances, Part, Context, lower_names, driven_by, scope_drivers_by, lower_own_variables, lower_own_processes, with_own, few_enough, lower_own, child_context, each, elaborate_instance, nothing, top_context, elaborate_top, variable_paths, design_by, broken_paths, broken_table, broken_design, Whole, checked, whole_of, elaborated_whole, as_design, Elaborates}
+use Rattle.vhierarchy.specs.Instances.{barring, faultless, Instantiation, instantiation_by, lower_instance, lower_list, named_again, lower_instances_of, lower_instances_by, lower_instances, Part, Context, lower_names, driven_by, scope_drivers_by, lower_own_variables, lower_own_processes, with_own, few_enough, lower_own, child_context, each, elaborate_instance, nothing, top_context, elaborate_top, variable_paths, design_by, broken_paths, broken_table, broken_design, Whole, checked, whole_of, broken_ports, unbroken, top_whole, elaborated_whole, as_design, Elaborates}
 
 -- ---- letters and paths
 
@@ -128,9 +128,15 @@ all_declared_named kind signed range (one ∷ more) fit =
     (and_left (is_name one.name.letters) (fits_optional 64 plain.value) (and_left (fits_declared 64 plain) (list_all (fits_declared 64) rest) fit))
     (all_declared_named kind signed range more (and_right (fits_declared 64 plain) (list_all (fits_declared 64) rest) fit))
 
-kind_named : (kind : DeclarationKind) (list : List DeclaredTree) → list_all (fits_declared 64) (map (declared_with letters_in) list) ≡ true → list_all is_name (names (declared_as kind list)) ≡ true
-kind_named (variables word type) list fit = all_declared_named (kind_of word) type.signed type.range list fit
-kind_named integers list fit = all_declared_named Integer true None list fit
+kind_named : (kind : DeclarationKind) (list : List DeclaredTree) → fits_names 64 (declaration_kind_with letters_in kind) (map (declared_with letters_in) list) ≡ true →
+    list_all is_name (names (declared_as kind list)) ≡ true
+kind_named (variables word type) list fit =
+    all_declared_named (kind_of word) type.signed type.range list
+    (and_right (nat_le 1 (length (map (declared_with letters_in) list))) (list_all (fits_declared 64) (map (declared_with letters_in) list)) fit)
+kind_named integers list fit =
+    all_declared_named Integer true None list
+    (and_right (nat_le 1 (length (map (declared_with letters_in) list))) (list_all (fits_declared 64) (map (declared_with letters_in) list)) fit)
+kind_named (directed direction) list fit = refl
 
 instances_named : (list : List InstanceTree) → list_all (fits_instance 64) (map (instance_with letters_in) list) ≡ true → list_all is_name (map (λ (one : InstanceTree). one.name.letters) list) ≡ true
 instances_named [] fit = refl
@@ -147,8 +153,7 @@ item_named (declaration kind declared) fit =
     let plain = map (declared_with letters_in) declared in
     and_both (list_all is_name (names (declared_as kind declared))) true
     (kind_named kind declared
-    (and_right (nat_le 1 (length plain)) (list_all (fits_declared 64) plain)
-    (and_right (fits_declaration_kind 64 (declaration_kind_with letters_in kind)) (are_some (fits_declared 64) plain) fit)))
+    (and_right (fits_declaration_kind 64 (declaration_kind_with letters_in kind)) (fits_names 64 (declaration_kind_with letters_in kind) plain) fit))
     refl
 item_named (events list) fit = refl
 item_named (assignments list) fit = refl
@@ -177,12 +182,31 @@ ports_named before (port ∷ more) fit =
     ∙ and_right (fits_direction 64 plain.direction) (is_name port.name.letters) (and_left (fits_port 64 plain) (list_all (fits_port 64) rest) fit))
     (ports_named (option_or port.direction before) more (and_right (fits_port 64 plain) (list_all (fits_port 64) rest) fit))
 
-listed_named : (list : Option (List PortTree)) → fits_optional_ports 64 (option_map (map (port_with letters_in)) list) ≡ true → list_all is_name (names (map port_declaration (ports_listed list))) ≡ true
-listed_named None fit = refl
-listed_named (Some []) fit = refl
-listed_named (Some (port ∷ more)) fit =
-    let plain = map (port_with letters_in) (port ∷ more) in
-    ports_named None (port ∷ more) (and_right (is_directed (port_with letters_in port).direction) (list_all (fits_port 64) plain) fit)
+-- ports that items declare have the names of the list
+plain_named : (items : List ItemTree) (list : List PortTree) → list_all is_named_port (map (port_with letters_in) list) ≡ true →
+    list_all is_name (names (map port_declaration (map (λ port. declared_port items port.name) list))) ≡ true
+plain_named items [] fit = refl
+plain_named items (port ∷ more) fit =
+    let plain = port_with letters_in port in
+    let rest = map (port_with letters_in) more in
+    and_both (is_name (declared_port items port.name).name.letters) (list_all is_name (names (map port_declaration (map (λ p. declared_port items p.name) more))))
+    (ap (λ (w : Word). is_name w.letters) (port_name (direction_for items port.name.letters) port.name)
+    ∙ and_right (not (is_directed plain.direction)) (is_name port.name.letters) (and_left (is_named_port plain) (list_all is_named_port rest) fit))
+    (plain_named items more (and_right (is_named_port plain) (list_all is_named_port rest) fit))
+
+listed_named : (items : List ItemTree) (list : Option (List PortTree)) → fits_optional_ports 64 (option_map (map (port_with letters_in)) list) ≡ true →
+    list_all is_name (names (map port_declaration (ports_listed items list))) ≡ true
+listed_named items None fit = refl
+listed_named items (Some []) fit = refl
+listed_named items (Some (port ∷ more)) fit = by port.direction fit
+  where
+    plain : List PortTree
+    plain = port ∷ more
+
+    by : (direction : Option DirectionTree) → fits_behind 64 (option_map (direction_with letters_in) direction) (map (port_with letters_in) plain) ≡ true →
+        list_all is_name (names (map port_declaration (if not (is_some direction) then map (λ p. declared_port items p.name) plain else ports_behind None plain))) ≡ true
+    by None e = plain_named items plain e
+    by (Some direction) e = ports_named None plain e
 
 module_fits : (m : ModuleTree) → fits_module 64 (module_with letters_in m) ≡ true → is_named m ≡ true
 module_fits m fit =
@@ -192,7 +216,7 @@ module_fits m fit =
     let front : (is_name m.name.letters && heads && ports_fit) ≡ true = and_left (is_name m.name.letters && heads && ports_fit) (list_all (fits_item 64) plain.items) fit in
     and_both (is_name m.name.letters) (ports_are_named m && list_all item_is_named m.items)
     (and_left (is_name m.name.letters) heads (and_left (is_name m.name.letters && heads) ports_fit front))
-    (and_both (ports_are_named m) (list_all item_is_named m.items) (listed_named m.ports (and_right (is_name m.name.letters && heads) ports_fit front))
+    (and_both (ports_are_named m) (list_all item_is_named m.items) (listed_named m.items m.ports (and_right (is_name m.name.letters && heads) ports_fit front))
     (passes (item_with letters_in) (fits_item 64) item_is_named item_named m.items (and_right (is_name m.name.letters && heads && ports_fit) (list_all (fits_item 64) plain.items) fit)))
 
 all_named : (tree : SourceTree) → fits 64 (source_with letters_in tree) ≡ true → list_all is_named tree ≡ true
@@ -322,15 +346,16 @@ module _ (drivers : ScopeDrivers) (e : is_path drivers.name ≡ true) where
       (dotted_is_path drivers.name one.name.letters e (and_left (is_name one.name.letters) (list_all is_name (names (all_declared kind signed range more))) all))
       (declared_paths form kind signed range more (and_right (is_name one.name.letters) (list_all is_name (names (all_declared kind signed range more))) all))
 
-  kind_paths : (form : Form) (kind : DeclarationKind) (list : List DeclaredTree) → list_all is_name (names (declared_as kind list)) ≡ true → all_paths (variables_in drivers form list) ≡ true
+  kind_paths : (form : Form) (kind : DeclarationKind) (list : List DeclaredTree) → list_all is_name (names (declared_as kind list)) ≡ true → all_paths (variables_as drivers form kind list) ≡ true
   kind_paths form (variables word type) list all = declared_paths form (kind_of word) type.signed type.range list all
   kind_paths form integers list all = declared_paths form Integer true None list all
+  kind_paths form (directed direction) list all = refl
 
   item_paths : (scope : Scope) (item : ItemTree) → list_all is_name (names (declarations_of item)) ≡ true → have_paths (lower_declaration drivers scope item) ≡ true
   item_paths scope (parameters local type settings) all = refl
   item_paths scope (declaration kind list) all = by (lower_kind scope kind)
     where
-      by : (a : Result Form ElabFault) → have_paths (a >>= λ form. Ok (variables_in drivers form list)) ≡ true
+      by : (a : Result Form ElabFault) → have_paths (a >>= λ form. Ok (variables_as drivers form kind list)) ≡ true
       by (Ok form) = kind_paths form kind list all
       by (Err fault) = refl
   item_paths scope (events list) all = refl
@@ -350,16 +375,64 @@ module _ (drivers : ScopeDrivers) (e : is_path drivers.name ≡ true) where
   port_paths : (scope : Scope) (ports : List Port) → list_all is_name (names (map port_declaration ports)) ≡ true → have_paths (lower_ports drivers scope ports) ≡ true
   port_paths scope [] all = refl
   port_paths scope (p ∷ ps) all =
-      by (lower_bounds scope p.type.range) (lower_ports drivers scope ps)
+      by (lower_bounds scope p.type.range) (λ bounds. lower_again scope p.again bounds) (lower_ports drivers scope ps)
       (port_paths scope ps (and_right (is_name p.name.letters) (list_all is_name (names (map port_declaration ps))) all))
     where
-      by : (a : Result (Option Bounds) ElabFault) (b : Result (List Variable) ElabFault) → have_paths b ≡ true →
+      whole : (a : Result (Option Bounds) ElabFault) (b : Result (List Variable) ElabFault) → have_paths b ≡ true →
           have_paths ((a >>= λ bounds. Ok (variable_in drivers (form_of p.net p.type.signed bounds) p.name.letters)) >>= λ one. b >>= λ others. Ok (one ∷ others)) ≡ true
-      by (Ok bounds) (Ok others) rest =
+      whole (Ok bounds) (Ok others) rest =
           and_both (is_path (drivers.name ++ 46 ∷ p.name.letters)) (all_paths others)
           (dotted_is_path drivers.name p.name.letters e (and_left (is_name p.name.letters) (list_all is_name (names (map port_declaration ps))) all)) rest
-      by (Ok bounds) (Err fault) rest = refl
-      by (Err fault) b rest = refl
+      whole (Ok bounds) (Err fault) rest = refl
+      whole (Err fault) b rest = refl
+
+      by : (a : Result (Option Bounds) ElabFault) (again : Option Bounds → Result (Option Bounds) ElabFault) (b : Result (List Variable) ElabFault) → have_paths b ≡ true →
+          have_paths ((a >>= λ bounds. again bounds >>= λ same. Ok (variable_in drivers (form_of p.net p.type.signed same) p.name.letters)) >>= λ one. b >>= λ others. Ok (one ∷ others)) ≡ true
+      by (Ok bounds) again b rest = whole (again bounds) b rest
+      by (Err fault) again b rest = refl
+
+-- without the ports of a list of names alone
+own_declared : (is_port : Text → Bool) (kind : Kind) (signed : Bool) (range : Option RangeTree) (list : List DeclaredTree) →
+    list_all is_name (names (all_declared kind signed range list)) ≡ true →
+    list_all is_name (names (all_declared kind signed range (filter (λ one. not (is_port one.name.letters)) list))) ≡ true
+own_declared is_port kind signed range [] all = refl
+own_declared is_port kind signed range (one ∷ more) all = by (is_port one.name.letters)
+  where
+    rest : List DeclaredTree
+    rest = filter (λ one. not (is_port one.name.letters)) more
+
+    later : list_all is_name (names (all_declared kind signed range rest)) ≡ true
+    later = own_declared is_port kind signed range more (and_right (is_name one.name.letters) (list_all is_name (names (all_declared kind signed range more))) all)
+
+    by : (b : Bool) → list_all is_name (names (all_declared kind signed range (if not b then one ∷ rest else rest))) ≡ true
+    by true = later
+    by false =
+        and_both (is_name one.name.letters) (list_all is_name (names (all_declared kind signed range rest)))
+        (and_left (is_name one.name.letters) (list_all is_name (names (all_declared kind signed range more))) all) later
+
+own_kind_named : (is_port : Text → Bool) (kind : DeclarationKind) (list : List DeclaredTree) → list_all is_name (names (declared_as kind list)) ≡ true →
+    list_all is_name (names (declared_as kind (own_names is_port kind list))) ≡ true
+own_kind_named is_port (variables word type) list all = own_declared is_port (kind_of word) type.signed type.range list all
+own_kind_named is_port integers list all = all
+own_kind_named is_port (directed direction) list all = refl
+
+own_item_named : (is_port : Text → Bool) (item : ItemTree) → item_is_named item ≡ true → item_is_named (own_item is_port item) ≡ true
+own_item_named is_port (parameters local type settings) all = all
+own_item_named is_port (declaration kind list) all =
+    and_both (list_all is_name (names (declared_as kind (own_names is_port kind list)))) true
+    (own_kind_named is_port kind list (and_left (list_all is_name (names (declared_as kind list))) true all)) refl
+own_item_named is_port (events list) all = all
+own_item_named is_port (assignments settings) all = all
+own_item_named is_port (initial statement) all = all
+own_item_named is_port (always statement) all = all
+own_item_named is_port (instances text overrides list) all = all
+
+own_items_named : (is_port : Text → Bool) (items : List ItemTree) → list_all item_is_named items ≡ true → list_all item_is_named (map (own_item is_port) items) ≡ true
+own_items_named is_port [] all = refl
+own_items_named is_port (item ∷ more) all =
+    and_both (item_is_named (own_item is_port item)) (list_all item_is_named (map (own_item is_port) more))
+    (own_item_named is_port item (and_left (item_is_named item) (list_all item_is_named more) all))
+    (own_items_named is_port more (and_right (item_is_named item) (list_all item_is_named more) all))
 
 -- where there is a part, its variables have paths
 abbrev part_paths : Result Part ElabFault → Bool
@@ -384,9 +457,12 @@ own_paths : (context : Context) (ports : List Port) (children : List Instantiati
 own_paths context ports children scope part e ports_named items_named before =
     let drivers : ScopeDrivers = scope_drivers_by context ports children scope in
     let own : have_paths (lower_own_variables context ports children scope) ≡ true =
-    barred_pass (λ (v : Variable). is_path v.name) (first_again (driven_by context ports children scope)) Drivers (lower_ports drivers scope ports >>= λ front. lower_variables drivers scope context.unit.items >>= λ others. Ok (front ++ others))
-    (both_pass (λ (v : Variable). is_path v.name) (lower_ports drivers scope ports) (λ front. lower_variables drivers scope context.unit.items) (port_paths drivers e scope ports ports_named)
-    (λ front. paths_from drivers e scope context.unit.items items_named)) in
+    barred_pass (λ (v : Variable). is_path v.name) (first_again (driven_by context ports children scope)) Drivers
+    (lower_ports drivers (port_scope context.unit scope) ports >>= λ front. lower_variables drivers scope (own_items context.unit) >>= λ others. Ok (front ++ others))
+    (both_pass (λ (v : Variable). is_path v.name) (lower_ports drivers (port_scope context.unit scope) ports) (λ front. lower_variables drivers scope (own_items context.unit))
+    (port_paths drivers e (port_scope context.unit scope) ports ports_named)
+    (λ front. paths_from drivers e scope (own_items context.unit)
+    (own_items_named (is_declared (letters_of (plain_names context.unit.ports))) context.unit.items items_named))) in
     then_paths (lower_own_variables context ports children scope) _
     (λ variables is. then_paths (lower_own_processes context ports scope part.table) _
     (λ processes given. few_paths context.name (with_own context scope part variables processes)
@@ -490,6 +566,10 @@ not_barred_is : {A : Type 0} (rule : Rule) (word : Option Word) (answer : Result
 not_barred_is rule None answer x is = is
 not_barred_is rule (Some word) answer x is = absurd cc
 
+unbroken_is : {A : Type 0} (broken : Option ElabFault) (answer : Result A ElabFault) (x : A) → unbroken broken answer ≡ Ok x → answer ≡ Ok x
+unbroken_is None answer x is = is
+unbroken_is (Some fault) answer x is = absurd cc
+
 module _ (tree : SourceTree) (all : list_all is_named tree ≡ true) (top : Option Text) (scale : Timescale) where
   found_named : (whole : Whole) (rival : Option Word) (unit : Option ModuleTree) → top_of tree top ≡ unit → (found unit Top rival >>= λ m. whole_of tree m) ≡ Ok whole →
       AreNamed (design_by scale whole.unit whole.part)
@@ -510,4 +590,4 @@ pub named_by : (words : List Text) (plain : PlainTree) (tree : SourceTree) (top 
 named_by words plain tree top scale design derives numbered elaborates =
     let all = all_named tree (ap (fits 64) numbered.is_tree ∙ derives.fitting) in
     design_is_named tree all top scale (elaborated_whole tree top) design
-    (λ whole is. found_named tree all top scale whole (rival_of tree top) (top_of tree top) refl (not_barred_is Doubled (first_again (module_names tree)) _ whole is)) elaborates
+    (λ whole is. found_named tree all top scale whole (rival_of tree top) (top_of tree top) refl (unbroken_is (broken_ports tree) (top_whole tree top) whole (not_barred_is Doubled (first_again (module_names tree)) _ whole is))) elaborates

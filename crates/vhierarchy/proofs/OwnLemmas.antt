@@ -5,7 +5,8 @@ use Rattle.basis.specs.Reasons.{Because}
 use Rattle.basis.specs.declared.memory.OrMemory.{OrMemory}
 use Rattle.vast.specs.Words.{Text}
 use Rattle.vast.specs.NumberedWords.{Word}
-use Rattle.vast.specs.NumberedTrees.{item_tree}
+use Rattle.vast.specs.NumberedModules.{ModuleTree}
+use Rattle.vast.specs.NumberedTrees.{module_tree}
 use Rattle.vast.specs.declared.module.ModuleItem.{ModuleItem}
 use Rattle.vdesign.specs.Design.{Variable}
 use Rattle.module_size.specs.Sizes.{module_size}
@@ -22,7 +23,8 @@ use Rattle.velab_expr.specs.Symbols.{Symbol, name_in}
 use Rattle.velab_expr.proofs.AnswerLemmas.{goes_behind, still_refused}
 use Rattle.velab_process.specs.Processes.{Processes, with_begins_before}
 use Rattle.velab_declaration.specs.Parameters.{Overrides, lower_meaning, with_meaning, add_symbol, add_symbols}
-use Rattle.velab_declaration.specs.Variables.{ScopeDrivers, lower_ports, lower_variables}
+use Rattle.velab_declaration.specs.Variables.{ScopeDrivers, port_scope, lower_ports, lower_variables}
+use Rattle.vmodules.specs.Ports.{own_items}
 use Rattle.vhierarchy.specs.Instances.{barring, Part, Context, scope_of, few_enough, with_own}
 use Rattle.vhierarchy.specs.Inner.{nets_driven, own_variables}
 use Rattle.vhierarchy.specs.declared.context.Context.{Context as ProgramContext}
@@ -78,10 +80,13 @@ module _ (words : List Text) (told : ProgramContext) (ports : List PortForm) (in
   abbrev drivers : List Text → ScopeDrivers
   drivers list = record { name = told.path.now; driven = list }
 
-  abbrev both : List Text → List ModuleItem → Result (List Variable) ElabFault
-  both list of_items =
-      lower_ports (drivers list) scope (map (port_form words) ports) >>= λ front.
-      lower_variables (drivers list) scope (map (item_tree words) of_items) >>= λ others. Ok (front ++ others)
+  abbrev unit : ModuleTree
+  unit = module_tree words told.unit.now
+
+  abbrev both : List Text → Result (List Variable) ElabFault
+  both list =
+      lower_ports (drivers list) (port_scope unit scope) (map (port_form words) ports) >>= λ front.
+      lower_variables (drivers list) scope (own_items unit) >>= λ others. Ok (front ++ others)
 
   abbrev all : Result (List Variable) ElabFault
   all = own_variables words told ports instantiation scope
@@ -89,20 +94,20 @@ module _ (words : List Text) (told : ProgramContext) (ports : List PortForm) (in
   pub drivers_refused : (e : OrMemory ElabFault) → Because (IsBroken (broken_at Drivers (first_again (nets one)))) e → Refuses e (behind before all)
   drivers_refused e h =
       first_refused all (λ more. Ok (before ++ more)) e
-      (barred Drivers (first_again (nets items)) (both (letters_of (nets items)) items) e
+      (barred Drivers (first_again (nets items)) (both (letters_of (nets items))) e
       (subst (λ (l : List ModuleItem). Because (IsBroken (broken_at Drivers (first_again (nets l)))) e) one_is h))
 
-  module _ (once : first_again (nets one) ≡ None) (driven : List Text) (driven_is : driven ≡ letters_of (nets one)) (two : List ModuleItem) (two_is : two ≡ told.unit.now.items.items) where
-    all_is : all ≡ both driven two
+  module _ (once : first_again (nets one) ≡ None) (driven : List Text) (driven_is : driven ≡ letters_of (nets one)) where
+    all_is : all ≡ both driven
     all_is =
-        ap (λ (w : Option Word). barring w Drivers (both (letters_of (nets items)) items)) (ap (λ (l : List ModuleItem). first_again (nets l)) (sym one_is) ∙ once)
-        ∙ (λ i. both (sym (driven_is ∙ ap (λ (l : List ModuleItem). letters_of (nets l)) one_is) i) (sym two_is i))
+        ap (λ (w : Option Word). barring w Drivers (both (letters_of (nets items)))) (ap (λ (l : List ModuleItem). first_again (nets l)) (sym one_is) ∙ once)
+        ∙ (λ i. both (sym (driven_is ∙ ap (λ (l : List ModuleItem). letters_of (nets l)) one_is) i))
 
     abbrev of_ports : Result (List Variable) ElabFault
-    of_ports = lower_ports (drivers driven) scope (map (port_form words) ports)
+    of_ports = lower_ports (drivers driven) (port_scope unit scope) (map (port_form words) ports)
 
     abbrev of_items : Result (List Variable) ElabFault
-    of_items = lower_variables (drivers driven) scope (map (item_tree words) two)
+    of_items = lower_variables (drivers driven) scope (own_items unit)
 
     pub ports_refused : (e : OrMemory ElabFault) → Refuses e (behind before of_ports) → Refuses e (behind before all)
     ports_refused = still_refused (behind before of_ports) (behind before all) (λ fault is. ap (behind before) all_is ∙ front_refused before of_ports of_items fault is)

@@ -1,6 +1,6 @@
 -- *trusted*: `Elaborates modules top scale design`: the design that a text stands for, by recursion over instances (IEEE 1364-2005,
 -- clause 12).
-use Rattle.std.specs.Prelude.{◌≡◌, ℕ, zero, suc, ◌+◌, nat_le, Bool, ◌&&◌, if◌then◌else◌, List, [], ◌∷◌, ◌++◌, map, length, Option, None, Some, Result, Ok, Err}
+use Rattle.std.specs.Prelude.{◌≡◌, ℕ, zero, suc, ◌+◌, nat_le, Bool, ◌&&◌, if◌then◌else◌, List, [], ◌∷◌, ◌++◌, map, length, Option, None, Some, option_map, Result, Ok, Err}
 use Rattle.std.specs.List.{flat_map, filter, filter_map}
 use Rattle.std.specs.Option.{option_or}
 use Rattle.basis.specs.declared.timescale.Timescale.{Timescale}
@@ -11,7 +11,10 @@ use Rattle.vast.specs.NumberedModules.{ConnectionsTree, InstanceTree, ItemTree, 
 use Rattle.module_size.specs.Sizes.{size_of, module_size}
 use Rattle.vmodules.specs.Names.{has_double, is_declared, letters_of, first_again}
 use Rattle.vmodules.specs.Hierarchy.{module_names, module_of, top_of, rival_of}
-use Rattle.vmodules.specs.Ports.{Port, ports_of}
+use Rattle.vmodules.specs.Ports.{Port, ports_of, own_items}
+use Rattle.vmodules.specs.Misdeclared.{misdeclared}
+use Rattle.vmodules.specs.declared.misdeclared.PortFlaw.{PortFlaw}
+use Rattle.vmodules.specs.declared.misdeclared.PortFlaw.TheVariants as flaw
 use Rattle.vmodules.specs.Connected.{NamedConnection, open_names, named_connections, named_connections_if, misfit, misfit_if, value_for}
 use Rattle.vdesign.specs.Design as design
 use Rattle.vdesign.specs.declared.action.Action.{Action}
@@ -21,7 +24,7 @@ use Rattle.velab_expr.specs.declared.fault.Rule.{Rule}
 use Rattle.velab_expr.specs.declared.fault.Rule.TheVariants as rule
 use Rattle.velab_expr.specs.declared.fault.ElabFault.{ElabFault}
 use Rattle.velab_expr.specs.Answers.{◌>>=◌, refused, required, provided, found, fault_of}
-use Rattle.velab_expr.specs.Rules.{unless, broken_if}
+use Rattle.velab_expr.specs.Rules.{told, unless, broken_if}
 use Rattle.velab_declaration.specs.Right.{kind_rule}
 use Rattle.velab_declaration.specs.ActionFlaws.{blank_environment, flaw_rule, table_fault}
 use Rattle.velab_expr.specs.Scopes.{Scope, at}
@@ -30,7 +33,7 @@ use Rattle.velab_process.specs.Connections.{only_name, lower_joins}
 use Rattle.velab_process.specs.Processes.{Processes, with_begins_before, lower_items}
 use Rattle.velab_process.specs.Statements.{Table}
 use Rattle.velab_declaration.specs.Parameters.{Overrides, Base, item_scope}
-use Rattle.velab_declaration.specs.Variables.{port_names, declared_names, ScopeDrivers, lower_ports, lower_variables, drivers_by, nets_of}
+use Rattle.velab_declaration.specs.Variables.{port_names, declared_names, ScopeDrivers, port_scope, lower_ports, lower_variables, drivers_by, nets_of}
 
 -- this answer, barring a word at which the rule is broken
 abbrev pub barring : {A : Type 0} → Option Word → Rule → Result A ElabFault → Result A ElabFault
@@ -225,7 +228,8 @@ module _ (context : Context) (ports : List Port) (children : List Instantiation)
   abbrev pub lower_own_variables : Result (List design.Variable) ElabFault
   lower_own_variables =
       none_again rule.Drivers driven_by
-      (lower_ports scope_drivers_by scope ports >>= λ front. lower_variables scope_drivers_by scope context.unit.items >>= λ others. Ok (front ++ others))
+      (lower_ports scope_drivers_by (port_scope context.unit scope) ports >>= λ front.
+      lower_variables scope_drivers_by scope (own_items context.unit) >>= λ others. Ok (front ++ others))
 
   -- with its own variables, its scope and its own processes
   abbrev pub lower_own : Part → Result Part ElabFault
@@ -366,11 +370,26 @@ checked m part = faultless (broken_design m.name part) (record { unit = m; part 
 abbrev pub whole_of : SourceTree → ModuleTree → Result Whole ElabFault
 whole_of modules m = elaborate_top modules m >>= λ part. checked m part
 
+-- 12.3.2, 12.3.3, 9.8.1: the rule that is broken by how items declare ports, or by the name of a block
+abbrev pub rule_of_port : PortFlaw → Rule
+rule_of_port flaw.Undeclared = rule.Unknown
+rule_of_port flaw.Doubled = rule.Doubled
+rule_of_port flaw.Input = rule.Kind
+
+abbrev pub broken_ports : SourceTree → Option ElabFault
+broken_ports modules = option_map (λ m. told (rule_of_port m.flaw) (Some m.word)) (misdeclared modules)
+
+-- this answer, where no fault was found before
+abbrev pub unbroken : {A : Type 0} → Option ElabFault → Result A ElabFault → Result A ElabFault
+unbroken None answer = answer
+unbroken (Some fault) answer = Err fault
+
 -- where there is no top, a second module that could be it is told
+abbrev pub top_whole : SourceTree → Option Text → Result Whole ElabFault
+top_whole modules top = found (top_of modules top) rule.Top (rival_of modules top) >>= λ m. whole_of modules m
+
 abbrev pub elaborated_whole : SourceTree → Option Text → Result Whole ElabFault
-elaborated_whole modules top =
-    none_again rule.Doubled (module_names modules)
-    (found (top_of modules top) rule.Top (rival_of modules top) >>= λ m. whole_of modules m)
+elaborated_whole modules top = none_again rule.Doubled (module_names modules) (unbroken (broken_ports modules) (top_whole modules top))
 
 abbrev pub as_design : Timescale → Result Whole ElabFault → Result design.Design ElabFault
 as_design scale answer = answer >>= λ whole. Ok (design_by scale whole.unit whole.part)

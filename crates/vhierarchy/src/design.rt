@@ -13,7 +13,7 @@ ghost use Rattle.velab_declaration.specs.Inner.{DoublesIn};
 ghost use Rattle.velab_expr.specs.Rules.{broken_if, IsBroken};
 ghost use Rattle.velab_expr.specs.Answers.{Gives};
 ghost use Rattle.vhierarchy.specs.Instances as spec;
-ghost use Rattle.vhierarchy.specs.Instances.{Elaborates, as_design, broken_paths, broken_table, checked, elaborate_top, whole_of};
+ghost use Rattle.vhierarchy.specs.Instances.{Elaborates, as_design, broken_paths, broken_ports, broken_table, checked, elaborate_top, top_whole, whole_of};
 ghost use Rattle.vhierarchy.specs.Reasons.{IsDesignReason, IsOnlyDesign, HasNoDesign};
 ghost use Rattle.vhierarchy.specs.Inner.{named_design, scope_names, variable_names};
 
@@ -39,6 +39,7 @@ use vlex::Tokens;
 use vmodules::connect::ConnectionMap;
 use vmodules::hierarchy::{Modules, modules_of, rival_of, top_of};
 use vmodules::letters::letters;
+use vmodules::misdeclared::{PortFlaw, check_names};
 use vmodules::names::Names;
 
 // The most levels of instances, the top among them.
@@ -224,6 +225,48 @@ fn modules_by<'t, 'u>(
     }
 }
 
+// The rule that is broken by how an item declares a port.
+fn rule_of_port(flaw: PortFlaw) -> Rule
+    ensures { result ≡ spec.rule_of_port flaw }
+{
+    match flaw {
+        PortFlaw::Undeclared => Rule::Unknown,
+        PortFlaw::Doubled => Rule::Doubled,
+        PortFlaw::Input => Rule::Kind,
+    }
+}
+
+// The ports that items declare, and the names of blocks. E302, E303 or E310 where something is wrong with them.
+fn check_declared_ports(alloc: Global, modules: &Modules<'_, '_>) -> Result<(), OrMemory<ElabFault>>
+    ensures right { OnOk result (broken_ports (units_tree modules.now) ≡ None) }
+    ensures err { IfFault result (IsBroken (broken_ports (units_tree modules.now))) }
+{
+    match check_names(alloc, modules) {
+        Ok(()) => Ok(()),
+        Err(OrMemory::Memory(none)) => Err(OrMemory::Memory(none)),
+        Err(OrMemory::Fault(wrong)) => Err(refused(rule_of_port(wrong.flaw), Some(wrong.at))),
+    }
+}
+
+// What the modules of a text are elaborated to, where nothing is wrong with the ports that items declare and the names of blocks.
+fn top_design<'t, 'u>(
+    alloc: Global,
+    modules: &Modules<'t, 'u>,
+    top: Option<&[u8]>,
+    scale: Timescale,
+) -> Result<Design, OrMemory<ElabFault>>
+    ensures { Gives result
+        (as_design scale (top_whole (units_tree modules.now) (named_text top.entry))) }
+{
+    match top_of(alloc, modules, top)? {
+        Some(unit) => design_of(alloc, modules, unit, scale),
+        None => {
+            let at = rival_of(alloc, modules, top)?;
+            Err(refused(Rule::Top, at))
+        }
+    }
+}
+
 // What the text is elaborated to.
 fn elaborated(
     alloc: Global,
@@ -236,13 +279,8 @@ fn elaborated(
         (named_text top.entry) scale) }
 {
     let modules = modules_by(alloc, tokens, &text.modules)?;
-    match top_of(alloc, &modules, top)? {
-        Some(unit) => design_of(alloc, &modules, unit, scale),
-        None => {
-            let at = rival_of(alloc, &modules, top)?;
-            Err(refused(Rule::Top, at))
-        }
-    }
+    check_declared_ports(alloc, &modules)?;
+    top_design(alloc, &modules, top, scale)
 }
 
 /// The design that the text stands for, under its timescale. `top` names its top module; without it the only module that no module

@@ -110,7 +110,7 @@ fn add_instance<'t>(
     ensures { OnOk result (driver_names into.new.items ≡
         driver_names into.old.items ++ outputs_by (words_of tokens.now) (instantiation.now ∷ [])) }
 {
-    let ports = ports_of(alloc, instantiation.child)?;
+    let ports = ports_of(alloc, tokens, instantiation.child)?;
     add_outputs(tokens, &instantiation.connections, &ports, into)
 }
 

@@ -38,7 +38,7 @@ pub fn put_unit<'t, 'u>(
         return Err(refused(Rule::Depth, Some(context.name.number)));
     }
     let tokens = modules.tokens();
-    let ports = ports_of(alloc, context.unit)?;
+    let ports = ports_of(alloc, tokens, context.unit)?;
     let known = known_names(alloc, tokens, part, context, &ports)?;
     let scope = known.growing.scope().at(known.head);
     let instantiation = instantiations_in(alloc, modules, known.head, &context.unit.items)?;

@@ -88,7 +88,7 @@ fn ports_for<'t>(
     ensures err { IfFault result (DoublesIn []
         (spec_port_names (module_tree (words_of tokens.now) child.now))) }
 {
-    let ports = ports_of(alloc, child)?;
+    let ports = ports_of(alloc, tokens, child)?;
     port_names(alloc, tokens, &ports)
 }
 

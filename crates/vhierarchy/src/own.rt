@@ -73,7 +73,7 @@ pub fn known_names<'t>(
         part.now.size + module_size (module_tree (words_of tokens.now) context.now.unit.now)) }
 {
     let first = part.variables.len();
-    let names = declared(alloc, tokens, ports, &context.unit.items)?;
+    let names = declared(alloc, tokens, ports, context.unit)?;
     let variables = names.len();
     if first > MOST_VARIABLES || variables > MOST_VARIABLES - first {
         return Err(refused(Rule::TooMany, Some(context.name.number)));
@@ -136,8 +136,8 @@ fn put_own_variables(
         name: context.path,
         driven,
     };
-    put_ports(alloc, tokens, &drivers, scope, ports, into)?;
-    put_variables(alloc, tokens, &drivers, scope, &context.unit.items, into)
+    put_ports(alloc, tokens, &drivers, scope, context.unit, ports, into)?;
+    put_variables(alloc, tokens, &drivers, scope, context.unit, into)
 }
 
 // The processes of an instance: those of its port connections, and its own. Errors: E303, E305, E306, E307, E310, E901.

@@ -10,7 +10,7 @@ use Rattle.vlex.specs.declared.form.Form.TheVariants.{Blank, Comment, Token}
 use Rattle.vlex.specs.declared.list.Span.{Span}
 use Rattle.vlex.specs.declared.bytes.Set.TheVariants.{Marks}
 use Rattle.vlex.specs.Bytes.{is_in}
-use Rattle.vlex.specs.Lexed.{Cut, IsFront, IsOpen, IsStuck, Lexed, Piece, Reaches, is_delay, seen, token_of}
+use Rattle.vlex.specs.Lexed.{Cut, IsFront, IsOpen, IsStuck, Lexed, Piece, words_of, Reaches, is_delay, readable, token_of}
 use Rattle.vlex.specs.Lexed.Cut.{done, piece}
 use Rattle.vlex.specs.Tokenized.{piece_at, AreInOrder, IsTokenAt}
 use Rattle.vlex.specs.Inner.{spans_of}
@@ -18,7 +18,7 @@ use Rattle.vlex.proofs.Pieces.{longest_of_front, same_length, same_form}
 use Rattle.vlex.proofs.Leads.{digit_no_blank}
 
 -- what is read of a text is a front of it
-pub seen_within : (delay : Bool) (text : List ℕ) → length (seen delay text) ≤ length text
+pub seen_within : (delay : Bool) (text : List ℕ) → length (readable delay text) ≤ length text
 seen_within false text = omega arith
 seen_within true [] = omega arith
 seen_within true (c ∷ cs) = by (is_ascii_digit c)
@@ -27,7 +27,7 @@ seen_within true (c ∷ cs) = by (is_ascii_digit c)
     by true = omega (arith, length-take (prefix_len (is_in Marks) (c ∷ cs)) (c ∷ cs))
     by false = omega arith
 
-pub seen_some : (delay : Bool) (text : List ℕ) → 0 < length text → 0 < length (seen delay text)
+pub seen_some : (delay : Bool) (text : List ℕ) → 0 < length text → 0 < length (readable delay text)
 seen_some false text some = some
 seen_some true [] some = some
 seen_some true (c ∷ cs) some = by (is_ascii_digit c) refl
@@ -39,7 +39,7 @@ seen_some true (c ∷ cs) some = by (is_ascii_digit c) refl
     by true is = subst (λ (m : Bool). 0 < length (take (cond m (1 + prefix_len (is_in Marks) cs) 0) (c ∷ cs))) (sym (mark is)) (omega (arith, length-take (1 + prefix_len (is_in Marks) cs) (c ∷ cs)))
     by false is = omega arith
 
-pub seen_front : (delay : Bool) (text : List ℕ) (len : ℕ) → len ≤ length (seen delay text) → take len (seen delay text) ≡ take len text
+pub seen_front : (delay : Bool) (text : List ℕ) (len : ℕ) → len ≤ length (readable delay text) → take len (readable delay text) ≡ take len text
 seen_front false text len le = refl
 seen_front true [] len le = refl
 seen_front true (c ∷ cs) len le = by (is_ascii_digit c) le
@@ -63,7 +63,7 @@ front_shut : (n c : ℕ) (cs : List ℕ) → is_ascii_digit c ≡ true → IsOpe
 front_shut zero c cs digit found = found
 front_shut (suc n) c cs digit found = digit_shut c (take n cs) digit found
 
-pub open_seen : (delay : Bool) (text : List ℕ) → IsOpen (seen delay text) → IsOpen text
+pub open_seen : (delay : Bool) (text : List ℕ) → IsOpen (readable delay text) → IsOpen text
 open_seen false text found = found
 open_seen true [] found = found
 open_seen true (c ∷ cs) found = by (is_ascii_digit c) refl found
@@ -72,7 +72,7 @@ open_seen true (c ∷ cs) found = by (is_ascii_digit c) refl found
     by true is found = absurd (front_shut (prefix_len (is_in Marks) (c ∷ cs)) c cs is found)
     by false is found = found
 
-pub seen_open : (delay : Bool) (text : List ℕ) → IsOpen text → IsOpen (seen delay text)
+pub seen_open : (delay : Bool) (text : List ℕ) → IsOpen text → IsOpen (readable delay text)
 seen_open false text found = found
 seen_open true [] found = found
 seen_open true (c ∷ cs) found = by (is_ascii_digit c) refl
@@ -89,7 +89,7 @@ record Begins (delay : Bool) (text : List ℕ) (pieces : List Piece) : Type 0 wh
   form : Form
   len : ℕ
   left : List Piece
-  front : IsFront (seen delay text) form len
+  front : IsFront (readable delay text) form len
   whole : pieces ≡ token_of form (take len text) ++ left
   rest : Cut (is_delay delay form (take len text)) (drop len text) left
 
@@ -102,20 +102,20 @@ pub ends_cut : (delay : Bool) (pieces : List Piece) → Cut delay [] pieces → 
 ends_cut delay pieces l =
     elim (cases_cut delay [] pieces l) [
       | inl ended ↦ ended.1
-      | inr begins ↦ absurd (omega (arith, begins.front.within, seen_within delay [], some_front (seen delay []) begins.form begins.len begins.front))
+      | inr begins ↦ absurd (omega (arith, begins.front.within, seen_within delay [], some_front (readable delay []) begins.form begins.len begins.front))
     ]
 
 -- a text with a piece at its head has no tokens but those behind it, with it in front
-pub take_piece : (delay : Bool) (text : List ℕ) (form : Form) (len : ℕ) (pieces : List Piece) → IsFront (seen delay text) form len → Cut delay text pieces
+pub take_piece : (delay : Bool) (text : List ℕ) (form : Form) (len : ℕ) (pieces : List Piece) → IsFront (readable delay text) form len → Cut delay text pieces
     → (left : List Piece) × ((pieces ≡ token_of form (take len text) ++ left) × Cut (is_delay delay form (take len text)) (drop len text) left)
 take_piece delay text form len pieces f l =
-    let here = longest_of_front (seen delay text) form len f in
+    let here = longest_of_front (readable delay text) form len f in
     elim (cases_cut delay text pieces l) [
-      | inl ended ↦ absurd (omega (arith, f.within, seen_within delay text, some_front (seen delay text) form len f, ap length ended.0))
+      | inl ended ↦ absurd (omega (arith, f.within, seen_within delay text, some_front (readable delay text) form len f, ap length ended.0))
       | inr begins ↦
-          let there = longest_of_front (seen delay text) begins.form begins.len begins.front in
-          let same_len : begins.len ≡ len = same_length (seen delay text) begins.form form begins.len len there here in
-          let same : begins.form ≡ form = same_form (seen delay text) begins.form form begins.len len there here in
+          let there = longest_of_front (readable delay text) begins.form begins.len begins.front in
+          let same_len : begins.len ≡ len = same_length (readable delay text) begins.form form begins.len len there here in
+          let same : begins.form ≡ form = same_form (readable delay text) begins.form form begins.len len there here in
           let P : ℕ → Type 0 = λ k. Cut (is_delay delay begins.form (take k text)) (drop k text) begins.left in
           let Q : Form → Type 0 = λ x. Cut (is_delay delay x (take len text)) (drop len text) begins.left in (
             begins.left,
@@ -127,7 +127,7 @@ take_piece delay text form len pieces f l =
     ]
 
 -- a text without one has none
-pub stuck_cut : (delay : Bool) (text : List ℕ) (pieces : List Piece) → 0 < length text → IsStuck (seen delay text) → Cut delay text pieces → ⊥
+pub stuck_cut : (delay : Bool) (text : List ℕ) (pieces : List Piece) → 0 < length text → IsStuck (readable delay text) → Cut delay text pieces → ⊥
 stuck_cut delay text pieces some stuck l =
     elim (cases_cut delay text pieces l) [ inl ended ↦ absurd (omega (arith, ap length ended.0)) | inr begins ↦ stuck begins.form begins.len begins.front ]
 
@@ -170,9 +170,9 @@ all_within from [] to h = All-nil (λ span. span.start + span.len ≤ to)
 all_within from (span ∷ spans) to h =
     All-cons (λ s. s.start + s.len ≤ to) span spans (in_order_le (span.start + span.len) spans to h.1) (all_within (span.start + span.len) spans to h.1)
 
-pub goes_onward : (delay : Bool) (text : List ℕ) (spans : List Span) (form : Form) (at len : ℕ) (pieces : List Piece) → IsFront (seen delay (drop at text)) form len
-    → ((left : List Piece) → Cut delay (drop at text) left → Lexed text (map (piece_at text) spans ++ left))
-    → Cut (is_delay delay form (take len (drop at text))) (drop (at + len) text) pieces → Lexed text (map (piece_at text) (spans ++ spans_of form at len) ++ pieces)
+pub goes_onward : (delay : Bool) (text : List ℕ) (spans : List Span) (form : Form) (at len : ℕ) (pieces : List Piece) → IsFront (readable delay (drop at text)) form len
+    → ((left : List Piece) → Cut delay (drop at text) left → Cut false text (map (piece_at text) spans ++ left))
+    → Cut (is_delay delay form (take len (drop at text))) (drop (at + len) text) pieces → Cut false text (map (piece_at text) (spans ++ spans_of form at len) ++ pieces)
 goes_onward delay text spans form at len pieces f onward l =
     let next : Bool = is_delay delay form (take len (drop at text)) in
     let P : List ℕ → Type 0 = λ xs. Cut next xs pieces in
@@ -180,9 +180,9 @@ goes_onward delay text spans form at len pieces f onward l =
     let head : List Piece = token_of form (take len (drop at text)) in
     let whole : map (piece_at text) (spans ++ spans_of form at len) ++ pieces ≡ map (piece_at text) spans ++ (head ++ pieces) =
     ap (λ ps. ps ++ pieces) (pieces_grow text spans form at len) ∙ append_assoc (map (piece_at text) spans) head pieces in
-    subst (Lexed text) (sym whole) (onward (head ++ pieces) (piece delay (drop at text) form len pieces f behind))
+    subst (Cut false text) (sym whole) (onward (head ++ pieces) (piece delay (drop at text) form len pieces f behind))
 
-pub goes_back : (delay : Bool) (text : List ℕ) (spans : List Span) (form : Form) (at len : ℕ) (pieces : List Piece) → IsFront (seen delay (drop at text)) form len
+pub goes_back : (delay : Bool) (text : List ℕ) (spans : List Span) (form : Form) (at len : ℕ) (pieces : List Piece) → IsFront (readable delay (drop at text)) form len
     → (left : List Piece) × ((pieces ≡ map (piece_at text) spans ++ left) × Cut delay (drop at text) left)
     → (left : List Piece) × ((pieces ≡ map (piece_at text) (spans ++ spans_of form at len) ++ left) × Cut (is_delay delay form (take len (drop at text))) (drop (at + len) text) left)
 goes_back delay text spans form at len pieces f found =
@@ -199,10 +199,10 @@ goes_back delay text spans form at len pieces f found =
 
 -- behind the last piece the text is lexed
 pub all_lexed : (delay : Bool) (text : List ℕ) (spans : List Span) (at : ℕ) → length text ≤ at
-    → ((left : List Piece) → Cut delay (drop at text) left → Lexed text (map (piece_at text) spans ++ left)) → Lexed text (map (piece_at text) spans)
+    → ((left : List Piece) → Cut delay (drop at text) left → Cut false text (map (piece_at text) spans ++ left)) → Cut false text (map (piece_at text) spans)
 all_lexed delay text spans at end onward =
     let P : List ℕ → Type 0 = λ xs. Cut delay xs [] in
-    subst (Lexed text) (append-nil (map (piece_at text) spans)) (onward [] (subst P (sym (drop_of_length-le text end)) (done delay)))
+    subst (Cut false text) (append-nil (map (piece_at text) spans)) (onward [] (subst P (sym (drop_of_length-le text end)) (done delay)))
 
 pub only_lexed : (delay : Bool) (text : List ℕ) (spans : List Span) (at : ℕ) (pieces : List Piece) → length text ≤ at
     → (left : List Piece) × ((pieces ≡ map (piece_at text) spans ++ left) × Cut delay (drop at text) left) → pieces ≡ map (piece_at text) spans
@@ -212,12 +212,12 @@ only_lexed delay text spans at pieces end found =
     found.1.0 ∙ ap (λ ps. map (piece_at text) spans ++ ps) none ∙ append-nil (map (piece_at text) spans)
 
 -- where what is left is stuck, nothing is lexed
-pub none_lexed : (delay : Bool) (text : List ℕ) (spans : List Span) (at : ℕ) (pieces : List Piece) → at < length text → IsStuck (seen delay (drop at text))
+pub none_lexed : (delay : Bool) (text : List ℕ) (spans : List Span) (at : ℕ) (pieces : List Piece) → at < length text → IsStuck (readable delay (drop at text))
     → (left : List Piece) × ((pieces ≡ map (piece_at text) spans ++ left) × Cut delay (drop at text) left) → ⊥
 none_lexed delay text spans at pieces within stuck found = stuck_cut delay (drop at text) found.0 (omega (arith, length-drop at text)) stuck found.1.1
 
 -- one more piece is a token where the pieces before it end, if it is one
-pub stands_grows : (delay : Bool) (text : List ℕ) (spans : List Span) (form : Form) (at len : ℕ) → Reaches text delay at → IsFront (seen delay (drop at text)) form len
+pub stands_grows : (delay : Bool) (text : List ℕ) (spans : List Span) (form : Form) (at len : ℕ) → Reaches text delay at → IsFront (readable delay (drop at text)) form len
     → All (IsTokenAt text) spans → All (IsTokenAt text) (spans ++ spans_of form at len)
 stands_grows delay text spans Blank at len r f h = subst (All (IsTokenAt text)) (sym (append-nil spans)) h
 stands_grows delay text spans Comment at len r f h = subst (All (IsTokenAt text)) (sym (append-nil spans)) h
@@ -230,3 +230,7 @@ one_cut delay text pieces others (done d) l = sym (ends_cut d others l)
 one_cut delay text pieces others (piece d t form len left f m) l =
     let (behind, (whole, rest)) = take_piece d t form len others f l in
     ap (λ ps. token_of form (take len t) ++ ps) (one_cut (is_delay d form (take len t)) (drop len t) left behind m rest) ∙ sym whole
+
+-- and so it has one list of words
+pub one_lexed : (text : List ℕ) (words others : List Piece) → Lexed text words → Lexed text others → words ≡ others
+one_lexed text words others l m = l.1.1 ∙ ap words_of (one_cut false text l.0 m.0 l.1.0 m.1.0) ∙ sym m.1.1

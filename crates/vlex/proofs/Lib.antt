@@ -4,6 +4,7 @@ mod Numbers
 mod Sizes
 mod Words
 pub mod Cuts
+pub mod Instances
 mod Ends
 mod Escapes
 mod Comments

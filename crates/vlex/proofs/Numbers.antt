@@ -6,7 +6,7 @@ use Rattle.std.proofs.lemmas.List.Sums.{prefix_len-le-length}
 use Rattle.vlex.specs.declared.bytes.Set.{Set}
 use Rattle.vlex.specs.declared.bytes.Set.TheVariants.{Blanks}
 use Rattle.vlex.specs.Bytes.{is_in}
-use Rattle.vlex.specs.Forms.{is_based, is_base_and_digits, are_digits, digits_after, are_in, unblanked}
+use Rattle.vlex.specs.Forms.{is_based, is_base_and_digits, are_digits, digits_after, are_in, skip_blanks}
 use Rattle.vlex.specs.Inner.{IsLongest, Finds, Never}
 use Rattle.vlex.proofs.Runs.{run_longest, run_taken}
 
@@ -36,19 +36,19 @@ digits_some base (d ∷ ds) set whole short some sum =
 -- The base, and blanks behind it
 
 module _ (base : ℕ) (cs : List ℕ) where
-  based_front : (n : ℕ) → is_base_and_digits (take (suc n) (base ∷ cs)) ≡ are_digits base (take (n - prefix_len (is_in Blanks) cs) (unblanked cs))
+  based_front : (n : ℕ) → is_base_and_digits (take (suc n) (base ∷ cs)) ≡ are_digits base (take (n - prefix_len (is_in Blanks) cs) (skip_blanks cs))
   based_front n = ap (are_digits base) (run_taken (is_in Blanks) cs n)
 
-  behind_none : Never (are_digits base) (unblanked cs) → Never is_base_and_digits (base ∷ cs)
+  behind_none : Never (are_digits base) (skip_blanks cs) → Never is_base_and_digits (base ∷ cs)
   behind_none never zero = refl
   behind_none never (suc n) = based_front n ∙ never (n - prefix_len (is_in Blanks) cs)
 
-  behind_some : (len whole : ℕ) → whole ≡ 1 + prefix_len (is_in Blanks) cs + len → IsLongest (are_digits base) (unblanked cs) len → IsLongest is_base_and_digits (base ∷ cs) whole
+  behind_some : (len whole : ℕ) → whole ≡ 1 + prefix_len (is_in Blanks) cs + len → IsLongest (are_digits base) (skip_blanks cs) len → IsLongest is_base_and_digits (base ∷ cs) whole
   behind_some len whole sum l =
       let same : whole ≡ suc (prefix_len (is_in Blanks) cs + len) = omega (arith, sum) in
       subst (IsLongest is_base_and_digits (base ∷ cs)) (sym same) (record {
         within = omega (arith, l.within, length-drop (prefix_len (is_in Blanks) cs) cs, prefix_len-le-length (is_in Blanks) cs);
-        passes = based_front (prefix_len (is_in Blanks) cs + len) ∙ ap (λ k. are_digits base (take k (unblanked cs))) less ∙ l.passes;
+        passes = based_front (prefix_len (is_in Blanks) cs + len) ∙ ap (λ k. are_digits base (take k (skip_blanks cs))) less ∙ l.passes;
         longest = longer;
       })
     where
@@ -60,12 +60,12 @@ module _ (base : ℕ) (cs : List ℕ) where
       longer (suc n) lt le =
           based_front n ∙ l.longest (n - prefix_len (is_in Blanks) cs) (omega arith) (omega (arith, length-drop (prefix_len (is_in Blanks) cs) cs))
 
-pub base_none : (bytes : List ℕ) → 0 < length bytes → Never (are_digits (get_or bytes 0 0)) (unblanked (drop 1 bytes)) → Never is_base_and_digits bytes
+pub base_none : (bytes : List ℕ) → 0 < length bytes → Never (are_digits (get_or bytes 0 0)) (skip_blanks (drop 1 bytes)) → Never is_base_and_digits bytes
 base_none [] some never = absurd (omega arith)
 base_none (base ∷ cs) some never = behind_none base cs never
 
 pub base_some : (bytes : List ℕ) (len whole : ℕ) → 0 < length bytes → whole ≡ 1 + prefix_len (is_in Blanks) (drop 1 bytes) + len
-    → IsLongest (are_digits (get_or bytes 0 0)) (unblanked (drop 1 bytes)) len → IsLongest is_base_and_digits bytes whole
+    → IsLongest (are_digits (get_or bytes 0 0)) (skip_blanks (drop 1 bytes)) len → IsLongest is_base_and_digits bytes whole
 base_some [] len whole some sum l = absurd (omega arith)
 base_some (base ∷ cs) len whole some sum l = behind_some base cs len whole sum l
 

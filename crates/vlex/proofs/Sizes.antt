@@ -12,7 +12,7 @@ use Rattle.vlex.specs.declared.form.Form.TheVariants.{Token}
 use Rattle.vlex.specs.declared.kind.TokenKind.TheVariants.{Plain, Based}
 use Rattle.std.specs.Char.{is_ascii_digit}
 use Rattle.vlex.specs.Bytes.{is_in, lead_of}
-use Rattle.vlex.specs.Forms.{only_if, form_of, form_by, number_form, number_by, is_size, is_based, is_unsized, unblanked}
+use Rattle.vlex.specs.Forms.{only_if, form_of, form_by, number_form, number_by, is_size, is_based, is_unsized, skip_blanks}
 use Rattle.vlex.specs.Inner.{IsLongest, IsAnswer, alone}
 use Rattle.vlex.specs.Lexed.{IsFront, IsStuck, is_free}
 use Rattle.vlex.proofs.Pieces.{IsLongestForm, front_of_longest, not_open, stuck_if_barred}
@@ -34,7 +34,7 @@ form_plain ds all =
 
 -- digits, and a front of what stands behind them
 form_sized : (ds tail : List ℕ) (n : ℕ) → list_all (is_in Decimals) ds ≡ true → (0 < length tail → is_in Decimals (get_or tail 0 0) ≡ false) → n < length tail
-    → number_form (ds ++ take (suc n) tail) ≡ only_if (is_size ds && is_unsized (take (suc n - prefix_len (is_in Blanks) tail) (unblanked tail))) (Token Based)
+    → number_form (ds ++ take (suc n) tail) ≡ only_if (is_size ds && is_unsized (take (suc n - prefix_len (is_in Blanks) tail) (skip_blanks tail))) (Token Based)
 form_sized ds [] n all stops lt = absurd (omega arith)
 form_sized ds (x ∷ ys) n all stops lt =
     form_split ds (x ∷ take n ys) all (λ some. stops (omega arith))
@@ -88,7 +88,7 @@ blank_not_apostrophe b blank = elim (cases_Bool (nat_eq b 39)) [
 
 -- digits with no apostrophe behind them, nor behind blanks behind them
 pub plain_number : (c : ℕ) (digits tail : List ℕ) (whole : ℕ) → lead_of c ≡ lead.Digit → list_all (is_in Decimals) (c ∷ digits) ≡ true
-    → whole ≡ 1 + length digits → (0 < length tail → is_in Decimals (get_or tail 0 0) ≡ false) → get_or (unblanked tail) 0 0 ≢ 39 → IsFront (c ∷ digits ++ tail) (Token Plain) whole
+    → whole ≡ 1 + length digits → (0 < length tail → is_in Decimals (get_or tail 0 0) ≡ false) → get_or (skip_blanks tail) 0 0 ≢ 39 → IsFront (c ∷ digits ++ tail) (Token Plain) whole
 plain_number c digits tail whole first all sum stops other =
     let same : whole ≡ length (c ∷ digits) = omega (arith, sum) in
     let behind : drop (length (c ∷ digits)) (c ∷ digits ++ tail) ≡ tail = drop-append_seam (c ∷ digits) tail in
@@ -98,10 +98,10 @@ plain_number c digits tail whole first all sum stops other =
     none : (n : ℕ) → n < length tail → number_form (c ∷ digits ++ take (suc n) tail) ≡ None
     none n lt =
         form_sized (c ∷ digits) tail n all stops lt
-        ∙ ap (λ b. only_if (is_size (c ∷ digits) && b) (Token Based)) (no_base (unblanked tail) (suc n - prefix_len (is_in Blanks) tail) other)
+        ∙ ap (λ b. only_if (is_size (c ∷ digits) && b) (Token Based)) (no_base (skip_blanks tail) (suc n - prefix_len (is_in Blanks) tail) other)
         ∙ ap (λ b. only_if b (Token Based)) (and_false (is_size (c ∷ digits)))
 
-    free : (tail : List ℕ) → get_or (unblanked tail) 0 0 ≢ 39 → is_free (Token Plain) c tail ≡ true
+    free : (tail : List ℕ) → get_or (skip_blanks tail) 0 0 ≢ 39 → is_free (Token Plain) c tail ≡ true
     free [] other = refl
     free (x ∷ zs) other = elim (cases_Bool (is_in Blanks x)) [
       | inl blank ↦ free_plain c x zs (blank_not_apostrophe x blank)
@@ -126,14 +126,14 @@ module _ (c : ℕ) (digits blanks zs : List ℕ) (first : lead_of c ≡ lead.Dig
   run : prefix_len (is_in Blanks) tail ≡ length blanks
   run = run_ends (is_in Blanks) blanks (39 ∷ zs) blank (λ some. refl)
 
-  behind_blanks : unblanked tail ≡ 39 ∷ zs
+  behind_blanks : skip_blanks tail ≡ 39 ∷ zs
   behind_blanks = ap (λ n. drop n tail) run ∙ drop-append_seam blanks (39 ∷ zs)
 
   form_by_base : (n : ℕ) → n < length tail
       → number_form (c ∷ digits ++ take (suc n) tail) ≡ only_if (is_size (c ∷ digits) && is_unsized (take (suc n - length blanks) (39 ∷ zs))) (Token Based)
   form_by_base n lt =
       form_sized (c ∷ digits) tail n all (λ some. stops blanks blank) lt
-      ∙ ap (λ k. only_if (is_size (c ∷ digits) && is_unsized (take (suc n - k) (unblanked tail))) (Token Based)) run
+      ∙ ap (λ k. only_if (is_size (c ∷ digits) && is_unsized (take (suc n - k) (skip_blanks tail))) (Token Based)) run
       ∙ ap (λ l. only_if (is_size (c ∷ digits) && is_unsized (take (suc n - length blanks) l)) (Token Based)) behind_blanks
 
   -- digits that are no size, or with no base and digits behind the apostrophe

@@ -73,8 +73,8 @@ abbrev pub leading_digits : List ℕ → List ℕ
 leading_digits bytes = take (prefix_len (is_in Decimals) bytes) bytes
 
 -- what stands behind the blanks at the head
-abbrev pub unblanked : List ℕ → List ℕ
-unblanked bytes = drop (prefix_len (is_in Blanks) bytes) bytes
+abbrev pub skip_blanks : List ℕ → List ℕ
+skip_blanks bytes = drop (prefix_len (is_in Blanks) bytes) bytes
 
 -- after a first digit other than _ stand digits of the same base
 abbrev pub digits_from : Set → ℕ → Option Set
@@ -101,7 +101,7 @@ are_digits base (first ∷ digits) = are_in (digits_after base first) digits
 -- a base letter, blanks or none, and digits
 abbrev pub is_base_and_digits : List ℕ → Bool
 is_base_and_digits [] = false
-is_base_and_digits (base ∷ cs) = are_digits base (unblanked cs)
+is_base_and_digits (base ∷ cs) = are_digits base (skip_blanks cs)
 
 -- what stands after the apostrophe: s or not, then base and digits
 abbrev pub is_based : List ℕ → Bool
@@ -116,7 +116,7 @@ is_unsized (c ∷ cs) = is_apostrophe c && is_based cs
 -- digits alone, or a size, blanks or none, and a number without size
 abbrev pub number_by : List ℕ → List ℕ → Option Form
 number_by digits [] = Some (Token Plain)
-number_by digits (c ∷ cs) = only_if (is_size digits && is_unsized (unblanked (c ∷ cs))) (Token Based)
+number_by digits (c ∷ cs) = only_if (is_size digits && is_unsized (skip_blanks (c ∷ cs))) (Token Based)
 
 -- what begins with a digit
 abbrev pub number_form : List ℕ → Option Form

@@ -1,5 +1,5 @@
 -- *internal*: What the parts of the lexer answer and its tokens keep.
-use Rattle.std.specs.Prelude.{◌≡◌, ℕ, zero, suc, ◌+◌, ◌<◌, ◌≤◌, Bool, true, false, List, [], ◌∷◌, Option, length, take, All, MatchOption}
+use Rattle.std.specs.Prelude.{◌≡◌, ℕ, zero, suc, ◌+◌, ◌<◌, ◌≤◌, Bool, true, false, List, [], ◌∷◌, Option, length, take, drop, All, MatchOption}
 use Rattle.vsrc.specs.Source.{text_limit}
 use Rattle.vlex.specs.declared.list.Span.{Span}
 use Rattle.vlex.specs.declared.form.Form.{Form}
@@ -7,7 +7,7 @@ use Rattle.vlex.specs.declared.form.Form.TheVariants.{Blank, Comment, Token}
 use Rattle.vlex.specs.declared.kind.TokenKind.TheVariants.{Plain}
 use Rattle.vlex.specs.declared.form.Front.{Front}
 use Rattle.vlex.specs.declared.form.Front.TheVariants.{Piece, NotEnded, Bad}
-use Rattle.vlex.specs.Lexed.{IsFront, IsStuck, IsOpen}
+use Rattle.vlex.specs.Lexed.{Piece as Word, IsFront, IsStuck, IsOpen, opens}
 
 -- no front of the bytes passes the test
 abbrev pub Never : (List ℕ → Bool) → List ℕ → Type 0
@@ -47,3 +47,13 @@ abbrev pub spans_of : Form → ℕ → ℕ → List Span
 spans_of Blank at len = []
 spans_of Comment at len = []
 spans_of (Token kind) at len = record { start = at; len = len; kind = kind } ∷ []
+
+-- spans are among others, in the same order
+pub data AreAmong : List Span → List Span → Type 0 where
+  none : AreAmong [] []
+  keep : (span : Span) (spans others : List Span) → AreAmong spans others → AreAmong (span ∷ spans) (span ∷ others)
+  pass : (span : Span) (spans others : List Span) → AreAmong spans others → AreAmong spans (span ∷ others)
+
+-- no attribute begins among tokens
+abbrev pub HaveNone : List Word → Type 0
+HaveNone tokens = (at : ℕ) → opens (drop at tokens) ≡ false

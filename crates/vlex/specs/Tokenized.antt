@@ -5,7 +5,7 @@ use Rattle.vsrc.specs.Source.{Source}
 use Rattle.vlex.specs.declared.list.Span.{Span}
 use Rattle.vlex.specs.declared.form.Form.TheVariants.{Token}
 use Rattle.vlex.specs.declared.kind.TokenKind.{TokenKind}
-use Rattle.vlex.specs.Lexed.{Piece, IsFront, Reaches, seen}
+use Rattle.vlex.specs.Lexed.{Piece, IsFront, Reaches, readable}
 
 pub record Tokenized : Type 0 where
   pub source : Source
@@ -34,7 +34,7 @@ start_of t index = unwrap_or (option_map (λ span. span.start) (slice_get t.span
 pub record IsTokenAt (text : List ℕ) (span : Span) : Type 0 where
   pub delay : Bool
   pub reached : Reaches text delay span.start
-  pub front : IsFront (seen delay (drop span.start text)) (Token span.kind) span.len
+  pub front : IsFront (readable delay (drop span.start text)) (Token span.kind) span.len
 
 -- the spans stand in order between two places, none over another
 abbrev pub AreInOrder : ℕ → List Span → ℕ → Type 0

@@ -2,7 +2,7 @@
 
 ghost use Rattle.std.specs.Prelude.{◌≡◌};
 ghost use Rattle.vlex.specs.Bytes.{is_x_digit, is_z_digit, is_unknown};
-ghost use Rattle.vlex.specs.Forms.{leading_digits, unblanked};
+ghost use Rattle.vlex.specs.Forms.{leading_digits, skip_blanks};
 
 use crate::bytes::{Set, run_len};
 
@@ -35,8 +35,8 @@ pub fn leading_digits(bytes: &[u8]) -> &[u8]
 }
 
 /// What stands behind the blanks at the head.
-pub fn unblanked(bytes: &[u8]) -> &[u8]
-    ensures { result.now ≡ unblanked bytes.now }
+pub fn skip_blanks(bytes: &[u8]) -> &[u8]
+    ensures { result.now ≡ skip_blanks bytes.now }
 {
     bytes.split_at(run_len(Set::Blanks, bytes)).1
 }

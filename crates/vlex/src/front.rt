@@ -8,7 +8,7 @@ ghost use Rattle.vlex.specs.Inner.{IsAnswer};
 use crate::bytes::{Lead, Set, byte_at, lead_of, run_len};
 use crate::form::{Form, Front};
 use crate::kind::TokenKind;
-use crate::number::{based, number};
+use crate::number::{number, number_with_base};
 use crate::text::{slash, string};
 
 /// What stands at the head of a text.
@@ -27,7 +27,7 @@ fn front_by(first: u8, rest: &[u8]) -> Front
         Lead::Letter => Front::Piece(Form::Token(TokenKind::Name), 1 + run_len(Set::Words, rest)),
         Lead::Dollar => system(first, rest),
         Lead::Digit => number(first, rest),
-        Lead::Apostrophe => based(first, rest),
+        Lead::Apostrophe => number_with_base(first, rest),
         Lead::Quote => string(first, rest),
         Lead::Slash => slash(first, rest),
         Lead::Punctuation => symbol(first, rest),

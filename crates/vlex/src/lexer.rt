@@ -1,13 +1,14 @@
 // Text to tokens, piece by piece.
 
-ghost use Rattle.std.specs.Prelude.{◌≡◌, ◌+◌, ◌++◌, ◌≤◌, length, All, IfOk, OnOk};
+ghost use Rattle.std.specs.Prelude.{◌≡◌, ◌+◌, ◌++◌, ◌≤◌, false, length, All, IfOk, OnOk};
 ghost use Rattle.basis.specs.Reasons.{IfFault};
 ghost use Rattle.vsrc.specs.Source.{text_limit};
-ghost use Rattle.vlex.specs.Lexed.{Lexed, IsOnlyLexed, IsTokenReason, HasNoTokens};
+ghost use Rattle.vlex.specs.Lexed.{Cut, Lexed, IsOnlyCut, IsOnlyLexed, IsTokenReason, HasNoCut, HasNoTokens};
 ghost use Rattle.vlex.specs.Tokenized.{pieces_of, AreInOrder, IsTokenAt};
 ghost use Rattle.vlex.specs.Inner.{spans_of};
 
-use crate::delay::{is_delay, seen};
+use crate::attributes::{has_begin, words};
+use crate::delay::{is_delay, readable};
 use crate::fault::LexFault;
 use crate::form::{Form, Front};
 use crate::front::front;
@@ -16,9 +17,9 @@ use basis::{NoMemory, OrMemory};
 use std::alloc::Global;
 use vsrc::Expanded;
 
-/// The tokens of the text: the one list that meets `Lexed`. E101 where a comment or a string isn't
-/// ended and E102 where no token stands, each only where no list meets it; E901 where a growth was
-/// refused.
+/// The tokens of the text less attributes: the one list that meets `Lexed`. E101 where a comment or a
+/// string isn't ended and E102 where no token stands, each only where no list meets it; E901 where a
+/// growth was refused.
 pub fn tokens<'a>(alloc: Global, source: &'a Expanded) -> Result<Tokens<'a>, OrMemory<LexFault>>
     ensures source { IfOk result (λ tokens. tokens.source ≡ source.now) }
     ensures lexed { IfOk result (λ tokens. Lexed source.now.text (pieces_of tokens)) }
@@ -28,13 +29,32 @@ pub fn tokens<'a>(alloc: Global, source: &'a Expanded) -> Result<Tokens<'a>, OrM
     ensures none { IfFault result (λ fault. HasNoTokens source.now.text) }
     ensures reason { IfFault result (λ fault. IsTokenReason source.now fault) }
 {
+    let cut = cut(alloc, source)?;
+    if !has_begin(&cut) {
+        return Ok(cut);
+    }
+    let spans = words(alloc, &cut)?;
+    Ok(Tokens::new(source, spans))
+}
+
+// All tokens of the text, in order.
+fn cut<'a>(alloc: Global, source: &'a Expanded) -> Result<Tokens<'a>, OrMemory<LexFault>>
+    ensures source { IfOk result (λ tokens. tokens.source ≡ source.now) }
+    ensures cut { IfOk result (λ tokens. Cut false source.now.text (pieces_of tokens)) }
+    ensures stands { IfOk result (λ tokens. All (IsTokenAt source.now.text) tokens.spans) }
+    ensures order { IfOk result (λ tokens. AreInOrder 0 tokens.spans (length source.now.text)) }
+    ensures few { IfOk result (λ tokens. length tokens.spans ≤ text_limit) }
+    ensures only { IfOk result (λ tokens. IsOnlyCut source.now.text (pieces_of tokens)) }
+    ensures none { IfFault result (λ fault. HasNoCut source.now.text) }
+    ensures reason { IfFault result (λ fault. IsTokenReason source.now fault) }
+{
     let text = source.text();
     let mut spans = Vec::new(alloc);
     let mut at = 0;
     let mut delay = false;
     while at < text.len() {
         let rest = text.split_at(at).1;
-        match front(seen(delay, rest)) {
+        match front(readable(delay, rest)) {
             Front::Piece(form, len) => {
                 push_piece(&mut spans, form, at, len)?;
                 delay = is_delay(delay, form, rest.split_at(len).0);

@@ -61,6 +61,14 @@ impl<'a> Tokens<'a> {
         self.spans[index].kind
     }
 
+    /// Where the token at `index` stands, from 0.
+    pub(crate) fn span(&self, index: usize) -> Span
+        requires { index < length (pieces_of self.now) }
+        ensures { slice_get self.now.spans index ≡ Some result }
+    {
+        self.spans[index]
+    }
+
     /// The bytes of the token at `index`, from 0.
     pub fn text(&self, index: usize) -> &'a [u8]
         requires { index < length (pieces_of self.now) }

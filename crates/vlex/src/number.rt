@@ -23,11 +23,11 @@ pub fn number(first: u8, rest: &[u8]) -> Front
     if byte_at(behind, 0) != b'\'' {
         return Front::Piece(Form::Token(TokenKind::Plain), 1 + digits.len());
     }
-    sized(first, digits, blanks, behind.split_at(1).1)
+    number_with_size(first, digits, blanks, behind.split_at(1).1)
 }
 
 // The number with these digits as its size, and blanks behind them, told from what stands behind the apostrophe.
-fn sized(first: u8, digits: &[u8], blanks: &[u8], base: &[u8]) -> Front
+fn number_with_size(first: u8, digits: &[u8], blanks: &[u8], base: &[u8]) -> Front
     requires lead { lead_of first ≡ Lead.Digit }
     requires digit { is_ascii_digit first ≡ true }
     requires digits { list_all (is_in Set.Decimals) digits.now ≡ true }
@@ -59,7 +59,7 @@ fn alone(digits: &[u8], blanks: &[u8]) -> Front
 }
 
 /// The number that begins with an apostrophe.
-pub fn based(first: u8, rest: &[u8]) -> Front
+pub fn number_with_base(first: u8, rest: &[u8]) -> Front
     requires { lead_of first ≡ Lead.Apostrophe }
     ensures { IsAnswer (first ∷ rest.now) result }
 {

@@ -29,7 +29,7 @@ use Rattle.vmodel.specs.declared.effect.Shown.TheVariants.{Commands, Prints, Wat
 use Rattle.vmodel.specs.declared.part.Part.{Part}
 use Rattle.vvalue.specs.Value.{Environment, holds, delay_of}
 use Rattle.vvalue.specs.Cases.{places_of_case, turns_of}
-use Rattle.line_text.specs.LineText.{line_of}
+use Rattle.line_text.specs.LineText.{pieces_text}
 use Rattle.vmodel.specs.Value.{assigned_parts, held_value, resumed_parts}
 use Rattle.vmodel.specs.Parts.{with_parts}
 use Rattle.vmodel.specs.Queue.{Later, Queue, with_process, without_process, slot_with_sleeper, slot_with_update, later}
@@ -370,7 +370,7 @@ pieces_at design place = pieces_of (slice_get design.actions place)
 
 -- 17.1: the line of the print task at a place, as it is printed in a state
 abbrev pub line_item : Design → State → ℕ → Item
-line_item design s place = Line (line_of (environment_of design s) (pieces_at design place))
+line_item design s place = Line (pieces_text (environment_of design s) (pieces_at design place))
 
 abbrev pub shown_items : Design → State → Option Shown → List Item
 shown_items design s None = []

@@ -11,7 +11,7 @@ use crate::effect::{Effect, Shown};
 use crate::history::Item;
 use crate::state::State;
 use basis::NoMemory;
-use line_text::put_line;
+use line_text::put_pieces;
 use std::alloc::Global;
 use vdesign::action::Action;
 use vdesign::design::Design;
@@ -43,7 +43,7 @@ impl State {
         ensures { IfOk result (λ item. item ≡ spec.line_item design.now self.now place) }
     {
         let mut bytes = Vec::new(alloc);
-        put_line(
+        put_pieces(
             &mut bytes,
             pieces_at(design, place),
             &self.environment(design),

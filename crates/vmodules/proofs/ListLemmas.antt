@@ -1,5 +1,5 @@
 -- A loop over a list that builds another: what was done and what is left to do make the whole. And faults that `?` hands on.
-use Rattle.std.proofs.Common.{◌≡◌, ◌<◌, ◌≤◌, ℕ, ◌+◌, true, false, List, [], ◌∷◌, ◌++◌, Option, None, Some, option_map, refl, length, drop, get_or, Result, Ok, Err, IsErrAnd, sym, ap, subst, ◌∙◌, append_assoc}
+use Rattle.std.proofs.Common.{◌≡◌, ◌<◌, ◌≤◌, ℕ, zero, suc, ◌+◌, arith, true, false, List, [], ◌∷◌, ◌++◌, Option, None, Some, option_map, refl, length, drop, get_or, Result, Ok, Err, IsErrAnd, sym, ap, subst, ◌∙◌, append_assoc}
 use Rattle.basis.proofs.Lists.{left_from}
 use Rattle.vast.specs.Words.{Text}
 use Rattle.std.specs.Option.{option_or}
@@ -11,6 +11,12 @@ use Rattle.vmodules.proofs.NameLemmas.{again_here, again_next, again_append}
 use Rattle.basis.specs.declared.memory.OrMemory.{OrMemory}
 use Rattle.basis.specs.declared.memory.OrMemory.TheVariants.{Fault, Memory}
 use Rattle.basis.specs.Reasons.{Because, IfFault}
+
+-- what stands at a place of a list, whatever stands beyond its end
+pub within_same : {A : Type 0} (xs : List A) (i : ℕ) (d e : A) → i < length xs → get_or xs i d ≡ get_or xs i e
+within_same [] i d e within = absurd (omega (arith, within))
+within_same (x ∷ xs) zero d e within = refl
+within_same (x ∷ xs) (suc i) d e within = within_same xs i d e (omega (arith, within))
 
 module _ {A : Type 0} (xs : List A) (i : ℕ) (x : A) (within : i < length xs) (is : x ≡ get_or xs i x) where
   pub drop_at : drop i xs ≡ x ∷ drop (i + 1) xs

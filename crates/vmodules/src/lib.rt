@@ -3,9 +3,11 @@
 // The law: each call answers the definition of its name in `specs/`, and refuses only where that tells a misfit.
 #![tactic(auto)]
 
+pub mod blocks;
 pub mod connect;
 pub mod hierarchy;
 pub mod letters;
+pub mod misdeclared;
 pub mod names;
 pub mod parameters;
 pub mod ports;

@@ -3,6 +3,7 @@ use Rattle.std.proofs.Common.{◌≡◌, ℕ, zero, suc, Bool, true, false, ◌|
 use Rattle.std.specs.Str.{bytes_eq}
 use Rattle.vast.specs.Words.{Text, is_name, is_number, is_string, reserved_words}
 use Rattle.vast.specs.Statements.{TargetTree, StatementTree, BranchTree, empty, forever}
+use Rattle.vast.specs.Modules.{PortTree}
 use Rattle.vast.specs.declared.statement.Printing.TheVariants as printing
 use Rattle.vexpr_parse.specs.declared.stop.Stop.TheVariants.{TooDeep}
 use Rattle.vexpr_parse.specs.Readers.{Reader, got, stop, front, is_front, goes, refused, lower, room}
@@ -11,7 +12,7 @@ use Rattle.vgrammar.specs.declared.start.StatementStart.TheVariants as start
 use Rattle.vgrammar.specs.Parts.{made, paired, maybe, roomy}
 use Rattle.vgrammar.specs.Starts.{start_of, start_word, statement_starts, begins_target, is_target, is_some_meaning, is_meant, meant_if, is_word, sign_of, edge_of, comma_of}
 use Rattle.vgrammar.specs.Statements.{value, named, numbered, word_only, comma_list, select, target_of, named_target, joined_of, joined_targets, target, delay_of, amount, assignment_of, assignment, guarded, if_of, guarded_of, setting, for_of, delayed_of, term_of, term, further_of, event_of, control, event_body_of, block_of, has_default, branch_of, default_branch, branch, case_parts_of, case_parts, argument_of, arguments, print_of, optional_print_of, dump_file_of, path_of, selection_of, selection, dump_vars_of, end_of, dump_of, trigger_of, statement_by, lead_by, begins_statement, statement}
-use Rattle.vgrammar.specs.Modules.{range_of, type_of, parameter_type_of, setting_of, declared_of, connection_of, connections_of, instance_of, ended, net_of, local_of, item_of, first_parameter_of, head_parameter_of, direction_of, is_direction, first_port_of, port_of, ports_of, head_list_of, module_of, is_some_word}
+use Rattle.vgrammar.specs.Modules.{range_of, type_of, parameter_type_of, setting_of, declared_of, connection_of, connections_of, instance_of, ended, net_of, local_of, item_of, first_parameter_of, head_parameter_of, direction_of, is_direction, alone_of, port_of, named_port_of, ports_behind, ports_of, head_list_of, module_of, is_some_word}
 use Rattle.vgrammar.specs.Modules as with_levels
 use Rattle.vparse.specs.TextReaders.{free_value, range, type, parameter_type, setting as module_setting, declared, connection, connections, item, head_parameters, direction, ports, module_tree, source}
 use Rattle.vparse.specs.Profile.{keywords, system_names, left_out, is_any_outside}
@@ -146,7 +147,8 @@ module _ (below : ℕ) (s : Safe (statement below)) where
     kinds_fine : (kind : StatementStart) → LeadFine word (statement_by below body kind)
     kinds_fine start.Empty = got_safe empty
     kinds_fine start.Begin =
-        made_safe block_of (paired_safe (many_safe (λ next. not (is_front (codes "end") next)) (λ list. s)) (only_safe (codes "end")))
+        made_safe block_of (paired_safe (maybe_safe (is_front (codes ":")) (past_safe (codes ":") named_word))
+        (paired_safe (many_safe (λ next. not (is_front (codes "end") next)) (λ list. s)) (only_safe (codes "end"))))
     kinds_fine start.Trigger = within (made_safe trigger_of (ended_safe named_word))
     kinds_fine start.If =
         within (made_safe if_of (guarded_safe (paired_safe s (maybe_safe (is_front (codes "else")) (past_safe (codes "else") s)))))
@@ -158,11 +160,13 @@ module _ (below : ℕ) (s : Safe (statement below)) where
         (paired_safe (value_safe below) (past_safe (codes ";") (paired_safe set_safe (past_safe (codes ")") s))))))))
     kinds_fine start.Delay = within (made_safe delayed_of (paired_safe (amount_safe below) s))
     kinds_fine start.Event = within (made_safe event_body_of (paired_safe control_safe s))
-    kinds_fine (start.Print printing.Display) =
-        made_safe (optional_print_of printing.Display) (ended_safe (roomy_safe below (codes "(") parenthesis_inside (arguments_safe below)))
-    kinds_fine (start.Print printing.Strobe) =
-        made_safe (optional_print_of printing.Strobe) (ended_safe (roomy_safe below (codes "(") parenthesis_inside (arguments_safe below)))
-    kinds_fine (start.Print printing.Monitor) = within (made_safe (print_of printing.Monitor) (ended_safe (arguments_safe below)))
+    kinds_fine (start.Print (printing.Display base)) =
+        made_safe (optional_print_of (printing.Display base)) (ended_safe (roomy_safe below (codes "(") parenthesis_inside (arguments_safe below)))
+    kinds_fine (start.Print (printing.Write base)) =
+        made_safe (optional_print_of (printing.Write base)) (ended_safe (roomy_safe below (codes "(") parenthesis_inside (arguments_safe below)))
+    kinds_fine (start.Print (printing.Strobe base)) =
+        made_safe (optional_print_of (printing.Strobe base)) (ended_safe (roomy_safe below (codes "(") parenthesis_inside (arguments_safe below)))
+    kinds_fine (start.Print (printing.Monitor base)) = within (made_safe (print_of (printing.Monitor base)) (ended_safe (arguments_safe below)))
     kinds_fine start.DumpFile =
         within (made_safe dump_file_of (past_safe (codes "(") (paired_safe (worded_safe (meant_if is_string))
         (past_safe (codes ")") (only_safe (codes ";"))))))
@@ -233,17 +237,24 @@ connections_safe =
 list_safe : {A : Type 0} {read : Reader A} → Safe read → Safe (ended read)
 list_safe s = paired_safe (comma_safe s) (only_safe (codes ";"))
 
+direction_safe : Safe direction
+direction_safe =
+    made_safe direction_of (either_safe (is_front (codes "input"))
+    (past_safe (codes "input") (paired_safe (maybe_safe (is_front (codes "wire")) (only_safe (codes "wire"))) type_safe))
+    (past_safe (codes "output") (paired_safe (maybe_safe (is_meant net_of) (worded_safe net_of)) type_safe)))
+
 item_safe : Safe item
 item_safe =
     made_safe item_of (either_safe (is_meant local_of) (paired_safe (worded_safe local_of) (paired_safe parameter_safe (list_safe setting_safe)))
     (either_safe (is_meant net_of) (paired_safe (worded_safe net_of) (paired_safe type_safe (list_safe declared_safe)))
+    (either_safe is_direction (paired_safe direction_safe (list_safe (made_safe alone_of named_word)))
     (either_safe (is_front (codes "integer")) (past_safe (codes "integer") (list_safe declared_safe))
     (either_safe (is_front (codes "event")) (past_safe (codes "event") (list_safe named_word))
     (either_safe (is_front (codes "assign")) (past_safe (codes "assign") (list_safe setting_safe))
     (either_safe (is_front (codes "initial")) (past_safe (codes "initial") (statement_safe 64))
     (either_safe (is_front (codes "always")) (past_safe (codes "always") (statement_safe 64))
     (paired_safe named_word (paired_safe (maybe_safe (is_front (codes "#")) (past_safe (codes "#") connections_safe))
-    (list_safe (made_safe instance_of (paired_safe named_word connections_safe))))))))))))
+    (list_safe (made_safe instance_of (paired_safe named_word connections_safe)))))))))))))
 
 heads_safe : Safe head_parameters
 heads_safe =
@@ -253,18 +264,16 @@ heads_safe =
     (paired_safe (maybe_safe (is_front (codes "parameter")) (past_safe (codes "parameter") parameter_safe)) setting_safe)))))
     (only_safe (codes ")")))
 
-direction_safe : Safe direction
-direction_safe =
-    made_safe direction_of (either_safe (is_front (codes "input"))
-    (past_safe (codes "input") (paired_safe (maybe_safe (is_front (codes "wire")) (only_safe (codes "wire"))) type_safe))
-    (past_safe (codes "output") (paired_safe (maybe_safe (is_meant net_of) (worded_safe net_of)) type_safe)))
+behind_safe : {A : Type 0} {first : Reader A} {read : Reader PortTree} → Safe first → Safe read → Safe (ports_behind first read)
+behind_safe f s =
+    paired_safe (paired_safe f (many_safe (is_front (codes ",")) (λ list. past_safe (codes ",") s))) (only_safe (codes ")"))
 
 ports_safe : Safe ports
 ports_safe =
     made_safe ports_of (past_safe (codes "(") (either_safe (is_front (codes ")")) (only_safe (codes ")"))
-    (paired_safe (paired_safe (made_safe first_port_of (paired_safe direction_safe named_word))
-    (many_safe (is_front (codes ",")) (λ list. past_safe (codes ",") (made_safe port_of
-    (paired_safe (maybe_safe is_direction direction_safe) named_word))))) (only_safe (codes ")")))))
+    (either_safe is_direction (behind_safe (paired_safe direction_safe named_word)
+    (made_safe port_of (paired_safe (maybe_safe is_direction direction_safe) named_word)))
+    (behind_safe named_word (made_safe named_port_of named_word)))))
 
 module_safe : Safe module_tree
 module_safe =

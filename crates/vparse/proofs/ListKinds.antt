@@ -18,13 +18,14 @@ use Rattle.vast.specs.declared.module.Port.{Port}
 use Rattle.vexpr_parse.specs.Readers.{Reader, got}
 use Rattle.vexpr_parse.proofs.ReaderRules.{Eats}
 use Rattle.vgrammar.specs.Statements.{named}
+use Rattle.vgrammar.specs.Modules.{alone, named_port}
 use Rattle.vparse.specs.TextReaders.{free_value, setting, declared, connection, instance_behind, head_parameter, port}
 use Rattle.vgrammar.proofs.Phrases.{sound_eats}
 use Rattle.vgrammar.proofs.ValuePhrases.{value_worded}
 use Rattle.vgrammar.proofs.PartPhrases.{text_shape, named_phrase}
 use Rattle.vgrammar.proofs.HeadPhrases.{Free, free_phrase_value, setting_shape, setting_phrase, declared_shape, declared_phrase}
-use Rattle.vgrammar.proofs.ItemPhrases.{connection_shape, connection_phrase, instance_shape, instance_phrase}
-use Rattle.vgrammar.proofs.ModulePhrases.{head_shape, head_parameter_phrase, port_shape, port_phrase}
+use Rattle.vgrammar.proofs.ItemPhrases.{connection_shape, connection_phrase, instance_shape, instance_phrase, alone_shape, alone_phrase}
+use Rattle.vgrammar.proofs.ModulePhrases.{head_shape, head_parameter_phrase, port_shape, port_phrase, named_port_shape, named_port_phrase}
 
 no_more_words : {A : Type 0} (read : Reader A) → Eats read → (words left : List Text) (tree : A) → read words ≡ got tree left → length left ≤ length words
 no_more_words read eats words left tree e = weaker (length left) (length words) (eats words tree left e)
@@ -41,6 +42,17 @@ declared_eats = sound_eats declared (declared_shape 63) (declared_phrase 63).sou
     some : (letters : Text) (value : Option ExpressionTree) → 0 < length (trees.spell_value letters value)
     some letters None = zero-lt-suc _
     some letters (Some value) = zero-lt-suc _
+
+pub alone_eats : Eats alone
+alone_eats = sound_eats alone alone_shape alone_phrase.sound (λ tree v. some tree.name tree.value)
+  where
+    some : (letters : Text) (value : Option ExpressionTree) → 0 < length (trees.spell_value letters value)
+    some letters None = zero-lt-suc _
+    some letters (Some value) = zero-lt-suc _
+
+pub named_port_eats : Eats named_port
+named_port_eats =
+    sound_eats named_port (named_port_shape 63) (named_port_phrase 63).sound (λ tree v. longer (trees.spell_direction tree.direction) tree.name [])
 
 pub named_eats : Eats named
 named_eats = sound_eats named (text_shape is_name) named_phrase.sound (λ tree v. zero-lt-suc _)
@@ -67,6 +79,14 @@ setting_fewer text words left one e = no_more_words setting setting_eats words l
 pub declared_fewer : (text words left : List Text) (one : Declared) → declared words ≡ got (declared_tree text one) left →
     length left ≤ length words
 declared_fewer text words left one e = no_more_words declared declared_eats words left (declared_tree text one) e
+
+pub alone_fewer : (text words left : List Text) (one : Declared) → alone words ≡ got (declared_tree text one) left →
+    length left ≤ length words
+alone_fewer text words left one e = no_more_words alone alone_eats words left (declared_tree text one) e
+
+pub named_port_fewer : (text words left : List Text) (one : Port) → named_port words ≡ got (port_tree text one) left →
+    length left ≤ length words
+named_port_fewer text words left one e = no_more_words named_port named_port_eats words left (port_tree text one) e
 
 pub named_fewer : (text words left : List Text) (one : Token) → named words ≡ got (token_text text one) left →
     length left ≤ length words

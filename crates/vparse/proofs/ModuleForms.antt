@@ -4,16 +4,16 @@ use Rattle.std.specs.Str.{bytes_eq}
 use Rattle.vast.specs.Words.{Text}
 use Rattle.vast.specs.Statements.{StatementTree}
 use Rattle.vast.specs.Expressions.{ExpressionTree}
-use Rattle.vast.specs.Modules.{HeadParameter, SettingTree, DeclaredTree, ConnectionTree, ConnectionsTree, initial, always, PortTree, by_order, by_name, ItemTree, parameters, declaration, variables, integers, events, assignments, instances, ModuleTree}
+use Rattle.vast.specs.Modules.{HeadParameter, SettingTree, DeclaredTree, ConnectionTree, ConnectionsTree, initial, always, PortTree, by_order, by_name, ItemTree, parameters, declaration, variables, integers, directed, DirectionTree, events, assignments, instances, ModuleTree}
 use Rattle.vexpr_parse.specs.Readers.{Answer, got, stop, Reader, front, is_front, and_then, past, follow, goes, refused, choose}
 use Rattle.vgrammar.specs.Parts.{Both, both, Either, one_way, other_way, made, paired, worded, many, maybe, either}
 use Rattle.vgrammar.specs.Starts.{is_meant}
 use Rattle.vgrammar.specs.Statements.{named, word_only, List_of, comma_list, statement}
-use Rattle.vgrammar.specs.Modules.{Parameters, Variables, Instances, connections_of, ended, net_of, local_of, parameters_of, variables_of, integers_of, events_of, assignments_of, instances_of, item_of, head_list_of, ports_of, module_of}
-use Rattle.vparse.specs.TextReaders.{free_value, type, parameter_type, setting, declared, connection, connections, instance_behind, overrides, item, first_parameter, head_parameter, head_parameters, first_port, port, ports, module_tree as module_reader}
-use Rattle.vparse.specs.ModuleGives.{connections_in, heads_in, some_ports, ports_in, found_or, parameters_at, variables_at, integers_at, events_at, assignments_at, instances_at, instances_item, process_item, listed_item, variables_item, any_item, optional_heads, optional_ports, all_items, items_in, module_with, module_headed, module_named, module_at}
+use Rattle.vgrammar.specs.Modules.{Parameters, Variables, Directed, Instances, listed_of, connections_of, ended, net_of, local_of, alone, is_direction, first_port_of, named_port_of, named_port, PortsBehind, ports_behind, parameters_of, variables_of, directed_of, integers_of, events_of, assignments_of, instances_of, item_of, head_list_of, ports_of, module_of}
+use Rattle.vparse.specs.TextReaders.{free_value, type, parameter_type, setting, declared, connection, connections, instance_behind, overrides, item, first_parameter, head_parameter, head_parameters, direction, port, ports, module_tree as module_reader}
+use Rattle.vparse.specs.ModuleGives.{connections_in, heads_in, some_ports, named_ports, listed_ports, ports_in, found_or, parameters_at, variables_at, directed_at, directed_item, integers_at, events_at, assignments_at, instances_at, instances_item, process_item, listed_item, variables_item, any_item, optional_heads, optional_ports, all_items, items_in, module_with, module_headed, module_named, module_at}
 use Rattle.vgrammar.proofs.ManyTurns.{until_is, first_until_is}
-use Rattle.vgrammar.specs.Lists.{all_until}
+use Rattle.vgrammar.specs.Lists.{all_until, rest_until}
 
 -- what is made is made of each part
 
@@ -127,16 +127,61 @@ heads_is = past_rule head_list_of (codes "(") head_parts heads_in inside
     inside : (words : List Text) → made head_list_of head_parts words ≡ heads_in words
     inside words = first_until_is (codes ")") head_parameter head_list_of (λ list. list) (λ one list. refl) first_parameter words ∙ then_got (heads_in words)
 
-abbrev port_parts : Reader (Both (List_of PortTree) (Unit {0}))
-port_parts = paired (paired first_port (many (is_front (codes ",")) (λ list. past (codes ",") port))) close
+-- the first of a list, made of what is read for it
+module _ {A B : Type 0} (begin : A → PortTree) (first : Reader A) (rest : Reader (List PortTree)) (make : Both (Both A (List PortTree)) B → List PortTree)
+    (same : (one : A) (list : List PortTree) (end : B) → make (both (both one list) end) ≡ begin one ∷ list) (next : Reader B) where
+  abbrev begun : Both (Both PortTree (List PortTree)) B → List PortTree
+  begun (both list end) = listed_of list
+
+  by_end : (one : A) (list : List PortTree) (a : Answer B) →
+      and_then (and_then a (λ end. got (both (both one list) end))) (λ p. got (make p))
+      ≡ and_then (and_then a (λ end. got (both (both (begin one) list) end))) (λ p. got (begun p))
+  by_end one list (got end left) = ap (λ b. got b left) (same one list end)
+  by_end one list (stop why left) = refl
+
+  by_rest : (one : A) (a : Answer (List PortTree)) →
+      and_then (and_then (and_then a (λ list. got (both one list))) (λ p. made (both p) next)) (λ p. got (make p))
+      ≡ and_then (and_then (and_then a (λ list. got (both (begin one) list))) (λ p. made (both p) next)) (λ p. got (begun p))
+  by_rest one (got list left) = by_end one list (next left)
+  by_rest one (stop why left) = refl
+
+  by_first : (a : Answer A) →
+      and_then (and_then (and_then a (λ one. made (both one) rest)) (λ p. made (both p) next)) (λ p. got (make p))
+      ≡ and_then (and_then (and_then (and_then a (λ one. got (begin one))) (λ one. made (both one) rest)) (λ p. made (both p) next)) (λ p. got (begun p))
+  by_first (got one left) = by_rest one (rest left)
+  by_first (stop why left) = refl
+
+  begun_is : (words : List Text) → made make (paired (paired first rest) next) words ≡ made begun (paired (paired (made begin first) rest) next) words
+  begun_is words = by_first (first words)
+
+behind_is : {A : Type 0} (begin : A → PortTree) (first : Reader A) (read : Reader PortTree) (make : PortsBehind A → List PortTree) →
+    ((one : A) (list : List PortTree) (end : Unit {0}) → make (both (both one list) end) ≡ begin one ∷ list) → (words : List Text) →
+    made make (ports_behind first read) words ≡ and_then (made begin first words) (rest_until (codes ")") read)
+behind_is begin first read make same words =
+    begun_is begin first (many (is_front (codes ",")) (λ list. past (codes ",") read)) make same close words
+    ∙ first_until_is (codes ")") read (begun begin first (many (is_front (codes ",")) (λ list. past (codes ",") read)) make same close)
+    (λ list. list) (λ one list. refl) (made begin first) words
+    ∙ then_got (and_then (made begin first words) (rest_until (codes ")") read))
+
+abbrev directed_ports : Reader (PortsBehind (Both DirectionTree Text))
+directed_ports = ports_behind (paired direction named) port
+
+abbrev port_names : Reader (PortsBehind Text)
+port_names = ports_behind named named_port
+
+listed_ports_is : (words : List Text) → made (λ tree. ports_of (other_way tree)) (either is_direction directed_ports port_names) words ≡ listed_ports words
+listed_ports_is words =
+    either_rule (λ tree. ports_of (other_way tree)) is_direction directed_ports port_names some_ports named_ports words
+    (behind_is first_port_of (paired direction named) port (λ tree. ports_of (other_way (one_way tree))) (λ one list end. refl) words)
+    (behind_is named_port_of named named_port (λ tree. ports_of (other_way (other_way tree))) (λ one list end. refl) words)
 
 pub ports_is : (words : List Text) → ports words ≡ past (codes "(") ports_in words
-ports_is = past_rule ports_of (codes "(") (either (is_front (codes ")")) close port_parts) ports_in inside
+ports_is = past_rule ports_of (codes "(") (either (is_front (codes ")")) close (either is_direction directed_ports port_names)) ports_in inside
   where
-    inside : (words : List Text) → made ports_of (either (is_front (codes ")")) close port_parts) words ≡ ports_in words
+    inside : (words : List Text) → made ports_of (either (is_front (codes ")")) close (either is_direction directed_ports port_names)) words ≡ ports_in words
     inside words =
-        either_rule ports_of (is_front (codes ")")) close port_parts (made (λ end. []) close) some_ports words refl
-        (first_until_is (codes ")") port (λ tree. ports_of (other_way tree)) (λ list. list) (λ one list. refl) first_port words ∙ then_got (some_ports words))
+        either_rule ports_of (is_front (codes ")")) close (either is_direction directed_ports port_names) (made (λ end. []) close) listed_ports words refl
+        (listed_ports_is words)
 
 -- items
 
@@ -170,6 +215,13 @@ variables_is words =
     ∙ then_same (type left) (λ kind. made (λ tree. variables_of (both net (both kind tree))) (ended declared))
     (λ kind. made (declaration (variables net kind)) (all_until (codes ";") declared))
     (λ kind left. until_is (codes ";") declared (λ tree. variables_of (both net (both kind tree))) (declaration (variables net kind)) (λ one list. refl) left))
+
+directed_is : (words : List Text) → made directed_of (paired direction (ended alone)) words ≡ directed_at words
+directed_is words =
+    made_paired directed_of direction (ended alone) words
+    ∙ then_same (direction words) (λ tree. made (λ p. directed_of (both tree p)) (ended alone))
+    (λ tree. made (declaration (directed tree)) (all_until (codes ";") alone))
+    (λ tree left. until_is (codes ";") alone (λ p. directed_of (both tree p)) (declaration (directed tree)) (λ one list. refl) left)
 
 instances_is : (words : List Text) → made instances_of (paired named (paired overrides (ended instance_behind))) words ≡ instances_item words
 instances_is words =
@@ -216,14 +268,23 @@ Listed = Either (Both (List_of DeclaredTree) (Unit {0})) Named
 abbrev listed_parts : Reader Listed
 listed_parts = either (is_front (codes "integer")) (past (codes "integer") (ended declared)) named_parts
 
-abbrev variable_parts : Reader (Either Variables Listed)
-variable_parts = either (is_meant net_of) read_variables listed_parts
+abbrev DirectedOrLater : Type 0
+DirectedOrLater = Either Directed Listed
 
-abbrev of_variables : Either Variables Listed → ItemTree
+abbrev directed_parts : Reader DirectedOrLater
+directed_parts = either is_direction (paired direction (ended alone)) listed_parts
+
+abbrev variable_parts : Reader (Either Variables DirectedOrLater)
+variable_parts = either (is_meant net_of) read_variables directed_parts
+
+abbrev of_variables : Either Variables DirectedOrLater → ItemTree
 of_variables tree = item_of (other_way tree)
 
+abbrev of_directed : DirectedOrLater → ItemTree
+of_directed tree = of_variables (other_way tree)
+
 abbrev of_listed : Listed → ItemTree
-of_listed tree = of_variables (other_way tree)
+of_listed tree = of_directed (other_way tree)
 
 abbrev of_named : Named → ItemTree
 of_named tree = of_listed (other_way tree)
@@ -270,11 +331,15 @@ listed_is words =
     (until_is (codes ";") setting assignments_of assignments (λ one list. refl)) words)
     (process_is words)))
 
+directed_item_is : (words : List Text) → made of_directed directed_parts words ≡ directed_item words
+directed_item_is words =
+    either_rule of_directed is_direction (paired direction (ended alone)) listed_parts directed_at listed_item words (directed_is words) (listed_is words)
+
 variables_item_is : (words : List Text) → made of_variables variable_parts words ≡ variables_item words
 variables_item_is words =
-    either_rule of_variables (is_meant net_of) read_variables listed_parts (λ ws. and_then (worded net_of ws) variables_at) listed_item words
-    (variables_is words) (listed_is words)
-    ∙ found_choice (is_meant net_of) (worded net_of) variables_at listed_item words
+    either_rule of_variables (is_meant net_of) read_variables directed_parts (λ ws. and_then (worded net_of ws) variables_at) directed_item words
+    (variables_is words) (directed_item_is words)
+    ∙ found_choice (is_meant net_of) (worded net_of) variables_at directed_item words
 
 pub item_is : (words : List Text) → item words ≡ any_item words
 item_is words =

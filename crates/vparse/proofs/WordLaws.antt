@@ -13,9 +13,10 @@ use Rattle.vlex.specs.declared.kind.TokenKind.{TokenKind}
 use Rattle.vlex.specs.declared.kind.TokenKind.TheVariants.{Name, System, Plain, Based, Text as Quoted, Symbol}
 use Rattle.vlex.specs.Bytes.{is_in, lead_of}
 use Rattle.vlex.specs.Forms.{only_if, form_of, form_by, number_by, number_form, slash_form}
-use Rattle.vlex.specs.Lexed.{Cut, Lexed, Piece, IsFront, is_delay, seen, token_of as pieces_by}
+use Rattle.vlex.specs.Lexed.{Cut, Lexed, Piece, IsFront, is_delay, readable, token_of as pieces_by}
 use Rattle.vlex.specs.Lexed.Cut.{done, piece}
 use Rattle.vlex.proofs.Cuts.{seen_front}
+use Rattle.vlex.proofs.Instances.{all_words}
 use Rattle.vlex.proofs.Leads.{Says, says}
 use Rattle.basis.specs.Letters.{begins_name, is_in_name}
 use Rattle.vast.specs.Words.{Text, is_name, is_number, is_reserved}
@@ -133,12 +134,12 @@ tokens_tell : (delay : Bool) (text : List ℕ) (pieces : List Piece) → Cut del
 tokens_tell delay text pieces (done d) = All-nil (λ piece. Tells piece.kind piece.text)
 tokens_tell delay text pieces (piece d t form len left f l) = by form f (tokens_tell (is_delay d form (take len t)) (drop len t) left l)
   where
-    by : (form : Form) → IsFront (seen d t) form len → All (λ piece. Tells piece.kind piece.text) left → All (λ piece. Tells piece.kind piece.text) (pieces_by form (take len t) ++ left)
+    by : (form : Form) → IsFront (readable d t) form len → All (λ piece. Tells piece.kind piece.text) left → All (λ piece. Tells piece.kind piece.text) (pieces_by form (take len t) ++ left)
     by Blank f rest = rest
     by Comment f rest = rest
     by (Token kind) f rest =
         All-cons (λ piece. Tells piece.kind piece.text) (record { kind = kind; text = take len t }) left
-        (subst (Tells kind) (seen_front d t len f.within) (front_tells (seen d t) kind len f)) rest
+        (subst (Tells kind) (seen_front d t len f.within) (front_tells (readable d t) kind len f)) rest
 
 -- The same, kind by kind
 
@@ -173,7 +174,11 @@ name_told found t = (
 )
 
 pub numbers_told : (text : List ℕ) (pieces : List Piece) → Lexed text pieces → All TellsNumber pieces
-numbers_told text pieces l = All-weaker (λ piece. Tells piece.kind piece.text) TellsNumber number_told pieces (tokens_tell false text pieces l)
+numbers_told text pieces l =
+    subst (All TellsNumber) (sym l.1.1)
+    (all_words TellsNumber l.0 (All-weaker (λ piece. Tells piece.kind piece.text) TellsNumber number_told l.0 (tokens_tell false text l.0 l.1.0)))
 
 pub names_told : (text : List ℕ) (pieces : List Piece) → Lexed text pieces → All TellsName pieces
-names_told text pieces l = All-weaker (λ piece. Tells piece.kind piece.text) TellsName name_told pieces (tokens_tell false text pieces l)
+names_told text pieces l =
+    subst (All TellsName) (sym l.1.1)
+    (all_words TellsName l.0 (All-weaker (λ piece. Tells piece.kind piece.text) TellsName name_told l.0 (tokens_tell false text l.0 l.1.0)))

@@ -8,7 +8,7 @@ use Rattle.basis.specs.Reasons.{Because}
 use Rattle.vast.specs.Words.{Text}
 use Rattle.vast.specs.Expressions.{ExpressionTree}
 use Rattle.vast.specs.ExpressionTrees.{boxed_tree}
-use Rattle.vast.specs.Modules.{RangeTree, ParameterType, DirectionTree, PortTree, HeadParameter, ConnectionsTree, by_order, by_name, variables, integers, ItemTree, parameters, declaration, events, assignments, initial, always, instances, ModuleTree}
+use Rattle.vast.specs.Modules.{RangeTree, ParameterType, DirectionTree, PortTree, HeadParameter, ConnectionsTree, by_order, by_name, variables, integers, directed, ItemTree, parameters, declaration, events, assignments, initial, always, instances, ModuleTree}
 use Rattle.vast.specs.Leaves.{head_leaves, if_some, port_leaves}
 use Rattle.vast.specs.ModuleTrees.{head_parameter as head_tree, port_tree, module_tree as tree_of_module}
 use Rattle.vast.specs.TokenTexts.{token_text}
@@ -29,7 +29,7 @@ use Rattle.vstatement_parse.specs.Gives.{Gives}
 use Rattle.vgrammar.specs.Parts.{both, one_way, other_way, made, paired, maybe, many, worded, one_behind}
 use Rattle.vgrammar.specs.Starts.{is_meant}
 use Rattle.vgrammar.specs.Statements.{named, word_only, statement}
-use Rattle.vgrammar.specs.Modules.{Value, net_of, local_of, head_list_of, Direction, is_direction, is_some_word}
+use Rattle.vgrammar.specs.Modules.{Value, net_of, local_of, alone, head_list_of, Direction, is_direction, named_port, is_some_word}
 use Rattle.vparse.specs.TextReaders.{range, type, parameter_type, setting, declared, free_value, connection, instance_behind, overrides, item, first_parameter, head_parameter, head_parameters, direction, first_port, port, ports, module_tree}
 use Rattle.vgrammar.specs.Lists.{all_until, rest_until}
 
@@ -198,8 +198,14 @@ output_parts = made other_way (paired (maybe (is_meant net_of) (worded net_of)) 
 abbrev pub some_ports : Reader (List PortTree)
 some_ports words = and_then (first_port words) (rest_until (codes ")") port)
 
+abbrev pub named_ports : Reader (List PortTree)
+named_ports = all_until (codes ")") named_port
+
+abbrev pub listed_ports : Reader (List PortTree)
+listed_ports = choose is_direction some_ports named_ports
+
 abbrev pub ports_in : Reader (List PortTree)
-ports_in = choose (is_front (codes ")")) (made (λ end. []) (word_only (codes ")"))) some_ports
+ports_in = choose (is_front (codes ")")) (made (λ end. []) (word_only (codes ")"))) listed_ports
 
 -- what is read behind what was found, or else
 abbrev pub found_or : {A B : Type 0} → (A → Reader B) → Reader B → Option A → Reader B
@@ -219,6 +225,9 @@ parameters_at local words = and_then (parameter_type words) (λ kind. made (para
 
 abbrev pub variables_at : NetKind → Reader ItemTree
 variables_at net words = and_then (type words) (λ kind. made (declaration (variables net kind)) (all_until (codes ";") declared))
+
+abbrev pub directed_at : Reader ItemTree
+directed_at words = and_then (direction words) (λ tree. made (declaration (directed tree)) (all_until (codes ";") alone))
 
 abbrev pub integers_at : Reader ItemTree
 integers_at = made (declaration integers) (all_until (codes ";") declared)
@@ -247,8 +256,11 @@ listed_item =
     (choose (is_front (codes "event")) (past (codes "event") events_at)
     (choose (is_front (codes "assign")) (past (codes "assign") assignments_at) process_item))
 
+abbrev pub directed_item : Reader ItemTree
+directed_item = choose is_direction directed_at listed_item
+
 abbrev pub variables_item : Reader ItemTree
-variables_item words = and_then (optional_net words) (found_or variables_at listed_item)
+variables_item words = and_then (optional_net words) (found_or variables_at directed_item)
 
 abbrev pub any_item : Reader ItemTree
 any_item words = and_then (optional_local words) (found_or parameters_at variables_item)

@@ -17,9 +17,11 @@ keywords =
 -- the system names that the grammar names
 unfoldable pub system_names : List Text
 system_names =
-    codes "$display" ∷ codes "$strobe" ∷ codes "$monitor" ∷ codes "$dumpfile" ∷ codes "$dumpvars" ∷ codes "$dumpon"
-    ∷ codes "$dumpoff" ∷ codes "$dumpall" ∷ codes "$dumpflush" ∷ codes "$finish" ∷ codes "$stop" ∷ codes "$time"
-    ∷ codes "$signed" ∷ codes "$unsigned" ∷ []
+    codes "$display" ∷ codes "$displayb" ∷ codes "$displayo" ∷ codes "$displayh" ∷ codes "$write" ∷ codes "$writeb"
+    ∷ codes "$writeo" ∷ codes "$writeh" ∷ codes "$strobe" ∷ codes "$strobeb" ∷ codes "$strobeo" ∷ codes "$strobeh"
+    ∷ codes "$monitor" ∷ codes "$monitorb" ∷ codes "$monitoro" ∷ codes "$monitorh" ∷ codes "$dumpfile"
+    ∷ codes "$dumpvars" ∷ codes "$dumpon" ∷ codes "$dumpoff" ∷ codes "$dumpall" ∷ codes "$dumpflush"
+    ∷ codes "$finish" ∷ codes "$stop" ∷ codes "$time" ∷ codes "$signed" ∷ codes "$unsigned" ∷ []
 
 -- operators of the standard that the profile leaves out (5.1, 5.2.1)
 unfoldable pub left_out : List Text

@@ -7,6 +7,7 @@ ghost use Rattle.vexpr_parse.specs.Answers.{Keeps};
 ghost use Rattle.vstatement_parse.specs.Gives.{Gives, value_tree};
 ghost use Rattle.vparse.specs.ModuleGives.{optional_of, optional_value};
 ghost use Rattle.vparse.specs.TextReaders as reading;
+ghost use Rattle.vgrammar.specs.Modules as parts;
 
 use crate::types::LEVELS;
 use basis::OrMemory;
@@ -63,4 +64,13 @@ pub fn declared(
     let name = named(tokens, cursor)?;
     let value = optional_value(alloc, tokens, cursor)?;
     Ok(Declared { name, value })
+}
+
+/// `name`, of a port
+pub fn alone(tokens: &Tokens<'_>, cursor: &mut Cursor) -> Result<Declared, OrMemory<Stop>>
+    ensures gives { Gives declared_tree parts.alone tokens.now cursor.old cursor.new result }
+    ensures kept { IfOk result (Keeps declared_leaves tokens.now cursor.old cursor.new) }
+{
+    let name = named(tokens, cursor)?;
+    Ok(Declared { name, value: None })
 }

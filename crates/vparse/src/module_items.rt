@@ -7,12 +7,12 @@ ghost use Rattle.vast.specs.TokenTexts.{token_text};
 ghost use Rattle.vexpr_parse.specs.Answers.{Keeps, KeepsBehind, leaves_ahead};
 ghost use Rattle.vexpr_parse.specs.Texts.{words_of};
 ghost use Rattle.vstatement_parse.specs.Gives.{Gives, KeepsStatements, ReadsStatements};
-ghost use Rattle.vparse.specs.ModuleGives.{ReadsAt, any_item, assignments_at, events_at, instances_at, instances_item, integers_at, listed_item, optional_local as local_reader, parameters_at, process_item, variables_at, variables_item};
+ghost use Rattle.vparse.specs.ModuleGives.{ReadsAt, any_item, assignments_at, directed_at, directed_item, events_at, instances_at, instances_item, integers_at, listed_item, optional_local as local_reader, parameters_at, process_item, variables_at, variables_item};
 ghost use Rattle.vparse.specs.TextReaders as reading;
 
 use crate::connections::{instances, overrides};
-use crate::module_lists::{all_declared, names, settings};
-use crate::ports::optional_net;
+use crate::module_lists::{all_alone, all_declared, names, settings};
+use crate::ports::{direction, is_direction, optional_net};
 use crate::types::{parameter_type, sign_and_range};
 use basis::OrMemory;
 use std::alloc::Global;
@@ -60,6 +60,25 @@ fn variables(
     Ok(ModuleItem::Declaration {
         at,
         kind: DeclarationKind::Variables { net, kind },
+        declared,
+    })
+}
+
+// Ports that the list of the module names.
+fn directed(
+    alloc: Global,
+    tokens: &Tokens<'_>,
+    cursor: &mut Cursor,
+    at: u32,
+) -> Result<ModuleItem, OrMemory<Stop>>
+    ensures gives { Gives item_tree directed_at tokens.now cursor.old cursor.new result }
+    ensures kept { IfOk result (Keeps item_leaves tokens.now cursor.old cursor.new) }
+{
+    let direction = direction(alloc, tokens, cursor)?;
+    let declared = all_alone(alloc, tokens, cursor)?;
+    Ok(ModuleItem::Declaration {
+        at,
+        kind: DeclarationKind::Directed { direction },
         declared,
     })
 }
@@ -200,7 +219,28 @@ fn listed_item<F: Fn(&mut Cursor) -> Result<Statement, OrMemory<Stop>>>(
     }
 }
 
-// Nets or variables, or what `listed_item` reads.
+// Ports, or what `listed_item` reads.
+fn directed_item<F: Fn(&mut Cursor) -> Result<Statement, OrMemory<Stop>>>(
+    alloc: Global,
+    read: &F,
+    tokens: &Tokens<'_>,
+    cursor: &mut Cursor,
+    at: u32,
+) -> Result<ModuleItem, OrMemory<Stop>>
+    requires callable { F.IsAlwaysCallable read.now }
+    requires reads { ReadsStatements tokens.now 64 (F.post read.now) }
+    requires keeps { KeepsStatements tokens.now (F.post read.now) }
+    ensures gives { Gives item_tree directed_item tokens.now cursor.old cursor.new result }
+    ensures kept { IfOk result (Keeps item_leaves tokens.now cursor.old cursor.new) }
+{
+    if is_direction(tokens, cursor) {
+        directed(alloc, tokens, cursor, at)
+    } else {
+        listed_item(alloc, read, tokens, cursor, at)
+    }
+}
+
+// Nets or variables, or what `directed_item` reads.
 fn variables_item<F: Fn(&mut Cursor) -> Result<Statement, OrMemory<Stop>>>(
     alloc: Global,
     read: &F,
@@ -216,7 +256,7 @@ fn variables_item<F: Fn(&mut Cursor) -> Result<Statement, OrMemory<Stop>>>(
 {
     match optional_net(tokens, cursor) {
         Some(net) => variables(alloc, tokens, cursor, at, net),
-        None => listed_item(alloc, read, tokens, cursor, at),
+        None => directed_item(alloc, read, tokens, cursor, at),
     }
 }
 

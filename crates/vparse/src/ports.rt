@@ -1,4 +1,4 @@
-// Ports of modules (IEEE 1364-2005, 12.3.3 and 12.3.4).
+// Ports of modules (IEEE 1364-2005, 12.3.2 to 12.3.4).
 
 ghost use Rattle.std.specs.Prelude.{◌≡◌, codes, IfOk};
 ghost use Rattle.vast.specs.Leaves.{direction_leaves, if_some, port_leaves};
@@ -6,7 +6,7 @@ ghost use Rattle.vast.specs.ModuleTrees.{direction_tree, port_tree};
 ghost use Rattle.vexpr_parse.specs.Readers.{front};
 ghost use Rattle.vexpr_parse.specs.Answers.{Keeps, ahead, leaves_ahead};
 ghost use Rattle.vstatement_parse.specs.Gives.{Gives};
-ghost use Rattle.vparse.specs.ModuleGives.{ReadsAt, all_leaves, all_of, input_parts, optional_direction, optional_net as net_reader, optional_of, optional_ports, output_parts, ports_in, some_ports};
+ghost use Rattle.vparse.specs.ModuleGives.{ReadsAt, all_leaves, all_of, input_parts, optional_direction, optional_net as net_reader, optional_of, optional_ports, listed_ports, named_ports, output_parts, ports_in, some_ports};
 ghost use Rattle.vgrammar.specs.Modules as parts;
 ghost use Rattle.vparse.specs.TextReaders as reading;
 ghost use Rattle.vgrammar.specs.Parts.{made};
@@ -68,8 +68,9 @@ fn output(
     Ok(Direction::Output { net, kind })
 }
 
+/// Which way ports go.
 #[tactic(auto, using(crate::proofs::PlainWords::input_plain, crate::proofs::PlainWords::output_plain))]
-fn direction(
+pub fn direction(
     alloc: Global,
     tokens: &Tokens<'_>,
     cursor: &mut Cursor,
@@ -86,8 +87,8 @@ fn direction(
     }
 }
 
-// Whether a direction begins here.
-fn is_direction(tokens: &Tokens<'_>, cursor: &Cursor) -> bool
+/// Whether a direction begins here.
+pub fn is_direction(tokens: &Tokens<'_>, cursor: &Cursor) -> bool
     ensures { result ≡ parts.is_direction (front (ahead tokens.now cursor.now)) }
 {
     cursor.begins(tokens, b"input") || cursor.begins(tokens, b"output")
@@ -163,6 +164,60 @@ fn some_ports(
     )
 }
 
+// A port that an item declares.
+fn named_port(tokens: &Tokens<'_>, cursor: &mut Cursor) -> Result<Port, OrMemory<Stop>>
+    ensures gives { Gives port_tree parts.named_port tokens.now cursor.old cursor.new result }
+    ensures kept { IfOk result (Keeps port_leaves tokens.now cursor.old cursor.new) }
+{
+    let name = named(tokens, cursor)?;
+    Ok(Port {
+        direction: None,
+        name,
+    })
+}
+
+// One such port or more, up to `)`.
+#[tactic(auto, using(crate::proofs::ListKinds::named_port_fewer))]
+fn named_ports(
+    alloc: Global,
+    tokens: &Tokens<'_>,
+    cursor: &mut Cursor,
+) -> Result<Vec<Port>, OrMemory<Stop>>
+    ensures gives { Gives (all_of port_tree) named_ports tokens.now cursor.old cursor.new result }
+    ensures kept { IfOk result (Keeps (all_leaves port_leaves) tokens.now cursor.old cursor.new) }
+{
+    let first = named_port(tokens, cursor)?;
+    list_until(
+        alloc,
+        &|cursor|
+            ensures gives { Gives port_tree parts.named_port
+                tokens.entry.now cursor.entry.now cursor.exit.now result }
+            ensures kept { IfOk result (Keeps port_leaves
+                tokens.entry.now cursor.entry.now cursor.exit.now) }
+        { named_port(tokens, cursor) },
+        tokens,
+        cursor,
+        first,
+        b")",
+    )
+}
+
+// Ports with their directions, or names alone.
+fn listed_ports(
+    alloc: Global,
+    tokens: &Tokens<'_>,
+    cursor: &mut Cursor,
+) -> Result<Vec<Port>, OrMemory<Stop>>
+    ensures gives { Gives (all_of port_tree) listed_ports tokens.now cursor.old cursor.new result }
+    ensures kept { IfOk result (Keeps (all_leaves port_leaves) tokens.now cursor.old cursor.new) }
+{
+    if is_direction(tokens, cursor) {
+        some_ports(alloc, tokens, cursor)
+    } else {
+        named_ports(alloc, tokens, cursor)
+    }
+}
+
 // What stands behind the first parenthesis.
 fn ports_in(
     alloc: Global,
@@ -176,7 +231,7 @@ fn ports_in(
         cursor.pass(tokens);
         Ok(Vec::new(alloc))
     } else {
-        some_ports(alloc, tokens, cursor)
+        listed_ports(alloc, tokens, cursor)
     }
 }
 

@@ -39,10 +39,23 @@ static KEYWORDS: [&[u8]; 31] = [
     b"wire",
 ];
 
-static SYSTEM_NAMES: [&[u8]; 14] = [
+static SYSTEM_NAMES: [&[u8]; 27] = [
     b"$display",
+    b"$displayb",
+    b"$displayo",
+    b"$displayh",
+    b"$write",
+    b"$writeb",
+    b"$writeo",
+    b"$writeh",
     b"$strobe",
+    b"$strobeb",
+    b"$strobeo",
+    b"$strobeh",
     b"$monitor",
+    b"$monitorb",
+    b"$monitoro",
+    b"$monitorh",
     b"$dumpfile",
     b"$dumpvars",
     b"$dumpon",

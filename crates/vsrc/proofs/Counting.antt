@@ -111,8 +111,8 @@ file_start-some start (b ∷ bs) at (suc k) rise e =
 
 -- the same, by the count of the places before it
 pub file_start-last : (borders : List ℕ) (at count : ℕ) → IsNonDecreasing borders → count ≡ count_below borders at → (count ≡ 0 → ⊥) → get_or borders (count - 1) 0 + 1 ≡ file_start 0 borders at
-file_start-last borders at count rise counted some =
-    let more : count_below borders at ≡ suc (count - 1) = omega (arith, counted, some) in
+file_start-last borders at count rise count_use some =
+    let more : count_below borders at ≡ suc (count - 1) = omega (arith, count_use, some) in
     sym (file_start-some 0 borders at (count - 1) rise more)
 
 pub count_below-le : (places : List ℕ) (at : ℕ) → count_below places at ≤ length places

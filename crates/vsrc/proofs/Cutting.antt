@@ -17,7 +17,7 @@ use Rattle.vsrc.specs.declared.pieces.Piece.{Piece}
 use Rattle.vsrc.specs.declared.pieces.Macro.{Macro}
 use Rattle.vsrc.specs.Outside.{stretch_len}
 use Rattle.vsrc.specs.Words.{name_len}
-use Rattle.vsrc.specs.Macros.{Macros, Made, looked_up, piece, piece_len, put_given, redefined, refused_at, used, why_unknown}
+use Rattle.vsrc.specs.Macros.{Macros, Made, looked_up, piece, piece_len, put_given, redefine, refused_at, make_use, why_unknown}
 use Rattle.vsrc.proofs.MacroText.{used_none, used_some}
 use Rattle.vsrc.specs.Pieces.{head_of, next_of, is_use, uses_in, AreUses, AreCut, EachIsCut, IsCut, IsCutIfAny, IsKind, IsPiece, Keeps, Leads, begins_use, found_text, macros_of, names_of, of_text, text_of, texts_of, used_name}
 
@@ -138,14 +138,14 @@ module _ (old new : List (List ℕ)) (grown : (index : ℕ) (name : List ℕ) �
 abbrev Text : Type 0
 Text = Option (List ℕ)
 
-abbrev given : Option Text → Text
-given found = option_and_then (λ text. text) found
+abbrev expand_text : Option Text → Text
+expand_text found = option_and_then (λ text. text) found
 
-choose : (b : Bool) (text : Text) (other : Option Text) → given (cond b (Some text) other) ≡ cond b text (given other)
+choose : (b : Bool) (text : Text) (other : Option Text) → expand_text (cond b (Some text) other) ≡ cond b text (expand_text other)
 choose true text other = refl
 choose false text other = refl
 
-hidden : (b : Bool) (text old : Text) (other : Option Text) → cond b text (given (cond b (Some old) other)) ≡ cond b text (given other)
+hidden : (b : Bool) (text old : Text) (other : Option Text) → cond b text (expand_text (cond b (Some old) other)) ≡ cond b text (expand_text other)
 hidden true text old other = refl
 hidden false text old other = refl
 
@@ -157,12 +157,12 @@ module _ {A : Type 0} (key : Vec ℕ A) (value : Option Macro) where
   abbrev pub inserted : Entries → Entries
   inserted es = insert_entry (λ (x y : Vec ℕ A). bytes_eq x.items y.items) es key value
 
-  says : (es : Entries) (name : List ℕ) → macros_of (inserted es) name ≡ redefined key.items (text_of value) (macros_of es) name
+  says : (es : Entries) (name : List ℕ) → macros_of (inserted es) name ≡ redefine key.items (text_of value) (macros_of es) name
   says [] name = choose (bytes_eq name key.items) (text_of value) None ∙ ap (λ b. cond b (text_of value) None) (nat_list_eq_equiv.symm name key.items)
   says (e ∷ es) name = by (bytes_eq key.items e.0.items) refl (says es name)
     where
-      by : (b : Bool) → bytes_eq key.items e.0.items ≡ b → macros_of (inserted es) name ≡ redefined key.items (text_of value) (macros_of es) name
-          → macros_of (inserted (e ∷ es)) name ≡ redefined key.items (text_of value) (macros_of (e ∷ es)) name
+      by : (b : Bool) → bytes_eq key.items e.0.items ≡ b → macros_of (inserted es) name ≡ redefine key.items (text_of value) (macros_of es) name
+          → macros_of (inserted (e ∷ es)) name ≡ redefine key.items (text_of value) (macros_of (e ∷ es)) name
       by true y on =
           let turn : bytes_eq key.items name ≡ bytes_eq name e.0.items = nat_list_eq_equiv.symm key.items name ∙ ap (bytes_eq name) ((bytes_decides key.items e.0.items).0 y) in
           rw y (choose (bytes_eq name e.0.items) (text_of value) (lookup (bytes_eq name) (texts_of es))
@@ -170,13 +170,13 @@ module _ {A : Type 0} (key : Vec ℕ A) (value : Option Macro) where
           ∙ ap (λ b. cond b (text_of value) (macros_of (e ∷ es) name)) (sym turn))
       by false y on = rw y (other (bytes_eq name e.0.items) refl)
         where
-          other : (b : Bool) → bytes_eq name e.0.items ≡ b → macros_of (e ∷ inserted es) name ≡ redefined key.items (text_of value) (macros_of (e ∷ es)) name
+          other : (b : Bool) → bytes_eq name e.0.items ≡ b → macros_of (e ∷ inserted es) name ≡ redefine key.items (text_of value) (macros_of (e ∷ es)) name
           other true z =
               let apart : bytes_eq key.items name ≡ false = ap (bytes_eq key.items) ((bytes_decides name e.0.items).0 z) ∙ y in
               rw (z, apart) refl
           other false z = rw z on
 
-  pub insert_redefines : (es : Entries) → macros_of (inserted es) ≡ redefined key.items (text_of value) (macros_of es)
+  pub insert_redefines : (es : Entries) → macros_of (inserted es) ≡ redefine key.items (text_of value) (macros_of es)
   insert_redefines es = λ i name. says es name i
 
   pub insert_grows : (es : Entries) (index : ℕ) (name : List ℕ) → slice_get (names_of es) index ≡ Some name → slice_get (names_of (inserted es)) index ≡ Some name
@@ -229,7 +229,7 @@ keeps_insert {A} key es none = record {
   cut = insert_cuts key None es tt;
 }
   where
-    absent : (name : List ℕ) (b : Bool) → bytes_eq key.items name ≡ b → redefined key.items None (macros_of es) name ≡ macros_of es name
+    absent : (name : List ℕ) (b : Bool) → bytes_eq key.items name ≡ b → redefine key.items None (macros_of es) name ≡ macros_of es name
     absent name true y = rw y (sym (ap (macros_of es) (sym ((bytes_decides key.items name).0 y)) ∙ none))
     absent name false y = rw y refl
 
@@ -347,24 +347,24 @@ piece_used nested at (c ∷ cs) made there =
     ap (λ b. cond b (nested (take (name_len cs) cs) made) (put_given (take (stretch_len (c ∷ cs)) (c ∷ cs)) at made)) there
 
 module _ (names : List (List ℕ)) (rest : List ℕ) (head : Piece) (levels : ℕ) (macros : Macros) (at : ℕ) (made : Made) (here : IsPiece names rest head) where
-  pub piece_refused : head.kind ≡ Refused → piece (used levels macros at) at rest made ≡ Err (refused_at at Directive)
+  pub piece_refused : head.kind ≡ Refused → piece (make_use levels macros at) at rest made ≡ Err (refused_at at Directive)
   piece_refused is =
       let kind : IsKind names rest Refused = subst (IsKind names rest) is here.kind in
-      piece_used (used levels macros at) at rest made kind.0
+      piece_used (make_use levels macros at) at rest made kind.0
       ∙ used_none levels macros at (used_name rest) made (refused_at at Directive) (ap (λ b. looked_up b (macros (used_name rest)) (used_name rest) at) kind.1)
 
   pub piece_missing : (index : ℕ) → head.kind ≡ Use index → ((name : List ℕ) → slice_get names index ≡ Some name → None ≡ macros name)
-      → piece (used levels macros at) at rest made ≡ Err (refused_at at (why_unknown (used_name rest)))
+      → piece (make_use levels macros at) at rest made ≡ Err (refused_at at (why_unknown (used_name rest)))
   piece_missing index is none =
       let kind : IsKind names rest (Use index) = subst (IsKind names rest) is here.kind in
-      piece_used (used levels macros at) at rest made kind.0
+      piece_used (make_use levels macros at) at rest made kind.0
       ∙ used_none levels macros at (used_name rest) made (refused_at at (why_unknown (used_name rest)))
       (ap (λ b. looked_up b (macros (used_name rest)) (used_name rest) at) kind.1.0 ∙ ap (λ t. looked_up true t (used_name rest) at) (sym (none (used_name rest) kind.1.1)))
 
   pub piece_found : (index : ℕ) (text : List ℕ) → head.kind ≡ Use index → ((name : List ℕ) → slice_get names index ≡ Some name → Some text ≡ macros name)
-      → piece (used levels macros at) at rest made ≡ of_text levels macros at text made
+      → piece (make_use levels macros at) at rest made ≡ of_text levels macros at text made
   piece_found index text is some =
       let kind : IsKind names rest (Use index) = subst (IsKind names rest) is here.kind in
-      piece_used (used levels macros at) at rest made kind.0
+      piece_used (make_use levels macros at) at rest made kind.0
       ∙ used_some levels macros at (used_name rest) text made
       (ap (λ b. looked_up b (macros (used_name rest)) (used_name rest) at) kind.1.0 ∙ ap (λ t. looked_up true t (used_name rest) at) (sym (some (used_name rest) kind.1.1)))

@@ -11,7 +11,7 @@ use Rattle.basis.specs.declared.memory.OrMemory.TheVariants.{Fault, Memory}
 use Rattle.basis.specs.Reasons.{Because}
 use Rattle.vsrc.specs.declared.fault.SrcFault.{SrcFault}
 use Rattle.vsrc.specs.Inner.{IsGrowth, IsLong, AreLines}
-use Rattle.vsrc.specs.Source.{joined, borders_of, borders_from, feeds_of, too_long, too_long_from, text_limit}
+use Rattle.vsrc.specs.Source.{join_files, borders_of, borders_from, feeds_of, too_long, too_long_from, text_limit}
 use Rattle.vsrc.proofs.Counting.{rises-cons, places_sorted}
 
 -- a file and the line feed before it
@@ -100,14 +100,14 @@ pub borders_sorted : (files : List (List ℕ)) → IsNonDecreasing (borders_of f
 borders_sorted [] = λ i j d le within. absurd (omega arith)
 borders_sorted (file ∷ files) = borders_rise (length file) files
 
-pub borders_within : (files : List (List ℕ)) → All (λ b. b < length (joined files)) (borders_of files)
+pub borders_within : (files : List (List ℕ)) → All (λ b. b < length (join_files files)) (borders_of files)
 borders_within [] = All-nil (λ b. b < 0)
 borders_within (file ∷ files) =
     let P : ℕ → Type 0 = λ n. All (λ b. b < n) (borders_from (length file) files) in
     subst P (sym (length-append file (flat_map after_feed files))) (borders_high (length file) files)
 
 -- the lines of files
-pub joined_lines : (files : List (List ℕ)) (text borders feeds : List ℕ) → text ≡ joined files → borders ≡ borders_of files → feeds ≡ feeds_of text
+pub joined_lines : (files : List (List ℕ)) (text borders feeds : List ℕ) → text ≡ join_files files → borders ≡ borders_of files → feeds ≡ feeds_of text
     → length text ≤ text_limit → AreLines borders feeds
 joined_lines files text borders feeds made cut all short =
     let Within : List ℕ → List ℕ → Type 0 = λ t bs. All (λ b. b < length t) bs in

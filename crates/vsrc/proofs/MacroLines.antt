@@ -3,15 +3,15 @@ use Rattle.std.proofs.Common.{◌≡◌, ℕ, zero, suc, ◌+◌, ◌<◌, ◌�
 use Rattle.std.proofs.Math.ListN.{drop_of_length-le}
 use Rattle.std.proofs.lemmas.List.{drop-drop, append-nil}
 use Rattle.vsrc.specs.Outside.{stretch_len}
-use Rattle.vsrc.specs.Macros.{is_joint, unslashed, begins_comment, without_comments}
+use Rattle.vsrc.specs.Macros.{is_joint, without_backslashes, begins_comment, without_comments}
 
 -- ---- backslashes at the ends of lines
 
-stays : (rest : List ℕ) → 0 < length rest → is_joint rest ≡ false → unslashed rest ≡ get_or rest 0 0 ∷ unslashed (drop 1 rest)
+stays : (rest : List ℕ) → 0 < length rest → is_joint rest ≡ false → without_backslashes rest ≡ get_or rest 0 0 ∷ without_backslashes (drop 1 rest)
 stays [] some plain = absurd (omega arith)
 stays (c ∷ cs) some plain = rw plain refl
 
-goes : (rest : List ℕ) → is_joint rest ≡ true → unslashed rest ≡ unslashed (drop 1 rest)
+goes : (rest : List ℕ) → is_joint rest ≡ true → without_backslashes rest ≡ without_backslashes (drop 1 rest)
 goes [] joint = refl
 goes (c ∷ cs) joint = rw joint refl
 
@@ -19,17 +19,17 @@ behind : (text rest : List ℕ) (at n : ℕ) → rest ≡ drop at text → drop 
 behind text rest at n is = ap (drop n) is ∙ drop-drop n at text
 
 pub line_stays : (lines text rest : List ℕ) (at : ℕ) → rest ≡ drop at text → 0 < length rest → is_joint rest ≡ false
-    → lines ++ unslashed (drop at text) ≡ unslashed text → (lines ++ get_or rest 0 0 ∷ []) ++ unslashed (drop (at + 1) text) ≡ unslashed text
+    → lines ++ without_backslashes (drop at text) ≡ without_backslashes text → (lines ++ get_or rest 0 0 ∷ []) ++ without_backslashes (drop (at + 1) text) ≡ without_backslashes text
 line_stays lines text rest at is some plain whole =
     append_assoc lines (get_or rest 0 0 ∷ []) _
-    ∙ ap (λ l. lines ++ get_or rest 0 0 ∷ unslashed l) (sym (behind text rest at 1 is))
-    ∙ ap (λ l. lines ++ l) (sym (stays rest some plain)) ∙ ap (λ l. lines ++ unslashed l) is ∙ whole
+    ∙ ap (λ l. lines ++ get_or rest 0 0 ∷ without_backslashes l) (sym (behind text rest at 1 is))
+    ∙ ap (λ l. lines ++ l) (sym (stays rest some plain)) ∙ ap (λ l. lines ++ without_backslashes l) is ∙ whole
 
 pub line_goes : (lines text rest : List ℕ) (at : ℕ) → rest ≡ drop at text → is_joint rest ≡ true
-    → lines ++ unslashed (drop at text) ≡ unslashed text → lines ++ unslashed (drop (at + 1) text) ≡ unslashed text
+    → lines ++ without_backslashes (drop at text) ≡ without_backslashes text → lines ++ without_backslashes (drop (at + 1) text) ≡ without_backslashes text
 line_goes lines text rest at is joint whole =
-    ap (λ l. lines ++ unslashed l) (sym (behind text rest at 1 is))
-    ∙ ap (λ l. lines ++ l) (sym (goes rest joint)) ∙ ap (λ l. lines ++ unslashed l) is ∙ whole
+    ap (λ l. lines ++ without_backslashes l) (sym (behind text rest at 1 is))
+    ∙ ap (λ l. lines ++ l) (sym (goes rest joint)) ∙ ap (λ l. lines ++ without_backslashes l) is ∙ whole
 
 -- ---- comments
 

@@ -36,19 +36,19 @@ next_part Sought false = Sought
 next_part Past holds = Past
 
 -- `ifdef and `ifndef open a conditional, innermost first in the list
-abbrev pub opened : Bool → ℕ → List Open → Result (List Open) Refusal
-opened holds at opens =
+abbrev pub open_part : Bool → ℕ → List Open → Result (List Open) Refusal
+open_part holds at opens =
     if nat_le open_limit (length opens) then Err (refused_at at Limit)
     else Ok (record { at = at; part = first_part (is_read opens) holds; last = false } ∷ opens)
 
 -- `elsif and `else begin its next part; no part follows that of `else
-abbrev pub turned : Bool → Bool → ℕ → List Open → Result (List Open) Refusal
-turned holds last at [] = Err (refused_at at Directive)
-turned holds last at (inner ∷ opens) =
+abbrev pub begin_part : Bool → Bool → ℕ → List Open → Result (List Open) Refusal
+begin_part holds last at [] = Err (refused_at at Directive)
+begin_part holds last at (inner ∷ opens) =
     if inner.last then Err (refused_at at Directive)
     else Ok (record { at = inner.at; part = next_part inner.part holds; last = last } ∷ opens)
 
 -- `endif closes it
-abbrev pub closed : ℕ → List Open → Result (List Open) Refusal
-closed at [] = Err (refused_at at Directive)
-closed at (inner ∷ opens) = Ok opens
+abbrev pub close_part : ℕ → List Open → Result (List Open) Refusal
+close_part at [] = Err (refused_at at Directive)
+close_part at (inner ∷ opens) = Ok opens

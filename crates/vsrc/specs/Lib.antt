@@ -2,7 +2,7 @@
 pub mod Source
 pub mod Outside
 pub mod Words
-pub mod Idle
+pub mod Ignored
 pub mod Timescales
 pub mod Macros
 pub mod Conditionals

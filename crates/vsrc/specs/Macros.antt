@@ -8,7 +8,7 @@ use Rattle.vsrc.specs.declared.refusal.Why.TheVariants.{Directive, Macro, Limit}
 use Rattle.vsrc.specs.Source.{text_limit}
 use Rattle.vsrc.specs.Outside.{stretch_len}
 use Rattle.vsrc.specs.Words.{name_len, directive_of}
-use Rattle.vsrc.specs.Idle.{idle_of}
+use Rattle.vsrc.specs.Ignored.{ignored_of}
 
 -- ---- what a definition gives its name (19.3.1)
 
@@ -28,9 +28,9 @@ is_joint (c ∷ []) = c == 92
 is_joint (c ∷ d ∷ cs) = c == 92 && d == 10
 
 -- lines without the backslashes that they end in
-abbrev pub unslashed : List ℕ → List ℕ
-unslashed [] = []
-unslashed (c ∷ cs) = if is_joint (c ∷ cs) then unslashed cs else c ∷ unslashed cs
+abbrev pub without_backslashes : List ℕ → List ℕ
+without_backslashes [] = []
+without_backslashes (c ∷ cs) = if is_joint (c ∷ cs) then without_backslashes cs else c ∷ without_backslashes cs
 
 -- a comment to the end of the line stands at the head
 abbrev pub begins_comment : List ℕ → Bool
@@ -46,7 +46,7 @@ without_comments (suc n) text =
 
 -- what a definition gives, told from the first byte that isn't a blank behind the name
 abbrev pub macro_text : List ℕ → List ℕ
-macro_text behind = let lines = unslashed (take (lines_len behind) behind) in without_comments (length lines) lines
+macro_text behind = let lines = without_backslashes (take (lines_len behind) behind) in without_comments (length lines) lines
 
 -- ---- the macros that are defined
 
@@ -58,8 +58,8 @@ abbrev pub no_macros : Macros
 no_macros name = None
 
 -- 19.3.1, 19.3.2: a later definition replaces, and one may be taken back
-abbrev pub redefined : List ℕ → Option (List ℕ) → Macros → Macros
-redefined name text macros other = if bytes_eq name other then text else macros other
+abbrev pub redefine : List ℕ → Option (List ℕ) → Macros → Macros
+redefine name text macros other = if bytes_eq name other then text else macros other
 
 -- ---- what a use makes
 
@@ -116,9 +116,9 @@ piece nested at (c ∷ cs) made =
     else put_given (take (stretch_len (c ∷ cs)) (c ∷ cs)) at made
 
 -- The text of a macro for a use at `at`, piece by piece; n, the text's length or more, bounds the pieces.
-abbrev pub given : (List ℕ → Made → Result Made Refusal) → ℕ → ℕ → List ℕ → Made → Result Made Refusal
-given nested at zero text made = Ok made
-given nested at (suc n) text made = and_then (piece nested at text made) (given nested at n (drop (piece_len text) text))
+abbrev pub expand_text : (List ℕ → Made → Result Made Refusal) → ℕ → ℕ → List ℕ → Made → Result Made Refusal
+expand_text nested at zero text made = Ok made
+expand_text nested at (suc n) text made = and_then (piece nested at text made) (expand_text nested at n (drop (piece_len text) text))
 
 -- a name that is no word of a directive may be a macro's; only the words of directives that aren't passed over are barred (own)
 abbrev pub may_be_macro : List ℕ → Bool
@@ -127,7 +127,7 @@ may_be_macro (c ∷ cs) = if is_some (directive_of (c ∷ cs)) then false else t
 
 -- why a name without a macro can't be used: it may be the word of a directive that is passed over
 abbrev pub why_unknown : List ℕ → Why
-why_unknown name = if is_some (idle_of name) then Directive else Macro
+why_unknown name = if is_some (ignored_of name) then Directive else Macro
 
 -- what may be done with a name behind a backtick: nothing where it can't be a macro's, or isn't one's
 abbrev pub looked_up : Bool → Option (List ℕ) → List ℕ → ℕ → Result (List ℕ) Refusal
@@ -138,13 +138,13 @@ looked_up true (Some text) name at = Ok text
 abbrev pub text_for : Macros → ℕ → List ℕ → Result (List ℕ) Refusal
 text_for macros at name = looked_up (may_be_macro name) (macros name) name at
 
-abbrev pub counted : Made → Made
-counted made = record { text = made.text; origins = made.origins; uses = made.uses + 1 }
+abbrev pub count_use : Made → Made
+count_use made = record { text = made.text; origins = made.origins; uses = made.uses + 1 }
 
 -- 19.3.1: what a use of the name makes, pasted to what stands on both sides (own), where the use in the files stands at `at` and so many levels are left
-unfoldable pub used : ℕ → Macros → ℕ → List ℕ → Made → Result Made Refusal
-used zero macros at name made = and_then (text_for macros at name) (λ text. Err (refused_at at Limit))
-used (suc levels) macros at name made =
+unfoldable pub make_use : ℕ → Macros → ℕ → List ℕ → Made → Result Made Refusal
+make_use zero macros at name made = and_then (text_for macros at name) (λ text. Err (refused_at at Limit))
+make_use (suc levels) macros at name made =
     and_then (text_for macros at name) (λ text.
     if nat_le use_limit made.uses then Err (refused_at at Limit)
-    else given (used levels macros at) at (length text) text (counted made))
+    else expand_text (make_use levels macros at) at (length text) text (count_use made))

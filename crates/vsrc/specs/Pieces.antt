@@ -11,7 +11,7 @@ use Rattle.vsrc.specs.declared.pieces.Piece.{Piece}
 use Rattle.vsrc.specs.declared.pieces.Macro.{Macro}
 use Rattle.vsrc.specs.Outside.{stretch_len}
 use Rattle.vsrc.specs.Words.{name_len}
-use Rattle.vsrc.specs.Macros.{Macros, Made, counted, given, may_be_macro, piece_len, refused_at, use_limit, used}
+use Rattle.vsrc.specs.Macros.{Macros, Made, count_use, expand_text, may_be_macro, piece_len, refused_at, use_limit, make_use}
 
 -- ---- the pieces of a text
 
@@ -127,4 +127,4 @@ unfoldable pub of_text : ℕ → Macros → ℕ → List ℕ → Made → Result
 of_text zero macros at text made = Err (refused_at at Limit)
 of_text (suc levels) macros at text made =
     if nat_le use_limit made.uses then Err (refused_at at Limit)
-    else given (used levels macros at) at (length text) text (counted made)
+    else expand_text (make_use levels macros at) at (length text) text (count_use made)

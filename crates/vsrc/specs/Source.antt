@@ -17,8 +17,8 @@ abbrev pub file_bytes : {A : Type 0} → List (Vec ℕ A) → List (List ℕ)
 file_bytes = map (λ file. file.items)
 
 -- the files in order, with a line feed between each two; no file gives the empty text
-abbrev pub joined : List (List ℕ) → List ℕ
-joined files = join_by (λ file. file) (10 ∷ []) files
+abbrev pub join_files : List (List ℕ) → List ℕ
+join_files files = join_by (λ file. file) (10 ∷ []) files
 
 -- The first file with which they get too long, by its number: the next file has this number, and so many bytes stand
 -- before it, the line feed included.
@@ -66,7 +66,7 @@ place_by borders feeds at = record {
 
 -- the place of a byte of the joined files
 abbrev pub place_in : List (List ℕ) → ℕ → Place
-place_in files = place_by (borders_of files) (feeds_of (joined files))
+place_in files = place_by (borders_of files) (feeds_of (join_files files))
 
 -- ---- what files are expanded to
 

@@ -69,8 +69,8 @@ pub record Timed : Type 0 where
   pub len : ℕ
 
 -- the precision isn't longer than the unit
-abbrev pub timed : ℕ → Span → Span → Option Timed
-timed len unit precision =
+abbrev pub timescale_with : ℕ → Span → Span → Option Timed
+timescale_with len unit precision =
     if nat_lt (femtoseconds unit) (femtoseconds precision) then None
     else Some (record { timescale = record { unit = unit; precision = precision }; len = len })
 
@@ -79,7 +79,7 @@ abbrev pub timescale_behind : List ℕ → Option Timed
 timescale_behind text =
     option_and_then (λ unit.
     option_and_then (λ slash.
-    option_and_then (λ precision. timed (unit.len + slash + precision.len) unit.span precision.span)
+    option_and_then (λ precision. timescale_with (unit.len + slash + precision.len) unit.span precision.span)
     (span_behind (drop (unit.len + slash) text)))
     (slash_behind (drop unit.len text)))
     (span_behind text)

@@ -46,7 +46,7 @@ impl Model for Opens {
 
 impl Opens {
     ghost use Rattle.std.specs.Prelude.{[], slice_get};
-    ghost use Rattle.vsrc.specs.Conditionals.{is_read, opened, turned, closed};
+    ghost use Rattle.vsrc.specs.Conditionals.{is_read, open_part, begin_part, close_part};
 
     /// None is open.
     pub fn new(alloc: Global) -> Opens
@@ -76,8 +76,8 @@ impl Opens {
 
     /// Opens one at `at`. E112 where there are 32.
     pub fn begin(&mut self, holds: bool, at: usize) -> Result<(), OrMemory<Refusal>>
-        ensures ok { OnOk result (opened holds at self.old ≡ Ok self.new) }
-        ensures err { IfFault result (λ refusal. opened holds at self.old ≡ Err refusal) }
+        ensures ok { OnOk result (open_part holds at self.old ≡ Ok self.new) }
+        ensures err { IfFault result (λ refusal. open_part holds at self.old ≡ Err refusal) }
     {
         if self.stack.len() >= 32 {
             return Err(refuse(Why::Limit, at));
@@ -93,8 +93,8 @@ impl Opens {
 
     /// Begins the next part of the innermost one. E110 where none is open, or the part after `else` is.
     pub fn turn(&mut self, holds: bool, last: bool, at: usize) -> Result<(), OrMemory<Refusal>>
-        ensures ok { OnOk result (turned holds last at self.old ≡ Ok self.new) }
-        ensures err { IfFault result (λ refusal. turned holds last at self.old ≡ Err refusal) }
+        ensures ok { OnOk result (begin_part holds last at self.old ≡ Ok self.new) }
+        ensures err { IfFault result (λ refusal. begin_part holds last at self.old ≡ Err refusal) }
     {
         let Some(inner) = self.stack.pop() else {
             return Err(refuse(Why::Directive, at));
@@ -112,8 +112,8 @@ impl Opens {
 
     /// Closes the innermost one. E110 where none is open.
     pub fn close(&mut self, at: usize) -> Result<(), OrMemory<Refusal>>
-        ensures ok { OnOk result (closed at self.old ≡ Ok self.new) }
-        ensures err { IfFault result (λ refusal. closed at self.old ≡ Err refusal) }
+        ensures ok { OnOk result (close_part at self.old ≡ Ok self.new) }
+        ensures err { IfFault result (λ refusal. close_part at self.old ≡ Err refusal) }
     {
         match self.stack.pop() {
             None => Err(refuse(Why::Directive, at)),

@@ -4,7 +4,7 @@ ghost use Rattle.std.specs.Prelude.{◌≡◌, ◌≤◌, ◌+◌, ◌++◌, len
 ghost use Rattle.basis.specs.Reasons.{IfFault};
 ghost use Rattle.vsrc.specs.Expansion.{expansion, fault_at};
 ghost use Rattle.vsrc.specs.Inner.{IsGrowth, IsLong};
-ghost use Rattle.vsrc.specs.Source.{file_bytes, joined, borders_of, feeds_of, place_by, too_long, text_limit};
+ghost use Rattle.vsrc.specs.Source.{file_bytes, join_files, borders_of, feeds_of, place_by, too_long, text_limit};
 
 use crate::expanded::{Expanded, Lines, Place};
 use crate::fault::SrcFault;
@@ -54,7 +54,7 @@ fn fault_of(lines: &Lines, refusal: Refusal) -> SrcFault
 
 // The text of the files, and where a line feed was put between two.
 fn join(alloc: Global, files: &[Vec<u8>]) -> Result<(Vec<u8>, Vec<usize>), OrMemory<SrcFault>>
-    ensures text { IfOk result (λ made. made.0.items ≡ joined (file_bytes files.now)) }
+    ensures text { IfOk result (λ made. made.0.items ≡ join_files (file_bytes files.now)) }
     ensures borders { IfOk result (λ made. made.1.items ≡ borders_of (file_bytes files.now)) }
     ensures short { IfOk result (λ made. length made.0.items ≤ text_limit) }
     ensures whole { OnOk result (too_long (file_bytes files.now) ≡ None) }

@@ -7,7 +7,7 @@ mod conditionals;
 mod expanded;
 mod fault;
 mod files;
-mod idle;
+mod ignored;
 pub mod law;
 mod macro_text;
 mod macros;

@@ -1,7 +1,7 @@
 // What the definition of a macro gives its name (IEEE 1364-2005, 19.3.1).
 
 ghost use Rattle.std.specs.Prelude.{◌≡◌, ◌≤◌, ◌<◌, ◌==◌, ◌&&◌, not, length, IfOk};
-ghost use Rattle.vsrc.specs.Macros.{lines_len, is_joint, unslashed, begins_comment, without_comments, macro_text};
+ghost use Rattle.vsrc.specs.Macros.{lines_len, is_joint, without_backslashes, begins_comment, without_comments, macro_text};
 
 use crate::outside::stretch_len;
 use basis::NoMemory;
@@ -14,7 +14,7 @@ pub fn macro_text(alloc: Global, behind: &[u8]) -> Result<Vec<u8>, NoMemory>
     ensures { IfOk result (λ made. made.items ≡ macro_text behind.now) }
 {
     let len = lines_len(behind);
-    let lines = unslashed(alloc, behind.split_at(len).0)?;
+    let lines = without_backslashes(alloc, behind.split_at(len).0)?;
     without_comments(alloc, &lines)
 }
 
@@ -40,8 +40,8 @@ fn ends_lines(byte: u8, slash: bool) -> bool
 }
 
 // The lines without the backslashes that they end in.
-fn unslashed(alloc: Global, text: &[u8]) -> Result<Vec<u8>, NoMemory>
-    ensures { IfOk result (λ lines. lines.items ≡ unslashed text.now) }
+fn without_backslashes(alloc: Global, text: &[u8]) -> Result<Vec<u8>, NoMemory>
+    ensures { IfOk result (λ lines. lines.items ≡ without_backslashes text.now) }
 {
     let mut lines = Vec::new(alloc);
     let mut at = 0;

@@ -3,7 +3,7 @@
 ghost use Rattle.std.specs.Prelude.{◌≡◌, ◌≤◌, ◌<◌, length, OnOk, Ok, Err};
 ghost use Rattle.basis.specs.Reasons.{IfFault};
 ghost use Rattle.vsrc.specs.Source.{text_limit};
-ghost use Rattle.vsrc.specs.Macros.{used, piece};
+ghost use Rattle.vsrc.specs.Macros.{make_use, piece};
 ghost use Rattle.vsrc.specs.Pieces.{by_name, names_of, macros_of, of_text, AreCut, IsCut, IsPiece};
 
 use crate::output::Output;
@@ -35,7 +35,7 @@ impl Model for Table {
 
 impl Table {
     ghost use Rattle.std.specs.Prelude.{None, Some, is_some};
-    ghost use Rattle.vsrc.specs.Macros.{no_macros, redefined};
+    ghost use Rattle.vsrc.specs.Macros.{no_macros, redefine};
 
     /// No macros.
     pub fn new(alloc: Global) -> Self
@@ -49,7 +49,7 @@ impl Table {
     /// Gives the name a text, in place of the one that it may have.
     pub fn define(&mut self, alloc: Global, name: &[u8], text: Vec<u8>) -> Result<(), NoMemory>
         ensures { OnOk result
-            (by_name self.new ≡ redefined name.now (Some text.items) (by_name self.old)) }
+            (by_name self.new ≡ redefine name.now (Some text.items) (by_name self.old)) }
     {
         let uses = cut(alloc, &mut self.texts, &text)?;
         set(alloc, &mut self.texts, name, Some(Macro { text, uses }))
@@ -58,7 +58,7 @@ impl Table {
     /// Takes the name's text away, if it has one.
     pub fn undefine(&mut self, alloc: Global, name: &[u8]) -> Result<(), NoMemory>
         ensures { OnOk result
-            (by_name self.new ≡ redefined name.now None (by_name self.old)) }
+            (by_name self.new ≡ redefine name.now None (by_name self.old)) }
     {
         set(alloc, &mut self.texts, name, None)
     }
@@ -82,9 +82,9 @@ pub fn put_use(
     made: &mut Output,
 ) -> Result<(), OrMemory<Refusal>>
     requires { at ≤ text_limit }
-    ensures ok { OnOk result (used levels (by_name table.now) at name.now made.old ≡ Ok made.new) }
+    ensures ok { OnOk result (make_use levels (by_name table.now) at name.now made.old ≡ Ok made.new) }
     ensures err { IfFault result (λ refusal.
-        used levels (by_name table.now) at name.now made.old ≡ Err refusal) }
+        make_use levels (by_name table.now) at name.now made.old ≡ Err refusal) }
 {
     if !may_be_macro(name) {
         return Err(refuse(Why::Directive, at));
@@ -149,10 +149,10 @@ fn put_piece(
     requires texts { AreCut texts.now.entries }
     requires head { IsPiece (names_of texts.now.entries) rest.now head }
     ensures ok { OnOk result
-        (piece (used levels (macros_of texts.now.entries) at) at rest.now made.old ≡ Ok
+        (piece (make_use levels (macros_of texts.now.entries) at) at rest.now made.old ≡ Ok
         made.new) }
     ensures err { IfFault result (λ refusal.
-        piece (used levels (macros_of texts.now.entries) at) at rest.now made.old ≡ Err
+        piece (make_use levels (macros_of texts.now.entries) at) at rest.now made.old ≡ Err
         refusal) }
 {
     match head.kind {

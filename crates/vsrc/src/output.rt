@@ -37,7 +37,7 @@ impl Model for Output {
 }
 
 impl Output {
-    ghost use Rattle.vsrc.specs.Macros.{Made, nothing_made, put_copied, put_given, counted, use_limit};
+    ghost use Rattle.vsrc.specs.Macros.{Made, nothing_made, put_copied, put_given, count_use, use_limit};
 
     /// Nothing yet.
     pub fn new(alloc: Global) -> Output
@@ -88,7 +88,7 @@ impl Output {
     /// Counts a use.
     pub fn count(&mut self)
         requires { self.old.uses < use_limit }
-        ensures { self.new ≡ counted self.old }
+        ensures { self.new ≡ count_use self.old }
     {
         self.uses += 1;
     }

@@ -96,7 +96,7 @@ pub fn string_end(text: &[u8]) -> Option<usize>
         match text[at] {
             b'"' => return Some(at + 1),
             b'\n' => return None,
-            b'\\' => at = skipped(text, at),
+            b'\\' => at = past_escape(text, at),
             _ => at += 1,
         }
     }
@@ -105,7 +105,7 @@ pub fn string_end(text: &[u8]) -> Option<usize>
 
 // Behind the backslash at `at` and the byte that it takes along.
 #[tactic(auto, using(crate::proofs::Stretches::string_at_last, crate::proofs::Stretches::string_at_broken, crate::proofs::Stretches::string_at_escape))]
-fn skipped(text: &[u8], at: usize) -> usize
+fn past_escape(text: &[u8], at: usize) -> usize
     requires within { at < length text.now }
     requires backslash { slice_index text.now at ≡ 92 }
     ensures some { at < result }

@@ -1,12 +1,12 @@
 // The uses in the texts of macros, found where those are defined, so that no use looks at a name in a text again.
 
 ghost use Rattle.std.specs.Prelude.{◌≡◌, ◌<◌, ◌++◌, ◌∷◌, ℕ, List, true, length, is_some, slice_get, [], None, Some, IfOk, OnOk, IfSome};
-ghost use Rattle.vsrc.specs.Macros.{may_be_macro, why_unknown, redefined};
+ghost use Rattle.vsrc.specs.Macros.{may_be_macro, why_unknown, redefine};
 ghost use Rattle.vsrc.specs.Pieces.{names_of, macros_of, text_of, found_text, begins_use, head_of, is_use, next_of, used_name, uses_in, AreCut, AreUses, IsCut, IsCutIfAny, IsPiece, IsUse, Keeps};
 
 use crate::outside::stretch_len;
 use crate::refusal::Why;
-use crate::words::{directive_of, idle_of, name_len};
+use crate::words::{directive_of, ignored_of, name_len};
 use basis::NoMemory;
 use indexmap::IndexMap;
 use std::alloc::Global;
@@ -53,7 +53,7 @@ pub fn may_be_macro(name: &[u8]) -> bool
 pub fn why_unknown(name: &[u8]) -> Why
     ensures { result ≡ why_unknown name.now }
 {
-    if idle_of(name).is_some() {
+    if ignored_of(name).is_some() {
         Why::Directive
     } else {
         Why::Macro
@@ -96,7 +96,7 @@ pub fn set(
     requires found { IsCutIfAny (names_of texts.old.entries) found }
     ensures cut { AreCut texts.new.entries }
     ensures ok { OnOk result
-        (macros_of texts.new.entries ≡ redefined name.now (text_of found)
+        (macros_of texts.new.entries ≡ redefine name.now (text_of found)
         (macros_of texts.old.entries)) }
 {
     let mut key = Vec::new(alloc);

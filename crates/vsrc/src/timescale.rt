@@ -73,8 +73,8 @@ fn slash_behind(text: &[u8]) -> Option<usize>
 }
 
 // The timescale of these lengths, unless the precision is longer than the unit; and how many bytes it takes.
-fn timed(len: usize, unit: Span, precision: Span) -> Option<(Timescale, usize)>
-    ensures value { timed_of result ≡ spec.timed len unit precision }
+fn timescale_with(len: usize, unit: Span, precision: Span) -> Option<(Timescale, usize)>
+    ensures value { timed_of result ≡ spec.timescale_with len unit precision }
     ensures len { IfSome result (λ found. found.1 ≡ len) }
 {
     if unit.femtoseconds() < precision.femtoseconds() {
@@ -91,5 +91,5 @@ pub fn timescale_behind(text: &[u8]) -> Option<(Timescale, usize)>
     let (unit, first) = span_behind(text)?;
     let slash = slash_behind(text.split_at(first).1)?;
     let (precision, second) = span_behind(text.split_at(first + slash).1)?;
-    timed(first + slash + second, unit, precision)
+    timescale_with(first + slash + second, unit, precision)
 }

@@ -4,17 +4,17 @@ ghost use Rattle.std.specs.Prelude.{◌≡◌, ◌≤◌, ◌<◌, ◌+◌, ◌�
 ghost use Rattle.basis.specs.Reasons.{IfFault};
 ghost use Rattle.vsrc.specs.Source.{text_limit};
 ghost use Rattle.vsrc.specs.Words.{name_behind};
-ghost use Rattle.vsrc.specs.Idle.{idle_len};
+ghost use Rattle.vsrc.specs.Ignored.{ignored_len};
 ghost use Rattle.vsrc.specs.Macros.{may_be_macro};
 ghost use Rattle.vsrc.specs.Conditionals.{is_read};
-ghost use Rattle.vsrc.specs.Expansion.{expanded};
+ghost use Rattle.vsrc.specs.Expansion.{walk_text};
 ghost use Rattle.vsrc.specs.Walking.{state_of};
 ghost use Rattle.vsrc.specs.Pieces.{by_name};
 ghost use Rattle.vsrc.specs.Timescales.{timescale_behind};
 ghost use Rattle.vsrc.specs.Walk.{begins_arguments, is_conditional, is_fresh, is_nettype, is_met};
 
 use crate::conditionals::Opens;
-use crate::idle::{idle_len, keywords_behind};
+use crate::ignored::{ignored_len, keywords_behind};
 use crate::macro_text::{lines_len, macro_text};
 use crate::macros::{Table, put_use};
 use crate::output::Output;
@@ -23,7 +23,7 @@ use crate::pieces::may_be_macro;
 use crate::refusal::{Refusal, Why, refuse};
 use crate::timescale::timescale_behind;
 use crate::words::{
-    Idle, Word, blanks_len, directive_of, idle_of, is_blank, name_behind, name_len,
+    Ignored, Word, blanks_len, directive_of, ignored_of, is_blank, name_behind, name_len,
 };
 use basis::{OrMemory, Timescale};
 use std::alloc::Global;
@@ -46,8 +46,8 @@ pub struct Walk {
 }
 
 impl Walk {
-    ghost use Rattle.vsrc.specs.Walk.{start, step, passed, kept, ticked, met, replaced, word_in, heeded, obeyed, defined, undefined, opening, alternative, timed, typed, idled, with_opens};
-    ghost use Rattle.vsrc.specs.Conditionals.{turned, closed};
+    ghost use Rattle.vsrc.specs.Walk.{start, step, copy_stretch, keep, read_backtick, read_name, replace_use, word_in, heed, obey, define, undefine, opening, alternative, with_timescale, with_nettype, pass_over, with_opens};
+    ghost use Rattle.vsrc.specs.Conditionals.{begin_part, close_part};
     ghost use Rattle.vsrc.specs.Walking.{StepResult};
 
     /// Before the first byte.
@@ -104,12 +104,12 @@ impl Walk {
         requires some { 0 < length rest.now }
         requires short { self.old.at + length rest.now ≤ text_limit }
         ensures ok { OnOk result
-            (passed (slice_index rest.now 0) rest.now (state_of self.old) ≡ Ok
+            (copy_stretch (slice_index rest.now 0) rest.now (state_of self.old) ≡ Ok
             (state_of self.new)) }
         ensures on { OnOk result (self.old.at < self.new.at) }
         ensures within { OnOk result (self.new.at ≤ self.old.at + length rest.now) }
         ensures err { IfFault result (λ refusal.
-            passed (slice_index rest.now 0) rest.now (state_of self.old) ≡ Err refusal) }
+            copy_stretch (slice_index rest.now 0) rest.now (state_of self.old) ≡ Err refusal) }
     {
         let len = stretch_len(rest);
         self.keep(rest.split_at(len).0)?;
@@ -120,10 +120,10 @@ impl Walk {
 
     fn keep(&mut self, bytes: &[u8]) -> Result<(), OrMemory<Refusal>>
         requires { self.old.at + length bytes.now ≤ text_limit }
-        ensures ok { OnOk result (kept bytes.now (state_of self.old) ≡ Ok self.new.made) }
+        ensures ok { OnOk result (keep bytes.now (state_of self.old) ≡ Ok self.new.made) }
         ensures others { OnOk result
             (state_of self.new ≡ record (state_of self.old) { made = self.new.made }) }
-        ensures err { IfFault result (λ refusal. kept bytes.now (state_of self.old) ≡ Err refusal) }
+        ensures err { IfFault result (λ refusal. keep bytes.now (state_of self.old) ≡ Err refusal) }
     {
         if self.opens.is_read() {
             self.made.put_copied(bytes, self.at)?;
@@ -134,11 +134,11 @@ impl Walk {
     // What begins with a backtick, told from the bytes behind it.
     fn tick(&mut self, behind: &[u8]) -> Result<(), OrMemory<Refusal>>
         requires { self.old.at + length behind.now < text_limit }
-        ensures ok { OnOk result (ticked behind.now (state_of self.old) ≡ Ok (state_of self.new)) }
+        ensures ok { OnOk result (read_backtick behind.now (state_of self.old) ≡ Ok (state_of self.new)) }
         ensures on { OnOk result (self.old.at < self.new.at) }
         ensures within { OnOk result (self.new.at ≤ self.old.at + 1 + length behind.now) }
         ensures err { IfFault result (λ refusal.
-            ticked behind.now (state_of self.old) ≡ Err refusal) }
+            read_backtick behind.now (state_of self.old) ≡ Err refusal) }
     {
         let len = name_len(behind);
         let (name, rest) = behind.split_at(len);
@@ -152,12 +152,12 @@ impl Walk {
     fn meet(&mut self, name: &[u8], rest: &[u8]) -> Result<usize, OrMemory<Refusal>>
         requires { self.old.at ≤ text_limit }
         ensures ok { IfOk result
-            (StepResult (met (word_in (by_name self.old.macros) name.now) name.now rest.now
+            (StepResult (read_name (word_in (by_name self.old.macros) name.now) name.now rest.now
             (state_of self.old)) (state_of self.new)) }
         ensures within { IfOk result (λ len. len ≤ length rest.now) }
         ensures still { self.new.at ≡ self.old.at }
         ensures err { IfFault result (λ refusal.
-            met (word_in (by_name self.old.macros) name.now) name.now rest.now (state_of self.old)
+            read_name (word_in (by_name self.old.macros) name.now) name.now rest.now (state_of self.old)
             ≡ Err refusal) }
     {
         match self.word_in(name) {
@@ -173,23 +173,23 @@ impl Walk {
         if let Some(word) = directive_of(name) {
             return Some(word);
         }
-        let Some(idle) = idle_of(name) else {
+        let Some(ignored) = ignored_of(name) else {
             return None;
         };
         if self.macros.has(name) {
             return None;
         }
-        Some(Word::Idle(idle))
+        Some(Word::Ignored(ignored))
     }
 
     // A use of a macro.
     fn replace(&mut self, name: &[u8]) -> Result<usize, OrMemory<Refusal>>
         requires { self.old.at ≤ text_limit }
-        ensures ok { IfOk result (StepResult (replaced name.now (state_of self.old)) (state_of self.new)) }
+        ensures ok { IfOk result (StepResult (replace_use name.now (state_of self.old)) (state_of self.new)) }
         ensures none { IfOk result (λ len. len ≡ 0) }
         ensures still { self.new.at ≡ self.old.at }
         ensures err { IfFault result (λ refusal.
-            replaced name.now (state_of self.old) ≡ Err refusal) }
+            replace_use name.now (state_of self.old) ≡ Err refusal) }
     {
         if self.opens.is_read() {
             put_use(&self.macros, name, self.at, LEVELS, &mut self.made)?;
@@ -200,11 +200,11 @@ impl Walk {
     // A directive, where it is heeded.
     fn heed(&mut self, word: Word, rest: &[u8]) -> Result<usize, OrMemory<Refusal>>
         ensures ok { IfOk result
-            (StepResult (heeded word rest.now (state_of self.old)) (state_of self.new)) }
+            (StepResult (heed word rest.now (state_of self.old)) (state_of self.new)) }
         ensures within { IfOk result (λ len. len ≤ length rest.now) }
         ensures still { self.new.at ≡ self.old.at }
         ensures err { IfFault result (λ refusal.
-            heeded word rest.now (state_of self.old) ≡ Err refusal) }
+            heed word rest.now (state_of self.old) ≡ Err refusal) }
     {
         if !self.is_heeded(word) {
             return Ok(0);
@@ -224,11 +224,11 @@ impl Walk {
     // A directive and what stands behind its word.
     fn obey(&mut self, word: Word, rest: &[u8]) -> Result<usize, OrMemory<Refusal>>
         ensures ok { IfOk result
-            (StepResult (obeyed word rest.now (state_of self.old)) (state_of self.new)) }
+            (StepResult (obey word rest.now (state_of self.old)) (state_of self.new)) }
         ensures within { IfOk result (λ len. len ≤ length rest.now) }
         ensures still { self.new.at ≡ self.old.at }
         ensures err { IfFault result (λ refusal.
-            obeyed word rest.now (state_of self.old) ≡ Err refusal) }
+            obey word rest.now (state_of self.old) ≡ Err refusal) }
     {
         match word {
             Word::Define => self.define(rest),
@@ -240,18 +240,18 @@ impl Walk {
             Word::Endif => self.close(),
             Word::Timescale => self.time(rest),
             Word::DefaultNettype => self.set_type(rest),
-            Word::Idle(idle) => self.pass_over(idle, rest),
+            Word::Ignored(ignored) => self.pass_over(ignored, rest),
         }
     }
 
     fn define(&mut self, rest: &[u8]) -> Result<usize, OrMemory<Refusal>>
         ensures ok { IfOk result
-            (StepResult (defined (name_behind rest.now) rest.now (state_of self.old))
+            (StepResult (define (name_behind rest.now) rest.now (state_of self.old))
             (state_of self.new)) }
         ensures within { IfOk result (λ len. len ≤ length rest.now) }
         ensures still { self.new.at ≡ self.old.at }
         ensures err { IfFault result (λ refusal.
-            defined (name_behind rest.now) rest.now (state_of self.old) ≡ Err refusal) }
+            define (name_behind rest.now) rest.now (state_of self.old) ≡ Err refusal) }
     {
         let Some((name, len)) = name_behind(rest) else {
             return Err(refuse(Why::Directive, self.at));
@@ -269,11 +269,11 @@ impl Walk {
 
     fn undefine(&mut self, rest: &[u8]) -> Result<usize, OrMemory<Refusal>>
         ensures ok { IfOk result
-            (StepResult (undefined (name_behind rest.now) (state_of self.old)) (state_of self.new)) }
+            (StepResult (undefine (name_behind rest.now) (state_of self.old)) (state_of self.new)) }
         ensures within { IfOk result (λ len. len ≤ length rest.now) }
         ensures still { self.new.at ≡ self.old.at }
         ensures err { IfFault result (λ refusal.
-            undefined (name_behind rest.now) (state_of self.old) ≡ Err refusal) }
+            undefine (name_behind rest.now) (state_of self.old) ≡ Err refusal) }
     {
         let Some((name, len)) = name_behind(rest) else {
             return Err(refuse(Why::Directive, self.at));
@@ -324,12 +324,12 @@ impl Walk {
 
     fn otherwise(&mut self) -> Result<usize, OrMemory<Refusal>>
         ensures ok { IfOk result
-            (StepResult (with_opens 0 (state_of self.old) (turned true true self.old.at self.old.opens))
+            (StepResult (with_opens 0 (state_of self.old) (begin_part true true self.old.at self.old.opens))
             (state_of self.new)) }
         ensures none { IfOk result (λ len. len ≡ 0) }
         ensures still { self.new.at ≡ self.old.at }
         ensures err { IfFault result (λ refusal.
-            with_opens 0 (state_of self.old) (turned true true self.old.at self.old.opens) ≡ Err
+            with_opens 0 (state_of self.old) (begin_part true true self.old.at self.old.opens) ≡ Err
             refusal) }
     {
         self.opens.turn(true, true, self.at)?;
@@ -338,12 +338,12 @@ impl Walk {
 
     fn close(&mut self) -> Result<usize, OrMemory<Refusal>>
         ensures ok { IfOk result
-            (StepResult (with_opens 0 (state_of self.old) (closed self.old.at self.old.opens))
+            (StepResult (with_opens 0 (state_of self.old) (close_part self.old.at self.old.opens))
             (state_of self.new)) }
         ensures none { IfOk result (λ len. len ≡ 0) }
         ensures still { self.new.at ≡ self.old.at }
         ensures err { IfFault result (λ refusal.
-            with_opens 0 (state_of self.old) (closed self.old.at self.old.opens) ≡ Err refusal) }
+            with_opens 0 (state_of self.old) (close_part self.old.at self.old.opens) ≡ Err refusal) }
     {
         self.opens.close(self.at)?;
         Ok(0)
@@ -351,11 +351,11 @@ impl Walk {
 
     fn time(&mut self, rest: &[u8]) -> Result<usize, OrMemory<Refusal>>
         ensures ok { IfOk result
-            (StepResult (timed (timescale_behind rest.now) (state_of self.old)) (state_of self.new)) }
+            (StepResult (with_timescale (timescale_behind rest.now) (state_of self.old)) (state_of self.new)) }
         ensures within { IfOk result (λ len. len ≤ length rest.now) }
         ensures still { self.new.at ≡ self.old.at }
         ensures err { IfFault result (λ refusal.
-            timed (timescale_behind rest.now) (state_of self.old) ≡ Err refusal) }
+            with_timescale (timescale_behind rest.now) (state_of self.old) ≡ Err refusal) }
     {
         let Some((timescale, len)) = timescale_behind(rest) else {
             return Err(refuse(Why::Directive, self.at));
@@ -373,11 +373,11 @@ impl Walk {
 
     fn set_type(&mut self, rest: &[u8]) -> Result<usize, OrMemory<Refusal>>
         ensures ok { IfOk result
-            (StepResult (typed (name_behind rest.now) (state_of self.old)) (state_of self.new)) }
+            (StepResult (with_nettype (name_behind rest.now) (state_of self.old)) (state_of self.new)) }
         ensures within { IfOk result (λ len. len ≤ length rest.now) }
         ensures still { self.new.at ≡ self.old.at }
         ensures err { IfFault result (λ refusal.
-            typed (name_behind rest.now) (state_of self.old) ≡ Err refusal) }
+            with_nettype (name_behind rest.now) (state_of self.old) ≡ Err refusal) }
     {
         let Some((name, len)) = name_behind(rest) else {
             return Err(refuse(Why::Directive, self.at));
@@ -389,19 +389,19 @@ impl Walk {
     }
 
     // A directive that is passed over.
-    fn pass_over(&mut self, idle: Idle, rest: &[u8]) -> Result<usize, OrMemory<Refusal>>
+    fn pass_over(&mut self, ignored: Ignored, rest: &[u8]) -> Result<usize, OrMemory<Refusal>>
         ensures ok { IfOk result
-            (StepResult (idled idle (idle_len idle rest.now) (state_of self.old))
+            (StepResult (pass_over ignored (ignored_len ignored rest.now) (state_of self.old))
             (state_of self.new)) }
         ensures within { IfOk result (λ len. len ≤ length rest.now) }
         ensures still { self.new.at ≡ self.old.at }
         ensures err { IfFault result (λ refusal.
-            idled idle (idle_len idle rest.now) (state_of self.old) ≡ Err refusal) }
+            pass_over ignored (ignored_len ignored rest.now) (state_of self.old) ≡ Err refusal) }
     {
-        let Some(len) = idle_len(idle, rest) else {
+        let Some(len) = ignored_len(ignored, rest) else {
             return Err(refuse(Why::Directive, self.at));
         };
-        self.keywords = keywords_behind(idle, self.at, self.keywords)?;
+        self.keywords = keywords_behind(ignored, self.at, self.keywords)?;
         Ok(len)
     }
 }
@@ -409,8 +409,8 @@ impl Walk {
 /// The walk over a whole text. E113 where a conditional is left open at its end.
 pub fn walk_over(alloc: Global, text: &[u8]) -> Result<Walk, OrMemory<Refusal>>
     requires { length text.now ≤ text_limit }
-    ensures ok { IfOk result (λ walk. expanded text.now ≡ Ok (state_of walk)) }
-    ensures err { IfFault result (λ refusal. expanded text.now ≡ Err refusal) }
+    ensures ok { IfOk result (λ walk. walk_text text.now ≡ Ok (state_of walk)) }
+    ensures err { IfFault result (λ refusal. walk_text text.now ≡ Err refusal) }
 {
     let mut walk = Walk::new(alloc);
     while walk.at < text.len() {
@@ -464,6 +464,6 @@ fn is_conditional(word: Word) -> bool
         Word::Endif => true,
         Word::Timescale => false,
         Word::DefaultNettype => false,
-        Word::Idle(_) => false,
+        Word::Ignored(_) => false,
     }
 }

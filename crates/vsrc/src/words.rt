@@ -4,7 +4,7 @@ ghost use Rattle.std.specs.Prelude.{◌≡◌, ◌≤◌, ◌+◌, ℕ, length, 
 ghost use Rattle.std.specs.List.{prefix_len};
 ghost use Rattle.basis.specs.Letters.{is_in_name};
 ghost use Rattle.vsrc.specs.Words.{is_blank, blanks_len, name_len, name_behind, directive_of};
-ghost use Rattle.vsrc.specs.Idle.{idle_of};
+ghost use Rattle.vsrc.specs.Ignored.{ignored_of};
 ghost use Rattle.vsrc.specs.Inner.{named_of};
 
 use basis::{begins_name, is_in_name};
@@ -22,12 +22,12 @@ pub enum Word {
     Timescale,
     DefaultNettype,
     /// One that is passed over.
-    Idle(Idle),
+    Ignored(Ignored),
 }
 
 /// A directive that is passed over (IEEE 1364-2005, clause 19).
 #[derive(Clone, Copy)]
-pub enum Idle {
+pub enum Ignored {
     Celldefine,
     Endcelldefine,
     Resetall,
@@ -125,27 +125,27 @@ pub fn directive_of(name: &[u8]) -> Option<Word>
 }
 
 /// The directive that is passed over whose word the name is, if any.
-pub fn idle_of(name: &[u8]) -> Option<Idle>
-    ensures { result ≡ idle_of name.now }
+pub fn ignored_of(name: &[u8]) -> Option<Ignored>
+    ensures { result ≡ ignored_of name.now }
 {
     if name == b"celldefine".as_slice() {
-        Some(Idle::Celldefine)
+        Some(Ignored::Celldefine)
     } else if name == b"endcelldefine".as_slice() {
-        Some(Idle::Endcelldefine)
+        Some(Ignored::Endcelldefine)
     } else if name == b"resetall".as_slice() {
-        Some(Idle::Resetall)
+        Some(Ignored::Resetall)
     } else if name == b"begin_keywords".as_slice() {
-        Some(Idle::BeginKeywords)
+        Some(Ignored::BeginKeywords)
     } else if name == b"end_keywords".as_slice() {
-        Some(Idle::EndKeywords)
+        Some(Ignored::EndKeywords)
     } else if name == b"line".as_slice() {
-        Some(Idle::Line)
+        Some(Ignored::Line)
     } else if name == b"pragma".as_slice() {
-        Some(Idle::Pragma)
+        Some(Ignored::Pragma)
     } else if name == b"unconnected_drive".as_slice() {
-        Some(Idle::UnconnectedDrive)
+        Some(Ignored::UnconnectedDrive)
     } else if name == b"nounconnected_drive".as_slice() {
-        Some(Idle::NounconnectedDrive)
+        Some(Ignored::NounconnectedDrive)
     } else {
         None
     }

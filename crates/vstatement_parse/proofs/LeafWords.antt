@@ -5,6 +5,7 @@ use Rattle.basis.proofs.Bools.{by_if}
 use Rattle.vast.specs.Words.{Text, reserved_words, is_name, is_number, is_string, is_time, is_leaf}
 use Rattle.vast.specs.declared.token.Token.{Token}
 use Rattle.vast.specs.declared.statement.CaseKind.TheVariants as case_kind
+use Rattle.vast.specs.declared.statement.Base.TheVariants as bases
 use Rattle.vast.specs.declared.statement.Printing.TheVariants as printing
 use Rattle.vast.specs.declared.statement.Dumping.TheVariants as dumping
 use Rattle.vexpr_parse.specs.Words.{written}
@@ -89,9 +90,22 @@ start_word_plain start.Forever = refl
 start_word_plain start.For = refl
 start_word_plain start.Delay = refl
 start_word_plain start.Event = refl
-start_word_plain (start.Print printing.Display) = refl
-start_word_plain (start.Print printing.Strobe) = refl
-start_word_plain (start.Print printing.Monitor) = refl
+start_word_plain (start.Print (printing.Display bases.Decimal)) = refl
+start_word_plain (start.Print (printing.Display bases.Binary)) = refl
+start_word_plain (start.Print (printing.Display bases.Octal)) = refl
+start_word_plain (start.Print (printing.Display bases.Hexadecimal)) = refl
+start_word_plain (start.Print (printing.Write bases.Decimal)) = refl
+start_word_plain (start.Print (printing.Write bases.Binary)) = refl
+start_word_plain (start.Print (printing.Write bases.Octal)) = refl
+start_word_plain (start.Print (printing.Write bases.Hexadecimal)) = refl
+start_word_plain (start.Print (printing.Strobe bases.Decimal)) = refl
+start_word_plain (start.Print (printing.Strobe bases.Binary)) = refl
+start_word_plain (start.Print (printing.Strobe bases.Octal)) = refl
+start_word_plain (start.Print (printing.Strobe bases.Hexadecimal)) = refl
+start_word_plain (start.Print (printing.Monitor bases.Decimal)) = refl
+start_word_plain (start.Print (printing.Monitor bases.Binary)) = refl
+start_word_plain (start.Print (printing.Monitor bases.Octal)) = refl
+start_word_plain (start.Print (printing.Monitor bases.Hexadecimal)) = refl
 start_word_plain start.DumpFile = refl
 start_word_plain start.DumpVars = refl
 start_word_plain (start.Dump dumping.On) = refl

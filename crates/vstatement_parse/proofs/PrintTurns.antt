@@ -5,7 +5,6 @@ use Rattle.vast.specs.Words.{Text}
 use Rattle.vast.specs.Statements.{StatementTree, ArgumentTree, task, print}
 use Rattle.vast.specs.StatementTrees.{statement_tree}
 use Rattle.vast.specs.declared.statement.Printing.{Printing}
-use Rattle.vast.specs.declared.statement.Printing.TheVariants as printing
 use Rattle.vast.specs.declared.statement.Statement.{Statement}
 use Rattle.basis.specs.declared.memory.OrMemory.{OrMemory}
 use Rattle.vexpr_parse.specs.declared.stop.Stop.{Stop}
@@ -96,9 +95,9 @@ module _ (kind : Printing) where
         Answered (statement_tree text) (print_at kind below words) left result
     gives_print text left result given = subst (λ a. Answered (statement_tree text) a left result) (sym print_is) given
 
-pub gives_monitor : (text : List Text) (below : ℕ) (words left : List Text) (result : Result Statement (OrMemory Stop)) →
-    Answered (statement_tree text) (printed_with printing.Monitor (required_arguments below) words) left result →
-    Answered (statement_tree text) (monitor_at below words) left result
-gives_monitor text below words left result given =
+pub gives_monitor : (kind : Printing) (text : List Text) (below : ℕ) (words left : List Text) (result : Result Statement (OrMemory Stop)) →
+    Answered (statement_tree text) (printed_with kind (required_arguments below) words) left result →
+    Answered (statement_tree text) (monitor_at kind below words) left result
+gives_monitor kind text below words left result given =
     subst (λ a. Answered (statement_tree text) a left result)
-    (sym (by_some printing.Monitor (arguments below words) ∙ ap (λ a. and_then a (printed printing.Monitor)) (required_is below words))) given
+    (sym (by_some kind (arguments below words) ∙ ap (λ a. and_then a (printed kind)) (required_is below words))) given

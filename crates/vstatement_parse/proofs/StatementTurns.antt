@@ -1,6 +1,6 @@
 -- What the code that reads lists in statements goes on from.
 use Rattle.std.specs.Str.{bytes_eq}
-use Rattle.std.proofs.Common.{◌≡◌, ℕ, zero, suc, nat_le, ◌<◌, arith, length, Bool, true, false, if◌then◌else◌, codes, Result, subst, List, [], ◌∷◌, map, Vec, Global, refl, sym, ap, ◌∙◌}
+use Rattle.std.proofs.Common.{◌≡◌, ℕ, zero, suc, nat_le, ◌<◌, arith, length, Bool, true, false, if◌then◌else◌, codes, Result, subst, List, [], ◌∷◌, map, Vec, Global, refl, sym, ap, ◌∙◌, Option}
 use Rattle.basis.proofs.Numbers.{one_within}
 use Rattle.vast.specs.Words.{Text, is_name}
 use Rattle.vast.specs.Statements.{block, first_statement, ArgumentTree, quoted, printed, spell_argument}
@@ -18,14 +18,15 @@ use Rattle.vexpr_parse.specs.Readers.{Answer, Reader, got, stop, and_then, past,
 use Rattle.vexpr_parse.proofs.ReaderRules.{Eats, passed_over}
 use Rattle.vgrammar.specs.Parts.{both, other_way, one_way, made, paired, many, either}
 use Rattle.vgrammar.specs.Starts.{comma_word, is_word}
-use Rattle.vgrammar.specs.Statements.{further_term, statement, statements_in, block_of, block_parts, named, term, word_only, event_of, enclosed_event, control, path, path_of, argument}
-use Rattle.vstatement_parse.specs.Gives.{Answered, block_at, enclosed_at, terms_at, further_terms, names_behind, path_at}
+use Rattle.vgrammar.specs.Statements.{further_term, statement, statements_in, block_of, named, term, word_only, event_of, enclosed_event, control, path, path_of, argument, block_name, ended_statements}
+use Rattle.vstatement_parse.specs.Gives.{Answered, block_at, enclosed_at, terms_at, further_terms, names_behind, path_at, block_name_text}
 use Rattle.vgrammar.proofs.ManyTurns.{goes_on_first, past_eats_too}
 use Rattle.vgrammar.proofs.Phrases.{sound_eats}
 use Rattle.vgrammar.proofs.PartPhrases.{further_shape, further_phrase, text_shape, named_phrase, path_shape, path_phrase, argument_shape, argument_phrase}
 use Rattle.vgrammar.proofs.StatementShapes.{statement_shape, statement_worded}
 use Rattle.vgrammar.proofs.StatementLevels.{statement_phrase}
 use Rattle.vgrammar.proofs.ValuePhrases.{value_worded}
+use Rattle.vast.specs.declared.token.Token.{Token}
 
 pub further_eats : Eats further_term
 further_eats = sound_eats further_term further_shape further_phrase.sound (λ tree v. some tree.by_comma _)
@@ -43,12 +44,15 @@ trees_in_list : (text : List Text) (list : List Statement) → statement_trees t
 trees_in_list text [] = refl
 trees_in_list text (one ∷ more) = ap (first_statement (statement_tree text one)) (trees_in_list text more)
 
-pub block_got : (text : List Text) (below : ℕ) (statements : Vec Statement Global) (words left : List Text) →
-    block_parts (statement below) words ≡ got (both (map (statement_tree text) statements.items) tt) left →
-    block_at below words ≡ got (statement_tree text (Block statements)) left
-block_got text below statements words left e =
-    ap (λ a. and_then a (λ parts. got (block_of parts))) e
-    ∙ ap (λ t. got t left) (sym (tree_of_whole_block text statements ∙ ap block (trees_in_list text statements.items)))
+pub block_got : (text : List Text) (below : ℕ) (label : Option Token) (statements : Vec Statement Global) (words between left : List Text) →
+    block_name words ≡ got (block_name_text text label) between →
+    ended_statements (statement below) between ≡ got (both (map (statement_tree text) statements.items) tt) left →
+    block_at below words ≡ got (statement_tree text (Block label statements)) left
+block_got text below label statements words between left e f =
+    ap (λ a. and_then (and_then a (λ one. made (both one) (ended_statements (statement below)))) (λ parts. got (block_of parts))) e
+    ∙ ap (λ a. and_then (and_then a (λ list. got (both (block_name_text text label) list))) (λ parts. got (block_of parts))) f
+    ∙ ap (λ t. got t left) (sym (tree_of_whole_block text label statements
+    ∙ ap (block (block_name_text text label)) (trees_in_list text statements.items)))
 
 -- what is made of what was made
 pub twice : {A B C : Type 0} (make : A → B) (again : B → C) (a : Answer A) →

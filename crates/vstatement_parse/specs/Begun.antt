@@ -13,15 +13,15 @@ use Rattle.vstatement_parse.specs.Gives.{arguments_within, trigger_at, dump_at, 
 use Rattle.vstatement_parse.specs.Rounds.{if_at, for_at}
 use Rattle.vstatement_parse.specs.Cases.{case_at}
 
--- behind $display, or $strobe
+-- behind $display, $write, or $strobe
 abbrev pub print_at : Printing → ℕ → Reader StatementTree
 print_at kind below =
     made (optional_print_of kind)
     (paired (maybe (is_front (codes "(")) (roomy below 1 (arguments below))) (word_only (codes ";")))
 
 -- behind $monitor
-abbrev pub monitor_at : ℕ → Reader StatementTree
-monitor_at below = made (print_of printing.Monitor) (paired (arguments below) (word_only (codes ";")))
+abbrev pub monitor_at : Printing → ℕ → Reader StatementTree
+monitor_at kind below = made (print_of kind) (paired (arguments below) (word_only (codes ";")))
 
 -- the arguments as a list: of a task that wants some, and of one that doesn't
 abbrev pub required_arguments : ℕ → Reader (List ArgumentTree)
@@ -57,9 +57,10 @@ levels_of start.Forever = 1
 levels_of start.For = 1
 levels_of start.Delay = 1
 levels_of start.Event = 1
-levels_of (start.Print printing.Display) = 0
-levels_of (start.Print printing.Strobe) = 0
-levels_of (start.Print printing.Monitor) = 1
+levels_of (start.Print (printing.Display base)) = 0
+levels_of (start.Print (printing.Write base)) = 0
+levels_of (start.Print (printing.Strobe base)) = 0
+levels_of (start.Print (printing.Monitor base)) = 1
 levels_of start.DumpFile = 1
 levels_of start.DumpVars = 0
 levels_of (start.Dump kind) = 0
@@ -77,9 +78,10 @@ behind_word below start.Forever = forever_at below
 behind_word below start.For = for_at below
 behind_word below start.Delay = delayed_at below
 behind_word below start.Event = event_at below
-behind_word below (start.Print printing.Display) = print_at printing.Display below
-behind_word below (start.Print printing.Strobe) = print_at printing.Strobe below
-behind_word below (start.Print printing.Monitor) = monitor_at below
+behind_word below (start.Print (printing.Display base)) = print_at (printing.Display base) below
+behind_word below (start.Print (printing.Write base)) = print_at (printing.Write base) below
+behind_word below (start.Print (printing.Strobe base)) = print_at (printing.Strobe base) below
+behind_word below (start.Print (printing.Monitor base)) = monitor_at (printing.Monitor base) below
 behind_word below start.DumpFile = dump_file_at
 behind_word below start.DumpVars = dump_vars_at
 behind_word below (start.Dump kind) = dump_at kind

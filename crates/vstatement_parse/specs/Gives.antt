@@ -190,6 +190,10 @@ block_list below = many (λ next. not (is_front (codes "end") next)) (λ list. s
 abbrev pub ended_list : {T : Type 0} → List Text → Vec Statement T → Both (List StatementTree) (Unit {0})
 ended_list words statements = both (all_statements words statements) tt
 
+-- the name of a block
+abbrev pub block_name_text : List Text → Option Token → Option Text
+block_name_text words label = option_map (token_text words) label
+
 -- behind begin
 abbrev pub block_at : ℕ → Reader StatementTree
 block_at below = made block_of (block_parts (statement below))

@@ -92,7 +92,7 @@ fn monitored(
     })
 }
 
-/// What stands after `$display` or `$strobe`, the token of this number (17.1.1 and 17.1.2).
+/// What stands after `$display`, `$write` or `$strobe`, the token of this number (17.1.1 and 17.1.2).
 pub fn print(
     alloc: Global,
     tokens: &Tokens<'_>,
@@ -115,11 +115,12 @@ pub fn monitor(
     cursor: &mut Cursor,
     below: u32,
     at: u32,
+    kind: Printing,
 ) -> Result<Statement, OrMemory<Stop>>
     requires { 0 < below }
-    ensures gives { Gives statement_tree (monitor_at below)
+    ensures gives { Gives statement_tree (monitor_at kind below)
         tokens.now cursor.old cursor.new result }
     ensures kept { IfOk result (Keeps statement_leaves tokens.now cursor.old cursor.new) }
 {
-    monitored(alloc, tokens, cursor, below, at, Printing::Monitor)
+    monitored(alloc, tokens, cursor, below, at, kind)
 }

@@ -41,13 +41,36 @@ fn levels_of(start: StatementStart) -> u64
         StatementStart::For => 1,
         StatementStart::Delay => 1,
         StatementStart::Event => 1,
-        StatementStart::Print(Printing::Display) => 0,
-        StatementStart::Print(Printing::Strobe) => 0,
-        StatementStart::Print(Printing::Monitor) => 1,
+        StatementStart::Print(Printing::Display(_)) => 0,
+        StatementStart::Print(Printing::Write(_)) => 0,
+        StatementStart::Print(Printing::Strobe(_)) => 0,
+        StatementStart::Print(Printing::Monitor(_)) => 1,
         StatementStart::DumpFile => 1,
         StatementStart::DumpVars => 0,
         StatementStart::Dump(_) => 0,
         StatementStart::End(_) => 0,
+    }
+}
+
+// What stands behind the first word of a task that prints, the token of this number.
+fn task_that_prints(
+    alloc: Global,
+    tokens: &Tokens<'_>,
+    cursor: &mut Cursor,
+    below: u32,
+    at: u32,
+    kind: Printing,
+) -> Result<Statement, OrMemory<Stop>>
+    requires room { nat_le (levels_of_start (StatementStart.Print kind)) below ≡ true }
+    ensures gives { Gives statement_tree (behind_word_at below (StatementStart.Print kind))
+        tokens.now cursor.old cursor.new result }
+    ensures kept { IfOk result (Keeps statement_leaves tokens.now cursor.old cursor.new) }
+{
+    match kind {
+        Printing::Display(_) => print(alloc, tokens, cursor, below, at, kind),
+        Printing::Write(_) => print(alloc, tokens, cursor, below, at, kind),
+        Printing::Strobe(_) => print(alloc, tokens, cursor, below, at, kind),
+        Printing::Monitor(_) => monitor(alloc, tokens, cursor, below, at, kind),
     }
 }
 
@@ -80,23 +103,7 @@ fn behind_word<F: Fn(&mut Cursor) -> Result<Statement, OrMemory<Stop>>>(
         StatementStart::For => counted(alloc, read, below, tokens, cursor, at),
         StatementStart::Delay => delayed(alloc, read, below, tokens, cursor, at),
         StatementStart::Event => waiting(alloc, read, below, tokens, cursor, at),
-        StatementStart::Print(Printing::Display) => print(
-            alloc,
-            tokens,
-            cursor,
-            below,
-            at,
-            Printing::Display,
-        ),
-        StatementStart::Print(Printing::Strobe) => print(
-            alloc,
-            tokens,
-            cursor,
-            below,
-            at,
-            Printing::Strobe,
-        ),
-        StatementStart::Print(Printing::Monitor) => monitor(alloc, tokens, cursor, below, at),
+        StatementStart::Print(kind) => task_that_prints(alloc, tokens, cursor, below, at, kind),
         StatementStart::DumpFile => dump_file(tokens, cursor, at),
         StatementStart::DumpVars => dump_vars(alloc, tokens, cursor, at),
         StatementStart::Dump(kind) => dump(tokens, cursor, at, kind),

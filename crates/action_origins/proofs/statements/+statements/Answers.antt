@@ -4,14 +4,15 @@ use Rattle.action_origins.proofs.statements.+statements.Goals as goal
 
 pub put_statement-returns-in_ok-behind-in-Block-clause-put : goal.put_statement-returns-in_ok-behind-in-Block-clause-put
 put_statement-returns-in_ok-behind-in-Block-clause-put t c =
-    block_put (words_of c.args.tokens.now) c.args.statement.now c.in-Block.list c.deref.result.now c.in-Block.is c.deref.ensures.value
-    c.args.into.now.items c.put_statements.new.into.items c.args.left c.saturating_sub-in-Block.result c.saturating_sub-in-Block.ensures c.in_ok-behind-in-Block.ensures.put
+    block_put (words_of c.args.tokens.now) c.args.statement.now c.in-Block.name c.in-Block.statements c.deref.result.now c.in-Block.is
+    c.deref.ensures.value c.args.into.now.items c.put_statements.new.into.items c.args.left c.past_begin.result
+    (c.past_begin.ensures (words_of c.args.tokens.now)) c.in_ok-behind-in-Block.ensures.put
 
 pub put_statement-returns-in_ok-behind-in-Block-clause-past : goal.put_statement-returns-in_ok-behind-in-Block-clause-past
 put_statement-returns-in_ok-behind-in-Block-clause-past t c =
-    block_past (words_of c.args.tokens.now) c.args.statement.now c.in-Block.list c.deref.result.now c.in-Block.is c.deref.ensures.value
-    c.args.left c.saturating_sub-in-Block.result c.in_ok-behind-in-Block.behind c.saturating_sub-in-Block-2.result
-    c.saturating_sub-in-Block.ensures c.in_ok-behind-in-Block.ensures.past c.saturating_sub-in-Block-2.ensures
+    block_past (words_of c.args.tokens.now) c.args.statement.now c.in-Block.name c.in-Block.statements c.deref.result.now c.in-Block.is
+    c.deref.ensures.value c.args.left c.past_begin.result c.in_ok-behind-in-Block.behind c.saturating_sub-in-Block.result
+    (c.past_begin.ensures (words_of c.args.tokens.now)) c.in_ok-behind-in-Block.ensures.past c.saturating_sub-in-Block.ensures
 
 pub put_statement-returns-in_ok-put-in-Case-clause-put : goal.put_statement-returns-in_ok-put-in-Case-clause-put
 put_statement-returns-in_ok-put-in-Case-clause-put t c =

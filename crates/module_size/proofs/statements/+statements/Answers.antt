@@ -4,7 +4,7 @@ use Rattle.module_size.proofs.statements.+statements.Goals as goal
 
 pub take_statement-returns-in-Block : goal.take_statement-returns-in-Block
 take_statement-returns-in-Block t c =
-    block_left (words_of c.args.tokens.now) c.args.left c.take_statements.result c.args.statement.now c.in-Block.list c.deref.result.now
+    block_left (words_of c.args.tokens.now) c.args.left c.take_statements.result c.args.statement.now c.in-Block.name c.in-Block.statements c.deref.result.now
     c.in-Block.is c.deref.ensures.value c.take_statements.ensures
 
 pub take_statement-returns-in-Case : goal.take_statement-returns-in-Case

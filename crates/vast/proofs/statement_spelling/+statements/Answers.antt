@@ -10,7 +10,7 @@ use Rattle.vast.proofs.statement_spelling.+statements.Goals as goal
 pub put_statement-returns-in-Block : goal.put_statement-returns-in-Block
 put_statement-returns-in-Block t c =
     puts_as c.put_block.result (texts_of c.args.out.now.items) (texts_of c.put_block.new.out.items) _ _
-    (block_spelled (texts c.args.words.now) c.args.statement.now c.in-Block.list c.deref.result.now c.in-Block.is c.deref.ensures.value)
+    (block_spelled (texts c.args.words.now) c.args.statement.now c.in-Block.name c.in-Block.statements c.deref.result.now c.in-Block.is c.deref.ensures.value)
     c.put_block.ensures
 
 pub put_statement-returns-in_ok-put_case_head-in-Case : goal.put_statement-returns-in_ok-put_case_head-in-Case

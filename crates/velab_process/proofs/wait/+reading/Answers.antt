@@ -12,7 +12,7 @@ use Rattle.velab_process.proofs.wait.+reading.Goals as goal
 pub put_inner_read-returns-in-Block : goal.put_inner_read-returns-in-Block
 put_inner_read-returns-in-Block t c =
     subst (λ (ns : List Word). OnOk c.put_all_read.result (c.put_all_read.new.terms.items ≡ c.args.terms.now.items ++ any_of c.args.scope.now ns))
-    (block_reads (words_of c.args.tokens.now) c.args.statement.now c.in-Block.list c.deref.result.now c.in-Block.is c.deref.ensures.value)
+    (block_reads (words_of c.args.tokens.now) c.args.statement.now c.in-Block.name c.in-Block.statements c.deref.result.now c.in-Block.is c.deref.ensures.value)
     c.put_all_read.ensures
 
 pub put_inner_read-returns-in-Case : goal.put_inner_read-returns-in-Case

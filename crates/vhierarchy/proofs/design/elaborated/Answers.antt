@@ -1,23 +1,17 @@
-use Rattle.std.proofs.Common.{◌≡◌, List, [], map, Option, Some, None, Err, ap, sym, subst, ◌∙◌}
-use Rattle.std.specs.Prelude.{option_map}
-use Rattle.basis.specs.declared.memory.OrMemory.{OrMemory}
+use Rattle.std.proofs.Common.{◌≡◌, List, [], map, Option, None, ap, sym, subst, ◌∙◌}
 use Rattle.basis.specs.Reasons.{Because}
 use Rattle.vast.specs.Words.{Text}
-use Rattle.vast.specs.NumberedWords.{Word}
-use Rattle.vast.specs.NumberedModules.{ModuleTree, SourceTree}
+use Rattle.vast.specs.NumberedModules.{SourceTree}
 use Rattle.vast.specs.NumberedTrees.{source_tree, module_tree}
 use Rattle.vast.specs.declared.module.ModuleTree.{ModuleTree as Parsed}
 use Rattle.vexpr_parse.specs.Texts.{words_of}
 use Rattle.vmodules.specs.Names.{first_again}
-use Rattle.vmodules.specs.Hierarchy.{top_of, rival_of}
-use Rattle.vmodules.specs.Inner.{unit_names, unit_tree, units_tree, named_text}
+use Rattle.vmodules.specs.Inner.{unit_names, units_tree, named_text}
 use Rattle.velab_declaration.specs.Inner.{DoublesIn}
-use Rattle.velab_expr.specs.declared.fault.ElabFault.{ElabFault}
-use Rattle.velab_expr.specs.Answers.{Refuses}
-use Rattle.velab_expr.specs.declared.fault.Rule.TheVariants.{Top}
-use Rattle.vhierarchy.specs.Instances.{as_design, elaborated, whole_of}
+use Rattle.velab_expr.specs.Rules.{IsBroken}
+use Rattle.vhierarchy.specs.Instances.{as_design, broken_ports, top_whole}
 use Rattle.vhierarchy.proofs.StepLemmas.{hands_over, same_given}
-use Rattle.vhierarchy.proofs.DesignLemmas.{modules_doubled, top_missing, top_found}
+use Rattle.vhierarchy.proofs.DesignLemmas.{modules_doubled, ports_broken, ports_sound}
 use Rattle.vhierarchy.proofs.design.elaborated.Goals as goal
 
 pub returns-in_err-modules : goal.returns-in_err-modules
@@ -27,20 +21,16 @@ returns-in_err-modules c =
     (modules_doubled (source_tree words c.args.text.now) (named_text c.args.top) c.args.scale c.in_err-modules.field-0.0
     (subst (λ (list : List Parsed). Because (DoublesIn [] (unit_names words list)) c.in_err-modules.field-0.0) c.deref.ensures.value c.in_err-modules.ensures.err))
 
-pub returns-in-Some : goal.returns-in-Some
-returns-in-Some c =
+pub returns-in_err-check_declared_ports : goal.returns-in_err-check_declared_ports
+returns-in_err-check_declared_ports c =
     let words : List Text = words_of c.args.tokens.now in
     let tree : SourceTree = source_tree words c.args.text.now in
-    let top : Option Text = named_text c.args.top in
-    let m : ModuleTree = module_tree c.in_ok-modules.modules.words c.in-Some.unit.now in
     let trees : units_tree c.in_ok-modules.modules ≡ tree =
     ap units_tree c.in_ok-modules.ensures.ok ∙ ap (λ (list : List Parsed). map (module_tree words) list) c.deref.ensures.value in
-    let is_top : top_of tree top ≡ Some m =
-    ap (λ (modules : SourceTree). top_of modules top) (sym trees) ∙ sym c.in_ok-unit.ensures ∙ ap (unit_tree c.in_ok-modules.modules.words) c.in-Some.is in
-    same_given c.design_of.result _ _
-    (ap (λ (modules : SourceTree). as_design c.args.scale (whole_of modules m)) trees
-    ∙ sym (top_found tree top c.args.scale (subst (λ (list : List Parsed). first_again (unit_names words list) ≡ None) c.deref.ensures.value c.in_ok-modules.ensures.right) m is_top))
-    c.design_of.ensures
+    hands_over c.from_residual-in_err-check_declared_ports.result c.in_err-check_declared_ports.field-0.0 _ c.from_residual-in_err-check_declared_ports.ensures.1
+    (ports_broken tree (named_text c.args.top) c.args.scale
+    (subst (λ (list : List Parsed). first_again (unit_names words list) ≡ None) c.deref.ensures.value c.in_ok-modules.ensures.right) c.in_err-check_declared_ports.field-0.0
+    (subst (λ (modules : SourceTree). Because (IsBroken (broken_ports modules)) c.in_err-check_declared_ports.field-0.0) trees c.in_err-check_declared_ports.ensures.err))
 
 pub returns : goal.returns
 returns c =
@@ -49,8 +39,9 @@ returns c =
     let top : Option Text = named_text c.args.top in
     let trees : units_tree c.in_ok-modules.modules ≡ tree =
     ap units_tree c.in_ok-modules.ensures.ok ∙ ap (λ (list : List Parsed). map (module_tree words) list) c.deref.ensures.value in
-    let is_top : top_of tree top ≡ None =
-    ap (λ (modules : SourceTree). top_of modules top) (sym trees) ∙ sym c.in_ok-unit.ensures ∙ ap (unit_tree c.in_ok-modules.modules.words) c.in-None.is in
-    subst (λ (e : OrMemory ElabFault). Refuses e (elaborated tree top c.args.scale)) (sym c.refused.ensures)
-    (top_missing tree top c.args.scale (subst (λ (list : List Parsed). first_again (unit_names words list) ≡ None) c.deref.ensures.value c.in_ok-modules.ensures.right) is_top
-    ∙ ap (λ at. Err (record { rule = Top; at = at })) (sym (c.in_ok-at-in-None.ensures ∙ ap (λ (modules : SourceTree). option_map (λ (w : Word). w.number) (rival_of modules top)) trees)))
+    same_given c.top_design.result _ _
+    (ap (λ (modules : SourceTree). as_design c.args.scale (top_whole modules top)) trees
+    ∙ sym (ports_sound tree top c.args.scale
+    (subst (λ (list : List Parsed). first_again (unit_names words list) ≡ None) c.deref.ensures.value c.in_ok-modules.ensures.right)
+    (ap broken_ports (sym trees) ∙ c.in_ok-check_declared_ports.ensures.right)))
+    c.top_design.ensures

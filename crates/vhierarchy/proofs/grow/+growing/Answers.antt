@@ -1,6 +1,7 @@
 use Rattle.std.proofs.Common.{◌≡◌, ◌<◌, ◌+◌, ◌-◌, ◌^◌, ℕ, List, Ok, length, map, ap, sym, subst, ◌∙◌, arith}
 use Rattle.vast.specs.Words.{Text}
 use Rattle.vast.specs.NumberedModules.{SourceTree}
+use Rattle.vast.specs.NumberedTrees.{module_tree}
 use Rattle.vast.specs.declared.module.ModuleItem.{ModuleItem}
 use Rattle.vexpr_parse.specs.Texts.{words_of}
 use Rattle.vmodules.specs.Ports.{Port, ports_of}
@@ -68,7 +69,7 @@ put_unit-returns-in_err-put_own t c =
     let found : lower_instances modules 0 scope.known context.unit.items ≡ Ok children =
     ap (λ (items : List ModuleItem). instances_in c.args.modules.now 0 c.in_ok-known.known.head items) (sym c.deref-2.ensures.value) ∙ c.in_ok-instantiation.ensures
     ∙ ap (λ (list : List _). Ok (instantiation_trees words list)) (sym c.deref-4.ensures.value) in
-    let ports_are : ports ≡ ports_of context.unit = ap (λ (l : List PortForm). map (port_form words) l) c.deref-3.ensures.value ∙ c.in_ok-ports.ensures words in
+    let ports_are : ports ≡ ports_of context.unit = ap (λ (l : List PortForm). map (port_form words) l) c.deref-3.ensures.value ∙ ap (λ (ws : List Text). map (port_form ws) c.in_ok-ports.ports.items) (sym c.tokens-tokens.ensures) ∙ c.in_ok-ports.ensures ∙ ap (λ (ws : List Text). ports_of (module_tree ws c.args.context.now.unit.now)) c.tokens-tokens.ensures in
     let scope_is : c.at-scope.result ≡ scope = c.at-scope.ensures ∙ (λ i. at (c.scope.ensures.same i) c.in_ok-known.known.head) in
     hands_on c.from_residual-in_err-put_own.result c.in_err-put_own.field-0.0 c.put_own.new.part _ c.from_residual-in_err-put_own.ensures.1
     (own_refused modules c.args.part.now context c.args.levels (c.args.levels - 1) (omega arith) scope named children found ports ports_are c.in_err-put_own.field-0.0
@@ -87,7 +88,7 @@ put_unit-returns t c =
     let found : lower_instances modules 0 scope.known context.unit.items ≡ Ok children =
     ap (λ (items : List ModuleItem). instances_in c.args.modules.now 0 c.in_ok-known.known.head items) (sym c.deref-2.ensures.value) ∙ c.in_ok-instantiation.ensures
     ∙ ap (λ (list : List _). Ok (instantiation_trees words list)) (sym c.deref-5.ensures.value) in
-    let ports_are : ports ≡ ports_of context.unit = ap (λ (l : List PortForm). map (port_form words) l) c.deref-3.ensures.value ∙ c.in_ok-ports.ensures words in
+    let ports_are : ports ≡ ports_of context.unit = ap (λ (l : List PortForm). map (port_form words) l) c.deref-3.ensures.value ∙ ap (λ (ws : List Text). map (port_form ws) c.in_ok-ports.ports.items) (sym c.tokens-tokens.ensures) ∙ c.in_ok-ports.ensures ∙ ap (λ (ws : List Text). ports_of (module_tree ws c.args.context.now.unit.now)) c.tokens-tokens.ensures in
     let scope_is : c.at-scope.result ≡ scope = c.at-scope.ensures ∙ (λ i. at (c.scope.ensures.same i) c.in_ok-known.known.head) in
     same_made c.put_each.result c.put_each.new.part _ _
     ((λ i. instances_below c.args.modules.now (c.args.levels - 1) c.args.context.now (scope_is i) c.put_own.new.part c.deref-5.result.now)

@@ -6,20 +6,20 @@ use Rattle.vlex.specs.declared.bytes.Set.TheVariants.{Blanks, Decimals}
 use Rattle.vlex.specs.declared.form.Form.TheVariants.{Token}
 use Rattle.vlex.specs.declared.kind.TokenKind.TheVariants.{Plain}
 use Rattle.vlex.specs.Bytes.{is_in}
-use Rattle.vlex.specs.Forms.{unblanked}
+use Rattle.vlex.specs.Forms.{skip_blanks}
 use Rattle.vlex.specs.Inner.{IsAnswer}
 use Rattle.vlex.specs.Lexed.{IsFront}
 use Rattle.vlex.proofs.Runs.{run_longest}
 use Rattle.vlex.proofs.Sizes.{plain_number, all_digits}
 use Rattle.vlex.proofs.number.number.Goals as goal
 
-pub sized-requires-clause-digits : goal.sized-requires-clause-digits
-sized-requires-clause-digits c =
+pub number_with_size-requires-clause-digits : goal.number_with_size-requires-clause-digits
+number_with_size-requires-clause-digits c =
     ap (list_all (is_in Decimals)) (c.split_at.ensures.front ∙ ap (λ n. take n c.args.rest.now) c.run_len.ensures.value)
     ∙ (run_longest (is_in Decimals) c.args.rest.now).passes
 
-pub sized-requires-clause-blanks : goal.sized-requires-clause-blanks
-sized-requires-clause-blanks c =
+pub number_with_size-requires-clause-blanks : goal.number_with_size-requires-clause-blanks
+number_with_size-requires-clause-blanks c =
     ap (list_all (is_in Blanks)) (c.split_at-2.ensures.front ∙ ap (λ n. take n c.split_at.result.1.now) c.run_len-2.ensures.value)
     ∙ (run_longest (is_in Blanks) c.split_at.result.1.now).passes
 
@@ -37,8 +37,8 @@ returns-then-byte_at-ne39 c =
     let sum : prefix_len (is_in Decimals) rest + 0 ≡ prefix_len (is_in Decimals) rest = omega arith in
     ap (λ l. is_in Decimals (get_or l 0 0)) back ∙ ap (is_in Decimals) (get_or-drop (prefix_len (is_in Decimals) rest) rest 0 0 ∙ ap (λ n. get_or rest n 0) sum)
     ∙ prefix_len_stops (is_in Decimals) rest 0 short in
-    let behind : c.split_at-2.result.1.now ≡ unblanked tail = c.split_at-2.ensures.back ∙ ap (λ n. drop n tail) c.run_len-2.ensures.value in
-    let other : get_or (unblanked tail) 0 0 ≢ 39 = λ is. c.if-byte_at-ne39.true (c.byte_at.ensures ∙ ap (λ l. get_or l 0 0) behind ∙ is) in
+    let behind : c.split_at-2.result.1.now ≡ skip_blanks tail = c.split_at-2.ensures.back ∙ ap (λ n. drop n tail) c.run_len-2.ensures.value in
+    let other : get_or (skip_blanks tail) 0 0 ≢ 39 = λ is. c.if-byte_at-ne39.true (c.byte_at.ensures ∙ ap (λ l. get_or l 0 0) behind ∙ is) in
     let P : List ℕ → Type 0 = λ l. IsFront (c.args.first ∷ l) (Token Plain) (1 + length digits) in
     subst P cut (plain_number c.args.first digits tail (1 + length digits) c.requires.lead (all_digits c.args.first digits c.requires.digit all) refl stops other)
 
@@ -58,5 +58,5 @@ returns c =
     let inner : blanks ++ behind ≡ tail =
     ap (λ l. l ++ behind) c.split_at-2.ensures.front ∙ ap (λ l. take c.run_len-2.result tail ++ l) c.split_at-2.ensures.back ∙ take-append-drop c.run_len-2.result tail in
     let outer : digits ++ tail ≡ rest = ap (λ l. l ++ tail) c.split_at.ensures.front ∙ ap (λ l. take c.run_len.result rest ++ l) c.split_at.ensures.back ∙ take-append-drop c.run_len.result rest in
-    let P : List ℕ → Type 0 = λ l. IsAnswer (c.args.first ∷ l) c.sized.result in
-    subst P (ap (λ l. digits ++ (blanks ++ l)) mark ∙ ap (λ l. digits ++ l) inner ∙ outer) c.sized.ensures
+    let P : List ℕ → Type 0 = λ l. IsAnswer (c.args.first ∷ l) c.number_with_size.result in
+    subst P (ap (λ l. digits ++ (blanks ++ l)) mark ∙ ap (λ l. digits ++ l) inner ∙ outer) c.number_with_size.ensures

@@ -1,7 +1,7 @@
 use Rattle.std.proofs.Common.{◌≡◌, ℕ, List, Ok, Err, length, map, unwrap_or, vec_len, ap, sym, ◌∙◌, rules}
 use Rattle.std.proofs.lemmas.Result.{err_from_is_err_and}
 use Rattle.vsrc.specs.declared.fault.SrcFault.{SrcFault}
-use Rattle.vsrc.specs.Source.{Source, feeds_of, joined, place_by, place_in, too_long}
+use Rattle.vsrc.specs.Source.{Source, feeds_of, join_files, place_by, place_in, too_long}
 use Rattle.vsrc.specs.declared.refusal.Refusal.{Refusal}
 use Rattle.vsrc.specs.Walk.{State}
 use Rattle.vsrc.specs.Walking.{state_of}
@@ -27,8 +27,8 @@ pub returns-in-Ok-clause-ok : goal.returns-in-Ok-clause-ok
 returns-in-Ok-clause-ok c =
     let files : List (List ℕ) = map (λ file. file.items) c.args.files.now in
     let state : State = state_of c.in-Ok.walk in
-    let text : c.deref-2.result.now ≡ joined files = c.deref-2.ensures.value ∙ c.in_ok-text.ensures.text in
-    let feeds : c.in_ok-feeds.feeds.items ≡ feeds_of (joined files) = c.in_ok-feeds.ensures ∙ ap feeds_of (c.deref.ensures.value ∙ c.in_ok-text.ensures.text) in
+    let text : c.deref-2.result.now ≡ join_files files = c.deref-2.ensures.value ∙ c.in_ok-text.ensures.text in
+    let feeds : c.in_ok-feeds.feeds.items ≡ feeds_of (join_files files) = c.in_ok-feeds.ensures ∙ ap feeds_of (c.deref.ensures.value ∙ c.in_ok-text.ensures.text) in
     let len : vec_len c.in_ok-text.text ≡ length c.in_ok-text.text.items = search rules in
     files_ok files c.deref-2.result.now state text c.in_ok-text.ensures.whole c.in-Ok.ensures.ok
     ∙ ap (λ (s : Source). Ok s) (source_is files state c.new-lines.result c.new.result c.len-end.result
@@ -43,8 +43,8 @@ returns-in-Ok-clause-ok c =
 pub returns-in-Err-Fault-clause-err : goal.returns-in-Err-Fault-clause-err
 returns-in-Err-Fault-clause-err c =
     let files : List (List ℕ) = map (λ file. file.items) c.args.files.now in
-    let text : c.deref-2.result.now ≡ joined files = c.deref-2.ensures.value ∙ c.in_ok-text.ensures.text in
-    let feeds : c.in_ok-feeds.feeds.items ≡ feeds_of (joined files) = c.in_ok-feeds.ensures ∙ ap feeds_of (c.deref.ensures.value ∙ c.in_ok-text.ensures.text) in
+    let text : c.deref-2.result.now ≡ join_files files = c.deref-2.ensures.value ∙ c.in_ok-text.ensures.text in
+    let feeds : c.in_ok-feeds.feeds.items ≡ feeds_of (join_files files) = c.in_ok-feeds.ensures ∙ ap feeds_of (c.deref.ensures.value ∙ c.in_ok-text.ensures.text) in
     let refusal : Refusal = c.in-Err-Fault.refusal in
     let by : place_by c.new-lines.result.borders c.new-lines.result.feeds ≡ place_in files =
     (λ i. place_by ((ap (λ l. l.borders) c.new-lines.ensures ∙ c.in_ok-text.ensures.borders) i) ((ap (λ l. l.feeds) c.new-lines.ensures ∙ feeds) i)) in

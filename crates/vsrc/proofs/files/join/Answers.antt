@@ -1,6 +1,6 @@
 use Rattle.std.proofs.Common.{rules, ◌≡◌, ◌+◌, ◌≤◌, ◌++◌, ◌∷◌, ℕ, length, map, List, [], drop, ap, arith, ◌∙◌, vec_len}
 use Rattle.std.proofs.lemmas.Result.{err_from_is_err_and}
-use Rattle.vsrc.specs.Source.{joined, borders_of, text_limit}
+use Rattle.vsrc.specs.Source.{join_files, borders_of, text_limit}
 use Rattle.vsrc.proofs.Joining.{drop_map, text_grows, borders_grow, long_more, long_with}
 use Rattle.vsrc.proofs.files.join.Goals as goal
 
@@ -27,7 +27,7 @@ loop-number-preserved c =
     let pushed : c.push.new.self.items ≡ c.loop-number.borders.items ++ length c.loop-number.text.items ∷ [] =
     c.in_ok-push.ensures.items ∙ ap (λ n. c.loop-number.borders.items ++ n ∷ []) (c.len.ensures ∙ len) in
     record {
-      text = rw text (text_grows (joined (map (λ file. file.items) c.args.files.now)) c.loop-number.text.items c.index-rest-number.result.items files c.loop-number.number here c.loop-number.invariant.text);
+      text = rw text (text_grows (join_files (map (λ file. file.items) c.args.files.now)) c.loop-number.text.items c.index-rest-number.result.items files c.loop-number.number here c.loop-number.invariant.text);
       long = rw text (long_more _ c.loop-number.text.items c.index-rest-number.result.items files c.loop-number.number here fits c.loop-number.invariant.long);
       borders = rw (text, pushed) (borders_grow (borders_of (map (λ file. file.items) c.args.files.now)) c.loop-number.borders.items c.loop-number.text.items c.index-rest-number.result.items files c.loop-number.number here c.loop-number.invariant.borders);
       short = c.in_ok-append-2.ensures.short;

@@ -6,7 +6,7 @@ use Rattle.basis.specs.declared.memory.OrMemory.TheVariants.{Fault}
 use Rattle.vsrc.specs.declared.refusal.Refusal.{Refusal}
 use Rattle.vsrc.specs.declared.refusal.Why.TheVariants.{Directive, Limit}
 use Rattle.vsrc.specs.declared.pieces.Piece.{Piece}
-use Rattle.vsrc.specs.Macros.{Macros, Made, counted, given, piece, refused_at, used, why_unknown}
+use Rattle.vsrc.specs.Macros.{Macros, Made, count_use, expand_text, piece, refused_at, make_use, why_unknown}
 use Rattle.vsrc.specs.Pieces.{AreUses, macros_of, names_of, of_text, used_name}
 use Rattle.vsrc.proofs.MacroText.{Gives, gives_begins, gives_ends, gives_more, gives_stop, of_text_deep, of_text_full, of_text_gives}
 use Rattle.vsrc.proofs.Whole.{because_so}
@@ -31,16 +31,16 @@ pub put_macro-loop-from-init : goal.put_macro-loop-from-init
 put_macro-loop-from-init t c =
     let macros : Macros = macros_of c.args.texts.now.entries in
     let names : List (List ℕ) = names_of c.args.texts.now.entries in
-    let nested : List ℕ → Made → Result Made Refusal = used (c.args.levels - 1) macros c.args.at in
+    let nested : List ℕ → Made → Result Made Refusal = make_use (c.args.levels - 1) macros c.args.at in
     let text : List ℕ = c.as_slice-text.result.now in
-    let whole : given nested c.args.at (length text) text (counted c.args.made.now) ≡ of_text c.args.levels macros c.args.at text c.args.made.now =
+    let whole : expand_text nested c.args.at (length text) text (count_use c.args.made.now) ≡ of_text c.args.levels macros c.args.at text c.args.made.now =
     of_text_gives c.args.levels macros c.args.at text c.args.made.now (omega arith) (sym c.is_used_up.ensures ∙ c.if-is_used_up.false) in
     record {
       within = omega arith;
       left = subst (λ (us : List Piece). AreUses names text us []) (sym c.as_slice-uses.ensures.value)
           (subst (λ (l : List ℕ). AreUses names l c.args.found.now.uses.items []) (sym c.as_slice-text.ensures.value) c.requires.found);
       gives = subst (λ (m : Made). Gives nested c.args.at text 0 m (of_text c.args.levels macros c.args.at text c.args.made.now)) (sym c.count.ensures)
-          (subst (λ (w : Result Made Refusal). Gives nested c.args.at text 0 (counted c.args.made.now) w) whole (gives_begins nested c.args.at text (counted c.args.made.now)));
+          (subst (λ (w : Result Made Refusal). Gives nested c.args.at text 0 (count_use c.args.made.now) w) whole (gives_begins nested c.args.at text (count_use c.args.made.now)));
     }
 
 pub put_macro-head_of-after-requires-clause-within : goal.put_macro-head_of-after-requires-clause-within
@@ -83,7 +83,7 @@ put_macro-loop-from-preserved t c =
     record {
       within = omega (arith, turn.here.within, c.split_at.ensures.back_len);
       left = turn.left;
-      gives = gives_more (used (c.args.levels - 1) (macros_of c.args.texts.now.entries) c.args.at) c.args.at c.as_slice-text.result.now c.split_at.result.1.now
+      gives = gives_more (make_use (c.args.levels - 1) (macros_of c.args.texts.now.entries) c.args.at) c.args.at c.as_slice-text.result.now c.split_at.result.1.now
           c.loop-from.from c.head_of-after.result.0.len c.loop-from.made c.put_piece.new.made _
           c.loop-from-test.true c.split_at.ensures.back turn.here.value turn.here.some c.in_ok-put_piece.ensures.ok c.loop-from.invariant.gives;
     }
@@ -91,13 +91,13 @@ put_macro-loop-from-preserved t c =
 pub put_macro-returns-clause-ok : goal.put_macro-returns-clause-ok
 put_macro-returns-clause-ok t c =
     ap (λ (l : List ℕ). of_text c.args.levels (macros_of c.args.texts.now.entries) c.args.at l c.args.made.now) (sym c.as_slice-text.ensures.value)
-    ∙ gives_ends (used (c.args.levels - 1) (macros_of c.args.texts.now.entries) c.args.at) c.args.at c.as_slice-text.result.now c.loop-from.from c.loop-from.made _
+    ∙ gives_ends (make_use (c.args.levels - 1) (macros_of c.args.texts.now.entries) c.args.at) c.args.at c.as_slice-text.result.now c.loop-from.from c.loop-from.made _
     c.loop-from-test.false c.loop-from.invariant.gives
 
 pub put_macro-returns-in_err-put_piece-clause-err : goal.put_macro-returns-in_err-put_piece-clause-err
 put_macro-returns-in_err-put_piece-clause-err t c =
     let macros : Macros = macros_of c.args.texts.now.entries in
-    let nested : List ℕ → Made → Result Made Refusal = used (c.args.levels - 1) macros c.args.at in
+    let nested : List ℕ → Made → Result Made Refusal = make_use (c.args.levels - 1) macros c.args.at in
     let text : List ℕ = c.as_slice-text.result.now in
     let rest : List ℕ = c.split_at.result.1.now in
     let p = err_from_is_err_and c.from_residual.result c.from_residual.ensures.1 in
@@ -120,7 +120,7 @@ put_piece-returns-in-None-clause-err t c =
 
 -- what a name's use makes is what its text makes
 found : (t : ℕ) (c : goal.put_piece-After-put_macro t)
-    → piece (used c.args.levels (macros_of c.args.texts.now.entries) c.args.at) c.args.at c.args.rest.now c.args.made.now
+    → piece (make_use c.args.levels (macros_of c.args.texts.now.entries) c.args.at) c.args.at c.args.rest.now c.args.made.now
     ≡ of_text c.args.levels (macros_of c.args.texts.now.entries) c.args.at c.in-Some.found.now.text.items c.args.made.now
 found t c =
     piece_found (names_of c.args.texts.now.entries) c.args.rest.now c.args.head c.args.levels (macros_of c.args.texts.now.entries) c.args.at c.args.made.now c.requires.head

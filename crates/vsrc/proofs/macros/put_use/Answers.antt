@@ -4,7 +4,7 @@ use Rattle.basis.specs.declared.memory.OrMemory.{OrMemory}
 use Rattle.basis.specs.declared.memory.OrMemory.TheVariants.{Fault}
 use Rattle.vsrc.specs.declared.refusal.Refusal.{Refusal}
 use Rattle.vsrc.specs.declared.refusal.Why.TheVariants.{Directive}
-use Rattle.vsrc.specs.Macros.{Macros, Made, looked_up, may_be_macro, refused_at, text_for, used, why_unknown}
+use Rattle.vsrc.specs.Macros.{Macros, Made, looked_up, may_be_macro, refused_at, text_for, make_use, why_unknown}
 use Rattle.vsrc.specs.Pieces.{Texts, by_name, macros_of, of_text}
 use Rattle.vsrc.proofs.MacroText.{used_none, used_some}
 use Rattle.vsrc.proofs.macros.put_use.Goals as goal
@@ -34,11 +34,11 @@ returns-in_default-clause-err c =
     (ap (λ (l : Texts). by_name l c.args.name.now) (sym c.table.view_is) ∙ sym c.in_default.ensures.text)))
 
 -- what the name's use makes is what its text makes
-found : (c : goal.After-put_macro) → used c.args.levels (by_name c.args.table.now) c.args.at c.args.name.now c.args.made.now
+found : (c : goal.After-put_macro) → make_use c.args.levels (by_name c.args.table.now) c.args.at c.args.name.now c.args.made.now
     ≡ of_text c.args.levels (macros_of c.table.inside.texts.entries) c.args.at c.in-Some.found.now.text.items c.args.made.now
 found c =
     let macros : Macros = macros_of c.table.inside.texts.entries in
-    ap (λ (l : Texts). used c.args.levels (by_name l) c.args.at c.args.name.now c.args.made.now) (sym c.table.view_is)
+    ap (λ (l : Texts). make_use c.args.levels (by_name l) c.args.at c.args.name.now c.args.made.now) (sym c.table.view_is)
     ∙ used_some c.args.levels macros c.args.at c.args.name.now c.in-Some.found.now.text.items c.args.made.now
     (looked macros c.args.at c.args.name.now true (Some c.in-Some.found.now.text.items) (sym c.may_be_macro.ensures ∙ c.if-not-may_be_macro.false) (sym c.in-Some.ensures.text))
 

@@ -17,7 +17,7 @@ pub lower-returns-in-Block : goal.lower-returns-in-Block
 lower-returns-in-Block t c =
     subst (λ (s : StatementTree). Makes c.lower_all.result (record { table = c.lower_all.new.table; places = c.lower_all.new.into.items })
     (with_places_before c.args.into.now.items (lower_statement c.args.self.now.scope.now c.args.table.now s)))
-    (block_trees (words_of c.args.self.now.tokens.now) c.args.statement.now c.in-Block.list c.deref.result.now c.in-Block.is c.deref.ensures.value)
+    (block_trees (words_of c.args.self.now.tokens.now) c.args.statement.now c.in-Block.name c.in-Block.statements c.deref.result.now c.in-Block.is c.deref.ensures.value)
     c.lower_all.ensures
 
 pub lower-returns-in-Case : goal.lower-returns-in-Case

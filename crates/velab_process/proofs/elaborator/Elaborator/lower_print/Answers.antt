@@ -16,7 +16,7 @@ returns c =
     let table = c.args.table.now in
     let trees = map (argument_tree words) c.args.arguments.now in
     let then : List Piece → Result Lowered ElabFault = λ pieces. Ok (lowered_action table (first_argument trees) (Print (when_of c.args.kind) pieces)) in
-    let same : Ok (at_next table c.first_argument.result c.print_action-action.result) ≡ (lower_line c.args.self.now.scope.now trees >>= then) =
+    let same : Ok (at_next table c.first_argument.result c.print_action-action.result) ≡ (lower_line c.args.self.now.scope.now c.args.kind trees >>= then) =
     (λ i. Ok (at_next table (c.first_argument.ensures words i) (c.print_action-action.ensures i)))
     ∙ sym (ap (λ (a : Result (List Piece) ElabFault). a >>= then) c.in_ok-pieces.ensures) in
     subst (λ (answer : Result Lowered ElabFault). Makes c.put.result (record { table = c.put.new.table; places = c.put.new.into.items }) (with_places_before c.args.into.now.items answer))

@@ -5,23 +5,23 @@ use Rattle.vdesign.specs.declared.print.Piece.{Piece}
 use Rattle.velab_expr.specs.declared.fault.Rule.TheVariants.{Kind}
 use Rattle.velab_expr.specs.Answers.{Refuses, found}
 use Rattle.velab_expr.specs.FirstWords.{first_argument}
-use Rattle.velab_process.specs.Prints.{lower_arguments, lower_line}
+use Rattle.velab_process.specs.Prints.{default_form, ends_line, lower_arguments, lower_line}
 use Rattle.velab_process.proofs.LineLemmas.{line_by}
 use Rattle.velab_process.proofs.elaborator.Elaborator.pieces.Goals as goal
 
 pub returns-in-Some : goal.returns-in-Some
 returns-in-Some c =
     let trees = map (argument_tree (words_of c.args.self.now.tokens.now)) c.args.arguments.now in
-    line_by (lower_arguments c.args.self.now.scope.now trees) c.in_ok-is_right.is_right c.new-printer.result c.put_arguments.new.printer c.in_ok-pieces.pieces c.right_pieces.result
-    (first_argument trees) c.new-printer.ensures c.in_ok-is_right.ensures c.in_ok-pieces.ensures c.right_pieces.ensures
+    line_by (default_form c.args.kind) c.default_form.result (ends_line c.args.kind) c.ends_line.result (lower_arguments c.args.self.now.scope.now trees) c.in_ok-is_right.is_right c.new-printer.result c.put_arguments.new.printer c.in_ok-pieces.pieces c.right_pieces.result
+    (first_argument trees) c.default_form.ensures c.ends_line.ensures c.new-printer.ensures c.in_ok-is_right.ensures c.in_ok-pieces.ensures c.right_pieces.ensures
     ∙ ap (λ (ps : Option (List Piece)). found ps Kind (first_argument trees)) c.in-Some.is
 
 pub returns-in-None : goal.returns-in-None
 returns-in-None c =
     let words = words_of c.args.self.now.tokens.now in
     let trees = map (argument_tree words) c.args.arguments.now in
-    subst (λ fault. Refuses fault (lower_line c.args.self.now.scope.now trees)) (sym c.refused.ensures)
-    (line_by (lower_arguments c.args.self.now.scope.now trees) c.in_ok-is_right.is_right c.new-printer.result c.put_arguments.new.printer c.in_ok-pieces.pieces c.right_pieces.result
-    (first_argument trees) c.new-printer.ensures c.in_ok-is_right.ensures c.in_ok-pieces.ensures c.right_pieces.ensures
+    subst (λ fault. Refuses fault (lower_line c.args.self.now.scope.now c.args.kind trees)) (sym c.refused.ensures)
+    (line_by (default_form c.args.kind) c.default_form.result (ends_line c.args.kind) c.ends_line.result (lower_arguments c.args.self.now.scope.now trees) c.in_ok-is_right.is_right c.new-printer.result c.put_arguments.new.printer c.in_ok-pieces.pieces c.right_pieces.result
+    (first_argument trees) c.default_form.ensures c.ends_line.ensures c.new-printer.ensures c.in_ok-is_right.ensures c.in_ok-pieces.ensures c.right_pieces.ensures
     ∙ ap (λ (ps : Option (List Piece)). found ps Kind (first_argument trees)) c.in-None.is
     ∙ ap (λ at. Err (record { rule = Kind; at = at })) (sym (c.first_argument.ensures words)))

@@ -1,0 +1,44 @@
+-- What is wrong with ports: which flaw is told first.
+use Rattle.std.proofs.Common.{◌≡◌, List, Option, None, option_map, Result, Ok, Err, ap, ◌∙◌}
+use Rattle.std.specs.Option.{option_or}
+use Rattle.basis.specs.Reasons.{IfFault}
+use Rattle.basis.specs.declared.memory.OrMemory.{OrMemory}
+use Rattle.basis.specs.declared.memory.OrMemory.TheVariants.{Fault, Memory}
+use Rattle.vast.specs.Words.{Text}
+use Rattle.vast.specs.NumberedTrees.{module_tree}
+use Rattle.vast.specs.declared.module.ModuleTree.{ModuleTree as Parsed}
+use Rattle.vast.specs.declared.token.Token.{Token}
+use Rattle.vmodules.specs.Names.{letters_of, first_again}
+use Rattle.vmodules.specs.Ports.{listed_names}
+use Rattle.vmodules.specs.Misdeclared.{Misdeclared, flawed, stray, port_flaw}
+use Rattle.vmodules.specs.Inner.{again_told, besides_told, first_not, flaw_told, items_told, plain_words, told_as, words_told, IsFlaw}
+use Rattle.vmodules.specs.declared.misdeclared.PortFlaw.TheVariants as flaw
+use Rattle.vmodules.specs.declared.misdeclared.Declaring.TheVariants as how
+use Rattle.vmodules.specs.declared.misdeclared.Misdeclared.{Misdeclared as PortFault}
+
+-- ---- of two that may be told, the first
+
+pub none_told : (a b : Option Misdeclared) → a ≡ None → b ≡ None → option_or a b ≡ None
+none_told a b no_first no_second = ap (λ o. option_or o b) no_first ∙ no_second
+
+pub told_behind : (a b : Option Misdeclared) (fault : PortFault) → a ≡ None → IsFlaw b fault → IsFlaw (option_or a b) fault
+told_behind a b fault none is = ap (λ o. option_map flaw_told (option_or o b)) none ∙ is
+
+-- a fault that means another one, too
+pub told_still : {T F : Type 0} (P Q : F → Type 0) (result : Result T (OrMemory F)) → ((f : F) → P f → Q f) → IfFault result P → IfFault result Q
+told_still P Q (Ok x) leads p = tt
+told_still P Q (Err (Fault f)) leads p = leads f p
+told_still P Q (Err (Memory m)) leads p = tt
+
+-- ---- what is told of a module, by what was collected of it
+
+module _ (words names : List Text) (unit : Parsed) (first plain : List Token)
+    (are : words_told words first ≡ plain_words words unit.ports) (same : words_told words plain ≡ plain_words words unit.ports)
+    (is : names ≡ letters_of (words_told words first)) where
+  pub unit_is : option_or (again_told words flaw.Doubled first) (items_told words names plain unit) ≡ port_flaw (module_tree words unit)
+  unit_is = λ i.
+      option_or (flawed flaw.Doubled (first_again (are i)))
+      (option_or (stray (listed_names (module_tree words unit).ports) (first_not ((is ∙ ap letters_of are) i) (told_as words how.Ports unit.items.items)))
+      (option_or (flawed flaw.Doubled (first_again (told_as words how.Ports unit.items.items)))
+      (option_or (flawed flaw.Undeclared (first_not (letters_of (told_as words how.Ports unit.items.items)) (same i)))
+      (besides_told words ((is ∙ ap letters_of are) i) unit.items.items))))
