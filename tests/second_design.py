@@ -783,7 +783,7 @@ def names_of(item):
 
 
 def blocks_in(tree):
-    """The names of blocks in the scope of a statement (9.8.1, 4.11)."""
+    """The names of blocks in the scope of a statement (9.8.3, 4.11)."""
     if not isinstance(tree, tuple) or not tree:
         return []
     if tree[0] == "block" and tree[1] != "-":

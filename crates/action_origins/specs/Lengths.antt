@@ -156,7 +156,7 @@ for_length target value condition = 4 + (pair_length target value + expression_l
 abbrev pub turn_length : TargetTree → ExpressionTree → ℕ
 turn_length target value = pair_length target value + 1
 
--- begin : name or begin (9.8.1)
+-- begin : name or begin (9.8.3)
 abbrev pub begin_length : Option Word → ℕ
 begin_length None = 1
 begin_length (Some label) = 3

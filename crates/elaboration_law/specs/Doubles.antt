@@ -36,7 +36,7 @@ path_in one = one.path ∷ []
 pub data IsDeclaredTwice (modules : SourceTree) (top : Option Text) : Type 0 where
   -- of two modules;
   module_twice : has_double (letters_of (module_names modules)) ≡ true → IsDeclaredTwice modules top
-  -- of a port that items declare (12.3.3), or of a block (9.8.1);
+  -- of a port that items declare (12.3.3), or of a block (9.8.3);
   port_twice : (m : Misdeclared) → misdeclared modules ≡ Some m → m.flaw ≡ flaw.Doubled → IsDeclaredTwice modules top
   -- of two things in a module of the hierarchy;
   name_twice : (levels : ℕ) (one : Instance) → StandsAt modules top levels one → has_double (names_in_module one.unit) ≡ true →

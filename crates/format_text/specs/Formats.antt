@@ -67,7 +67,7 @@ letters_of escape (c ∷ cs) = letters_read escape (octal_of c) c ++ letters_of 
 abbrev pub is_letter : ℕ → ℕ → ℕ → Bool
 is_letter small large c = c == small || c == large
 
--- b, o, h or x, d, t, c, s
+-- b, o, h, d, t, c, s; and x, which is h (own)
 abbrev pub notation_of : ℕ → Option Notation
 notation_of c =
     if is_letter 98 66 c then Some Binary

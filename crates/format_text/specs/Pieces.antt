@@ -29,7 +29,7 @@ pub record PrintedText : Type 0 where
 
 -- ---- a string
 
--- in a width (17.1.1.7)
+-- in a width (own)
 abbrev pub letters_in : Width → List ℕ → List ℕ
 letters_in Natural letters = letters
 letters_in Least letters = letters

@@ -22,7 +22,7 @@ fn of_writing(fault: OrMemory<WriteFault>) -> &'static str {
 }
 
 // Writes the report: the word for how it ended.
-fn write_report(
+fn outcome_of_writing(
     alloc: Global,
     machine: &Machine,
     explored: &Explored,
@@ -45,7 +45,7 @@ fn explore_and_write(
     writer: &mut Metered<Vec<u8>>,
 ) -> &'static str {
     match report_alone(alloc, machine, limits) {
-        Ok(explored) => write_report(alloc, machine, &explored, writer),
+        Ok(explored) => outcome_of_writing(alloc, machine, &explored, writer),
         Err(OrMemory::Memory(_)) => "E901 of exploring",
         Err(OrMemory::Fault(_)) => "wrong: a dump is said to be too long",
     }

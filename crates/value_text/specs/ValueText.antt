@@ -1,5 +1,5 @@
--- *trusted*: Values as printed lines show them (IEEE 1364-2005, 17.1.1.2 to 17.1.1.4). Letters of a vector stand lowest first, those of a
--- text leftmost first.
+-- *trusted*: Values as printed lines show them (IEEE 1364-2005, 17.1.1.2 to 17.1.1.4, 17.1.1.7, 17.3.2). Letters of a vector stand
+-- lowest first, those of a text leftmost first.
 use Rattle.std.specs.Prelude.{ℕ, zero, suc, ◌+◌, ◌-◌, ◌*◌, ◌/◌, ◌^◌, ◌==◌, nat_lt, Bool, true, false, if◌then◌else◌, List, [], ◌∷◌, ◌++◌, length, map, reverse, take, drop, replicate, Option, Some, None, codes, decimal}
 use Rattle.std.specs.List.{list_all, list_any}
 use Rattle.vbits.specs.declared.bit4.Bit4.{Bit4}

@@ -267,7 +267,7 @@ spell_setting target value = spell_target target ++ codes "=" ∷ spell_expressi
 abbrev pub spell_condition : ExpressionTree → List Text
 spell_condition condition = in_parentheses (spell_expression condition)
 
--- 9.8.1: the name of a block, behind begin
+-- 9.8.3: the name of a block, behind begin
 abbrev pub spell_block_name : Option Text → List Text
 spell_block_name None = []
 spell_block_name (Some letters) = codes ":" ∷ letters ∷ []

@@ -175,7 +175,7 @@ pub enum Task {
 pub enum Statement {
     /// `;`
     Empty,
-    /// `begin .. end`, or `begin : name .. end` (9.8.1)
+    /// `begin .. end`, or `begin : name .. end` (9.8.1, 9.8.3)
     Block {
         name: Option<Token>,
         statements: Vec<Statement>,

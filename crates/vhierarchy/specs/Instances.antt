@@ -370,7 +370,7 @@ checked m part = faultless (broken_design m.name part) (record { unit = m; part 
 abbrev pub whole_of : SourceTree → ModuleTree → Result Whole ElabFault
 whole_of modules m = elaborate_top modules m >>= λ part. checked m part
 
--- 12.3.2, 12.3.3, 9.8.1: the rule that is broken by how items declare ports, or by the name of a block
+-- 12.3.2, 12.3.3, 9.8.3: the rule that is broken by how items declare ports, or by the name of a block
 abbrev pub rule_of_port : PortFlaw → Rule
 rule_of_port flaw.Undeclared = rule.Unknown
 rule_of_port flaw.Doubled = rule.Doubled

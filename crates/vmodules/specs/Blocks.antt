@@ -1,4 +1,4 @@
--- *trusted*: The names of blocks, which stand among the names of their module (IEEE 1364-2005, 9.8.1, 4.11).
+-- *trusted*: The names of blocks, which stand among the names of their module (IEEE 1364-2005, 9.8.3, 4.11).
 use Rattle.std.specs.Prelude.{List, [], ◌∷◌, ◌++◌, map, Option, None, Some}
 use Rattle.std.specs.List.{flat_map}
 use Rattle.vast.specs.NumberedWords.{Word}

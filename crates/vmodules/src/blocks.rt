@@ -1,4 +1,4 @@
-// Names of blocks (IEEE 1364-2005, 9.8.1), which stand among the names of their module (4.11).
+// Names of blocks (IEEE 1364-2005, 9.8.3), which stand among the names of their module (4.11).
 
 ghost use Rattle.std.specs.Prelude.{◌≡◌, ◌++◌, ◌∷◌, List, [], None, true, false, map, option_map, IfOk, OnOk};
 ghost use Rattle.std.specs.List.{flat_map};

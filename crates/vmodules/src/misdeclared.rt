@@ -1,4 +1,4 @@
-// What is wrong with the ports that items declare (IEEE 1364-2005, 12.3.2, 12.3.3), or with the names of blocks (9.8.1).
+// What is wrong with the ports that items declare (IEEE 1364-2005, 12.3.2, 12.3.3), or with the names of blocks (9.8.3).
 
 ghost use Rattle.std.specs.Prelude.{◌≡◌, ◌++◌, ◌∷◌, List, [], None, true, false, map, option_map, IfOk, OnOk};
 ghost use Rattle.basis.specs.Reasons.{IfFault};
