@@ -319,10 +319,6 @@ module _ (modules : SourceTree) (top : Option Text) (scale : Timescale) where
         is_design = same_design scale whole.0 (record { unit = unit.0; part = part.0 }) design right.1 whole.2;
       }
 
-  -- in a text that has a design nothing is wrong with ports
-  pub ports_never : (design : Design) (m : Misdeclared) → elaborated modules top scale ≡ Ok design → misdeclared modules ≡ Some m → ⊥
-  ports_never design m is wrong = let no : None ≡ Some m = sym (all_elaborated design is).ports_right ∙ wrong in cc
-
   module _ (fault : ElabFault) where
     checked_told : (unit : ModuleTree) → top_of modules top ≡ Some unit →
         (elaborate_top modules unit ≡ Err fault) ⊎ ((part : Part) × (elaborate_top modules unit ≡ Ok part) × (checked unit part ≡ Err fault)) → Told modules top fault

@@ -1,7 +1,7 @@
 -- E310: in a text that has a design each use suits what is used, and no path is a variable's; and in one that is refused under the rule some
 -- use doesn't, or some path is.
 use Rattle.std.proofs.Common.{◌≡◌, Bool, true, false, true≢false, not, ◌&&◌, ◌||◌, List, [], ◌∷◌, Option, Some, None, Ok, refl, sym, ap, subst, ◌∙◌, ◌⊎◌, inl, inr, if◌then◌else◌, nat_le, length}
-use Rattle.std.specs.List.{list_all}
+use Rattle.std.specs.List.{Contains, list_all}
 use Rattle.std.specs.Prelude.{is_some}
 use Rattle.std.specs.Option.{option_or}
 use Rattle.basis.proofs.Bools.{and_both}
@@ -28,7 +28,10 @@ use Rattle.elaboration_law.proofs.UseLemmas.{first_false, second_false}
 use Rattle.elaboration_law.proofs.MisuseLemmas.{used_by_listed}
 use Rattle.elaboration_law.proofs.ToldLemmas.{untold_fault}
 use Rattle.elaboration_law.proofs.DesignRules.{broken_tells, unless_tells}
-use Rattle.elaboration_law.proofs.HierarchyLemmas.{Told, in_modules, in_ports, input_port, ports_never, in_top, in_hierarchy, in_design, all_elaborated, fault_told}
+use Rattle.vmodules.specs.declared.misdeclared.PortFlaw.{PortFlaw}
+use Rattle.vmodules.specs.declared.misdeclared.PortFlaw.TheVariants as flaw
+use Rattle.elaboration_law.proofs.PortLemmas.{IsWrong, port_doubled, block_doubled, port_alone, variable_input, one_wrong, all_untold, no_variable_input}
+use Rattle.elaboration_law.proofs.HierarchyLemmas.{Told, in_modules, in_ports, input_port, in_top, in_hierarchy, in_design, all_elaborated, fault_told}
 use Rattle.elaboration_law.proofs.NameLemmas.{variables_are, paths_are, or_none, or_some}
 use Rattle.elaboration_law.proofs.DepthLemmas.{one_top}
 use Rattle.elaboration_law.proofs.DumpUses.{dumped}
@@ -207,9 +210,17 @@ module _ (modules : SourceTree) (top : Option Text) (unit : ModuleTree) (part : 
 -- ---- the law
 
 module _ (modules : SourceTree) (top : Option Text) where
+  port_told : (f : PortFlaw) → f ≡ flaw.Input → (m : ModuleTree) → Contains modules m → IsWrong m f → HasMiskind modules top
+  port_told f input m inside (port_doubled e twice) = absurd cc
+  port_told f input m inside (block_doubled e twice) = absurd cc
+  port_told f input m inside (port_alone e alone) = absurd cc
+  port_told f input m inside (variable_input e one) = of_input m inside one
+
   kinds_told : (fault : ElabFault) → fault.rule ≡ Kind → Told modules top fault → HasMiskind modules top
   kinds_told fault rule (in_modules w again other) = absurd cc
-  kinds_told fault rule (in_ports m is other) = of_input m is (input_port m.flaw (other ∙ rule))
+  kinds_told fault rule (in_ports wrong is other) =
+      let one = one_wrong modules wrong is in
+      port_told wrong.flaw (input_port wrong.flaw (other ∙ rule)) one.0 one.1 one.2
   kinds_told fault rule (in_top missing other) = absurd cc
   kinds_told fault rule (in_hierarchy unit is_top err) = of_use (misuse_first modules top (unsuited_told modules top fault unit rule is_top err))
   kinds_told fault rule (in_design unit part is_top ok broken) = by (design_is_wrong modules top unit part ok fault rule broken)
@@ -226,7 +237,7 @@ module _ (modules : SourceTree) (top : Option Text) where
       by (inr later) =
           let all = all_elaborated modules top scale design is in
           right_never modules top all.unit all.part all.is_top all.is_part (design_is_right modules top all.unit all.part all.is_part all.is_right).1 later
-  kinds_never scale design is (of_input m wrong input) = ports_never modules top scale design m is wrong
+  kinds_never scale design is (of_input m inside one) = no_variable_input m (all_untold modules (all_elaborated modules top scale design is).ports_right m inside) one
   kinds_never scale design is (of_variable_path m is_top lacks) =
       let all = all_elaborated modules top scale design is in
       let same = one_top modules top m all.unit is_top all.is_top in

@@ -3,6 +3,8 @@ pub mod ExpressionRules
 pub mod StatementRules
 pub mod ModuleRules
 pub mod StepLemmas
+pub mod WordLemmas
+pub mod PortLemmas
 pub mod AgainLemmas
 pub mod HierarchyLemmas
 pub mod ItemLemmas

@@ -20,12 +20,15 @@ use Rattle.velab_declaration.specs.ActionFlaws.{table_fault}
 use Rattle.vhierarchy.specs.Instances.{lower_own, Part, Context, scope_of, variable_paths, scope_paths, broken_selection, broken_paths, broken_table, broken_design, elaborate_top, elaborated}
 use Rattle.elaboration_law.specs.Hierarchy.{Instance, StandsBelow, StandsAt, top_instance, listed}
 use Rattle.elaboration_law.specs.Laws.{IsMeant}
-use Rattle.elaboration_law.specs.Doubles.{names_in_module, variable_paths_in, path_in, IsDeclaredTwice, module_twice, port_twice, name_twice, head_twice, variable_twice, path_twice}
+use Rattle.elaboration_law.specs.Doubles.{names_in_module, variable_paths_in, path_in, IsDeclaredTwice, module_twice, port_twice, block_twice, name_twice, head_twice, variable_twice, path_twice}
 use Rattle.elaboration_law.proofs.ToldLemmas.{is_local, untold, untold_fault}
 use Rattle.elaboration_law.proofs.ModuleRules.{is_of_meaning, is_of_own, own_tells}
 use Rattle.elaboration_law.proofs.DesignRules.{table_tells, selection_broken, broken_table_tells}
 use Rattle.elaboration_law.proofs.DoubleLemmas.{none_twice, one_twice}
-use Rattle.elaboration_law.proofs.HierarchyLemmas.{instance_at, OwnFault, in_names, in_instances, in_own, ToldBelow, too_deep, by_own, Told, in_modules, in_ports, doubled_port, ports_never, in_top, in_hierarchy, in_design, WasElaborated, all_elaborated, fault_told, top_elaborated, top_told_below}
+use Rattle.vmodules.specs.declared.misdeclared.PortFlaw.{PortFlaw}
+use Rattle.vmodules.specs.declared.misdeclared.PortFlaw.TheVariants as flaw
+use Rattle.elaboration_law.proofs.PortLemmas.{IsWrong, port_doubled, block_doubled, port_alone, variable_input, one_wrong, all_untold, no_port_twice, no_block_twice}
+use Rattle.elaboration_law.proofs.HierarchyLemmas.{instance_at, OwnFault, in_names, in_instances, in_own, ToldBelow, too_deep, by_own, Told, in_modules, in_ports, doubled_port, in_top, in_hierarchy, in_design, WasElaborated, all_elaborated, fault_told, top_elaborated, top_told_below}
 use Rattle.elaboration_law.proofs.OwnLemmas.{own_steps, own_named}
 use Rattle.elaboration_law.proofs.GatherLemmas.{Gathers, top_gathered}
 use Rattle.elaboration_law.proofs.NameRules.{names_once, names_twice, heads_once, heads_twice}
@@ -132,9 +135,17 @@ module _ (modules : SourceTree) (top : Option Text) where
   below_told fault unit is_top rule (too_deep one other stands) = absurd cc
   below_told fault unit is_top rule (by_own depth part context stands own) = own_told fault unit depth part context is_top rule stands own
 
+  port_told : (f : PortFlaw) → f ≡ flaw.Doubled → (m : ModuleTree) → Contains modules m → IsWrong m f → IsDeclaredTwice modules top
+  port_told f doubled m inside (port_doubled e twice) = port_twice m inside twice
+  port_told f doubled m inside (block_doubled e twice) = block_twice m inside twice
+  port_told f doubled m inside (port_alone e alone) = absurd cc
+  port_told f doubled m inside (variable_input e one) = absurd cc
+
   names_told : (fault : ElabFault) → fault.rule ≡ Doubled → Told modules top fault → IsDeclaredTwice modules top
   names_told fault rule (in_modules w again other) = module_twice (one_twice (module_names modules) w again)
-  names_told fault rule (in_ports m is other) = port_twice m is (doubled_port m.flaw (other ∙ rule))
+  names_told fault rule (in_ports wrong is other) =
+      let one = one_wrong modules wrong is in
+      port_told wrong.flaw (doubled_port wrong.flaw (other ∙ rule)) one.0 one.1 one.2
   names_told fault rule (in_top missing other) = absurd cc
   names_told fault rule (in_hierarchy unit is_top err) = below_told fault unit is_top rule (top_told_below modules unit fault err)
   names_told fault rule (in_design unit part is_top ok broken) = design_twice unit part ok fault is_top rule broken
@@ -150,7 +161,8 @@ module _ (modules : SourceTree) (top : Option Text) where
 
     names_never : ¬ IsDeclaredTwice modules top
     names_never (module_twice twice) = let all = all_elaborated modules top scale design is in true≢false (sym twice ∙ none_twice (module_names modules) all.modules_differ)
-    names_never (port_twice m wrong doubled) = ports_never modules top scale design m is wrong
+    names_never (port_twice m inside twice) = no_port_twice m (all_untold modules (all_elaborated modules top scale design is).ports_right m inside) twice
+    names_never (block_twice m inside twice) = no_block_twice m (all_untold modules (all_elaborated modules top scale design is).ports_right m inside) twice
     names_never (name_twice levels one stands twice) =
         let found = (was_elaborated levels one stands).1 in
         true≢false (sym twice ∙ sym (ap (λ (i : Instance). has_double (names_in_module i.unit)) found.at) ∙ names_once found.part found.context found.own.scope found.own.names_are)

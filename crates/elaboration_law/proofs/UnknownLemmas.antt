@@ -1,7 +1,7 @@
 -- E303: in a text that has a design each name is known where it is used and each path leads to something; and in one that is refused under
 -- the rule one isn't, or doesn't.
 use Rattle.std.proofs.Common.{◌≡◌, true, false, Bool, not, true≢false, List, ◌++◌, Option, Some, None, Ok, refl, sym, ap, subst, ◌∙◌, ◌⊎◌, inl, inr}
-use Rattle.std.specs.List.{flat_map, list_all}
+use Rattle.std.specs.List.{Contains, flat_map, list_all}
 use Rattle.std.specs.Option.{option_or}
 use Rattle.std.proofs.lemmas.List.{append-nil}
 use Rattle.basis.specs.declared.timescale.Timescale.{Timescale}
@@ -21,7 +21,10 @@ use Rattle.elaboration_law.specs.Selected.{paths_by_item, paths_in_instance}
 use Rattle.elaboration_law.specs.Unknowns.{all_below, is_all_there, HasUnknown, of_name, of_port, of_path}
 use Rattle.elaboration_law.proofs.ToldLemmas.{untold_fault}
 use Rattle.elaboration_law.proofs.DesignRules.{broken_tells, broken_table_tells}
-use Rattle.elaboration_law.proofs.HierarchyLemmas.{instance_at, Told, in_modules, in_ports, unknown_port, ports_never, in_top, in_hierarchy, in_design, all_elaborated, fault_told}
+use Rattle.vmodules.specs.declared.misdeclared.PortFlaw.{PortFlaw}
+use Rattle.vmodules.specs.declared.misdeclared.PortFlaw.TheVariants as flaw
+use Rattle.elaboration_law.proofs.PortLemmas.{IsWrong, port_doubled, block_doubled, port_alone, variable_input, one_wrong, all_untold, no_port_alone}
+use Rattle.elaboration_law.proofs.HierarchyLemmas.{instance_at, Told, in_modules, in_ports, unknown_port, in_top, in_hierarchy, in_design, all_elaborated, fault_told}
 use Rattle.elaboration_law.proofs.OwnLemmas.{own_steps}
 use Rattle.elaboration_law.proofs.GatherLemmas.{Gathers, top_gathered}
 use Rattle.elaboration_law.proofs.NameLemmas.{listed_both, variables_are, paths_are, or_none, or_some}
@@ -100,16 +103,24 @@ module _ (modules : SourceTree) (top : Option Text) where
 
   -- ---- the law
 
+  port_told : (f : PortFlaw) → f ≡ flaw.Undeclared → (m : ModuleTree) → Contains modules m → IsWrong m f → HasUnknown modules top
+  port_told f undeclared m inside (port_doubled e twice) = absurd cc
+  port_told f undeclared m inside (block_doubled e twice) = absurd cc
+  port_told f undeclared m inside (port_alone e alone) = of_port m inside alone
+  port_told f undeclared m inside (variable_input e one) = absurd cc
+
   names_unknown : (fault : ElabFault) → fault.rule ≡ Unknown → Told modules top fault → HasUnknown modules top
   names_unknown fault rule (in_modules w again other) = absurd cc
-  names_unknown fault rule (in_ports m is other) = of_port m is (unknown_port m.flaw (other ∙ rule))
+  names_unknown fault rule (in_ports wrong is other) =
+      let one = one_wrong modules wrong is in
+      port_told wrong.flaw (unknown_port wrong.flaw (other ∙ rule)) one.0 one.1 one.2
   names_unknown fault rule (in_top missing other) = absurd cc
   names_unknown fault rule (in_hierarchy unit is_top err) = of_name (unknown_told modules top fault unit rule is_top err)
   names_unknown fault rule (in_design unit part is_top ok broken) = of_path unit is_top (design_lacks unit part ok fault rule broken)
 
   names_known : (scale : Timescale) (design : Design) → elaborated modules top scale ≡ Ok design → ¬ HasUnknown modules top
   names_known scale design is (of_name misuse) = unknown_never modules top scale design is misuse
-  names_known scale design is (of_port m wrong undeclared) = ports_never modules top scale design m is wrong
+  names_known scale design is (of_port m inside alone) = no_port_alone m (all_untold modules (all_elaborated modules top scale design is).ports_right m inside) alone
   names_known scale design is (of_path m is_top lacks) =
       let all = all_elaborated modules top scale design is in
       let same = one_top modules top m all.unit is_top all.is_top in

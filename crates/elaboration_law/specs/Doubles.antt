@@ -7,11 +7,10 @@ use Rattle.vast.specs.NumberedModules.{ConnectionsTree, InstanceTree, instances,
 use Rattle.vmodules.specs.Names.{has_double, letters_of}
 use Rattle.vmodules.specs.Hierarchy.{module_names, module_of, top_of}
 use Rattle.vmodules.specs.Connected.{open_names}
-use Rattle.vmodules.specs.Misdeclared.{Misdeclared, misdeclared}
-use Rattle.vmodules.specs.declared.misdeclared.PortFlaw.TheVariants as flaw
 use Rattle.velab_expr.specs.Symbols.{name_in, symbols_in_head, symbols_by, valueless_by}
 use Rattle.velab_declaration.specs.Variables.{port_names, declared_names}
 use Rattle.elaboration_law.specs.Hierarchy.{Instance, StandsAt, listed, top_instance}
+use Rattle.elaboration_law.specs.ItemPorts.{HasPortTwice, HasBlockTwice}
 
 -- the names of a module that are no variables: named events and instances, parameters of its head, and those of its items
 abbrev pub other_names : ModuleTree → List Word
@@ -36,8 +35,10 @@ path_in one = one.path ∷ []
 pub data IsDeclaredTwice (modules : SourceTree) (top : Option Text) : Type 0 where
   -- of two modules;
   module_twice : has_double (letters_of (module_names modules)) ≡ true → IsDeclaredTwice modules top
-  -- of a port that items declare (12.3.3), or of a block (9.8.3);
-  port_twice : (m : Misdeclared) → misdeclared modules ≡ Some m → m.flaw ≡ flaw.Doubled → IsDeclaredTwice modules top
+  -- of a port of a module, reached or not (12.3.3, 12.3.4);
+  port_twice : (m : ModuleTree) → Contains modules m → HasPortTwice m → IsDeclaredTwice modules top
+  -- of a block of a module, reached or not (4.11, 9.8.3);
+  block_twice : (m : ModuleTree) → Contains modules m → HasBlockTwice m → IsDeclaredTwice modules top
   -- of two things in a module of the hierarchy;
   name_twice : (levels : ℕ) (one : Instance) → StandsAt modules top levels one → has_double (names_in_module one.unit) ≡ true →
       IsDeclaredTwice modules top

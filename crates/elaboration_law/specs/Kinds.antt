@@ -1,14 +1,12 @@
 -- *trusted*: E310: names of another kind than their use asks for, bits of what has none, formats that don't fit, and paths of `$dumpvars` to
 -- variables (IEEE 1364-2005, 4.2, 4.8, 4.10, 5.2.1, 6.1, 6.2, 9.7.2, 9.7.3, 12.1.2, 12.5, 17.1.1, 18.1.2).
 use Rattle.std.specs.Prelude.{◌≡◌, ℕ, Bool, true, false, not, ◌&&◌, ◌||◌, List, [], ◌∷◌, Option, None, Some, is_some}
-use Rattle.std.specs.List.{flat_map, list_all}
+use Rattle.std.specs.List.{Contains, flat_map, list_all}
 use Rattle.vast.specs.Words.{Text}
 use Rattle.vast.specs.NumberedStatements.{ArgumentTree, quoted, printed}
 use Rattle.vast.specs.NumberedModules.{SourceTree, ModuleTree}
 use Rattle.vmodules.specs.Names.{is_declared}
 use Rattle.vmodules.specs.Hierarchy.{top_of}
-use Rattle.vmodules.specs.Misdeclared.{Misdeclared, misdeclared}
-use Rattle.vmodules.specs.declared.misdeclared.PortFlaw.TheVariants as flaw
 use Rattle.vdesign.specs.declared.action.Edge.{Edge}
 use Rattle.vdesign.specs.declared.action.Edge.TheVariants.{Any, Rise, Fall}
 use Rattle.vvalue.specs.Flaws.{kind_has_bits}
@@ -23,6 +21,7 @@ use Rattle.velab_declaration.specs.Variables.{Declaration}
 use Rattle.velab_process.specs.Prints.{between_quotes}
 use Rattle.elaboration_law.specs.Doubles.{variable_paths_in, path_in}
 use Rattle.elaboration_law.specs.Hierarchy.{Instance}
+use Rattle.elaboration_law.specs.ItemPorts.{HasVariableInput}
 use Rattle.elaboration_law.specs.Uses.{Way, Read, ReadIn, Written, WrittenIn, Driven, Triggered, Awaited, Use, use_of, use_of_time, use_of_formats, use_of_levels}
 use Rattle.elaboration_law.specs.Places.{Thing, a_variable, a_parameter, an_event, an_instance, Place, thing_of, HasMisuse}
 use Rattle.elaboration_law.specs.Selected.{paths_in_instance}
@@ -143,7 +142,7 @@ selects_no_variable top all = list_all (is_no_variable all) (flat_map (paths_in_
 pub data HasMiskind (modules : SourceTree) (top : Option Text) : Type 0 where
   -- a use that doesn't suit what is used;
   of_use : HasMisuse is_suited modules top → HasMiskind modules top
-  -- an input that is a variable (12.3.3);
-  of_input : (m : Misdeclared) → misdeclared modules ≡ Some m → m.flaw ≡ flaw.Input → HasMiskind modules top
+  -- in a module, reached or not, an input that is a variable (12.3.3);
+  of_input : (m : ModuleTree) → Contains modules m → HasVariableInput m → HasMiskind modules top
   -- a path to a variable
   of_variable_path : (m : ModuleTree) → top_of modules top ≡ Some m → selects_no_variable m.name.letters (all_below modules m) ≡ false → HasMiskind modules top

@@ -3,6 +3,7 @@ pub mod Hierarchy
 pub mod Laws
 pub mod Depths
 pub mod Drivers
+pub mod ItemPorts
 pub mod Doubles
 pub mod Counts
 pub mod Tops
