@@ -3,7 +3,7 @@ use Rattle.std.specs.Prelude.{◌≡◌, ℕ, Bool, true, false, ◌||◌, lengt
 use Rattle.std.proofs.Common.{ap}
 use Rattle.vbits.specs.Vectors.{Vector}
 use Rattle.vmodel.specs.Run.{Setting}
-use Rattle.vflat.specs.Standings.{standing_same, standings_tell}
+use Rattle.vflat.specs.Representations.{representation_same, representations_tell}
 use Rattle.vmachine.specs.declared.machine_state.MachineState.{MachineState}
 use Rattle.matching.specs.Explained.{Piece}
 use Rattle.vcd_slots.specs.declared.slots.DumpSlots.{DumpSlots}
@@ -43,10 +43,10 @@ nothing_read me = record {
 
 -- ---- equal states differ alike
 
-alike_at : (setting : Setting) (time : Option ℕ) (told : List (Option Vector)) (pairs : List Pair) (s t : MachineState) → standing_same s t ≡ true →
+alike_at : (setting : Setting) (time : Option ℕ) (told : List (Option Vector)) (pairs : List Pair) (s t : MachineState) → representation_same s t ≡ true →
     (piece_at setting time told pairs).differ s ≡ (piece_at setting time told pairs).differ t
 alike_at setting None told pairs s t h = refl
-alike_at setting (Some time) told pairs s t h = ap (differ_from setting time told pairs) ((standings_tell s t).0 h)
+alike_at setting (Some time) told pairs s t h = ap (differ_from setting time told pairs) ((representations_tell s t).0 h)
 
-pub alike_in : {R : Type 0} (me : DumpReference R) (s t : MachineState) → standing_same s t ≡ true → (piece_in me).differ s ≡ (piece_in me).differ t
+pub alike_in : {R : Type 0} (me : DumpReference R) (s t : MachineState) → representation_same s t ≡ true → (piece_in me).differ s ≡ (piece_in me).differ t
 alike_in me = alike_at me.machine.now me.slots.time me.slots.columns.told.items me.comparison.pairs.items

@@ -10,4 +10,4 @@ mod CounterLemmas
 mod MatchLemmas
 mod OneLemmas
 mod OnlyLemmas
-pub mod StandingLemmas
+pub mod RepresentationLemmas

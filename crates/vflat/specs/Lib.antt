@@ -2,4 +2,4 @@
 pub mod Flat
 pub mod FlatSame
 pub mod InnerFlat
-pub mod Standings
+pub mod Representations

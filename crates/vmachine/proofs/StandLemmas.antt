@@ -12,8 +12,8 @@ use Rattle.vmodel.specs.Run.{Setting, rules_of, opening_of, end_of, is_mark, sta
 use Rattle.vcompile.specs.CodeOf.{code_of}
 use Rattle.vmachine.specs.declared.machine_state.MachineState.{MachineState}
 use Rattle.vmachine.specs.Machines.{Stands, machine_rules, rank_of, state_in, linked, heard}
-use Rattle.vflat.specs.Standings.{StandingFor, rest_in, standing_same, standing_after, standing_next, standing_to, standing_first, standings_tell}
-use Rattle.vflat.proofs.StandingLemmas.{GivesAs, next_stands_so, slot_ends_stand, read_so, first_stands_so, widths_stand, marks_stand, times_stand, after_stands_so, same_stands_so, one_stands_so, only_stands_so, all_stand_so, runs_there_so, runs_here_so}
+use Rattle.vflat.specs.Representations.{Represents, rest_in, representation_same, representation_after, representation_next, representation_to, representation_first, representations_tell}
+use Rattle.vflat.proofs.RepresentationLemmas.{GivesAs, next_stands_so, slot_ends_stand, read_so, first_stands_so, widths_stand, marks_stand, times_stand, after_stands_so, same_stands_so, one_stands_so, only_stands_so, all_stand_so, runs_there_so, runs_here_so}
 
 pub first_stands : (setting : Setting) → Stands setting (machine_rules setting).first (opening_of setting)
 unfolding Stands machine_rules
@@ -75,13 +75,13 @@ runs_here setting log n run = runs_here_so linked heard setting log n run
 
 -- ---- the rules by the words of a run
 
-pub opens : (setting : Setting) (s : MachineState) → s ≡ standing_first setting → (machine_rules setting).same s (machine_rules setting).first ≡ true
+pub opens : (setting : Setting) (s : MachineState) → s ≡ representation_first setting → (machine_rules setting).same s (machine_rules setting).first ≡ true
 unfolding machine_rules
-opens setting s h = (standings_tell s (standing_first setting)).1 h
+opens setting s h = (representations_tell s (representation_first setting)).1 h
 
 pub copies : (setting : Setting) (s t : MachineState) → t ≡ s → (machine_rules setting).same t s ≡ true
 unfolding machine_rules
-copies setting s t h = (standings_tell t s).1 h
+copies setting s t h = (representations_tell t s).1 h
 
 pub widths : (setting : Setting) (s : MachineState) → (machine_rules setting).width s ≡ length (choices (rest_in s))
 unfolding machine_rules
@@ -91,10 +91,10 @@ pub marks : (setting : Setting) (s : MachineState) → (machine_rules setting).m
 unfolding machine_rules
 marks setting s = refl
 
-pub steps : (setting : Setting) (s t : MachineState) (i : ℕ) → t ≡ standing_after setting s i →
+pub steps : (setting : Setting) (s t : MachineState) (i : ℕ) → t ≡ representation_after setting s i →
     (machine_rules setting).same t ((machine_rules setting).after s i) ≡ true
 unfolding machine_rules
-steps setting s t i h = (standings_tell t (standing_after setting s i)).1 h
+steps setting s t i h = (representations_tell t (representation_after setting s i)).1 h
 
 pub seen : (setting : Setting) (s : MachineState) (t : State) → Stands setting s t → without_processes (rest_in s) ≡ without_processes t
 unfolding Stands
@@ -120,19 +120,19 @@ opening_read setting s log h =
     subst (Stands setting s) (sym (opening_is setting)) (same_stands setting (machine_rules setting).first s (opening_of setting) (first_stands setting) h)
 
 -- a step without its items
-pub step_read : (setting : Setting) (s r : MachineState) (t : State) (i : ℕ) → Stands setting s t → r ≡ standing_after setting s i →
+pub step_read : (setting : Setting) (s r : MachineState) (t : State) (i : ℕ) → Stands setting s t → r ≡ representation_after setting s i →
     Stands setting r (next setting.design t i).state
 unfolding Stands
-step_read setting s r t i h is = subst (λ x. StandingFor setting x (next setting.design t i).state) (sym is) (after_stands_so linked heard setting s t i h)
+step_read setting s r t i h is = subst (λ x. Represents setting x (next setting.design t i).state) (sym is) (after_stands_so linked heard setting s t i h)
 
 -- a step, and the items that it gives
 pub next_read : (setting : Setting) (s r : MachineState) (t : State) (i : ℕ) (effect : Effect) (monitors : List ℕ) → Stands setting s t →
-    standing_next setting.design (code_of setting.design) s i ≡ standing_to r effect monitors →
+    representation_next setting.design (code_of setting.design) s i ≡ representation_to r effect monitors →
     Stands setting r (next setting.design t i).state × (items_of setting.design (transition_to (rest_in r) effect monitors) ≡ items_of setting.design (next setting.design t i))
 unfolding Stands
 next_read setting s r t i effect monitors h is =
     let gives = subst (λ x. GivesAs setting x (next setting.design t i)) is (next_stands_so linked heard setting s t i h) in
-    (gives.standing, gives.items)
+    (gives.represents, gives.items)
 
 pub tells : (setting : Setting) (s : MachineState) → state_in setting s ≡ rest_in s
 unfolding state_in

@@ -1,8 +1,8 @@
 -- *internal*: What a state of a machine is, by how it is kept.
 use Rattle.vmachine.specs.declared.machine_state.Kept.{Kept}
 use Rattle.vmachine.specs.declared.machine_state.Kept.TheVariants.{Plain, Fast}
-use Rattle.vflat.specs.Standings.{Standing, plain, fast}
+use Rattle.vflat.specs.Representations.{Representation, plain, fast}
 
-abbrev pub standing_of : Kept → Standing
-standing_of (Plain state) = plain state
-standing_of (Fast flat) = fast flat
+abbrev pub representation_of : Kept → Representation
+representation_of (Plain state) = plain state
+representation_of (Fast flat) = fast flat

@@ -9,15 +9,15 @@ use Rattle.vcompile.specs.Laws.{IsLinked, IsHeardByAll}
 use Rattle.vcompile.proofs.StepLemmas.{begins_along, steps_along, passes_along, resumes_along, stays_along}
 use Rattle.vcompile.proofs.HeardLemmas.{hears_all, hears_only}
 use Rattle.vmachine.specs.declared.machine_state.MachineState.{MachineState}
-use Rattle.vflat.specs.Standings.{rest_in, standing_same, standing_rules, StandingFor}
-use Rattle.vflat.proofs.StandingLemmas.{standings_lawful, standings_ranked}
+use Rattle.vflat.specs.Representations.{rest_in, representation_same, representation_rules, Represents}
+use Rattle.vflat.proofs.RepresentationLemmas.{representations_lawful, representations_ranked}
 
 -- the machine's state is this state of a run
 unfoldable pub Stands : Setting → MachineState → State → Type 0
-Stands setting s t = StandingFor setting s t
+Stands setting s t = Represents setting s t
 
 unfoldable pub machine_rules : Setting → Rules MachineState
-machine_rules setting = standing_rules setting
+machine_rules setting = representation_rules setting
 
 -- a state's rank is its time (11.3)
 unfoldable pub rank_of : Setting → MachineState → ℕ
@@ -37,12 +37,12 @@ heard = record { all = hears_all; only = hears_only }
 
 pub machine_is_lawful : (setting : Setting) → IsLawful (machine_rules setting)
 unfolding machine_rules
-machine_is_lawful setting = standings_lawful setting
+machine_is_lawful setting = representations_lawful setting
 
-pub same_by_test : (setting : Setting) (s t : MachineState) → (machine_rules setting).same s t ≡ standing_same s t
+pub same_by_test : (setting : Setting) (s t : MachineState) → (machine_rules setting).same s t ≡ representation_same s t
 unfolding machine_rules
 same_by_test setting s t = refl
 
 pub machine_is_ranked : (setting : Setting) → IsRanked (machine_rules setting) (rank_of setting)
 unfolding machine_rules rank_of
-machine_is_ranked setting = standings_ranked linked heard setting
+machine_is_ranked setting = representations_ranked linked heard setting

@@ -1,7 +1,7 @@
 // A state of a machine.
 
 ghost use Rattle.std.specs.Prelude.{◌≡◌, ◌≤◌, length, IfOk, OnOk, OnErr};
-ghost use Rattle.vflat.specs.Standings.{rest_in, standing_of_opening, standing_step, standing_next, standing_to};
+ghost use Rattle.vflat.specs.Representations.{rest_in, representation_of_opening, representation_step, representation_next, representation_to};
 ghost use Rattle.vmodel.specs.Run.{is_mark};
 
 use basis::NoMemory;
@@ -28,22 +28,22 @@ pub struct MachineState {
 }
 
 impl Model for MachineState {
-    ghost use Rattle.vflat.specs.Standings.{Standing};
-    ghost use Rattle.vmachine.specs.Kept.{standing_of};
+    ghost use Rattle.vflat.specs.Representations.{Representation};
+    ghost use Rattle.vmachine.specs.Kept.{representation_of};
 
-    ghost Value = { Standing };
+    ghost Value = { Representation };
 
-    ghost view = { λ s. standing_of s.kept };
+    ghost view = { λ s. representation_of s.kept };
 }
 
 /// Two are equal where they hold the same.
 impl PartialEq for MachineState {
     ghost use Rattle.std.specs.Cmp.{partial_equiv_from_equiv};
-    ghost use Rattle.vflat.specs.Standings.{standing_same, standings_equivalent};
+    ghost use Rattle.vflat.specs.Representations.{representation_same, representations_equivalent};
 
-    ghost eq = { standing_same };
+    ghost eq = { representation_same };
 
-    ghost laws = { partial_equiv_from_equiv standings_equivalent };
+    ghost laws = { partial_equiv_from_equiv representations_equivalent };
 
     fn eq(&self, other: &MachineState) -> bool {
         match (&self.kept, &other.kept) {
@@ -55,17 +55,17 @@ impl PartialEq for MachineState {
 }
 
 impl Eq for MachineState {
-    ghost use Rattle.vflat.specs.Standings.{standings_equivalent};
+    ghost use Rattle.vflat.specs.Representations.{representations_equivalent};
 
-    ghost laws = { standings_equivalent };
+    ghost laws = { representations_equivalent };
 }
 
 impl Hash for MachineState {
-    ghost use Rattle.vflat.specs.Standings.{standing_fed, standings_fed_alike};
+    ghost use Rattle.vflat.specs.Representations.{representation_fed, representations_fed_alike};
 
-    ghost hash_input = { standing_fed };
+    ghost hash_input = { representation_fed };
 
-    ghost respects_eq = { standings_fed_alike };
+    ghost respects_eq = { representations_fed_alike };
 
     fn hash<H: Hasher>(&self, state: &mut H) {
         match &self.kept {
@@ -83,7 +83,7 @@ impl MachineState {
         state: State,
     ) -> Result<MachineState, NoMemory>
         requires { length code.now.begins ≤ 256 }
-        ensures { IfOk result (λ s. s ≡ standing_of_opening code.now state) }
+        ensures { IfOk result (λ s. s ≡ representation_of_opening code.now state) }
     {
         let kept = if code.whole {
             Kept::Fast(Flat::opening(alloc, code, state)?)
@@ -106,7 +106,7 @@ impl MachineState {
 
     /// The step of choice `i`. E901 is the only refusal, and leaves the state as it was.
     pub(crate) fn go(&mut self, design: &Design, code: &Code, i: u32) -> Result<(), NoMemory>
-        ensures ok { OnOk result (self.new ≡ standing_step design.now code.now self.old i) }
+        ensures ok { OnOk result (self.new ≡ representation_step design.now code.now self.old i) }
         ensures err { OnErr result (self.new ≡ self.old) }
     {
         match &mut self.kept {
@@ -124,7 +124,8 @@ impl MachineState {
         effect: &mut Effect,
         monitors: &mut Vec<usize>,
     ) -> Result<(), NoMemory>
-        ensures ok { OnOk result (standing_next design.now code.now self.old i ≡ standing_to self.new effect.new monitors.new.items) }
+        ensures ok { OnOk result (representation_next design.now code.now self.old i ≡
+            representation_to self.new effect.new monitors.new.items) }
         ensures err { OnErr result (self.new ≡ self.old) }
     {
         match &mut self.kept {

@@ -2,7 +2,7 @@ use Rattle.std.proofs.Common.{◌+◌, Option, Some, Ok, sym, ap, subst, ◌∙�
 use Rattle.vmodel.specs.Step.{Transition, next}
 use Rattle.vmodel.specs.Run.{Setting, state_after}
 use Rattle.vcompile.specs.CodeOf.{code_of}
-use Rattle.vflat.specs.Standings.{standing_step}
+use Rattle.vflat.specs.Representations.{representation_step}
 use Rattle.vmachine.specs.declared.run.Chosen.{Chosen}
 use Rattle.vmachine.specs.Inner.{IsAt, IsChosen}
 use Rattle.vmachine.specs.Machines.{Stands}
@@ -34,5 +34,5 @@ walk-preserved c =
     let at = at_next setting log c.walk.rest.now c.args.steps c.walk.n now here choice c.in-Ok-Some.chosen.later.now chosen.2
     transition.state (less_differs c.walk.n c.args.steps chosen.0) chosen.1 chosen.3 (λ i. transition.state) in
     let stepped = step_read setting c.walk.state c.go.new.self now choice stands
-    (c.in_ok-go.ensures.ok ∙ (λ i. standing_step (design i) (code i) c.walk.state choice)) in
+    (c.in_ok-go.ensures.ok ∙ (λ i. representation_step (design i) (code i) c.walk.state choice)) in
     (subst (IsAt setting log c.in-Ok-Some.chosen.later.now c.args.steps (c.walk.n + 1)) at.at at, subst (Stands setting c.go.new.self) at.at stepped)

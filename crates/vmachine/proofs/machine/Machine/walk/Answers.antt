@@ -12,7 +12,7 @@ use Rattle.vmachine.specs.declared.run.RunFault.{RunFault}
 use Rattle.vmachine.specs.Handed.{LeavesSink, TakesEach, by_slot}
 use Rattle.vmachine.specs.Inner.{IsAt, IsChosen, HandsOn}
 use Rattle.vcompile.specs.CodeOf.{code_of}
-use Rattle.vflat.specs.Standings.{standing_next, standing_to}
+use Rattle.vflat.specs.Representations.{representation_next, representation_to}
 use Rattle.vmachine.specs.Machines.{Stands}
 use Rattle.vmachine.specs.Runs.{Waits, state_of}
 use Rattle.vmachine.proofs.StandLemmas.{marks_read, next_read}
@@ -164,9 +164,9 @@ walk-preserved g c =
     let monitors = c.deref-in-walk.result.now in
     let design = ap (λ (s : Setting). s.design) c.self.view_is in
     let code = c.self.invariant.0 ∙ ap code_of design in
-    let stepped : standing_next setting.design (code_of setting.design) c.walk.run.state choice ≡ standing_to c.step_into.new.self effect monitors =
-    (λ i. standing_next (sym design i) (sym code i) c.walk.run.state choice) ∙ c.in_ok-step_into.ensures.ok
-    ∙ ap (standing_to c.step_into.new.self effect) (sym c.deref-in-walk.ensures.value) in
+    let stepped : representation_next setting.design (code_of setting.design) c.walk.run.state choice ≡ representation_to c.step_into.new.self effect monitors =
+    (λ i. representation_next (sym design i) (sym code i) c.walk.run.state choice) ∙ c.in_ok-step_into.ensures.ok
+    ∙ ap (representation_to c.step_into.new.self effect) (sym c.deref-in-walk.ensures.value) in
     let read = next_read setting c.walk.run.state c.step_into.new.self now choice effect monitors stands stepped in
     let transition : Transition = next setting.design now choice in
     let gave = items_next setting log c.walk.run.rest.now c.args.steps c.walk.run.n now here choice later chosen.2 transition (λ i. transition) in
