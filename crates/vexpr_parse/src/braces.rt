@@ -5,7 +5,7 @@ ghost use Rattle.vexpr_parse.specs.Answers.{Reads, Keeps, KeepsBehind, KeepsEach
 ghost use Rattle.vexpr_parse.specs.Rules.{FindsAt, IsMeasuredIn, FindsMore, FindsJoined, FindsRepeated, braces_at};
 
 use crate::cursor::Cursor;
-use crate::found::{Found, Parts, joined, larger, repeated};
+use crate::found::{Found, Parts, concatenation_of, larger, replication_of};
 use crate::stop::Stop;
 use basis::OrMemory;
 use std::alloc::Global;
@@ -61,7 +61,7 @@ fn join<F: Fn(&mut Cursor, u32) -> Result<Found, OrMemory<Stop>>>(
 {
     let parts = more_parts(alloc, read, below, tokens, cursor, first)?;
     cursor.symbol(tokens, b"}")?;
-    Ok(joined(at, parts))
+    Ok(concatenation_of(at, parts))
 }
 
 // What follows the count of a replication; `at` is the number of its first token.
@@ -87,7 +87,7 @@ fn repeat<F: Fn(&mut Cursor, u32) -> Result<Found, OrMemory<Stop>>>(
     let parts = more_parts(alloc, read, below, tokens, cursor, first)?;
     cursor.symbol(tokens, b"}")?;
     cursor.symbol(tokens, b"}")?;
-    Ok(repeated(alloc, at, count, parts)?)
+    Ok(replication_of(alloc, at, count, parts)?)
 }
 
 /// What follows `{`, the token of this number.

@@ -55,7 +55,7 @@ pub fn in_parentheses(alloc: Global, inner: Found) -> Result<Found, NoMemory>
 }
 
 /// `$signed(operand)`, or `$unsigned(operand)` (5.5)
-pub fn converted(alloc: Global, signed: bool, operand: Found) -> Result<Found, NoMemory>
+pub fn conversion_of(alloc: Global, signed: bool, operand: Found) -> Result<Found, NoMemory>
     requires { IsShallow operand.depth }
     ensures made { (words : List Text) → IfOk result (IsRound words (conversion signed) operand) }
     ensures kept { IfOk result (λ found. found_leaves found ≡ found_leaves operand) }
@@ -70,7 +70,11 @@ pub fn converted(alloc: Global, signed: bool, operand: Found) -> Result<Found, N
 }
 
 /// An operator before its operand (5.1).
-pub fn applied(alloc: Global, operator: UnaryOperator, operand: Found) -> Result<Found, NoMemory>
+pub fn application_of(
+    alloc: Global,
+    operator: UnaryOperator,
+    operand: Found,
+) -> Result<Found, NoMemory>
     requires { IsShallow operand.depth }
     ensures made { (words : List Text) → IfOk result (IsRound words (apply operator) operand) }
     ensures kept { IfOk result (λ found. found_leaves found ≡ found_leaves operand) }
@@ -85,7 +89,7 @@ pub fn applied(alloc: Global, operator: UnaryOperator, operand: Found) -> Result
 }
 
 /// An operator between its operands (5.1).
-pub fn combined(
+pub fn combination_of(
     alloc: Global,
     operator: BinaryOperator,
     left: Found,
@@ -108,7 +112,7 @@ pub fn combined(
 }
 
 /// `condition ? when_true : when_false` (5.1.13)
-pub fn chosen(
+pub fn conditional_of(
     alloc: Global,
     condition: Found,
     when_true: Found,
@@ -131,7 +135,7 @@ pub fn chosen(
 }
 
 /// `name[index]` (5.2.1)
-pub fn selected(alloc: Global, name: Token, index: Found) -> Result<Found, NoMemory>
+pub fn bit_select_of(alloc: Global, name: Token, index: Found) -> Result<Found, NoMemory>
     requires { IsShallow index.depth }
     ensures made { (words : List Text) →
         IfOk result (IsRound words (bit (token_text words name)) index) }
@@ -147,7 +151,7 @@ pub fn selected(alloc: Global, name: Token, index: Found) -> Result<Found, NoMem
 }
 
 /// `name[left:right]` (5.2.1)
-pub fn part_selected(
+pub fn part_select_of(
     alloc: Global,
     name: Token,
     left: Found,
@@ -170,7 +174,7 @@ pub fn part_selected(
 }
 
 /// `{part, ..}` (5.1.14)
-pub fn joined(at: u32, parts: Parts) -> Found
+pub fn concatenation_of(at: u32, parts: Parts) -> Found
     requires { IsShallow parts.depth }
     ensures made { (words : List Text) → IsJoined words parts result }
     ensures kept { found_leaves result ≡ parts_leaves parts }
@@ -185,7 +189,7 @@ pub fn joined(at: u32, parts: Parts) -> Found
 }
 
 /// `{count{part, ..}}` (5.1.14)
-pub fn repeated(alloc: Global, at: u32, count: Found, parts: Parts) -> Result<Found, NoMemory>
+pub fn replication_of(alloc: Global, at: u32, count: Found, parts: Parts) -> Result<Found, NoMemory>
     requires { IsShallow count.depth × IsShallow parts.depth }
     ensures made { (words : List Text) → IfOk result (IsRepeated words count parts) }
     ensures kept { IfOk result (λ found.

@@ -6,7 +6,7 @@ ghost use Rattle.vexpr_parse.specs.Answers.{Reads, ahead, joining, Keeps, KeepsB
 ghost use Rattle.vexpr_parse.specs.Rules.{IsMeasuredIn, FindsTurn, FindsTurns, FindsBranches, FindsQuestion};
 
 use crate::cursor::Cursor;
-use crate::found::{Found, chosen, combined};
+use crate::found::{Found, combination_of, conditional_of};
 use crate::stop::Stop;
 use basis::OrMemory;
 use std::alloc::Global;
@@ -37,7 +37,7 @@ fn turn<F: Fn(&mut Cursor, u32) -> Result<Found, OrMemory<Stop>>>(
 {
     cursor.enter(tokens, below, left.depth)?;
     let right = read(cursor, rank(operator) + 1)?;
-    Ok(combined(alloc, operator, left, right)?)
+    Ok(combination_of(alloc, operator, left, right)?)
 }
 
 /// The operators of this rank at least that follow a left side.
@@ -85,7 +85,7 @@ fn branches<F: Fn(&mut Cursor, u32) -> Result<Found, OrMemory<Stop>>>(
     let when_true = read(cursor, 0)?;
     cursor.symbol(tokens, b":")?;
     let when_false = read(cursor, 0)?;
-    Ok(chosen(alloc, condition, when_true, when_false)?)
+    Ok(conditional_of(alloc, condition, when_true, when_false)?)
 }
 
 /// The tree itself, or a conditional of it, where the rank lets one stand.

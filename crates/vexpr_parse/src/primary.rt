@@ -7,7 +7,9 @@ ghost use Rattle.vexpr_parse.specs.Rules.{FindsAt, enclosed_at, converted_at, op
 use crate::beginning::{Beginning, Round};
 use crate::braces::braces;
 use crate::cursor::{Cursor, Word};
-use crate::found::{Found, applied, converted, in_parentheses, leaf, part_selected, selected};
+use crate::found::{
+    Found, application_of, bit_select_of, conversion_of, in_parentheses, leaf, part_select_of,
+};
 use crate::stop::Stop;
 use crate::words::beginning_of;
 use basis::OrMemory;
@@ -18,7 +20,7 @@ use vast::token::Token;
 use vlex::Tokens;
 
 // An expression, and the parenthesis behind it.
-fn enclosed<F: Fn(&mut Cursor, u32) -> Result<Found, OrMemory<Stop>>>(
+fn parenthesis<F: Fn(&mut Cursor, u32) -> Result<Found, OrMemory<Stop>>>(
     alloc: Global,
     read: &F,
     below: u32,
@@ -55,7 +57,7 @@ fn conversion<F: Fn(&mut Cursor, u32) -> Result<Found, OrMemory<Stop>>>(
     cursor.symbol(tokens, b"(")?;
     let operand = read(cursor, 0)?;
     cursor.symbol(tokens, b")")?;
-    Ok(converted(alloc, signed, operand)?)
+    Ok(conversion_of(alloc, signed, operand)?)
 }
 
 // The operand of an operator (5.1).
@@ -75,7 +77,7 @@ fn operand<F: Fn(&mut Cursor, u32) -> Result<Found, OrMemory<Stop>>>(
     ensures kept { IfOk result (Keeps found_leaves tokens.now cursor.old cursor.new) }
 {
     let operand = read(cursor, UNARY_RANK)?;
-    Ok(applied(alloc, operator, operand)?)
+    Ok(application_of(alloc, operator, operand)?)
 }
 
 // What follows a word that begins a tree round another; `at` is the number of that word.
@@ -95,7 +97,7 @@ fn round<F: Fn(&mut Cursor, u32) -> Result<Found, OrMemory<Stop>>>(
     ensures kept { IfOk result (Keeps found_leaves tokens.now cursor.old cursor.new) }
 {
     match kind {
-        Round::Parenthesis => enclosed(alloc, read, below, tokens, cursor),
+        Round::Parenthesis => parenthesis(alloc, read, below, tokens, cursor),
         Round::Brace => braces(alloc, read, below, tokens, cursor, at),
         Round::Conversion(signed) => conversion(alloc, read, below, tokens, cursor, signed),
         Round::Operator(operator) => operand(alloc, read, below, tokens, cursor, operator),
@@ -121,16 +123,16 @@ fn index<F: Fn(&mut Cursor, u32) -> Result<Found, OrMemory<Stop>>>(
     let index = read(cursor, 0)?;
     if cursor.begins(tokens, b"]") {
         cursor.pass(tokens);
-        return Ok(selected(alloc, name, index)?);
+        return Ok(bit_select_of(alloc, name, index)?);
     }
     cursor.symbol(tokens, b":")?;
     let right = read(cursor, 0)?;
     cursor.symbol(tokens, b"]")?;
-    Ok(part_selected(alloc, name, index, right)?)
+    Ok(part_select_of(alloc, name, index, right)?)
 }
 
 // What follows a name.
-fn named<F: Fn(&mut Cursor, u32) -> Result<Found, OrMemory<Stop>>>(
+fn after_name<F: Fn(&mut Cursor, u32) -> Result<Found, OrMemory<Stop>>>(
     alloc: Global,
     read: &F,
     below: u32,
@@ -169,13 +171,13 @@ pub fn primary<F: Fn(&mut Cursor, u32) -> Result<Found, OrMemory<Stop>>>(
 {
     match cursor.word(tokens) {
         None => Err(OrMemory::Fault(Stop::NoTree)),
-        Some(word) => led(alloc, read, below, tokens, cursor, word),
+        Some(word) => primary_by(alloc, read, below, tokens, cursor, word),
     }
 }
 
 // The tree that begins with the word here.
 #[tactic(auto, using(crate::proofs::LeafWords::name_leads, crate::proofs::LeafWords::number_leads, crate::proofs::LeafWords::time_leads, crate::proofs::LeafWords::round_leads, crate::proofs::LeafWords::kept_leaf, crate::proofs::LeafWords::no_kept_leaf))]
-fn led<F: Fn(&mut Cursor, u32) -> Result<Found, OrMemory<Stop>>>(
+fn primary_by<F: Fn(&mut Cursor, u32) -> Result<Found, OrMemory<Stop>>>(
     alloc: Global,
     read: &F,
     below: u32,
@@ -198,7 +200,7 @@ fn led<F: Fn(&mut Cursor, u32) -> Result<Found, OrMemory<Stop>>>(
         }
         Beginning::Name => {
             cursor.pass(tokens);
-            named(alloc, read, below, tokens, cursor, word.token)
+            after_name(alloc, read, below, tokens, cursor, word.token)
         }
         Beginning::Time => {
             cursor.pass(tokens);

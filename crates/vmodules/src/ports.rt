@@ -104,7 +104,7 @@ fn form_by<'u>(direction: Option<&'u Direction>, name: Token) -> PortForm<'u>
 }
 
 // The ports of a list with directions.
-fn listed<'u>(alloc: Global, list: &'u [Port]) -> Result<Vec<PortForm<'u>>, NoMemory>
+fn ports_of_list<'u>(alloc: Global, list: &'u [Port]) -> Result<Vec<PortForm<'u>>, NoMemory>
     ensures { IfOk result (λ forms. (words : List Text) →
         map (port_form words) forms.items ≡ ports_behind None (map (port_tree words) list.now)) }
 {
@@ -182,7 +182,7 @@ fn direction_for<'u>(
 }
 
 // As what net or variable this name stands among those that are declared together.
-fn second_named<'u>(
+fn second_by_name<'u>(
     tokens: &Tokens<'_>,
     net: NetKind,
     kind: &'u SignAndRange,
@@ -216,7 +216,7 @@ fn second_as<'u>(
         (map (declared_tree (words_of tokens.now)) list.now) name.now }
 {
     match kind {
-        DeclarationKind::Variables { net, kind } => second_named(tokens, *net, kind, list, name),
+        DeclarationKind::Variables { net, kind } => second_by_name(tokens, *net, kind, list, name),
         DeclarationKind::Integers => None,
         DeclarationKind::Directed { .. } => None,
     }
@@ -293,7 +293,7 @@ fn declared_port<'u>(tokens: &Tokens<'_>, items: &'u [ModuleItem], name: Token) 
 }
 
 // The ports of a list of names alone.
-fn named<'u>(
+fn ports_of_names<'u>(
     alloc: Global,
     tokens: &Tokens<'_>,
     items: &'u [ModuleItem],
@@ -382,9 +382,9 @@ pub fn ports_of<'u>(
         None => Ok(Vec::new(alloc)),
         Some(list) => {
             if is_plain(list) {
-                named(alloc, tokens, &unit.items, list)
+                ports_of_names(alloc, tokens, &unit.items, list)
             } else {
-                listed(alloc, list)
+                ports_of_list(alloc, list)
             }
         }
     }

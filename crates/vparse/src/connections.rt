@@ -18,8 +18,8 @@ use vast::expression::Expression;
 use vast::module::{Connection, Connections, Instance};
 use vexpr_parse::{Cursor, Stop};
 use vlex::Tokens;
-use vstatement_parse::values::ended;
-use vstatement_parse::words::named;
+use vstatement_parse::values::value_before;
+use vstatement_parse::words::name_word;
 
 // What stands behind `(`: a value, or none, and `)`.
 fn value_in(
@@ -34,7 +34,7 @@ fn value_in(
         cursor.pass(tokens);
         Ok(None)
     } else {
-        Ok(Some(ended(alloc, tokens, cursor, LEVELS, b")")?))
+        Ok(Some(value_before(alloc, tokens, cursor, LEVELS, b")")?))
     }
 }
 
@@ -50,7 +50,7 @@ fn connection(
     ensures kept { IfOk result (Keeps connection_leaves tokens.now cursor.old cursor.new) }
 {
     cursor.symbol(tokens, b".")?;
-    let name = named(tokens, cursor)?;
+    let name = name_word(tokens, cursor)?;
     cursor.symbol(tokens, b"(")?;
     let value = value_in(alloc, tokens, cursor)?;
     Ok(Connection { name, value })
@@ -85,7 +85,7 @@ fn all_connections(
 }
 
 // What stands behind the first parenthesis.
-fn connected(
+fn connection_list(
     alloc: Global,
     tokens: &Tokens<'_>,
     cursor: &mut Cursor,
@@ -115,7 +115,7 @@ pub fn connections(
     ensures kept { IfOk result (Keeps connections_leaves tokens.now cursor.old cursor.new) }
 {
     cursor.symbol(tokens, b"(")?;
-    connected(alloc, tokens, cursor)
+    connection_list(alloc, tokens, cursor)
 }
 
 /// `#` and connections, if they stand there.
@@ -147,7 +147,7 @@ fn instance(
         tokens.now cursor.old cursor.new result }
     ensures kept { IfOk result (Keeps instance_leaves tokens.now cursor.old cursor.new) }
 {
-    let name = named(tokens, cursor)?;
+    let name = name_word(tokens, cursor)?;
     let connections = connections(alloc, tokens, cursor)?;
     Ok(Instance { name, connections })
 }

@@ -17,7 +17,7 @@ use vast::module::{Declared, Setting};
 use vexpr_parse::{Cursor, Stop};
 use vlex::Tokens;
 use vstatement_parse::values::value as read_value;
-use vstatement_parse::words::named;
+use vstatement_parse::words::name_word;
 
 /// `name = value`
 pub fn setting(
@@ -28,7 +28,7 @@ pub fn setting(
     ensures gives { Gives setting_tree reading.setting tokens.now cursor.old cursor.new result }
     ensures kept { IfOk result (Keeps setting_leaves tokens.now cursor.old cursor.new) }
 {
-    let name = named(tokens, cursor)?;
+    let name = name_word(tokens, cursor)?;
     cursor.symbol(tokens, b"=")?;
     let value = read_value(alloc, tokens, cursor, LEVELS)?;
     Ok(Setting { name, value })
@@ -53,7 +53,7 @@ fn optional_value(
 }
 
 /// `name`, or `name = value`
-pub fn declared(
+pub fn declared_name(
     alloc: Global,
     tokens: &Tokens<'_>,
     cursor: &mut Cursor,
@@ -61,7 +61,7 @@ pub fn declared(
     ensures gives { Gives declared_tree reading.declared tokens.now cursor.old cursor.new result }
     ensures kept { IfOk result (Keeps declared_leaves tokens.now cursor.old cursor.new) }
 {
-    let name = named(tokens, cursor)?;
+    let name = name_word(tokens, cursor)?;
     let value = optional_value(alloc, tokens, cursor)?;
     Ok(Declared { name, value })
 }
@@ -71,6 +71,6 @@ pub fn alone(tokens: &Tokens<'_>, cursor: &mut Cursor) -> Result<Declared, OrMem
     ensures gives { Gives declared_tree parts.alone tokens.now cursor.old cursor.new result }
     ensures kept { IfOk result (Keeps declared_leaves tokens.now cursor.old cursor.new) }
 {
-    let name = named(tokens, cursor)?;
+    let name = name_word(tokens, cursor)?;
     Ok(Declared { name, value: None })
 }

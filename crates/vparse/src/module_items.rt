@@ -11,7 +11,7 @@ ghost use Rattle.vparse.specs.ModuleGives.{ReadsAt, any_item, assignments_at, di
 ghost use Rattle.vparse.specs.TextReaders as reading;
 
 use crate::connections::{instances, overrides};
-use crate::module_lists::{all_alone, all_declared, names, settings};
+use crate::module_lists::{all_alone, declared_names, names, settings};
 use crate::ports::{direction, is_direction, optional_net};
 use crate::types::{parameter_type, sign_and_range};
 use basis::OrMemory;
@@ -21,7 +21,7 @@ use vast::statement::Statement;
 use vast::token::Token;
 use vexpr_parse::{Cursor, Stop};
 use vlex::Tokens;
-use vstatement_parse::words::named;
+use vstatement_parse::words::name_word;
 
 // Behind `parameter` or `localparam`.
 fn parameters(
@@ -56,7 +56,7 @@ fn variables(
     ensures kept { IfOk result (Keeps item_leaves tokens.now cursor.old cursor.new) }
 {
     let kind = sign_and_range(alloc, tokens, cursor)?;
-    let declared = all_declared(alloc, tokens, cursor)?;
+    let declared = declared_names(alloc, tokens, cursor)?;
     Ok(ModuleItem::Declaration {
         at,
         kind: DeclarationKind::Variables { net, kind },
@@ -65,7 +65,7 @@ fn variables(
 }
 
 // Ports that the list of the module names.
-fn directed(
+fn port_directions(
     alloc: Global,
     tokens: &Tokens<'_>,
     cursor: &mut Cursor,
@@ -93,7 +93,7 @@ fn integers(
     ensures gives { Gives item_tree integers_at tokens.now cursor.old cursor.new result }
     ensures kept { IfOk result (Keeps item_leaves tokens.now cursor.old cursor.new) }
 {
-    let declared = all_declared(alloc, tokens, cursor)?;
+    let declared = declared_names(alloc, tokens, cursor)?;
     Ok(ModuleItem::Declaration {
         at,
         kind: DeclarationKind::Integers,
@@ -158,7 +158,7 @@ fn instances_item(
     ensures gives { Gives item_tree instances_item tokens.now cursor.old cursor.new result }
     ensures kept { IfOk result (Keeps item_leaves tokens.now cursor.old cursor.new) }
 {
-    let taken = named(tokens, cursor)?;
+    let taken = name_word(tokens, cursor)?;
     instances_of(alloc, tokens, cursor, taken)
 }
 
@@ -234,7 +234,7 @@ fn directed_item<F: Fn(&mut Cursor) -> Result<Statement, OrMemory<Stop>>>(
     ensures kept { IfOk result (Keeps item_leaves tokens.now cursor.old cursor.new) }
 {
     if is_direction(tokens, cursor) {
-        directed(alloc, tokens, cursor, at)
+        port_directions(alloc, tokens, cursor, at)
     } else {
         listed_item(alloc, read, tokens, cursor, at)
     }

@@ -13,7 +13,7 @@ ghost use Rattle.vgrammar.specs.Statements as reading_words;
 ghost use Rattle.vgrammar.specs.Lists.{all_until};
 ghost use Rattle.vgrammar.specs.Modules as parts;
 
-use crate::declarations::{alone, declared, setting};
+use crate::declarations::{alone, declared_name, setting};
 use crate::lists::list_until;
 use crate::types::LEVELS;
 use basis::OrMemory;
@@ -23,7 +23,7 @@ use vast::module::{Declared, Setting};
 use vast::token::Token;
 use vexpr_parse::{Cursor, Stop, expression};
 use vlex::Tokens;
-use vstatement_parse::words::named;
+use vstatement_parse::words::name_word;
 
 // An expression that stands in no statement.
 fn value(
@@ -67,7 +67,7 @@ pub fn settings(
 
 /// Names, with values or without, up to `;`.
 #[tactic(auto, using(crate::proofs::ListKinds::declared_fewer))]
-pub fn all_declared(
+pub fn declared_names(
     alloc: Global,
     tokens: &Tokens<'_>,
     cursor: &mut Cursor,
@@ -77,7 +77,7 @@ pub fn all_declared(
     ensures kept { IfOk result (Keeps (all_leaves declared_leaves)
         tokens.now cursor.old cursor.new) }
 {
-    let first = declared(alloc, tokens, cursor)?;
+    let first = declared_name(alloc, tokens, cursor)?;
     list_until(
         alloc,
         &|cursor|
@@ -85,7 +85,7 @@ pub fn all_declared(
                 tokens.entry.now cursor.entry.now cursor.exit.now result }
             ensures kept { IfOk result (Keeps declared_leaves
                 tokens.entry.now cursor.entry.now cursor.exit.now) }
-        { declared(alloc, tokens, cursor) },
+        { declared_name(alloc, tokens, cursor) },
         tokens,
         cursor,
         first,
@@ -132,7 +132,7 @@ pub fn names(
         tokens.now cursor.old cursor.new result }
     ensures kept { IfOk result (Keeps (λ names. names.items) tokens.now cursor.old cursor.new) }
 {
-    let first = named(tokens, cursor)?;
+    let first = name_word(tokens, cursor)?;
     list_until(
         alloc,
         &|cursor|
@@ -140,7 +140,7 @@ pub fn names(
                 tokens.entry.now cursor.entry.now cursor.exit.now result }
             ensures kept { IfOk result (Keeps (λ word. word ∷ [])
                 tokens.entry.now cursor.entry.now cursor.exit.now) }
-        { named(tokens, cursor) },
+        { name_word(tokens, cursor) },
         tokens,
         cursor,
         first,

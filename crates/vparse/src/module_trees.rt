@@ -19,7 +19,7 @@ use vast::statement::Statement;
 use vast::token::Token;
 use vexpr_parse::{Cursor, Stop};
 use vlex::Tokens;
-use vstatement_parse::words::named;
+use vstatement_parse::words::name_word;
 
 // Whether the module goes on here.
 fn goes_on(tokens: &Tokens<'_>, cursor: &Cursor) -> bool
@@ -98,7 +98,7 @@ fn module_with<F: Fn(&mut Cursor) -> Result<Statement, OrMemory<Stop>>>(
 }
 
 // Behind the parameters.
-fn module_headed<F: Fn(&mut Cursor) -> Result<Statement, OrMemory<Stop>>>(
+fn module_after_parameters<F: Fn(&mut Cursor) -> Result<Statement, OrMemory<Stop>>>(
     alloc: Global,
     read: &F,
     tokens: &Tokens<'_>,
@@ -133,7 +133,7 @@ pub fn module_tree<F: Fn(&mut Cursor) -> Result<Statement, OrMemory<Stop>>>(
     ensures kept { IfOk result (Keeps module_leaves tokens.now cursor.old cursor.new) }
 {
     cursor.symbol(tokens, b"module")?;
-    let name = named(tokens, cursor)?;
+    let name = name_word(tokens, cursor)?;
     let parameters = optional_heads(alloc, tokens, cursor)?;
-    module_headed(alloc, read, tokens, cursor, name, parameters)
+    module_after_parameters(alloc, read, tokens, cursor, name, parameters)
 }

@@ -18,7 +18,7 @@ use std::alloc::Global;
 use vast::module::{Direction, NetKind, Port};
 use vexpr_parse::{Cursor, Stop};
 use vlex::Tokens;
-use vstatement_parse::words::named;
+use vstatement_parse::words::name_word;
 
 /// `wire` or `reg`, if one stands there.
 #[tactic(auto, using(crate::proofs::PlainWords::wire_plain, crate::proofs::PlainWords::reg_plain))]
@@ -121,7 +121,7 @@ fn first_port(
     ensures kept { IfOk result (Keeps port_leaves tokens.now cursor.old cursor.new) }
 {
     let direction = direction(alloc, tokens, cursor)?;
-    let name = named(tokens, cursor)?;
+    let name = name_word(tokens, cursor)?;
     Ok(Port {
         direction: Some(direction),
         name,
@@ -134,7 +134,7 @@ fn port(alloc: Global, tokens: &Tokens<'_>, cursor: &mut Cursor) -> Result<Port,
     ensures kept { IfOk result (Keeps port_leaves tokens.now cursor.old cursor.new) }
 {
     let direction = optional_direction(alloc, tokens, cursor)?;
-    let name = named(tokens, cursor)?;
+    let name = name_word(tokens, cursor)?;
     Ok(Port { direction, name })
 }
 
@@ -169,7 +169,7 @@ fn named_port(tokens: &Tokens<'_>, cursor: &mut Cursor) -> Result<Port, OrMemory
     ensures gives { Gives port_tree parts.named_port tokens.now cursor.old cursor.new result }
     ensures kept { IfOk result (Keeps port_leaves tokens.now cursor.old cursor.new) }
 {
-    let name = named(tokens, cursor)?;
+    let name = name_word(tokens, cursor)?;
     Ok(Port {
         direction: None,
         name,

@@ -14,7 +14,7 @@ use std::alloc::Global;
 use vast::module::{Bounds, ParameterType, SignAndRange};
 use vexpr_parse::{Cursor, Stop};
 use vlex::Tokens;
-use vstatement_parse::values::{ended, value};
+use vstatement_parse::values::{value, value_before};
 
 /// How deep expressions and statements nest in a module (docs/LANGUAGE.md, "Depth").
 pub const LEVELS: u32 = 64;
@@ -26,7 +26,7 @@ fn range(alloc: Global, tokens: &Tokens<'_>, cursor: &mut Cursor) -> Result<Boun
     cursor.symbol(tokens, b"[")?;
     let left = value(alloc, tokens, cursor, LEVELS)?;
     cursor.symbol(tokens, b":")?;
-    let right = ended(alloc, tokens, cursor, LEVELS, b"]")?;
+    let right = value_before(alloc, tokens, cursor, LEVELS, b"]")?;
     Ok(Bounds { left, right })
 }
 

@@ -7,7 +7,7 @@ ghost use Rattle.vast.specs.StatementTrees.{delay_tree};
 ghost use Rattle.vstatement_parse.specs.Gives.{Gives};
 ghost use Rattle.vgrammar.specs.Statements as reading;
 
-use crate::values::enclosed;
+use crate::values::value_in_parentheses;
 use basis::OrMemory;
 use std::alloc::Global;
 use vast::statement::Delay;
@@ -38,5 +38,5 @@ pub fn amount(
             return Ok(Delay::Name(word.token));
         }
     }
-    Ok(Delay::Value(enclosed(alloc, tokens, cursor, below)?))
+    Ok(Delay::Value(value_in_parentheses(alloc, tokens, cursor, below)?))
 }

@@ -11,8 +11,8 @@ ghost use Rattle.vgrammar.specs.Statements as reading;
 
 use crate::amounts::amount;
 use crate::targets::target;
-use crate::values::ended;
-use crate::words::named;
+use crate::values::value_before;
+use crate::words::name_word;
 use basis::OrMemory;
 use std::alloc::Global;
 use vast::statement::{Delay, Statement};
@@ -71,7 +71,7 @@ pub fn assignment(
     let target = target(alloc, tokens, cursor, below)?;
     let later = sign(tokens, cursor)?;
     let delay = optional_delay(alloc, tokens, cursor, below)?;
-    let value = ended(alloc, tokens, cursor, below, b";")?;
+    let value = value_before(alloc, tokens, cursor, below, b";")?;
     if later {
         Ok(Statement::Nonblocking {
             at,
@@ -98,7 +98,7 @@ pub fn trigger(
     ensures gives { Gives statement_tree trigger_at tokens.now cursor.old cursor.new result }
     ensures kept { IfOk result (Keeps statement_leaves tokens.now cursor.old cursor.new) }
 {
-    let name = named(tokens, cursor)?;
+    let name = name_word(tokens, cursor)?;
     cursor.symbol(tokens, b";")?;
     Ok(Statement::Trigger { at, name })
 }

@@ -7,7 +7,7 @@ ghost use Rattle.vast.specs.StatementTrees.{statement_tree};
 ghost use Rattle.vstatement_parse.specs.Gives.{Gives, ReadsStatements, all_statements, block_at, block_list, ended_list, all_statement_leaves, KeepsStatements, block_name_text, word_leaves};
 ghost use Rattle.vgrammar.specs.Statements as reading;
 
-use crate::words::named;
+use crate::words::name_word;
 use basis::OrMemory;
 use std::alloc::Global;
 use vast::statement::Statement;
@@ -67,7 +67,7 @@ fn name(tokens: &Tokens<'_>, cursor: &mut Cursor) -> Result<Option<Token>, OrMem
 {
     if cursor.begins(tokens, b":") {
         cursor.pass(tokens);
-        Ok(Some(named(tokens, cursor)?))
+        Ok(Some(name_word(tokens, cursor)?))
     } else {
         Ok(None)
     }

@@ -18,7 +18,7 @@ use vexpr_parse::{Cursor, Stop};
 use vlex::Tokens;
 
 // A branch with labels.
-fn labelled<F: Fn(&mut Cursor) -> Result<Statement, OrMemory<Stop>>>(
+fn labelled_branch<F: Fn(&mut Cursor) -> Result<Statement, OrMemory<Stop>>>(
     alloc: Global,
     read: &F,
     below: u32,
@@ -86,7 +86,7 @@ fn read_branch<F: Fn(&mut Cursor) -> Result<Statement, OrMemory<Stop>>>(
         }
         default_branch(read, below, tokens, cursor)
     } else {
-        labelled(alloc, read, below, tokens, cursor)
+        labelled_branch(alloc, read, below, tokens, cursor)
     }
 }
 

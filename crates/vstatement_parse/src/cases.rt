@@ -61,7 +61,7 @@ fn behind_word<F: Fn(&mut Cursor) -> Result<Statement, OrMemory<Stop>>>(
 }
 
 /// What stands after `case`, `casez` or `casex`, the token of this number.
-pub fn selected<F: Fn(&mut Cursor) -> Result<Statement, OrMemory<Stop>>>(
+pub fn case_statement<F: Fn(&mut Cursor) -> Result<Statement, OrMemory<Stop>>>(
     alloc: Global,
     read: &F,
     below: u32,

@@ -27,7 +27,7 @@ pub struct Choice {
 }
 
 /// A statement, behind a pointer.
-pub fn boxed<F: Fn(&mut Cursor) -> Result<Statement, OrMemory<Stop>>>(
+pub fn boxed_statement<F: Fn(&mut Cursor) -> Result<Statement, OrMemory<Stop>>>(
     alloc: Global,
     read: &F,
     below: u32,
@@ -63,7 +63,7 @@ fn otherwise<F: Fn(&mut Cursor) -> Result<Statement, OrMemory<Stop>>>(
 {
     if cursor.begins(tokens, b"else") {
         cursor.pass(tokens);
-        Ok(Some(boxed(alloc, read, below, tokens, cursor)?))
+        Ok(Some(boxed_statement(alloc, read, below, tokens, cursor)?))
     } else {
         Ok(None)
     }
@@ -84,13 +84,13 @@ fn read_choice<F: Fn(&mut Cursor) -> Result<Statement, OrMemory<Stop>>>(
         tokens.now cursor.old cursor.new result }
     ensures kept { IfOk result (Keeps choice_leaves tokens.now cursor.old cursor.new) }
 {
-    let body = boxed(alloc, read, below, tokens, cursor)?;
+    let body = boxed_statement(alloc, read, below, tokens, cursor)?;
     let other = otherwise(alloc, read, below, tokens, cursor)?;
     Ok(Choice { body, other })
 }
 
 // The statement of one branch, or of two.
-fn chosen(at: u32, condition: Box<Expression>, choice: Choice) -> Statement
+fn if_statement_of(at: u32, condition: Box<Expression>, choice: Choice) -> Statement
     ensures gives { (words : List Text) → statement_tree words result
         ≡ reading.if_of (both (boxed_tree words condition) (choice_tree words choice)) }
     ensures kept { statement_leaves result ≡ boxed_leaves condition ++ choice_leaves choice }
@@ -131,5 +131,5 @@ pub fn conditional<F: Fn(&mut Cursor) -> Result<Statement, OrMemory<Stop>>>(
     let condition = value(alloc, tokens, cursor, below)?;
     cursor.symbol(tokens, b")")?;
     let choice = read_choice(alloc, read, below, tokens, cursor)?;
-    Ok(chosen(at, condition, choice))
+    Ok(if_statement_of(at, condition, choice))
 }

@@ -11,9 +11,9 @@ ghost use Rattle.vast.specs.Words.{is_name as is_name_text};
 ghost use Rattle.vgrammar.specs.Statements as reading;
 ghost use Rattle.vexpr_parse.specs.Answers.{ahead, Keeps};
 
-use crate::conditions::boxed;
+use crate::conditions::boxed_statement;
 use crate::terms::{further_term, read_term};
-use crate::words::named;
+use crate::words::name_word;
 use basis::OrMemory;
 use std::alloc::Global;
 use vast::statement::{Event, FurtherTerm, Statement, Term};
@@ -81,7 +81,7 @@ fn terms(alloc: Global, tokens: &Tokens<'_>, cursor: &mut Cursor) -> Result<Even
 }
 
 // What stands behind `@(`.
-fn enclosed(
+fn event_list(
     alloc: Global,
     tokens: &Tokens<'_>,
     cursor: &mut Cursor,
@@ -118,13 +118,13 @@ pub fn control(
     ensures kept { IfOk result (Keeps event_leaves tokens.now cursor.old cursor.new) }
 {
     if begins_name(tokens, cursor) {
-        Ok(Event::Named(named(tokens, cursor)?))
+        Ok(Event::Named(name_word(tokens, cursor)?))
     } else if cursor.begins(tokens, b"*") {
         cursor.pass(tokens);
         Ok(Event::Any)
     } else {
         cursor.symbol(tokens, b"(")?;
-        enclosed(alloc, tokens, cursor)
+        event_list(alloc, tokens, cursor)
     }
 }
 
@@ -144,6 +144,6 @@ pub fn waiting<F: Fn(&mut Cursor) -> Result<Statement, OrMemory<Stop>>>(
     ensures kept { IfOk result (Keeps statement_leaves tokens.now cursor.old cursor.new) }
 {
     let event = control(alloc, tokens, cursor)?;
-    let body = boxed(alloc, read, below, tokens, cursor)?;
+    let body = boxed_statement(alloc, read, below, tokens, cursor)?;
     Ok(Statement::OnEvent { at, event, body })
 }

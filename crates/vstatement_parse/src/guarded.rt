@@ -12,7 +12,7 @@ ghost use Rattle.vgrammar.specs.Statements as reading;
 ghost use Rattle.vast.specs.Words.{Text};
 
 use crate::amounts::amount;
-use crate::conditions::boxed;
+use crate::conditions::boxed_statement;
 use crate::values::value as read_value;
 use basis::OrMemory;
 use std::alloc::Global;
@@ -48,7 +48,7 @@ fn around(guard: Guard, at: u32, value: Box<Expression>, body: Box<Statement>) -
 }
 
 /// What stands after `while`, `repeat` or `wait`, the token of this number (9.6 and 9.7.6).
-pub fn guarded<F: Fn(&mut Cursor) -> Result<Statement, OrMemory<Stop>>>(
+pub fn guarded_statement<F: Fn(&mut Cursor) -> Result<Statement, OrMemory<Stop>>>(
     alloc: Global,
     read: &F,
     below: u32,
@@ -68,7 +68,7 @@ pub fn guarded<F: Fn(&mut Cursor) -> Result<Statement, OrMemory<Stop>>>(
     cursor.symbol(tokens, b"(")?;
     let value = read_value(alloc, tokens, cursor, below)?;
     cursor.symbol(tokens, b")")?;
-    let body = boxed(alloc, read, below, tokens, cursor)?;
+    let body = boxed_statement(alloc, read, below, tokens, cursor)?;
     Ok(around(guard, at, value, body))
 }
 
@@ -88,12 +88,12 @@ pub fn forever<F: Fn(&mut Cursor) -> Result<Statement, OrMemory<Stop>>>(
         tokens.now cursor.old cursor.new result }
     ensures kept { IfOk result (Keeps statement_leaves tokens.now cursor.old cursor.new) }
 {
-    let body = boxed(alloc, read, below, tokens, cursor)?;
+    let body = boxed_statement(alloc, read, below, tokens, cursor)?;
     Ok(Statement::Forever { at, body })
 }
 
 /// What stands after `#`, the token of this number (9.7.1).
-pub fn delayed<F: Fn(&mut Cursor) -> Result<Statement, OrMemory<Stop>>>(
+pub fn delayed_statement<F: Fn(&mut Cursor) -> Result<Statement, OrMemory<Stop>>>(
     alloc: Global,
     read: &F,
     below: u32,
@@ -110,6 +110,6 @@ pub fn delayed<F: Fn(&mut Cursor) -> Result<Statement, OrMemory<Stop>>>(
     ensures kept { IfOk result (Keeps statement_leaves tokens.now cursor.old cursor.new) }
 {
     let delay = amount(alloc, tokens, cursor, below)?;
-    let body = boxed(alloc, read, below, tokens, cursor)?;
+    let body = boxed_statement(alloc, read, below, tokens, cursor)?;
     Ok(Statement::Delayed { at, delay, body })
 }

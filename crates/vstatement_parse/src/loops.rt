@@ -10,7 +10,7 @@ ghost use Rattle.vgrammar.specs.Parts.{both};
 ghost use Rattle.vgrammar.specs.Statements as reading;
 ghost use Rattle.vast.specs.Words.{Text};
 
-use crate::conditions::boxed;
+use crate::conditions::boxed_statement;
 use crate::settings::{Setting, read_setting};
 use crate::values::value;
 use basis::OrMemory;
@@ -51,7 +51,7 @@ fn read_step<F: Fn(&mut Cursor) -> Result<Statement, OrMemory<Stop>>>(
 {
     let next = read_setting(alloc, tokens, cursor, below)?;
     cursor.symbol(tokens, b")")?;
-    let body = boxed(alloc, read, below, tokens, cursor)?;
+    let body = boxed_statement(alloc, read, below, tokens, cursor)?;
     Ok(Step { next, body })
 }
 
@@ -77,7 +77,7 @@ fn read_going<F: Fn(&mut Cursor) -> Result<Statement, OrMemory<Stop>>>(
 }
 
 // The statement of all that was read.
-fn looped(at: u32, first: Setting, going: Going) -> Statement
+fn for_statement_of(at: u32, first: Setting, going: Going) -> Statement
     ensures gives { (words : List Text) → statement_tree words result
         ≡ reading.for_of (both (setting_tree words first) (going_tree words going)) }
     ensures kept { statement_leaves result ≡ setting_leaves first ++ going_leaves going }
@@ -94,7 +94,7 @@ fn looped(at: u32, first: Setting, going: Going) -> Statement
 }
 
 /// What stands after `for`, the token of this number.
-pub fn counted<F: Fn(&mut Cursor) -> Result<Statement, OrMemory<Stop>>>(
+pub fn for_statement<F: Fn(&mut Cursor) -> Result<Statement, OrMemory<Stop>>>(
     alloc: Global,
     read: &F,
     below: u32,
@@ -113,5 +113,5 @@ pub fn counted<F: Fn(&mut Cursor) -> Result<Statement, OrMemory<Stop>>>(
     let first = read_setting(alloc, tokens, cursor, below)?;
     cursor.symbol(tokens, b";")?;
     let going = read_going(alloc, read, below, tokens, cursor)?;
-    Ok(looped(at, first, going))
+    Ok(for_statement_of(at, first, going))
 }

@@ -11,7 +11,7 @@ ghost use Rattle.vgrammar.specs.Parts.{paired};
 ghost use Rattle.vgrammar.specs.Statements as reading;
 ghost use Rattle.vexpr_parse.specs.Texts.{words_of};
 
-use crate::words::{named, numbered};
+use crate::words::{name_word, number_word};
 use basis::OrMemory;
 use std::alloc::Global;
 use vast::statement::{Path, Selection, Statement, Task};
@@ -26,7 +26,7 @@ fn further_name(tokens: &Tokens<'_>, cursor: &mut Cursor) -> Result<Token, OrMem
     ensures kept { IfOk result (Keeps word_leaves tokens.now cursor.old cursor.new) }
 {
     cursor.symbol(tokens, b".")?;
-    named(tokens, cursor)
+    name_word(tokens, cursor)
 }
 
 // The names with the first one.
@@ -59,7 +59,7 @@ fn names(
     ensures gives { Gives all_names path_at tokens.now cursor.old cursor.new result }
     ensures kept { IfOk result (Keeps all_name_leaves tokens.now cursor.old cursor.new) }
 {
-    let first = named(tokens, cursor)?;
+    let first = name_word(tokens, cursor)?;
     let names = more_names(alloc, tokens, cursor, first)?;
     Ok(names)
 }
@@ -130,7 +130,7 @@ fn selection(
     ensures kept { IfOk result (Keeps selection_leaves tokens.now cursor.old cursor.new) }
 {
     cursor.symbol(tokens, b"(")?;
-    let levels = numbered(tokens, cursor)?;
+    let levels = number_word(tokens, cursor)?;
     let paths = closed_paths(alloc, tokens, cursor)?;
     Ok(Selection { levels, paths })
 }

@@ -50,7 +50,7 @@ fn required_arguments(
 }
 
 // What a printing task prints, if anything, and its end.
-fn printed(
+fn printing_task(
     alloc: Global,
     tokens: &Tokens<'_>,
     cursor: &mut Cursor,
@@ -71,7 +71,7 @@ fn printed(
 }
 
 // What a printing task prints, and its end.
-fn monitored(
+fn monitor_task(
     alloc: Global,
     tokens: &Tokens<'_>,
     cursor: &mut Cursor,
@@ -105,7 +105,7 @@ pub fn print(
         tokens.now cursor.old cursor.new result }
     ensures kept { IfOk result (Keeps statement_leaves tokens.now cursor.old cursor.new) }
 {
-    printed(alloc, tokens, cursor, below, at, kind)
+    printing_task(alloc, tokens, cursor, below, at, kind)
 }
 
 /// What stands after `$monitor`, the token of this number (17.1.3).
@@ -122,5 +122,5 @@ pub fn monitor(
         tokens.now cursor.old cursor.new result }
     ensures kept { IfOk result (Keeps statement_leaves tokens.now cursor.old cursor.new) }
 {
-    monitored(alloc, tokens, cursor, below, at, kind)
+    monitor_task(alloc, tokens, cursor, below, at, kind)
 }

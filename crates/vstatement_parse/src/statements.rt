@@ -11,11 +11,11 @@ ghost use Rattle.vexpr_parse.specs.Answers.{ahead, leaf_here, Keeps};
 
 use crate::assignments::{assignment, trigger};
 use crate::blocks::block;
-use crate::cases::selected;
+use crate::cases::case_statement;
 use crate::conditions::conditional;
 use crate::events::waiting;
-use crate::guarded::{delayed, forever, guarded};
-use crate::loops::counted;
+use crate::guarded::{delayed_statement, forever, guarded_statement};
+use crate::loops::for_statement;
 use crate::paths::dump_vars;
 use crate::printing::{monitor, print};
 use crate::tasks::{dump, dump_file, end_run};
@@ -97,11 +97,13 @@ fn behind_word<F: Fn(&mut Cursor) -> Result<Statement, OrMemory<Stop>>>(
         StatementStart::Begin => block(alloc, read, below, tokens, cursor),
         StatementStart::Trigger => trigger(tokens, cursor, at),
         StatementStart::If => conditional(alloc, read, below, tokens, cursor, at),
-        StatementStart::Case(kind) => selected(alloc, read, below, tokens, cursor, at, kind),
-        StatementStart::Guarded(guard) => guarded(alloc, read, below, tokens, cursor, at, guard),
+        StatementStart::Case(kind) => case_statement(alloc, read, below, tokens, cursor, at, kind),
+        StatementStart::Guarded(guard) => guarded_statement(
+            alloc, read, below, tokens, cursor, at, guard,
+        ),
         StatementStart::Forever => forever(alloc, read, below, tokens, cursor, at),
-        StatementStart::For => counted(alloc, read, below, tokens, cursor, at),
-        StatementStart::Delay => delayed(alloc, read, below, tokens, cursor, at),
+        StatementStart::For => for_statement(alloc, read, below, tokens, cursor, at),
+        StatementStart::Delay => delayed_statement(alloc, read, below, tokens, cursor, at),
         StatementStart::Event => waiting(alloc, read, below, tokens, cursor, at),
         StatementStart::Print(kind) => task_that_prints(alloc, tokens, cursor, below, at, kind),
         StatementStart::DumpFile => dump_file(tokens, cursor, at),
@@ -113,7 +115,7 @@ fn behind_word<F: Fn(&mut Cursor) -> Result<Statement, OrMemory<Stop>>>(
 
 // A statement that begins so.
 #[tactic(auto, using(crate::proofs::LevelTurns::too_low))]
-fn begun<F: Fn(&mut Cursor) -> Result<Statement, OrMemory<Stop>>>(
+fn statement_by_word<F: Fn(&mut Cursor) -> Result<Statement, OrMemory<Stop>>>(
     alloc: Global,
     read: &F,
     below: u32,
@@ -162,7 +164,15 @@ fn at_level<F: Fn(&mut Cursor) -> Result<Statement, OrMemory<Stop>>>(
     }
     match start_of(word.text) {
         None => Err(OrMemory::Fault(Stop::NoTree)),
-        Some(start) => begun(alloc, read, below, tokens, cursor, word.token.number, start),
+        Some(start) => statement_by_word(
+            alloc,
+            read,
+            below,
+            tokens,
+            cursor,
+            word.token.number,
+            start,
+        ),
     }
 }
 

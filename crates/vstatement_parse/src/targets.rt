@@ -11,7 +11,7 @@ ghost use Rattle.vgrammar.specs.Statements as reading;
 ghost use Rattle.vexpr_parse.specs.Answers.{ahead, KeepsBehind, Keeps};
 ghost use Rattle.vexpr_parse.specs.Texts.{words_of};
 
-use crate::values::{ended, value};
+use crate::values::{value, value_before};
 use basis::OrMemory;
 use std::alloc::Global;
 use vast::statement::Target;
@@ -39,7 +39,7 @@ fn select(
     if cursor.begins(tokens, b":") {
         cursor.pass(tokens);
         let left = index;
-        let right = ended(alloc, tokens, cursor, below, b"]")?;
+        let right = value_before(alloc, tokens, cursor, below, b"]")?;
         Ok(Target::Part { name, left, right })
     } else {
         cursor.symbol(tokens, b"]")?;
@@ -119,7 +119,7 @@ fn targets_within<F: Fn(&mut Cursor) -> Result<Target, OrMemory<Stop>>>(
 }
 
 // What stands behind `{`, the token of this number.
-fn joined<F: Fn(&mut Cursor) -> Result<Target, OrMemory<Stop>>>(
+fn target_concatenation<F: Fn(&mut Cursor) -> Result<Target, OrMemory<Stop>>>(
     alloc: Global,
     read: &F,
     below: u32,
@@ -161,7 +161,7 @@ fn at_level<F: Fn(&mut Cursor) -> Result<Target, OrMemory<Stop>>>(
         named_target(alloc, tokens, cursor, below, word.token)
     } else if cursor.begins(tokens, b"{") {
         cursor.enter(tokens, below, 1)?;
-        joined(alloc, &read, below, tokens, cursor, word.token.number)
+        target_concatenation(alloc, &read, below, tokens, cursor, word.token.number)
     } else {
         Err(OrMemory::Fault(Stop::NoTree))
     }

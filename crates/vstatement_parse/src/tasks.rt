@@ -6,7 +6,7 @@ ghost use Rattle.vast.specs.Leaves.{statement_leaves, if_some};
 ghost use Rattle.vast.specs.StatementTrees.{statement_tree};
 ghost use Rattle.vstatement_parse.specs.Gives.{Gives, dump_at, dump_file_at, end_at, numbers_tree, optional_number_at, word_leaves};
 
-use crate::words::{numbered, quoted};
+use crate::words::{number_word, string_word};
 use basis::OrMemory;
 use vast::statement::{Dumping, Statement, Task};
 use vast::token::Token;
@@ -40,7 +40,7 @@ pub fn dump_file(
     ensures kept { IfOk result (Keeps statement_leaves tokens.now cursor.old cursor.new) }
 {
     cursor.symbol(tokens, b"(")?;
-    let word = quoted(tokens, cursor)?;
+    let word = string_word(tokens, cursor)?;
     cursor.symbol(tokens, b")")?;
     cursor.symbol(tokens, b";")?;
     Ok(Statement::Task {
@@ -59,7 +59,7 @@ fn optional_number(
 {
     if cursor.begins(tokens, b"(") {
         cursor.pass(tokens);
-        let number = numbered(tokens, cursor)?;
+        let number = number_word(tokens, cursor)?;
         cursor.symbol(tokens, b")")?;
         Ok(Some(number))
     } else {

@@ -9,7 +9,7 @@ ghost use Rattle.vgrammar.specs.Parts.{worded};
 ghost use Rattle.vgrammar.specs.Starts.{comma_of};
 ghost use Rattle.vgrammar.specs.Statements as reading;
 
-use crate::words::named;
+use crate::words::name_word;
 use basis::OrMemory;
 use vast::statement::{Edge, FurtherTerm, Term};
 use vexpr_parse::{Cursor, Stop};
@@ -38,7 +38,7 @@ pub fn read_term(tokens: &Tokens<'_>, cursor: &mut Cursor) -> Result<Term, OrMem
     ensures kept { IfOk result (Keeps term_leaves tokens.now cursor.old cursor.new) }
 {
     let edge = edge(tokens, cursor)?;
-    let name = named(tokens, cursor)?;
+    let name = name_word(tokens, cursor)?;
     Ok(Term { edge, name })
 }
 

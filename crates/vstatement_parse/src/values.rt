@@ -31,7 +31,7 @@ pub fn value(
 }
 
 /// An expression, and this very word after it.
-pub fn ended(
+pub fn value_before(
     alloc: Global,
     tokens: &Tokens<'_>,
     cursor: &mut Cursor,
@@ -50,7 +50,7 @@ pub fn ended(
 }
 
 /// An expression between parentheses.
-pub fn enclosed(
+pub fn value_in_parentheses(
     alloc: Global,
     tokens: &Tokens<'_>,
     cursor: &mut Cursor,
@@ -62,5 +62,5 @@ pub fn enclosed(
     ensures kept { IfOk result (Keeps boxed_leaves tokens.now cursor.old cursor.new) }
 {
     cursor.symbol(tokens, b"(")?;
-    ended(alloc, tokens, cursor, below, b")")
+    value_before(alloc, tokens, cursor, below, b")")
 }

@@ -17,7 +17,7 @@ use vlex::Tokens;
 
 /// Passes a name (IEEE 1364-2005, 3.7).
 #[tactic(auto, using(crate::proofs::LeafWords::name_leaf))]
-pub fn named(tokens: &Tokens<'_>, cursor: &mut Cursor) -> Result<Token, OrMemory<Stop>>
+pub fn name_word(tokens: &Tokens<'_>, cursor: &mut Cursor) -> Result<Token, OrMemory<Stop>>
     ensures gives { Gives token_text reading.named tokens.now cursor.old cursor.new result }
     ensures kept { IfOk result (Keeps word_leaves tokens.now cursor.old cursor.new) }
 {
@@ -36,7 +36,7 @@ pub fn named(tokens: &Tokens<'_>, cursor: &mut Cursor) -> Result<Token, OrMemory
 
 /// Passes a number (3.5.1).
 #[tactic(auto, using(crate::proofs::LeafWords::number_leaf))]
-pub fn numbered(tokens: &Tokens<'_>, cursor: &mut Cursor) -> Result<Token, OrMemory<Stop>>
+pub fn number_word(tokens: &Tokens<'_>, cursor: &mut Cursor) -> Result<Token, OrMemory<Stop>>
     ensures gives { Gives token_text reading.numbered tokens.now cursor.old cursor.new result }
     ensures kept { IfOk result (Keeps word_leaves tokens.now cursor.old cursor.new) }
 {
@@ -65,7 +65,7 @@ pub fn is_string(text: &[u8]) -> bool
 
 /// Passes a string.
 #[tactic(auto, using(crate::proofs::LeafWords::string_leaf))]
-pub fn quoted(tokens: &Tokens<'_>, cursor: &mut Cursor) -> Result<Token, OrMemory<Stop>>
+pub fn string_word(tokens: &Tokens<'_>, cursor: &mut Cursor) -> Result<Token, OrMemory<Stop>>
     ensures gives { Gives token_text (worded (meant_if is_string_text))
         tokens.now cursor.old cursor.new result }
     ensures kept { IfOk result (Keeps word_leaves tokens.now cursor.old cursor.new) }

@@ -15,11 +15,11 @@ returns-clause-finds g c =
     let first = c.requires.reads _ _ 0 _ c.in_ok-first.ensures in
     let found = c.in_ok-parts.ensures.finds in
     let count = c.args.count in (
-      repeated_so words c.args.below (tree_in words count) (tree_in words c.in_ok-first.first) (tree_in words c.in_ok-repeated.field-0) parts.trees.items
+      repeated_so words c.args.below (tree_in words count) (tree_in words c.in_ok-first.first) (tree_in words c.in_ok-replication_of.field-0) parts.trees.items
           (left c.args.cursor.now) (left c.symbol.new.self) (left c.read.new.arg2) (left c.more_parts.new.cursor) (left c.symbol-2.new.self) (left c.symbol-3.new.self)
-          c.in_ok-symbol.ensures.passes first.0 found.0 c.in_ok-symbol-2.ensures.passes c.in_ok-symbol-3.ensures.passes (c.in_ok-repeated.ensures.made words).0,
-      measured words (replication (tree_in words count) trees) (1 + max count.depth parts.depth) (1 + c.args.below) c.in_ok-repeated.field-0
-          (c.in_ok-repeated.ensures.made words)
+          c.in_ok-symbol.ensures.passes first.0 found.0 c.in_ok-symbol-2.ensures.passes c.in_ok-symbol-3.ensures.passes (c.in_ok-replication_of.ensures.made words).0,
+      measured words (replication (tree_in words count) trees) (1 + max count.depth parts.depth) (1 + c.args.below) c.in_ok-replication_of.field-0
+          (c.in_ok-replication_of.ensures.made words)
           (both_deep count.depth parts.depth (depth (tree_in words count)) (greatest_depth trees) c.requires.count.0 found.1.0)
           (larger_level count.depth parts.depth c.args.below c.requires.count.1 found.1.1),
     )

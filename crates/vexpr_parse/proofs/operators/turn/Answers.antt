@@ -11,11 +11,11 @@ pub returns-clause-finds : goal.returns-clause-finds
 returns-clause-finds g c =
     let words = words_of c.args.tokens.now in
     let behind = ahead c.args.tokens.now in
-    let is_made = c.in_ok-combined.ensures.made words in
+    let is_made = c.in_ok-combination_of.ensures.made words in
     let found = c.requires.reads _ _ _ _ c.in_ok-right.ensures in
     let left = c.args.left in
     let right = c.in_ok-right.right in
-    let made = c.in_ok-combined.field-0 in (
+    let made = c.in_ok-combination_of.field-0 in (
       turn_so c.args.below c.args.least _ (tree_in words left) (tree_in words right) (tree_in words made) (behind c.args.cursor.now) (behind c.enter.new.self)
           (behind c.read.new.arg2) c.args.operator c.requires.here
           (low_enough left.depth (depth (tree_in words left)) c.args.below c.requires.left.0 c.in_ok-enter.ensures.enters.1)
@@ -30,6 +30,6 @@ pub returns-clause-kept : goal.returns-clause-kept
 returns-clause-kept g c =
     let leaves = leaves_ahead c.args.tokens.now in
     kept_both (found_leaves c.args.left) (found_leaves c.in_ok-right.right) (leaves c.args.cursor.now) (leaf_here c.args.tokens.now c.args.cursor.now)
-    (leaves c.enter.new.self) (leaves c.read.new.arg2) (found_leaves c.in_ok-combined.field-0)
+    (leaves c.enter.new.self) (leaves c.read.new.arg2) (found_leaves c.in_ok-combination_of.field-0)
     (operator_leaf c.args.tokens.now c.args.cursor.now c.args.least c.args.operator c.requires.here)
-    c.in_ok-enter.ensures.kept (c.requires.keeps _ _ _ _ c.in_ok-right.ensures) c.in_ok-combined.ensures.kept
+    c.in_ok-enter.ensures.kept (c.requires.keeps _ _ _ _ c.in_ok-right.ensures) c.in_ok-combination_of.ensures.kept

@@ -9,10 +9,10 @@ use Rattle.vparse.proofs.module_lists.names.Goals as goal
 pub returns-clause-gives : goal.returns-clause-gives
 returns-clause-gives c =
     list_given token_text named named_eats c.args.tokens.now _ (λ old new result e. e.0)
-    _ c.in_ok-first.first c.args.cursor.now c.named.new.cursor
+    _ c.in_ok-first.first c.args.cursor.now c.name_word.new.cursor
     c.list_until.new.cursor c.list_until.result c.in_ok-first.ensures.gives c.list_until.ensures.lists
 
 pub returns-clause-kept : goal.returns-clause-kept
 returns-clause-kept c =
-    names_kept c.args.tokens.now _ (λ old new result e. e.1) c.in_ok-first.first c.args.cursor.now c.named.new.cursor
+    names_kept c.args.tokens.now _ (λ old new result e. e.1) c.in_ok-first.first c.args.cursor.now c.name_word.new.cursor
     c.list_until.new.cursor c.list_until.result c.in_ok-first.ensures.kept (c.list_until.ensures.kept refl)

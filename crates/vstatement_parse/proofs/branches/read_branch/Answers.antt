@@ -14,5 +14,5 @@ pub returns-else-begins-clause-gives : goal.returns-else-begins-clause-gives
 returns-else-begins-clause-gives g c =
     let words = words_of c.args.tokens.now in
     let left = ahead c.args.tokens.now in
-    gives_labelled c.args.below (left c.args.cursor.now) words (left c.labelled.new.cursor) c.labelled.result
-    c.begins.result c.args.seen c.begins.ensures.front c.if-begins.false c.labelled.ensures.gives
+    gives_labelled c.args.below (left c.args.cursor.now) words (left c.labelled_branch.new.cursor) c.labelled_branch.result
+    c.begins.result c.args.seen c.begins.ensures.front c.if-begins.false c.labelled_branch.ensures.gives

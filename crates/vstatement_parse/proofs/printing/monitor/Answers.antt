@@ -7,4 +7,4 @@ pub returns-clause-gives : goal.returns-clause-gives
 returns-clause-gives c =
     let words = words_of c.args.tokens.now in
     let left = ahead c.args.tokens.now in
-    gives_monitor c.args.kind words c.args.below (left c.args.cursor.now) (left c.monitored.new.cursor) c.monitored.result c.monitored.ensures.gives
+    gives_monitor c.args.kind words c.args.below (left c.args.cursor.now) (left c.monitor_task.new.cursor) c.monitor_task.result c.monitor_task.ensures.gives

@@ -7,4 +7,4 @@ pub returns-clause-gives : goal.returns-clause-gives
 returns-clause-gives c =
     let words = words_of c.args.tokens.now in
     let left = ahead c.args.tokens.now in
-    gives_print c.args.kind c.args.below (left c.args.cursor.now) words (left c.printed.new.cursor) c.printed.result c.printed.ensures.gives
+    gives_print c.args.kind c.args.below (left c.args.cursor.now) words (left c.printing_task.new.cursor) c.printing_task.result c.printing_task.ensures.gives

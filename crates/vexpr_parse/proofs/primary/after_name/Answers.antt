@@ -4,7 +4,7 @@ use Rattle.vast.specs.TokenTexts.{token_text}
 use Rattle.vexpr_parse.specs.Texts.{words_of}
 use Rattle.vexpr_parse.specs.Answers.{ahead, tree_in}
 use Rattle.vexpr_parse.proofs.Turning.{named_alone, measured, one_level}
-use Rattle.vexpr_parse.proofs.primary.named.Goals as goal
+use Rattle.vexpr_parse.proofs.primary.after_name.Goals as goal
 
 pub returns-else-begins-clause-finds : goal.returns-else-begins-clause-finds
 returns-else-begins-clause-finds g c =

@@ -2,7 +2,7 @@ use Rattle.std.proofs.Common.{sym, ◌∙◌}
 use Rattle.vexpr_parse.specs.Answers.{leaf_here, leaves_ahead, found_leaves}
 use Rattle.vexpr_parse.proofs.Kept.{kept_behind}
 use Rattle.vexpr_parse.proofs.LeafWords.{no_kept_leaf, round_leads}
-use Rattle.vexpr_parse.proofs.primary.led.Goals as goal
+use Rattle.vexpr_parse.proofs.primary.primary_by.Goals as goal
 
 pub returns-in_ok-enter-in-Round-clause-kept : goal.returns-in_ok-enter-in-Round-clause-kept
 returns-in_ok-enter-in-Round-clause-kept g c =

@@ -1,7 +1,7 @@
 use Rattle.vexpr_parse.specs.Texts.{words_of}
 use Rattle.vexpr_parse.specs.Answers.{ahead}
 use Rattle.vstatement_parse.proofs.LevelTurns.{gives_begun}
-use Rattle.vstatement_parse.proofs.statements.begun.Goals as goal
+use Rattle.vstatement_parse.proofs.statements.statement_by_word.Goals as goal
 
 pub returns-clause-gives : goal.returns-clause-gives
 returns-clause-gives g c =

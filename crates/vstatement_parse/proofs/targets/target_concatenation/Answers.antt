@@ -3,7 +3,7 @@ use Rattle.vexpr_parse.specs.Answers.{ahead, leaves_ahead}
 use Rattle.vstatement_parse.proofs.TargetTurns.{joined_got}
 use Rattle.std.proofs.Common.{◌++◌, sym, ap, ◌∙◌}
 use Rattle.vast.proofs.LeafRows.{joined_leaves}
-use Rattle.vstatement_parse.proofs.targets.joined.Goals as goal
+use Rattle.vstatement_parse.proofs.targets.target_concatenation.Goals as goal
 
 pub returns-clause-gives : goal.returns-clause-gives
 returns-clause-gives g c =

@@ -1,7 +1,7 @@
 use Rattle.vexpr_parse.specs.Texts.{words_of}
 use Rattle.vexpr_parse.specs.Answers.{ahead}
 use Rattle.vstatement_parse.proofs.CaseTurns.{labelled_got}
-use Rattle.vstatement_parse.proofs.branches.labelled.Goals as goal
+use Rattle.vstatement_parse.proofs.branches.labelled_branch.Goals as goal
 
 pub returns-clause-gives : goal.returns-clause-gives
 returns-clause-gives g c =

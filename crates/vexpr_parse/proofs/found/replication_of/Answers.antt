@@ -5,7 +5,7 @@ use Rattle.vast.specs.ExpressionTrees.{tree_of, trees_of}
 use Rattle.vast.specs.Leaves.{leaves_of}
 use Rattle.vast.proofs.LeafRows.{replication_leaves}
 use Rattle.vast.proofs.ExpressionLemmas.{tree_of_replication}
-use Rattle.vexpr_parse.proofs.found.repeated.Goals as goal
+use Rattle.vexpr_parse.proofs.found.replication_of.Goals as goal
 
 pub returns-clause-made : goal.returns-clause-made
 returns-clause-made c = λ words. (

@@ -1,7 +1,7 @@
 use Rattle.vexpr_parse.specs.Texts.{words_of}
 use Rattle.vexpr_parse.specs.Answers.{ahead}
 use Rattle.vstatement_parse.proofs.CaseTurns.{gives_case}
-use Rattle.vstatement_parse.proofs.cases.selected.Goals as goal
+use Rattle.vstatement_parse.proofs.cases.case_statement.Goals as goal
 
 pub returns-clause-gives : goal.returns-clause-gives
 returns-clause-gives g c =

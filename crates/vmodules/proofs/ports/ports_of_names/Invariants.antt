@@ -1,7 +1,7 @@
 use Rattle.std.proofs.Common.{◌≡◌, ◌++◌, drop, map}
 use Rattle.vexpr_parse.specs.Texts.{words_of}
 use Rattle.vmodules.specs.Inner.{port_form, port_trees, ports_as}
-use Rattle.vmodules.proofs.ports.named.Given as goal
+use Rattle.vmodules.proofs.ports.ports_of_names.Given as goal
 
 abbrev pub invariant-loop-port : goal.invariant-loop-port
 invariant-loop-port l =

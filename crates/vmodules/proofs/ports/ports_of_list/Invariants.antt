@@ -3,7 +3,7 @@ use Rattle.vast.specs.Words.{Text}
 use Rattle.vast.specs.NumberedTrees.{port_tree}
 use Rattle.vmodules.specs.Ports.{ports_behind}
 use Rattle.vmodules.specs.Inner.{port_form, direction_of}
-use Rattle.vmodules.proofs.ports.listed.Given as goal
+use Rattle.vmodules.proofs.ports.ports_of_list.Given as goal
 
 abbrev pub invariant-loop-port : goal.invariant-loop-port
 invariant-loop-port l = (words : List Text) →

@@ -1,7 +1,7 @@
 use Rattle.vexpr_parse.specs.Texts.{words_of}
 use Rattle.vexpr_parse.specs.Answers.{ahead}
 use Rattle.vstatement_parse.proofs.StatementTurns.{gives_terms}
-use Rattle.vstatement_parse.proofs.events.enclosed.Goals as goal
+use Rattle.vstatement_parse.proofs.events.event_list.Goals as goal
 
 pub returns-else-begins-clause-gives : goal.returns-else-begins-clause-gives
 returns-else-begins-clause-gives c =
