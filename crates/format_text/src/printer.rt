@@ -99,7 +99,7 @@ fn put_value(
 }
 
 // Letters on the right of so many places.
-fn placed(alloc: Global, places: u32, letters: &[u8]) -> Result<Vec<u8>, NoMemory>
+fn align_right(alloc: Global, places: u32, letters: &[u8]) -> Result<Vec<u8>, NoMemory>
     ensures { IfOk result (λ text. text.items ≡ spec.letters_in (Width.Places places) letters.now) }
 {
     let mut text = Vec::new(alloc);
@@ -115,8 +115,8 @@ fn letters_in(width: Width, letters: Vec<u8>) -> Result<Vec<u8>, NoMemory>
     match width {
         Width::Natural => Ok(letters),
         Width::Least => Ok(letters),
-        Width::Places(places) => placed(alloc, places, &letters),
-        Width::Zeros(places) => placed(alloc, places, &letters),
+        Width::Places(places) => align_right(alloc, places, &letters),
+        Width::Zeros(places) => align_right(alloc, places, &letters),
     }
 }
 

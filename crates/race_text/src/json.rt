@@ -48,7 +48,12 @@ fn place_of(alloc: Global, design: &Design, sources: &Sources<'_>, action: usize
 }
 
 // What the visit does to one thing. An event has no name.
-fn deed(alloc: Global, design: &Design, blamed: &Blamed, thing: Thing) -> Result<Value, NoMemory> {
+fn effect_on(
+    alloc: Global,
+    design: &Design,
+    blamed: &Blamed,
+    thing: Thing,
+) -> Result<Value, NoMemory> {
     let mut members = Members::new(alloc);
     members.text("verb", verb(design, blamed, thing));
     if let Thing::Variable(number) = thing {
@@ -77,7 +82,7 @@ fn deeds(
     let mut list = Items::new(alloc);
     for (place, thing) in things.iter().enumerate() {
         if !is_among_first(things, place, thing) {
-            list.try_value(deed(alloc, design, blamed, *thing));
+            list.try_value(effect_on(alloc, design, blamed, *thing));
         }
     }
     list.whole()

@@ -51,7 +51,7 @@ fn blank_in(text: &[u8]) -> usize {
 }
 
 // What stands before the place, and from it on.
-fn cut(text: &[u8], place: usize) -> (&[u8], &[u8]) {
+fn split_at_place(text: &[u8], place: usize) -> (&[u8], &[u8]) {
     match (text.get(..place), text.get(place..)) {
         (Some(front), Some(rest)) => (front, rest),
         _ => (text, &[]),
@@ -61,7 +61,7 @@ fn cut(text: &[u8], place: usize) -> (&[u8], &[u8]) {
 // The first word, and what follows it.
 fn word_of(text: &[u8]) -> (&[u8], &[u8]) {
     let text = text.trim_ascii_start();
-    cut(text, blank_in(text))
+    split_at_place(text, blank_in(text))
 }
 
 // Where the last colon stands.
@@ -77,7 +77,7 @@ fn colon_in(word: &[u8]) -> Option<usize> {
 
 // `FILE:LINE`, the line from 1.
 fn spot_of(word: &[u8]) -> Option<Spot<'_>> {
-    let (file, rest) = cut(word, colon_in(word)?);
+    let (file, rest) = split_at_place(word, colon_in(word)?);
     let (_, digits) = rest.split_first()?;
     match number_in(digits) {
         Some(line) if line > 0 && !file.is_empty() => Some(Spot { file, line }),

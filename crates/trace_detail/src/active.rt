@@ -34,7 +34,7 @@ fn is_in(list: &[u32], process: u32) -> bool {
 }
 
 /// The processes of the second list that don't stand in the first.
-pub fn added(alloc: Global, before: &[u32], after: &[u32]) -> Result<Vec<u32>, NoMemory> {
+pub fn newly_active(alloc: Global, before: &[u32], after: &[u32]) -> Result<Vec<u32>, NoMemory> {
     let mut list = Vec::new(alloc);
     for process in after {
         if !is_in(before, *process) {

@@ -1,6 +1,6 @@
 // What stands behind the line of a step: ` of 1:12:5 reads tb.a tb.b wakes 3 5`.
 
-use crate::active::{ActiveRun, added};
+use crate::active::{ActiveRun, newly_active};
 use crate::posts::Posts;
 use crate::reads::Reads;
 use crate::taken::{action_of, choice_at};
@@ -114,7 +114,7 @@ impl<'a> DetailedRun<'a> {
     fn woken(&mut self, choice: Choice) -> Result<Vec<u32>, NoMemory> {
         self.shadow.take(self.machine.design(), choice)?;
         let active = self.shadow.active(self.alloc)?;
-        let woken = added(self.alloc, &self.active, &active)?;
+        let woken = newly_active(self.alloc, &self.active, &active)?;
         self.active = active;
         Ok(woken)
     }

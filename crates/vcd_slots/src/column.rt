@@ -15,7 +15,7 @@ pub(crate) struct Column {
 }
 
 // What is known, where this was known before.
-fn known(is_on: bool, before: Option<Vec4>, value: Vec4) -> Option<Vec4>
+fn known_value(is_on: bool, before: Option<Vec4>, value: Vec4) -> Option<Vec4>
     ensures { result ≡ (if is_on then Some value else before) }
 {
     if is_on { Some(value) } else { before }
@@ -46,7 +46,7 @@ impl Column {
         }
         match vector_of(self.width, digits) {
             None => None,
-            Some(value) => Some(known(is_on, before, value)),
+            Some(value) => Some(known_value(is_on, before, value)),
         }
     }
 }

@@ -38,7 +38,7 @@ fn left_of(letter: Bit4, count: u32) -> Vec4
 }
 
 // The letter, with so many to its left.
-fn begun(letter: Bit4, more: u32) -> Vec4
+fn letter_before(letter: Bit4, more: u32) -> Vec4
     requires { more ≤ 63 }
     ensures { result ≡ begun letter more }
 {
@@ -77,7 +77,7 @@ fn are_zeros(digits: &[u8]) -> bool
 }
 
 // Without so many in front, if these are 0.
-fn counted(more: usize, digits: &[u8]) -> &[u8]
+fn without_zeros(more: usize, digits: &[u8]) -> &[u8]
     requires { more ≤ length digits.now }
     ensures { result.now ≡ counted more digits.now }
 {
@@ -98,7 +98,7 @@ fn whole_vector(width: u32, digits: &[u8]) -> Option<Vec4>
         return None;
     }
     let more = width - digits.len() as u32;
-    Some(put_all(begun(letter_of(*first), more), rest))
+    Some(put_all(letter_before(letter_of(*first), more), rest))
 }
 
 /// The value of a variable of so many bits, if the digits are some and no more, but zeros in front.
@@ -109,5 +109,5 @@ pub(crate) fn vector_of(width: u32, digits: &[u8]) -> Option<Vec4>
     if digits.len() <= width as usize {
         return whole_vector(width, digits);
     }
-    whole_vector(width, counted(digits.len() - width as usize, digits))
+    whole_vector(width, without_zeros(digits.len() - width as usize, digits))
 }

@@ -15,7 +15,7 @@ pub(crate) struct Units {
 }
 
 // The time in a unit of which so many make one of the unit in which it is told.
-fn multiplied(time: u64, told: u64, shown: u64) -> Option<u64>
+fn time_multiplied(time: u64, told: u64, shown: u64) -> Option<u64>
     requires some { 0 < shown }
     requires whole { told % shown ≡ 0 }
     ensures { IfSome result (λ now. time * told ≡ now * shown) }
@@ -24,7 +24,7 @@ fn multiplied(time: u64, told: u64, shown: u64) -> Option<u64>
 }
 
 // The time in a unit that has so many of the one in which it is told; none where it is no whole number.
-fn divided(time: u64, told: u64, shown: u64) -> Option<u64>
+fn time_divided(time: u64, told: u64, shown: u64) -> Option<u64>
     requires some { 0 < told }
     requires whole { shown % told ≡ 0 }
     ensures { IfSome result (λ now. time * told ≡ now * shown) }
@@ -58,9 +58,9 @@ impl Units {
         ensures { IfSome result (λ now. IsSameTime self time now) }
     {
         if self.shown > 0 && self.told % self.shown == 0 {
-            multiplied(time, self.told, self.shown)
+            time_multiplied(time, self.told, self.shown)
         } else if self.told > 0 && self.shown % self.told == 0 {
-            divided(time, self.told, self.shown)
+            time_divided(time, self.told, self.shown)
         } else {
             None
         }

@@ -96,7 +96,7 @@ fn size_of(digits: &[u8]) -> u32
 }
 
 // As many copies of the letter that fills these digits on the left.
-fn filled(size: u32, digits: &[u8]) -> Vec4
+fn fill_of(size: u32, digits: &[u8]) -> Vec4
     requires some { 1 ≤ size }
     requires few { size ≤ 64 }
     ensures { result ≡ vectors.filled size (literals.filling_letters digits.now) }
@@ -124,7 +124,7 @@ fn decimal_value(size: u32, digits: &[u8]) -> Vec4
     ensures { result ≡ literals.decimal_value size digits.now }
 {
     if is_unknown(digits) {
-        filled(size, digits)
+        fill_of(size, digits)
     } else {
         Vec4::from_u64(size, low_number(digits))
     }
@@ -165,7 +165,7 @@ fn lettered_value(size: u32, count: u32, digits: &[u8]) -> Vec4
     requires few_a_digit { count ≤ 4 }
     ensures { result ≡ literals.lettered_value size count digits.now }
 {
-    let mut value = filled(WIDEST, digits);
+    let mut value = fill_of(WIDEST, digits);
     for c in digits {
         value = shifted_in(value, count, *c);
     }

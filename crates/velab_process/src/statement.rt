@@ -76,7 +76,7 @@ pub fn put(
 }
 
 // What an assignment without a delay of its own does.
-fn undelayed(blocking: bool, targets: Targets, value: Expression) -> Action
+fn immediate_assignment(blocking: bool, targets: Targets, value: Expression) -> Action
     ensures { result ≡ spec.assignment_action blocking None targets value }
 {
     if blocking {
@@ -87,7 +87,12 @@ fn undelayed(blocking: bool, targets: Targets, value: Expression) -> Action
 }
 
 // What an assignment with a delay of its own does.
-fn delayed(blocking: bool, amount: Expression, targets: Targets, value: Expression) -> Action
+fn delayed_assignment(
+    blocking: bool,
+    amount: Expression,
+    targets: Targets,
+    value: Expression,
+) -> Action
     ensures { result ≡ spec.assignment_action blocking (Some amount) targets value }
 {
     if blocking {
@@ -115,8 +120,8 @@ fn assignment_action(
     ensures { result ≡ spec.assignment_action blocking amount targets value }
 {
     match amount {
-        None => undelayed(blocking, targets, value),
-        Some(amount) => delayed(blocking, amount, targets, value),
+        None => immediate_assignment(blocking, targets, value),
+        Some(amount) => delayed_assignment(blocking, amount, targets, value),
     }
 }
 

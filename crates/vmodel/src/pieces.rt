@@ -13,7 +13,7 @@ ghost use Rattle.vmodel.specs.Step.{first_of, posts, reschedule, with_strobe, wi
 
 use crate::choice::Choice;
 use crate::effect::Effect;
-use crate::holding::{held_with, released};
+use crate::holding::{held_with, release};
 use crate::part::{Part, Parts};
 use crate::printed::print_nothing;
 use crate::process_set::ProcessSet;
@@ -109,7 +109,7 @@ impl State {
     {
         self.held_back = match held {
             None => None,
-            Some(held) => Some(released(&self.queue, held)),
+            Some(held) => Some(release(&self.queue, held)),
         };
     }
 

@@ -18,7 +18,7 @@ use crate::choice::Choice;
 use crate::continuation::Continuation;
 use crate::effect::{Disposition, Effect, effect_at, write_effect};
 use crate::history::Item;
-use crate::holding::{held_with, released};
+use crate::holding::{held_with, release};
 use crate::part::{Kept, Part, Parts};
 use crate::printed::{print_items, print_nothing};
 use crate::process::{Frame, Process};
@@ -418,7 +418,7 @@ impl State {
             Some(held) => {
                 let held = held_with(&self.queue, held, i, choice);
                 self.take(design, choice, effect, monitors)?;
-                self.held_back = Some(released(&self.queue, held));
+                self.held_back = Some(release(&self.queue, held));
                 Ok(())
             }
         }

@@ -129,7 +129,7 @@ impl Eq for Values {
 
 // So many letters that are the same.
 #[tactic(auto, using(crate::proofs::OpeningLemmas::ones_filled))]
-fn filled(len: u32, letter: Bit4) -> Vec4
+fn vector_of_letter(len: u32, letter: Bit4) -> Vec4
     requires some { 1 ≤ len }
     requires few { len ≤ 64 }
     ensures { result ≡ vectors.filled len letter }
@@ -149,7 +149,7 @@ impl Values {
     {
         let mut list = Vec::new(alloc);
         for variable in variables {
-            let value = filled(variable.length, variable.start);
+            let value = vector_of_letter(variable.length, variable.start);
             list.push(value.with_sign(variable.signed))?;
         }
         Ok(Values { list })

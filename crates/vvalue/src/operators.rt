@@ -56,7 +56,7 @@ pub fn compared_value(operator: Compared, left: Vec4, right: Vec4) -> Vec4
 }
 
 // `&` of a letter and 1, and `|` of a letter and 0: x and z are unknown.
-fn known(letter: Bit4) -> Bit4
+fn known_or_x(letter: Bit4) -> Bit4
     ensures and { and_letter Bit4.One letter ≡ result }
     ensures or { or_letter Bit4.Zero letter ≡ result }
 {
@@ -99,7 +99,7 @@ fn both(left: Bit4, right: Bit4) -> Bit4
 {
     match left {
         Bit4::Zero => Bit4::Zero,
-        Bit4::One => known(right),
+        Bit4::One => known_or_x(right),
         Bit4::X => zero_or_x(right),
         Bit4::Z => zero_or_x(right),
     }
@@ -109,7 +109,7 @@ fn either(left: Bit4, right: Bit4) -> Bit4
     ensures { result ≡ or_letter left right }
 {
     match left {
-        Bit4::Zero => known(right),
+        Bit4::Zero => known_or_x(right),
         Bit4::One => Bit4::One,
         Bit4::X => one_or_x(right),
         Bit4::Z => one_or_x(right),

@@ -6,8 +6,8 @@ use Rattle.velab_expr.proofs.number.lettered_value.Goals as goal
 
 pub loop-c-init : goal.loop-c-init
 loop-c-init c = record {
-  whole = ap (λ (v : Vector). length v.letters) c.filled-value.ensures ∙ length_filled 64 _;
-  same = ap (λ (v : Vector). take 64 (spelled_letters c.args.count c.args.digits.now ++ v.letters)) c.filled-value.ensures
+  whole = ap (λ (v : Vector). length v.letters) c.fill_of-value.ensures ∙ length_filled 64 _;
+  same = ap (λ (v : Vector). take 64 (spelled_letters c.args.count c.args.digits.now ++ v.letters)) c.fill_of-value.ensures
       ∙ ap (λ l. take 64 (spelled_letters c.args.count c.args.digits.now ++ l)) (filled_letters 64 _);
 }
 

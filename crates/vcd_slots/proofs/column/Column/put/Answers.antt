@@ -11,6 +11,6 @@ returns-then-not-is_same c =
 
 pub returns-in-Some : goal.returns-in-Some
 returns-in-Some c =
-    puts_same c.args.self.now c.args.is_on c.args.before c.known.result c.in-Some.value c.args.code.now c.args.digits.now
+    puts_same c.args.self.now c.args.is_on c.args.before c.known_value.result c.in-Some.value c.args.code.now c.args.digits.now
     (sym (ap (λ (t : List ℕ). pointwise nat_eq c.args.code.now t) c.deref.ensures.value) ∙ sym c.is_same.ensures.value ∙ c.if-not-is_same.false)
-    (sym c.in-Some.is ∙ c.vector_of.ensures) c.known.ensures
+    (sym c.in-Some.is ∙ c.vector_of.ensures) c.known_value.ensures

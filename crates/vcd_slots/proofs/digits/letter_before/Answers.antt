@@ -1,7 +1,7 @@
 use Rattle.std.proofs.Common.{◌∙◌, arith}
 use Rattle.vcd_slots.specs.Slots.{extension}
 use Rattle.vcd_slots.proofs.DigitLemmas.{begun_alone, begun_behind, left_letters, one_letter}
-use Rattle.vcd_slots.proofs.digits.begun.Goals as goal
+use Rattle.vcd_slots.proofs.digits.letter_before.Goals as goal
 
 pub concat-requires : goal.concat-requires
 concat-requires c =
