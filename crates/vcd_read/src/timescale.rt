@@ -47,7 +47,7 @@ fn unit_of(word: &[u8]) -> Option<Unit>
 }
 
 // The length of time of a number and a unit.
-fn span_of(number: &[u8], unit: &[u8]) -> Option<Span>
+fn spanned(number: &[u8], unit: &[u8]) -> Option<Span>
     ensures { result ≡ spanned (count_of number.now) (unit_of unit.now) }
 {
     let count = count_of(number)?;
@@ -60,7 +60,7 @@ fn span_of(word: &[u8]) -> Option<Span>
     ensures { result ≡ span_of word.now }
 {
     let digits = digits_len(word);
-    span_of(word.split_at(digits).0, word.split_at(digits).1)
+    spanned(word.split_at(digits).0, word.split_at(digits).1)
 }
 
 // Whether letters stand behind the digits of the word.
@@ -83,5 +83,5 @@ pub(crate) fn read_span<R: Read + Drop>(
         return Ok(span_of(&first));
     }
     let second = words.take_inner(alloc)?;
-    Ok(span_of(&first, &second))
+    Ok(spanned(&first, &second))
 }

@@ -19,6 +19,6 @@ returns-clause-span g c = (
       c.in_ok-first.ensures.word c.in_ok-second.ensures.word,
   (
     (c.in_ok-first.ensures.inner, (c.in_ok-second.ensures.inner, tt)),
-    sym (c.span_of.ensures ∙ (λ i. spanned (count_of (c.deref-2.ensures.value i)) (unit_of (c.deref-3.ensures.value i)))),
+    sym (c.spanned.ensures ∙ (λ i. spanned (count_of (c.deref-2.ensures.value i)) (unit_of (c.deref-3.ensures.value i)))),
   ),
 )
