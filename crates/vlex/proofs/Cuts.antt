@@ -161,7 +161,7 @@ order_grows spans Comment at len h =
     let P : List Span → Type 0 = λ ss. AreInOrder 0 ss (at + len) in subst P (sym (append-nil spans)) (in_order_more 0 spans at (at + len) (omega arith) h)
 order_grows spans (Token kind) at len h = in_order_push 0 spans (record { start = at; len = len; kind = kind }) at h (omega arith)
 
-in_order_le : (from : ℕ) (spans : List Span) (to : ℕ) → AreInOrder from spans to → from ≤ to
+pub in_order_le : (from : ℕ) (spans : List Span) (to : ℕ) → AreInOrder from spans to → from ≤ to
 in_order_le from [] to h = h
 in_order_le from (span ∷ spans) to h = omega (arith, h.0, in_order_le (span.start + span.len) spans to h.1)
 
@@ -203,13 +203,6 @@ pub all_lexed : (delay : Bool) (text : List ℕ) (spans : List Span) (at : ℕ) 
 all_lexed delay text spans at end onward =
     let P : List ℕ → Type 0 = λ xs. Cut delay xs [] in
     subst (Cut false text) (append-nil (map (piece_at text) spans)) (onward [] (subst P (sym (drop_of_length-le text end)) (done delay)))
-
-pub only_lexed : (delay : Bool) (text : List ℕ) (spans : List Span) (at : ℕ) (pieces : List Piece) → length text ≤ at
-    → (left : List Piece) × ((pieces ≡ map (piece_at text) spans ++ left) × Cut delay (drop at text) left) → pieces ≡ map (piece_at text) spans
-only_lexed delay text spans at pieces end found =
-    let P : List ℕ → Type 0 = λ xs. Cut delay xs found.0 in
-    let none : found.0 ≡ [] = ends_cut delay found.0 (subst P (drop_of_length-le text end) found.1.1) in
-    found.1.0 ∙ ap (λ ps. map (piece_at text) spans ++ ps) none ∙ append-nil (map (piece_at text) spans)
 
 -- where what is left is stuck, nothing is lexed
 pub none_lexed : (delay : Bool) (text : List ℕ) (spans : List Span) (at : ℕ) (pieces : List Piece) → at < length text → IsStuck (readable delay (drop at text))

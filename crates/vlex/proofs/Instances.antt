@@ -3,20 +3,19 @@ use Rattle.std.proofs.Common.{◌≡◌, ℕ, zero, suc, ◌+◌, ◌-◌, ◌<�
 use Rattle.std.specs.Str.{bytes_eq}
 use Rattle.std.specs.Option.{option_map}
 use Rattle.std.specs.Prelude.{option_and_then, unwrap_or, nat_eq, codes}
-use Rattle.std.proofs.Math.Seq.{take-add}
-use Rattle.std.proofs.lemmas.List.{length-map, drop-drop, drop-map, map-append, append-nil}
-use Rattle.std.proofs.lemmas.List.Elements.{All-nil, All-cons, All-head, All-tail, All-take, All-drop, All-append}
-use Rattle.std.proofs.lemmas.Option.{slice_get_within}
+use Rattle.std.proofs.lemmas.List.{length-append, length-take, length-drop, length-map, drop-drop, drop-map, take-map, map-append, map-id, append-nil}
+use Rattle.std.proofs.lemmas.List.Elements.{All-nil, All-take, All-drop, All-append}
 use Rattle.basis.proofs.Lists.{drop_at_place}
+use Rattle.vsrc.specs.Source.{Source}
 use Rattle.vsrc.specs.Outside.{further}
 use Rattle.vlex.specs.declared.attributes.Part.{Part}
 use Rattle.vlex.specs.declared.attributes.Part.TheVariants.{Start}
 use Rattle.vlex.specs.declared.kind.TokenKind.{TokenKind}
 use Rattle.vlex.specs.declared.list.Span.{Span}
-use Rattle.vlex.specs.Lexed.{Piece, begins, opens, closes, may_end, after, words_to_end, may_stand, instance_len, first_text, without, words_of}
-use Rattle.vlex.specs.Tokenized.{piece_at, AreInOrder}
-use Rattle.vlex.specs.Inner.{AreAmong, HaveNone}
-use Rattle.vlex.specs.Inner.AreAmong.{none, keep, pass}
+use Rattle.vlex.specs.Lexed.{Piece, begins, opens, closes, may_end, after, words_to_end, may_stand, instance_len, first_text, without, words_by, words_of, Lexed}
+use Rattle.vlex.specs.Tokenized.{Tokenized, piece_at, pieces_of, AreInOrder, AreWordSpans}
+use Rattle.vlex.specs.Inner.{HaveNone}
+use Rattle.vlex.proofs.Cuts.{in_order_le}
 
 -- ---- tokens by their places
 
@@ -139,157 +138,238 @@ instance_short earlier last ps short =
 
 -- ---- the words
 
-without_none : (n : ℕ) (earlier last : List ℕ) → without n earlier last [] ≡ []
-without_none zero earlier last = refl
-without_none (suc n) earlier last = without_none n last []
+module _ {A : Type 0} (token : A → Piece) where
+  without_none : (n : ℕ) (earlier last : List ℕ) → without token n earlier last [] ≡ []
+  without_none zero earlier last = refl
+  without_none (suc n) earlier last = without_none n last []
 
--- where none begins all tokens are words
-all_kept : (n : ℕ) (earlier last : List ℕ) (ps : List Piece) → length ps ≤ n → HaveNone ps → without n earlier last ps ≡ ps
-all_kept n earlier last [] enough h = without_none n earlier last
-all_kept zero earlier last (p ∷ ps) enough h = absurd (omega arith)
-all_kept (suc n) earlier last (p ∷ ps) enough h =
-    ap (λ b. next (cond (b && may_stand earlier last) (unwrap_or (further 2 (words_to_end Start (drop 2 (p ∷ ps)))) 0) 0)) (h 0)
-    ∙ ap (λ l. p ∷ l) (all_kept n last p.text ps (omega arith) (λ at. h (suc at)))
-  where
-    next : ℕ → List Piece
-    next len = cond (nat_eq len 0) (take 1 (p ∷ ps) ++ without n last p.text (drop 1 (p ∷ ps))) (without n (codes "*") (codes ")") (drop len (p ∷ ps)))
+  -- where none begins all tokens are words
+  all_kept : (n : ℕ) (earlier last : List ℕ) (xs : List A) → length xs ≤ n → HaveNone (map token xs) → without token n earlier last xs ≡ xs
+  all_kept n earlier last [] enough h = without_none n earlier last
+  all_kept zero earlier last (x ∷ xs) enough h = absurd (omega arith)
+  all_kept (suc n) earlier last (x ∷ xs) enough h =
+      ap (λ b. next (cond (b && may_stand earlier last) (unwrap_or (further 2 (words_to_end Start (drop 2 (map token (x ∷ xs))))) 0) 0)) (h 0)
+      ∙ ap (λ l. x ∷ l) (all_kept n last (first_text (map token (x ∷ xs))) xs (omega arith) (λ at. h (suc at)))
+    where
+      next : ℕ → List A
+      next len = cond (nat_eq len 0) (take 1 (x ∷ xs) ++ without token n last (first_text (map token (x ∷ xs))) (drop 1 (x ∷ xs)))
+          (without token n (codes "*") (codes ")") (drop len (x ∷ xs)))
 
-pub words_kept : (tokens : List Piece) → HaveNone tokens → words_of tokens ≡ tokens
-unfolding words_of
-words_kept tokens h = all_kept (length tokens) [] [] tokens (omega arith) h
+  pub words_kept : (xs : List A) → HaveNone (map token xs) → words_by token xs ≡ xs
+  unfolding words_by
+  words_kept xs h = all_kept (length xs) [] [] xs (omega arith) h
+
+  -- what holds of all tokens holds of what is left
+  all_left : (P : A → Type 0) (n : ℕ) (earlier last : List ℕ) (xs : List A) → All P xs → All P (without token n earlier last xs)
+  all_left P zero earlier last xs h = All-nil P
+  all_left P (suc n) earlier last xs h =
+      by (nat_eq (instance_len earlier last (map token xs)) 0)
+      (all_left P n last (first_text (map token xs)) (drop 1 xs) (All-drop P 1 xs h))
+      (all_left P n (codes "*") (codes ")") (drop (instance_len earlier last (map token xs)) xs) (All-drop P (instance_len earlier last (map token xs)) xs h))
+    where
+      word : List A
+      word = without token n last (first_text (map token xs)) (drop 1 xs)
+
+      rest : List A
+      rest = without token n (codes "*") (codes ")") (drop (instance_len earlier last (map token xs)) xs)
+
+      by : (b : Bool) → All P word → All P rest → All P (cond b (take 1 xs ++ word) rest)
+      by true w r = All-append P (take 1 xs) word (All-take P 1 xs h) w
+      by false w r = r
+
+  pub all_by : (P : A → Type 0) (xs : List A) → All P xs → All P (words_by token xs)
+  unfolding words_by
+  all_by P xs h = all_left P (length xs) [] [] xs h
+
+  few_left : (n : ℕ) (earlier last : List ℕ) (xs : List A) → length (without token n earlier last xs) ≤ length xs
+  few_left zero earlier last xs = omega arith
+  few_left (suc n) earlier last xs =
+      by (nat_eq (instance_len earlier last (map token xs)) 0)
+      (few_left n last (first_text (map token xs)) (drop 1 xs))
+      (few_left n (codes "*") (codes ")") (drop (instance_len earlier last (map token xs)) xs))
+    where
+      word : List A
+      word = without token n last (first_text (map token xs)) (drop 1 xs)
+
+      rest : List A
+      rest = without token n (codes "*") (codes ")") (drop (instance_len earlier last (map token xs)) xs)
+
+      by : (b : Bool) → length word ≤ length (drop 1 xs) → length rest ≤ length (drop (instance_len earlier last (map token xs)) xs)
+          → length (cond b (take 1 xs ++ word) rest) ≤ length xs
+      by true w r = omega (arith, w, length-append (take 1 xs) word, length-take 1 xs, length-drop 1 xs)
+      by false w r = omega (arith, r, length-drop (instance_len earlier last (map token xs)) xs)
+
+  pub few_words : (xs : List A) → length (words_by token xs) ≤ length xs
+  unfolding words_by
+  few_words xs = few_left (length xs) [] [] xs
+
+  -- the tokens that are left are those of what is left
+  same_left : (n : ℕ) (earlier last : List ℕ) (xs : List A) → map token (without token n earlier last xs) ≡ without (λ (p : Piece). p) n earlier last (map token xs)
+  same_left zero earlier last xs = refl
+  same_left (suc n) earlier last xs =
+      by (nat_eq (instance_len earlier last tokens) 0) (same_left n last (first_text tokens) (drop 1 xs)) (same_left n (codes "*") (codes ")") (drop (instance_len earlier last tokens) xs))
+      ∙ ap whole (sym (map-id tokens))
+    where
+      tokens : List Piece
+      tokens = map token xs
+
+      same : Piece → Piece
+      same p = p
+
+      whole : List Piece → List Piece
+      whole seen = cond (nat_eq (instance_len earlier last seen) 0) (take 1 tokens ++ without same n last (first_text seen) (drop 1 tokens))
+          (without same n (codes "*") (codes ")") (drop (instance_len earlier last seen) tokens))
+
+      word : List A
+      word = without token n last (first_text tokens) (drop 1 xs)
+
+      rest : List A
+      rest = without token n (codes "*") (codes ")") (drop (instance_len earlier last tokens) xs)
+
+      by : (b : Bool) → map token word ≡ without same n last (first_text tokens) (map token (drop 1 xs))
+          → map token rest ≡ without same n (codes "*") (codes ")") (map token (drop (instance_len earlier last tokens) xs))
+          → map token (cond b (take 1 xs ++ word) rest)
+          ≡ cond b (take 1 tokens ++ without same n last (first_text tokens) (drop 1 tokens)) (without same n (codes "*") (codes ")") (drop (instance_len earlier last tokens) tokens))
+      by true w r =
+          map-append token (take 1 xs) word ∙ ap (λ l. l ++ map token word) (sym (take-map token 1 xs)) ∙ ap (λ l. take 1 tokens ++ l) w
+          ∙ ap (λ l. take 1 tokens ++ without same n last (first_text tokens) l) (sym (drop-map token 1 xs))
+      by false w r = r ∙ ap (without same n (codes "*") (codes ")")) (sym (drop-map token (instance_len earlier last tokens) xs))
+
+  pub same_words : (xs : List A) → map token (words_by token xs) ≡ words_of (map token xs)
+  unfolding words_by
+  same_words xs = same_left (length xs) [] [] xs ∙ ap (λ n. without (λ (p : Piece). p) n [] [] (map token xs)) (sym (length-map xs token))
+
+pub all_words : (P : Piece → Type 0) (tokens : List Piece) → All P tokens → All P (words_of tokens)
+all_words P tokens h = all_by (λ (p : Piece). p) P tokens h
 
 -- what the words so far and those of what is left are together
-pub record Leaves (text : List ℕ) (tokens : List Piece) (spans : List Span) (earlier last : List ℕ) (at : ℕ) : Type 0 where
+pub record Leaves (text : List ℕ) (all spans : List Span) (earlier last : List ℕ) (at : ℕ) : Type 0 where
   pub n : ℕ
-  pub enough : length tokens ≤ at + n
-  pub whole : map (piece_at text) spans ++ without n earlier last (drop at tokens) ≡ words_of tokens
+  pub enough : length all ≤ at + n
+  pub whole : spans ++ without (piece_at text) n earlier last (drop at all) ≡ words_by (piece_at text) all
 
-pub leaves_all : (text : List ℕ) (tokens : List Piece) (spans : List Span) (earlier last : List ℕ) → spans ≡ [] → earlier ≡ [] → last ≡ [] → Leaves text tokens spans earlier last 0
-unfolding words_of
-leaves_all text tokens spans earlier last none_yet no_earlier no_last = record {
-  n = length tokens;
+pub leaves_all : (text : List ℕ) (all spans : List Span) (earlier last : List ℕ) → spans ≡ [] → earlier ≡ [] → last ≡ [] → Leaves text all spans earlier last 0
+unfolding words_by
+leaves_all text all spans earlier last none_yet no_earlier no_last = record {
+  n = length all;
   enough = omega arith;
   whole =
-      ap (λ s. map (piece_at text) s ++ without (length tokens) earlier last tokens) none_yet ∙ ap (λ e. without (length tokens) e last tokens) no_earlier
-      ∙ ap (λ l. without (length tokens) [] l tokens) no_last;
+      ap (λ s. s ++ without (piece_at text) (length all) earlier last all) none_yet ∙ ap (λ e. without (piece_at text) (length all) e last all) no_earlier
+      ∙ ap (λ l. without (piece_at text) (length all) [] l all) no_last;
 }
 
-pub leaves_none : (text : List ℕ) (tokens : List Piece) (spans : List Span) (earlier last : List ℕ) (at : ℕ) → drop at tokens ≡ [] → Leaves text tokens spans earlier last at
-    → map (piece_at text) spans ≡ words_of tokens
-leaves_none text tokens spans earlier last at past left =
-    sym (append-nil (map (piece_at text) spans))
-    ∙ ap (λ l. map (piece_at text) spans ++ l) (sym (without_none left.n earlier last) ∙ ap (without left.n earlier last) (sym past)) ∙ left.whole
+pub leaves_none : (text : List ℕ) (all spans : List Span) (earlier last : List ℕ) (at : ℕ) → drop at all ≡ [] → Leaves text all spans earlier last at
+    → spans ≡ words_by (piece_at text) all
+leaves_none text all spans earlier last at past left =
+    sym (append-nil spans)
+    ∙ ap (λ l. spans ++ l) (sym (without_none (piece_at text) left.n earlier last) ∙ ap (without (piece_at text) left.n earlier last) (sym past)) ∙ left.whole
 
 module _ (text : List ℕ) (all : List Span) (spans : List Span) (earlier last : List ℕ) (at : ℕ) (within : at < length all) where
   abbrev pub tokens : List Piece
   tokens = map (piece_at text) all
 
+  -- a step of `without`, by what it sees
+  abbrev step_by : ℕ → List Piece → List Span → List Span
+  step_by n seen left =
+      cond (nat_eq (instance_len earlier last seen) 0) (take 1 left ++ without (piece_at text) n last (first_text seen) (drop 1 left))
+      (without (piece_at text) n (codes "*") (codes ")") (drop (instance_len earlier last seen) left))
+
+  seen_tokens : (n : ℕ) → without (piece_at text) (suc n) earlier last (drop at all) ≡ step_by n (drop at tokens) (drop at all)
+  seen_tokens n = ap (λ seen. step_by n seen (drop at all)) (sym (drop-map (piece_at text) at all))
+
   -- the token there is a word
   pub leaves_word : (span : Span) (word : List ℕ) → slice_get all at ≡ Some span → option_map (λ (p : Piece). p.text) (slice_get tokens at) ≡ Some word
-      → 0 ≡ instance_len earlier last (drop at tokens) → Leaves text tokens spans earlier last at → Leaves text tokens (spans ++ span ∷ []) last word (at + 1)
+      → 0 ≡ instance_len earlier last (drop at tokens) → Leaves text all spans earlier last at → Leaves text all (spans ++ span ∷ []) last word (at + 1)
   leaves_word span word there told plain left = by left.n left.enough left.whole
     where
       h : Here tokens at word
       h = here tokens at word told
 
-      front : drop at tokens ≡ piece_at text span ∷ drop (at + 1) tokens
-      front = drop-map (piece_at text) at all ∙ ap (map (piece_at text)) (drop_at_place all at span there ∙ ap (λ n. span ∷ drop n all) (sym (add-one at))) ∙ ap (λ l. piece_at text span ∷ l) (sym (drop-map (piece_at text) (at + 1) all))
+      front : drop at all ≡ span ∷ drop (at + 1) all
+      front = drop_at_place all at span there ∙ ap (λ n. span ∷ drop n all) (sym (add-one at))
 
-      kept : (n : ℕ) → without (suc n) earlier last (drop at tokens) ≡ piece_at text span ∷ without n last word (drop (at + 1) tokens)
+      first : first_text (drop at tokens) ≡ word
+      first = ap first_text h.is ∙ h.text_is
+
+      kept : (n : ℕ) → without (piece_at text) (suc n) earlier last (drop at all) ≡ span ∷ without (piece_at text) n last word (drop (at + 1) all)
       kept n =
-          ap (λ len. cond (nat_eq len 0) (take 1 (drop at tokens) ++ without n last (first_text (drop at tokens)) (drop 1 (drop at tokens))) (without n (codes "*") (codes ")") (drop len (drop at tokens)))) (sym plain)
-          ∙ ap (λ l. take 1 l ++ without n last (first_text (drop at tokens)) (drop 1 l)) front
-          ∙ ap (λ t. piece_at text span ∷ without n last t (drop (at + 1) tokens)) (ap first_text h.is ∙ h.text_is)
+          seen_tokens n
+          ∙ ap (λ len. cond (nat_eq len 0) (take 1 (drop at all) ++ without (piece_at text) n last (first_text (drop at tokens)) (drop 1 (drop at all))) (without (piece_at text) n (codes "*") (codes ")") (drop len (drop at all)))) (sym plain)
+          ∙ ap (λ l. take 1 l ++ without (piece_at text) n last (first_text (drop at tokens)) (drop 1 l)) front
+          ∙ ap (λ t. span ∷ without (piece_at text) n last t (drop (at + 1) all)) first
 
-      by : (n : ℕ) → length tokens ≤ at + n → map (piece_at text) spans ++ without n earlier last (drop at tokens) ≡ words_of tokens
-          → Leaves text tokens (spans ++ span ∷ []) last word (at + 1)
-      by zero enough whole = absurd (omega (arith, slice_get_within tokens at h.piece h.found))
+      by : (n : ℕ) → length all ≤ at + n → spans ++ without (piece_at text) n earlier last (drop at all) ≡ words_by (piece_at text) all
+          → Leaves text all (spans ++ span ∷ []) last word (at + 1)
+      by zero enough whole = absurd (omega arith)
       by (suc n) enough whole = record {
         n = n;
         enough = omega arith;
-        whole =
-            ap (λ l. l ++ without n last word (drop (at + 1) tokens)) (map-append (piece_at text) spans (span ∷ []))
-            ∙ append_assoc (map (piece_at text) spans) (piece_at text span ∷ []) (without n last word (drop (at + 1) tokens))
-            ∙ ap (λ l. map (piece_at text) spans ++ l) (sym (kept n)) ∙ whole;
+        whole = append_assoc spans (span ∷ []) (without (piece_at text) n last word (drop (at + 1) all)) ∙ ap (λ l. spans ++ l) (sym (kept n)) ∙ whole;
       }
 
   -- an instance stands there
   pub leaves_instance : (len : ℕ) (star bracket : List ℕ) → star ≡ codes "*" → bracket ≡ codes ")" → len ≡ instance_len earlier last (drop at tokens) → nat_eq len 0 ≡ false → 0 < len
-      → Leaves text tokens spans earlier last at → Leaves text tokens spans star bracket (at + len)
+      → Leaves text all spans earlier last at → Leaves text all spans star bracket (at + len)
   leaves_instance len star bracket is_star is_bracket is some more left = by left.n left.enough left.whole
     where
-      passed : (n : ℕ) → without (suc n) earlier last (drop at tokens) ≡ without n star bracket (drop (at + len) tokens)
+      passed : (n : ℕ) → without (piece_at text) (suc n) earlier last (drop at all) ≡ without (piece_at text) n star bracket (drop (at + len) all)
       passed n =
-          ap (λ k. cond (nat_eq k 0) (take 1 (drop at tokens) ++ without n last (first_text (drop at tokens)) (drop 1 (drop at tokens))) (without n (codes "*") (codes ")") (drop k (drop at tokens)))) (sym is)
-          ∙ ap (λ b. cond b (take 1 (drop at tokens) ++ without n last (first_text (drop at tokens)) (drop 1 (drop at tokens))) (without n (codes "*") (codes ")") (drop len (drop at tokens)))) some
-          ∙ ap (without n (codes "*") (codes ")")) (drop-drop len at tokens) ∙ ap (λ s. without n s (codes ")") (drop (at + len) tokens)) (sym is_star)
-          ∙ ap (λ b. without n star b (drop (at + len) tokens)) (sym is_bracket)
+          seen_tokens n
+          ∙ ap (λ k. cond (nat_eq k 0) (take 1 (drop at all) ++ without (piece_at text) n last (first_text (drop at tokens)) (drop 1 (drop at all))) (without (piece_at text) n (codes "*") (codes ")") (drop k (drop at all)))) (sym is)
+          ∙ ap (λ b. cond b (take 1 (drop at all) ++ without (piece_at text) n last (first_text (drop at tokens)) (drop 1 (drop at all))) (without (piece_at text) n (codes "*") (codes ")") (drop len (drop at all)))) some
+          ∙ ap (without (piece_at text) n (codes "*") (codes ")")) (drop-drop len at all) ∙ ap (λ s. without (piece_at text) n s (codes ")") (drop (at + len) all)) (sym is_star)
+          ∙ ap (λ b. without (piece_at text) n star b (drop (at + len) all)) (sym is_bracket)
 
-      by : (n : ℕ) → length tokens ≤ at + n → map (piece_at text) spans ++ without n earlier last (drop at tokens) ≡ words_of tokens
-          → Leaves text tokens spans star bracket (at + len)
-      by zero enough whole = absurd (omega (arith, length-map all (piece_at text)))
+      by : (n : ℕ) → length all ≤ at + n → spans ++ without (piece_at text) n earlier last (drop at all) ≡ words_by (piece_at text) all
+          → Leaves text all spans star bracket (at + len)
+      by zero enough whole = absurd (omega arith)
       by (suc n) enough whole = record {
         n = n;
         enough = omega arith;
-        whole = ap (λ l. map (piece_at text) spans ++ l) (sym (passed n)) ∙ whole;
+        whole = ap (λ l. spans ++ l) (sym (passed n)) ∙ whole;
       }
 
--- ---- spans among others
-
-among_push : (spans others : List Span) (span : Span) → AreAmong spans others → AreAmong (spans ++ span ∷ []) (others ++ span ∷ [])
-among_push spans others span none = keep span [] [] none
-among_push spans others span (keep s ss os a) = keep s (ss ++ span ∷ []) (os ++ span ∷ []) (among_push ss os span a)
-among_push spans others span (pass s ss os a) = pass s (ss ++ span ∷ []) (os ++ span ∷ []) (among_push ss os span a)
-
-nothing_among : (others : List Span) → AreAmong [] others
-nothing_among [] = none
-nothing_among (s ∷ ss) = pass s [] ss (nothing_among ss)
-
-among_more : (spans others more : List Span) → AreAmong spans others → AreAmong spans (others ++ more)
-among_more spans others more none = nothing_among more
-among_more spans others more (keep s ss os a) = keep s ss (os ++ more) (among_more ss os more a)
-among_more spans others more (pass s ss os a) = pass s ss (os ++ more) (among_more ss os more a)
-
-pub among_next : (all spans : List Span) (at : ℕ) (span : Span) → slice_get all at ≡ Some span → AreAmong spans (take at all) → AreAmong (spans ++ span ∷ []) (take (at + 1) all)
-among_next all spans at span there a =
-    subst (AreAmong (spans ++ span ∷ [])) (ap (λ l. take at all ++ take 1 l) (sym (drop_at_place all at span there)) ∙ sym (take-add at 1 all)) (among_push spans (take at all) span a)
-
-pub among_past : (all spans : List Span) (at len : ℕ) → AreAmong spans (take at all) → AreAmong spans (take (at + len) all)
-among_past all spans at len a = subst (AreAmong spans) (sym (take-add at len all)) (among_more spans (take at all) (take len (drop at all)) a)
-
-pub all_among : (P : Span → Type 0) (spans others : List Span) → AreAmong spans others → All P others → All P spans
-all_among P spans others none h = h
-all_among P spans others (keep s ss os a) h = All-cons P s ss (All-head P s os h) (all_among P ss os a (All-tail P s os h))
-all_among P spans others (pass s ss os a) h = all_among P ss os a (All-tail P s os h)
+-- ---- the order of what is left
 
 order_from : (low from : ℕ) (spans : List Span) (to : ℕ) → low ≤ from → AreInOrder from spans to → AreInOrder low spans to
 order_from low from [] to le h = omega arith
 order_from low from (s ∷ ss) to le h = (omega (arith, h.0), h.1)
 
-pub order_among : (from : ℕ) (spans others : List Span) (to : ℕ) → AreAmong spans others → AreInOrder from others to → AreInOrder from spans to
-order_among from spans others to none h = h
-order_among from spans others to (keep s ss os a) h = (h.0, order_among (s.start + s.len) ss os to a h.1)
-order_among from spans others to (pass s ss os a) h = order_among from ss os to a (order_from from (s.start + s.len) os to (omega (arith, h.0)) h.1)
+order_drop : (n from : ℕ) (spans : List Span) (to : ℕ) → AreInOrder from spans to → AreInOrder from (drop n spans) to
+order_drop zero from spans to h = h
+order_drop (suc n) from [] to h = h
+order_drop (suc n) from (s ∷ ss) to h = order_from from (s.start + s.len) (drop n ss) to (omega (arith, h.0)) (order_drop n (s.start + s.len) ss to h.1)
 
-pub few_among : (spans others : List Span) → AreAmong spans others → length spans ≤ length others
-few_among spans others none = omega arith
-few_among spans others (keep s ss os a) = omega (arith, few_among ss os a)
-few_among spans others (pass s ss os a) = omega (arith, few_among ss os a)
-
--- ---- what holds of all tokens holds of all words
-
-all_left : (P : Piece → Type 0) (n : ℕ) (earlier last : List ℕ) (ps : List Piece) → All P ps → All P (without n earlier last ps)
-all_left P zero earlier last ps h = All-nil P
-all_left P (suc n) earlier last ps h =
-    by (nat_eq (instance_len earlier last ps) 0)
-    (all_left P n last (first_text ps) (drop 1 ps) (All-drop P 1 ps h))
-    (all_left P n (codes "*") (codes ")") (drop (instance_len earlier last ps) ps) (All-drop P (instance_len earlier last ps) ps h))
+order_left : (token : Span → Piece) (n : ℕ) (earlier last : List ℕ) (from : ℕ) (spans : List Span) (to : ℕ) → AreInOrder from spans to → AreInOrder from (without token n earlier last spans) to
+order_left token n earlier last from [] to h = subst (λ (l : List Span). AreInOrder from l to) (sym (without_none token n earlier last)) h
+order_left token zero earlier last from (s ∷ ss) to h = in_order_le from (s ∷ ss) to h
+order_left token (suc n) earlier last from (s ∷ ss) to h =
+    by (nat_eq (instance_len earlier last tokens) 0)
+    (order_left token n last (first_text tokens) (s.start + s.len) ss to h.1)
+    (order_left token n (codes "*") (codes ")") from (drop (instance_len earlier last tokens) (s ∷ ss)) to (order_drop (instance_len earlier last tokens) from (s ∷ ss) to h))
   where
-    by : (b : Bool) → All P (without n last (first_text ps) (drop 1 ps)) → All P (without n (codes "*") (codes ")") (drop (instance_len earlier last ps) ps))
-        → All P (cond b (take 1 ps ++ without n last (first_text ps) (drop 1 ps)) (without n (codes "*") (codes ")") (drop (instance_len earlier last ps) ps)))
-    by true word rest = All-append P (take 1 ps) (without n last (first_text ps) (drop 1 ps)) (All-take P 1 ps h) word
-    by false word rest = rest
+    tokens : List Piece
+    tokens = map token (s ∷ ss)
 
-pub all_words : (P : Piece → Type 0) (tokens : List Piece) → All P tokens → All P (words_of tokens)
-unfolding words_of
-all_words P tokens h = all_left P (length tokens) [] [] tokens h
+    word : List Span
+    word = without token n last (first_text tokens) ss
+
+    rest : List Span
+    rest = without token n (codes "*") (codes ")") (drop (instance_len earlier last tokens) (s ∷ ss))
+
+    by : (b : Bool) → AreInOrder (s.start + s.len) word to → AreInOrder from rest to → AreInOrder from (cond b (take 1 (s ∷ ss) ++ word) rest) to
+    by true w r = (h.0, w)
+    by false w r = r
+
+pub order_words : (token : Span → Piece) (from : ℕ) (spans : List Span) (to : ℕ) → AreInOrder from spans to → AreInOrder from (words_by token spans) to
+unfolding words_by
+order_words token from spans to h = order_left token (length spans) [] [] from spans to h
+
+-- ---- the words of a text
+
+-- what spans of all tokens leave are its words
+pub lexed_by : (text : List ℕ) (words : List Span) → AreWordSpans text words → Lexed text (map (piece_at text) words)
+lexed_by text words h = (map (piece_at text) h.tokens, (h.are_all.cut, ap (map (piece_at text)) h.left ∙ same_words (piece_at text) h.tokens))
+
+pub lexed_of : (tokens : Tokenized) (source : Source) → tokens.source ≡ source → AreWordSpans source.text tokens.spans → Lexed source.text (pieces_of tokens)
+lexed_of tokens source is h = subst (λ (s : Source). Lexed source.text (map (piece_at s.text) tokens.spans)) (sym is) (lexed_by source.text tokens.spans h)

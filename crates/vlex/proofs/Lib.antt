@@ -5,6 +5,7 @@ mod Sizes
 mod Words
 pub mod Cuts
 pub mod Instances
+pub mod Places
 mod Ends
 mod Escapes
 mod Comments

@@ -48,12 +48,6 @@ spans_of Blank at len = []
 spans_of Comment at len = []
 spans_of (Token kind) at len = record { start = at; len = len; kind = kind } ∷ []
 
--- spans are among others, in the same order
-pub data AreAmong : List Span → List Span → Type 0 where
-  none : AreAmong [] []
-  keep : (span : Span) (spans others : List Span) → AreAmong spans others → AreAmong (span ∷ spans) (span ∷ others)
-  pass : (span : Span) (spans others : List Span) → AreAmong spans others → AreAmong spans (span ∷ others)
-
 -- no attribute begins among tokens
 abbrev pub HaveNone : List Word → Type 0
 HaveNone tokens = (at : ℕ) → opens (drop at tokens) ≡ false

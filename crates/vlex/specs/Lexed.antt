@@ -1,5 +1,5 @@
 -- *trusted*: The relation between a text and its words, which are its tokens less attributes (IEEE 1364-2005, clause 3).
-use Rattle.std.specs.Prelude.{◌≡◌, ℕ, zero, suc, ◌+◌, ◌-◌, ◌<◌, ◌≤◌, Bool, true, false, ◌==◌, ◌&&◌, ◌||◌, nat_le, not, if◌then◌else◌, List, [], ◌∷◌, ◌++◌, Option, None, Some, unwrap_or, option_and_then, codes, length, take, drop, slice_index, ◌⊎◌}
+use Rattle.std.specs.Prelude.{◌≡◌, ℕ, zero, suc, ◌+◌, ◌-◌, ◌<◌, ◌≤◌, Bool, true, false, ◌==◌, ◌&&◌, ◌||◌, nat_le, not, if◌then◌else◌, List, [], ◌∷◌, ◌++◌, Option, None, Some, unwrap_or, option_and_then, codes, length, take, drop, map, slice_index, ◌⊎◌}
 use Rattle.std.specs.List.{prefix_len, list_any}
 use Rattle.std.specs.Char.{is_ascii_digit}
 use Rattle.std.specs.Str.{bytes_eq}
@@ -171,16 +171,21 @@ abbrev pub first_text : List Piece → List ℕ
 first_text [] = []
 first_text (p ∷ ps) = p.text
 
--- what is left of tokens behind two others; n, their number or more, bounds the steps
-abbrev pub without : ℕ → List ℕ → List ℕ → List Piece → List Piece
-without zero earlier last pieces = []
-without (suc n) earlier last pieces =
-    let len = instance_len earlier last pieces in
-    if len == 0 then take 1 pieces ++ without n last (first_text pieces) (drop 1 pieces)
-    else without n (codes "*") (codes ")") (drop len pieces)
+-- What is left of a list each of whose elements has a token, behind the texts of two other tokens; n, its length or more, bounds
+-- the steps.
+abbrev pub without : {A : Type 0} → (A → Piece) → ℕ → List ℕ → List ℕ → List A → List A
+without token zero earlier last all = []
+without token (suc n) earlier last all =
+    let len = instance_len earlier last (map token all) in
+    if len == 0 then take 1 all ++ without token n last (first_text (map token all)) (drop 1 all)
+    else without token n (codes "*") (codes ")") (drop len all)
 
-unfoldable pub words_of : List Piece → List Piece
-words_of pieces = without (length pieces) [] [] pieces
+-- the elements without those whose tokens are of an attribute
+unfoldable pub words_by : {A : Type 0} → (A → Piece) → List A → List A
+words_by token all = without token (length all) [] [] all
+
+abbrev pub words_of : List Piece → List Piece
+words_of = words_by (λ piece. piece)
 
 -- ---- the words of a text: its tokens less attributes
 
@@ -199,10 +204,7 @@ IsOpen (c ∷ d ∷ cs) =
     ((c ≡ 47) × (d ≡ 42) × (block_end cs ≡ None))
     ⊎ ((c ≡ 34) × (string_end (d ∷ cs) ≡ None))
 
--- a cut into tokens is the text's only one, or there is none
-abbrev pub IsOnlyCut : List ℕ → List Piece → Type 0
-IsOnlyCut text pieces = (others : List Piece) → Cut false text others → others ≡ pieces
-
+-- no cut into tokens is the text's
 abbrev pub HasNoCut : List ℕ → Type 0
 HasNoCut text = (pieces : List Piece) → Cut false text pieces → ⊥
 

@@ -1,11 +1,11 @@
 -- *product rule*: A text, and where its tokens stand in it.
-use Rattle.std.specs.Prelude.{ℕ, ◌+◌, ◌≤◌, Bool, List, [], ◌∷◌, Option, length, take, drop, map, slice_get, unwrap_or}
+use Rattle.std.specs.Prelude.{◌≡◌, ℕ, ◌+◌, ◌≤◌, Bool, false, All, List, [], ◌∷◌, Option, length, take, drop, map, slice_get, unwrap_or}
 use Rattle.std.specs.Option.{option_map}
 use Rattle.vsrc.specs.Source.{Source}
 use Rattle.vlex.specs.declared.list.Span.{Span}
 use Rattle.vlex.specs.declared.form.Form.TheVariants.{Token}
 use Rattle.vlex.specs.declared.kind.TokenKind.{TokenKind}
-use Rattle.vlex.specs.Lexed.{Piece, IsFront, Reaches, readable}
+use Rattle.vlex.specs.Lexed.{Piece, IsFront, Reaches, Cut, readable, words_by}
 
 pub record Tokenized : Type 0 where
   pub source : Source
@@ -40,3 +40,15 @@ pub record IsTokenAt (text : List ℕ) (span : Span) : Type 0 where
 abbrev pub AreInOrder : ℕ → List Span → ℕ → Type 0
 AreInOrder from [] to = from ≤ to
 AreInOrder from (span ∷ spans) to = (from ≤ span.start) × AreInOrder (span.start + span.len) spans to
+
+-- the spans are those of all tokens of the text
+pub record AreTokenSpans (text : List ℕ) (spans : List Span) : Type 0 where
+  pub cut : Cut false text (map (piece_at text) spans)
+  pub stand : All (IsTokenAt text) spans
+  pub in_order : AreInOrder 0 spans (length text)
+
+-- the spans are those of the words of the text, which are its tokens less attributes
+pub record AreWordSpans (text : List ℕ) (words : List Span) : Type 0 where
+  pub tokens : List Span
+  pub are_all : AreTokenSpans text tokens
+  pub left : words ≡ words_by (piece_at text) tokens

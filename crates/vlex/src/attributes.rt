@@ -1,11 +1,11 @@
 // Attributes (IEEE 1364-2005, 3.8), which are no words of a text.
 
-ghost use Rattle.std.specs.Prelude.{◌≡◌, ◌≤◌, ◌+◌, ◌==◌, ◌&&◌, Bool, false, drop, map, length, codes, IfOk, IfSome};
+ghost use Rattle.std.specs.Prelude.{◌≡◌, ◌≤◌, ◌+◌, ◌==◌, ◌&&◌, Bool, false, drop, length, codes, IfOk, IfSome};
 ghost use Rattle.std.specs.List.{list_any};
 ghost use Rattle.std.specs.Str.{bytes_eq};
-ghost use Rattle.vlex.specs.Lexed.{begins, opens, closes, is_name_kind, is_opening, is_closing, in_value, after, may_end, words_to_end, is_lead, is_lead_word, may_stand, instance_len, words_of};
+ghost use Rattle.vlex.specs.Lexed.{begins, opens, closes, is_name_kind, is_opening, is_closing, in_value, after, may_end, words_to_end, is_lead, is_lead_word, may_stand, instance_len, words_by};
 ghost use Rattle.vlex.specs.Tokenized.{pieces_of, piece_at};
-ghost use Rattle.vlex.specs.Inner.{AreAmong, HaveNone};
+ghost use Rattle.vlex.specs.Inner.{HaveNone};
 ghost use Rattle.vlex.specs.declared.kind.TokenKind.{TokenKind as Kind};
 
 use crate::kind::TokenKind;
@@ -294,9 +294,8 @@ pub fn has_begin(tokens: &Tokens<'_>) -> bool
 
 /// Where the words of a text stand: its tokens less attributes.
 pub fn words(alloc: Global, tokens: &Tokens<'_>) -> Result<Vec<Span>, NoMemory>
-    ensures words { IfOk result (λ spans.
-        map (piece_at tokens.now.source.text) spans.items ≡ words_of (pieces_of tokens.now)) }
-    ensures among { IfOk result (λ spans. AreAmong spans.items tokens.now.spans) }
+    ensures { IfOk result (λ spans.
+        spans.items ≡ words_by (piece_at tokens.now.source.text) tokens.now.spans) }
 {
     let mut spans = Vec::new(alloc);
     let mut earlier: &[u8] = b"";

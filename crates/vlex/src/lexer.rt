@@ -1,10 +1,10 @@
 // Text to tokens, piece by piece.
 
-ghost use Rattle.std.specs.Prelude.{◌≡◌, ◌+◌, ◌++◌, ◌≤◌, false, length, All, IfOk, OnOk};
+ghost use Rattle.std.specs.Prelude.{◌≡◌, ◌+◌, ◌++◌, ◌≤◌, length, IfOk, OnOk};
 ghost use Rattle.basis.specs.Reasons.{IfFault};
 ghost use Rattle.vsrc.specs.Source.{text_limit};
-ghost use Rattle.vlex.specs.Lexed.{Cut, Lexed, IsOnlyCut, IsOnlyLexed, IsTokenReason, HasNoCut, HasNoTokens};
-ghost use Rattle.vlex.specs.Tokenized.{pieces_of, AreInOrder, IsTokenAt};
+ghost use Rattle.vlex.specs.Lexed.{Lexed, IsOnlyLexed, IsTokenReason, HasNoCut, HasNoTokens};
+ghost use Rattle.vlex.specs.Tokenized.{pieces_of, AreTokenSpans, AreWordSpans};
 ghost use Rattle.vlex.specs.Inner.{spans_of};
 
 use crate::attributes::{has_begin, words};
@@ -23,8 +23,7 @@ use vsrc::Expanded;
 pub fn tokens<'a>(alloc: Global, source: &'a Expanded) -> Result<Tokens<'a>, OrMemory<LexFault>>
     ensures source { IfOk result (λ tokens. tokens.source ≡ source.now) }
     ensures lexed { IfOk result (λ tokens. Lexed source.now.text (pieces_of tokens)) }
-    ensures stands { IfOk result (λ tokens. All (IsTokenAt source.now.text) tokens.spans) }
-    ensures order { IfOk result (λ tokens. AreInOrder 0 tokens.spans (length source.now.text)) }
+    ensures words { IfOk result (λ tokens. AreWordSpans source.now.text tokens.spans) }
     ensures only { IfOk result (λ tokens. IsOnlyLexed source.now.text (pieces_of tokens)) }
     ensures none { IfFault result (λ fault. HasNoTokens source.now.text) }
     ensures reason { IfFault result (λ fault. IsTokenReason source.now fault) }
@@ -40,11 +39,8 @@ pub fn tokens<'a>(alloc: Global, source: &'a Expanded) -> Result<Tokens<'a>, OrM
 // All tokens of the text, in order.
 fn cut<'a>(alloc: Global, source: &'a Expanded) -> Result<Tokens<'a>, OrMemory<LexFault>>
     ensures source { IfOk result (λ tokens. tokens.source ≡ source.now) }
-    ensures cut { IfOk result (λ tokens. Cut false source.now.text (pieces_of tokens)) }
-    ensures stands { IfOk result (λ tokens. All (IsTokenAt source.now.text) tokens.spans) }
-    ensures order { IfOk result (λ tokens. AreInOrder 0 tokens.spans (length source.now.text)) }
+    ensures spans { IfOk result (λ tokens. AreTokenSpans source.now.text tokens.spans) }
     ensures few { IfOk result (λ tokens. length tokens.spans ≤ text_limit) }
-    ensures only { IfOk result (λ tokens. IsOnlyCut source.now.text (pieces_of tokens)) }
     ensures none { IfFault result (λ fault. HasNoCut source.now.text) }
     ensures reason { IfFault result (λ fault. IsTokenReason source.now fault) }
 {

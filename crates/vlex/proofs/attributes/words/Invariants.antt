@@ -1,6 +1,5 @@
-use Rattle.std.proofs.Common.{◌≤◌, ◌-◌, length, take}
+use Rattle.std.proofs.Common.{◌≤◌, ◌-◌, length}
 use Rattle.vlex.specs.Tokenized.{pieces_of}
-use Rattle.vlex.specs.Inner.{AreAmong}
 use Rattle.vlex.proofs.Instances.{Leaves}
 use Rattle.vlex.proofs.attributes.words.Given as goal
 
@@ -8,8 +7,7 @@ use Rattle.vlex.proofs.attributes.words.Given as goal
 abbrev pub invariant-loop-at : goal.invariant-loop-at
 invariant-loop-at l = record {
   within : l.at ≤ length (pieces_of l.tokens);
-  leaves : Leaves l.tokens.source.text (pieces_of l.tokens) l.spans.items l.earlier l.last l.at;
-  among : AreAmong l.spans.items (take l.at l.tokens.spans);
+  leaves : Leaves l.tokens.source.text l.tokens.spans l.spans.items l.earlier l.last l.at;
 }
 
 abbrev pub decreases-loop-at : goal.decreases-loop-at

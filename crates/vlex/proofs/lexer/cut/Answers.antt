@@ -4,9 +4,9 @@ use Rattle.vlex.specs.declared.form.Form.{Form}
 use Rattle.vlex.specs.declared.list.Span.{Span}
 use Rattle.vlex.specs.Lexed.Reaches.{start, next}
 use Rattle.vlex.specs.Lexed.{Cut, Piece, IsFront, IsOpen, IsStuck, Reaches, StopsAt, is_delay, readable}
-use Rattle.vlex.specs.Tokenized.{Tokenized, piece_at, pieces_of, AreInOrder, IsTokenAt}
+use Rattle.vlex.specs.Tokenized.{Tokenized, piece_at, AreInOrder, AreTokenSpans, IsTokenAt}
 use Rattle.vlex.specs.Inner.{spans_of, AreWithin}
-use Rattle.vlex.proofs.Cuts.{some_front, spans_grow, order_grows, stands_grows, in_order_more, all_within, goes_onward, goes_back, all_lexed, only_lexed, none_lexed, seen_some, seen_within, seen_open, open_seen}
+use Rattle.vlex.proofs.Cuts.{some_front, spans_grow, order_grows, stands_grows, in_order_more, all_within, goes_onward, goes_back, all_lexed, none_lexed, seen_some, seen_within, seen_open, open_seen}
 use Rattle.vlex.proofs.lexer.cut.Goals as goal
 
 pub loop-at-init : goal.loop-at-init
@@ -62,20 +62,17 @@ returns-in-Bad-clause-none c = λ pieces l.
     (subst IsStuck (c.readable.ensures ∙ ap (readable c.loop-at.delay) c.split_at.ensures.back) c.in-Bad.ensures.0)
     (c.loop-at.invariant.back pieces (subst P (sym c.text-text.ensures.value) l))
 
-pub returns-clause-cut : goal.returns-clause-cut
-returns-clause-cut c =
-    let spans : List Span = c.loop-at.spans.items in
-    let P : List ℕ → Type 0 = λ t. Cut false t (map (piece_at t) spans) in
-    let Q : Tokenized → Type 0 = λ t. Cut false c.args.source.now.text (pieces_of t) in
-    subst Q (sym c.new.ensures) (subst P c.text-text.ensures.value (all_lexed c.loop-at.delay c.text-text.result.now spans c.loop-at.at c.loop-at-test.false c.loop-at.invariant.onward))
-
-pub returns-clause-only : goal.returns-clause-only
-returns-clause-only c = λ others l.
+pub returns-clause-spans : goal.returns-clause-spans
+returns-clause-spans c =
     let text : List ℕ = c.text-text.result.now in
     let spans : List Span = c.loop-at.spans.items in
-    let P : List ℕ → Type 0 = λ t. Cut false t others in
-    only_lexed c.loop-at.delay text spans c.loop-at.at others c.loop-at-test.false (c.loop-at.invariant.back others (subst P (sym c.text-text.ensures.value) l))
-    ∙ ap (λ t. map (piece_at t) spans) c.text-text.ensures.value ∙ ap pieces_of (sym c.new.ensures)
+    let Q : Tokenized → Type 0 = λ t. AreTokenSpans c.args.source.now.text t.spans in
+    let P : List ℕ → Type 0 = λ t. AreTokenSpans t spans in
+    subst Q (sym c.new.ensures) (subst P c.text-text.ensures.value (record {
+      cut = all_lexed c.loop-at.delay text spans c.loop-at.at c.loop-at-test.false c.loop-at.invariant.onward;
+      stand = c.loop-at.invariant.stands;
+      in_order = in_order_more 0 spans c.loop-at.at (length text) c.loop-at.invariant.within c.loop-at.invariant.order;
+    }))
 
 pub new-requires : goal.new-requires
 new-requires c =
@@ -86,19 +83,6 @@ new-requires c =
           (in_order_more 0 c.loop-at.spans.items c.loop-at.at (length c.text-text.result.now) c.loop-at.invariant.within c.loop-at.invariant.order));
       few = omega (arith, c.loop-at.invariant.few, c.loop-at.invariant.within, c.text-text.ensures.short);
     }
-
-pub returns-clause-order : goal.returns-clause-order
-returns-clause-order c =
-    let P : List ℕ → Type 0 = λ t. AreInOrder 0 c.loop-at.spans.items (length t) in
-    let Q : Tokenized → Type 0 = λ t. AreInOrder 0 t.spans (length c.args.source.now.text) in
-    subst Q (sym c.new.ensures)
-    (subst P c.text-text.ensures.value (in_order_more 0 c.loop-at.spans.items c.loop-at.at (length c.text-text.result.now) c.loop-at.invariant.within c.loop-at.invariant.order))
-
-pub returns-clause-stands : goal.returns-clause-stands
-returns-clause-stands c =
-    let P : List ℕ → Type 0 = λ t. All (IsTokenAt t) c.loop-at.spans.items in
-    let Q : Tokenized → Type 0 = λ t. All (IsTokenAt c.args.source.now.text) t.spans in
-    subst Q (sym c.new.ensures) (subst P c.text-text.ensures.value c.loop-at.invariant.stands)
 
 pub push_piece-requires : goal.push_piece-requires
 push_piece-requires c =
