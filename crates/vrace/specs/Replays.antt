@@ -1,10 +1,10 @@
 -- *product rule*: What a replay writes, from the bytes of the files to the dump or the lines of the run.
-use Rattle.std.specs.Prelude.{◌≡◌, ℕ, ◌≤◌, List, All, Option, Ok, length, map, sum_by}
+use Rattle.std.specs.Prelude.{◌≡◌, ℕ, ◌≤◌, List, Option, Ok, length, map, sum_by}
 use Rattle.basis.specs.declared.timescale.Timescale.{Timescale}
 use Rattle.vsrc.specs.Source.{Source}
 use Rattle.vsrc.specs.Expansion.{expansion, expanded_text, expanded_timescale}
 use Rattle.vlex.specs.Lexed.{Lexed, Piece}
-use Rattle.vlex.specs.Tokenized.{Tokenized, pieces_of, IsTokenAt, AreInOrder}
+use Rattle.vlex.specs.Tokenized.{Tokenized, pieces_of, AreWordSpans}
 use Rattle.vast.specs.Words.{Text}
 use Rattle.vast.specs.Modules.{DerivesText, SourceTree as PlainTree}
 use Rattle.vast.specs.NumberedModules.{SourceTree}
@@ -57,12 +57,11 @@ pub record IsTreeOf (text : List ℕ) (tree : SourceTree) : Type 0 where
   pub derived : DerivesText (texts_of pieces) plain
   pub numbered : IsNumbered (texts_of pieces) plain tree
 
--- these are the tokens of a text, each told where it stands
+-- these are the words of a text, each told where it stands
 pub record AreTokens (source : Source) (tokens : Tokenized) : Type 0 where
   pub source_is : tokens.source ≡ source
   pub lexed : Lexed source.text (pieces_of tokens)
-  pub stand : All (IsTokenAt source.text) tokens.spans
-  pub in_order : AreInOrder 0 tokens.spans (length source.text)
+  pub placed : AreWordSpans source.text tokens.spans
 
 -- A text stands for a design: that of the top module in its tree, under its timescale.
 pub record IsDesignOf (text : List ℕ) (scale : Timescale) (top : Option Text) (design : Design) : Type 0 where
