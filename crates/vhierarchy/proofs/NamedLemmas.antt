@@ -396,17 +396,17 @@ own_declared : (is_port : Text → Bool) (kind : Kind) (signed : Bool) (range : 
     list_all is_name (names (all_declared kind signed range list)) ≡ true →
     list_all is_name (names (all_declared kind signed range (filter (λ one. not (is_port one.name.letters)) list))) ≡ true
 own_declared is_port kind signed range [] all = refl
-own_declared is_port kind signed range (one ∷ more) all = by (is_port one.name.letters)
+own_declared is_port kind signed range (one ∷ more) all =
+    by (is_port one.name.letters)
+    (own_declared is_port kind signed range more (and_right (is_name one.name.letters) (list_all is_name (names (all_declared kind signed range more))) all))
   where
     rest : List DeclaredTree
     rest = filter (λ one. not (is_port one.name.letters)) more
 
-    later : list_all is_name (names (all_declared kind signed range rest)) ≡ true
-    later = own_declared is_port kind signed range more (and_right (is_name one.name.letters) (list_all is_name (names (all_declared kind signed range more))) all)
-
-    by : (b : Bool) → list_all is_name (names (all_declared kind signed range (if not b then one ∷ rest else rest))) ≡ true
-    by true = later
-    by false =
+    by : (b : Bool) → list_all is_name (names (all_declared kind signed range rest)) ≡ true →
+        list_all is_name (names (all_declared kind signed range (if not b then one ∷ rest else rest))) ≡ true
+    by true later = later
+    by false later =
         and_both (is_name one.name.letters) (list_all is_name (names (all_declared kind signed range rest)))
         (and_left (is_name one.name.letters) (list_all is_name (names (all_declared kind signed range more))) all) later
 
