@@ -1,5 +1,5 @@
 -- E309: a text that has a design has nothing in too great a number, and one that is refused under the rule has.
-use Rattle.std.proofs.Common.{◌≡◌, ℕ, zero, suc, ◌+◌, ◌<◌, ◌≤◌, arith, nat_le, true, false, Bool, List, [], ◌∷◌, ◌++◌, map, length, Option, Some, Result, Ok, Err, refl, ap, subst, ◌⊎◌, inl, inr, length-append}
+use Rattle.std.proofs.Common.{◌≡◌, ℕ, zero, suc, ◌+◌, ◌<◌, ◌≤◌, arith, nat_le, true, false, Bool, List, [], ◌∷◌, ◌++◌, map, length, Option, Some, Result, Ok, Err, refl, ap, subst, ◌⊎◌, inl, inr, length-append, sym, ◌∙◌}
 use Rattle.std.specs.List.{flat_map, sum_by}
 use Rattle.std.specs.Option.{option_or}
 use Rattle.std.proofs.lemmas.List.{length-map}

@@ -16,7 +16,7 @@ use Rattle.vdesign.specs.declared.print.Piece.{Piece}
 use Rattle.vdesign.specs.declared.print.Form.{Form}
 use Rattle.vdesign.specs.declared.print.Notation.{Notation}
 use Rattle.vdesign.specs.declared.print.Notation.TheVariants.{Binary, Octal, Hexadecimal, Decimal, Time, Character, Letters}
-use Rattle.vdesign.specs.declared.print.Width.{Width}
+use Rattle.vdesign.specs.declared.print.Width.{Width as FieldWidth}
 use Rattle.format_text.specs.declared.letters.Escape.TheVariants.{Plain}
 use Rattle.format_text.specs.Formats.{FormatFront, letters_of, front_of}
 use Rattle.format_text.specs.Pieces.{Argument, string, value, Taken, text_piece, without_form, last_pieces, value_taken, string_by, string_shown, string_taken, format_left, pieces_with_taken, pieces_by, pieces_of, with_line_end}
@@ -177,7 +177,7 @@ value_left default None watched e = refl
 value_left default (Some front) watched e = refl
 
 module _ (letters : List ℕ) where
-  shown_some : (front : FormatFront) (width : Width) (notation : Notation) → is_some (string_shown front width notation letters) ≡ shows_letters notation
+  shown_some : (front : FormatFront) (width : FieldWidth) (notation : Notation) → is_some (string_shown front width notation letters) ≡ shows_letters notation
   shown_some front width Binary = refl
   shown_some front width Octal = refl
   shown_some front width Hexadecimal = refl
@@ -186,7 +186,7 @@ module _ (letters : List ℕ) where
   shown_some front width Character = refl
   shown_some front width Letters = refl
 
-  shown_left : (front : FormatFront) (width : Width) (notation : Notation) →
+  shown_left : (front : FormatFront) (width : FieldWidth) (notation : Notation) →
       format_left (string_shown front width notation letters) ≡ (if shows_letters notation then front.rest else [])
   shown_left front width Binary = refl
   shown_left front width Octal = refl

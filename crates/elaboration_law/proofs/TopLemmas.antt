@@ -1,5 +1,5 @@
 -- E301: in a text that has a design each module that is named is there, and in one that is refused under the rule one isn't.
-use Rattle.std.proofs.Common.{◌≡◌, ℕ, ◌+◌, nat_le, true, false, List, length, Option, Some, None, Ok, Err, refl, sym, subst, ◌⊎◌, inl, inr}
+use Rattle.std.proofs.Common.{◌≡◌, ℕ, ◌+◌, nat_le, true, false, List, length, Option, Some, None, Ok, Err, refl, sym, subst, ◌⊎◌, inl, inr, ◌∙◌, ap}
 use Rattle.std.specs.List.{Contains}
 use Rattle.basis.specs.declared.timescale.Timescale.{Timescale}
 use Rattle.vast.specs.Words.{Text}

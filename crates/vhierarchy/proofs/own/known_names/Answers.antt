@@ -13,4 +13,4 @@ returns-clause-small c =
     (c.len-head.ensures ∙ c.growing-2.inside.others.ok.0 ∙ ap (λ (s : Scope). s.known) c.growing-2.view_is)
     (c.len-whole.ensures ∙ c.growing-3.inside.others.ok.0 ∙ ap (λ (s : Scope). s.known) c.growing-3.view_is)
     c.len-whole.type_inv
-    (ap (λ (items : List ModuleItem). symbols_in (words_of c.args.tokens.now) items) (sym c.deref-3.ensures.value))
+    (ap (λ (items : List ModuleItem). symbols_in (words_of c.args.tokens.now) items) (sym c.deref-2.ensures.value))
