@@ -363,6 +363,7 @@ kinds_rule = record {
   no_ports = refl;
   no_depth = refl;
   no_many = refl;
+  no_width = refl;
 }
 
 -- ---- in a text

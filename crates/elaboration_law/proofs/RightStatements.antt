@@ -154,10 +154,10 @@ module _ (vs : List Variable) (place : Place) (scope : Scope) (h : IsAt place sc
   TakenBits b None = Unit {0}
   TakenBits b (Some taken) = list_all (piece_bits vs) taken.pieces ≡ b
 
-  value_bits : (default : Form) (front : Option FormatFront) (watched : Bool) (e : ExpressionTree) → TakenBits (bits_in vs e) (value_taken default front watched e)
-  value_bits default None watched e = tt
-  value_bits default (Some front) watched e =
-      list_all-append (piece_bits vs) (text_piece front.letters) (Value (unwrap_or front.form default) watched e ∷ [])
+  value_bits : (usual : Form) (front : Option FormatFront) (watched : Bool) (e : ExpressionTree) → TakenBits (bits_in vs e) (value_taken usual front watched e)
+  value_bits usual None watched e = tt
+  value_bits usual (Some front) watched e =
+      list_all-append (piece_bits vs) (text_piece front.letters) (Value (unwrap_or front.form usual) watched e ∷ [])
       ∙ ap (λ (b : Bool). b && (bits_in vs e && true)) (text_bits front.letters) ∙ sym (and_true (bits_in vs e))
 
   shown_bits : (front : FormatFront) (width : Width) (notation : Notation) (letters : List ℕ) → TakenBits true (string_shown front width notation letters)
@@ -184,16 +184,16 @@ module _ (vs : List Variable) (place : Place) (scope : Scope) (h : IsAt place sc
   both_bits b c (Some taken) None s t = tt
   both_bits b c (Some taken) (Some later) s t = list_all-append (piece_bits vs) taken.pieces later ∙ λ i. s i && t i
 
-  pieces_are : (default : Form) (format : List ℕ) (all : List Argument) → Pieces (list_all argument_bits all) (pieces_by default format all)
-  pieces_are default format [] = last_bits (front_of format)
-  pieces_are default format (string letters ∷ more) =
+  pieces_are : (usual : Form) (format : List ℕ) (all : List Argument) → Pieces (list_all argument_bits all) (pieces_by usual format all)
+  pieces_are usual format [] = last_bits (front_of format)
+  pieces_are usual format (string letters ∷ more) =
       let taken = string_taken (front_of format) (letters_of Plain letters) in
-      both_bits true (list_all argument_bits more) taken (pieces_by default (format_left taken) more) (string_bits (front_of format) (letters_of Plain letters))
-      (pieces_are default (format_left taken) more)
-  pieces_are default format (value watched e ∷ more) =
-      let taken = value_taken default (front_of format) watched e in
-      both_bits (bits_in vs e) (list_all argument_bits more) taken (pieces_by default (format_left taken) more) (value_bits default (front_of format) watched e)
-      (pieces_are default (format_left taken) more)
+      both_bits true (list_all argument_bits more) taken (pieces_by usual (format_left taken) more) (string_bits (front_of format) (letters_of Plain letters))
+      (pieces_are usual (format_left taken) more)
+  pieces_are usual format (value watched e ∷ more) =
+      let taken = value_taken usual (front_of format) watched e in
+      both_bits (bits_in vs e) (list_all argument_bits more) taken (pieces_by usual (format_left taken) more) (value_bits usual (front_of format) watched e)
+      (pieces_are usual (format_left taken) more)
 
   end_bits : (ends : Bool) → list_all (piece_bits vs) (line_end ends) ≡ true
   end_bits true = refl

@@ -240,10 +240,10 @@ module _ (now : Environment) where
   TakenHave flaw None = Unit {0}
   TakenHave flaw (Some taken) = first_flaw (piece_flaw now) taken.pieces ≡ flaw
 
-  value_flaw : (default : Form) (front : Option FormatFront) (watched : Bool) (e : ExpressionTree) → TakenHave (flaw_of now e) (value_taken default front watched e)
-  value_flaw default None watched e = tt
-  value_flaw default (Some front) watched e =
-      flaws_joined (piece_flaw now) (text_piece front.letters) (Value (unwrap_or front.form default) watched e ∷ [])
+  value_flaw : (usual : Form) (front : Option FormatFront) (watched : Bool) (e : ExpressionTree) → TakenHave (flaw_of now e) (value_taken usual front watched e)
+  value_flaw usual None watched e = tt
+  value_flaw usual (Some front) watched e =
+      flaws_joined (piece_flaw now) (text_piece front.letters) (Value (unwrap_or front.form usual) watched e ∷ [])
       ∙ ap (λ (flaw : Option Flaw). option_or flaw (option_or (flaw_of now e) None)) (text_flawless front.letters) ∙ flaw_none (flaw_of now e)
 
   shown_flawless : (front : FormatFront) (width : Width) (notation : Notation) (letters : List ℕ) → TakenHave None (string_shown front width notation letters)
@@ -270,25 +270,25 @@ module _ (now : Environment) where
   both_have a b (Some taken) None s t = tt
   both_have a b (Some taken) (Some later) s t = flaws_joined (piece_flaw now) taken.pieces later ∙ λ i. option_or (s i) (t i)
 
-  pieces_have : (default : Form) (format : List ℕ) (all : List Argument) → Have (first_flaw argument_flaw all) (pieces_by default format all)
-  pieces_have default format [] = last_flawless (front_of format)
-  pieces_have default format (string letters ∷ more) =
+  pieces_have : (usual : Form) (format : List ℕ) (all : List Argument) → Have (first_flaw argument_flaw all) (pieces_by usual format all)
+  pieces_have usual format [] = last_flawless (front_of format)
+  pieces_have usual format (string letters ∷ more) =
       let taken = string_taken (front_of format) (letters_of Plain letters) in
-      both_have None (first_flaw argument_flaw more) taken (pieces_by default (format_left taken) more) (string_flawless (front_of format) (letters_of Plain letters))
-      (pieces_have default (format_left taken) more)
-  pieces_have default format (value watched e ∷ more) =
-      let taken = value_taken default (front_of format) watched e in
-      both_have (flaw_of now e) (first_flaw argument_flaw more) taken (pieces_by default (format_left taken) more) (value_flaw default (front_of format) watched e)
-      (pieces_have default (format_left taken) more)
+      both_have None (first_flaw argument_flaw more) taken (pieces_by usual (format_left taken) more) (string_flawless (front_of format) (letters_of Plain letters))
+      (pieces_have usual (format_left taken) more)
+  pieces_have usual format (value watched e ∷ more) =
+      let taken = value_taken usual (front_of format) watched e in
+      both_have (flaw_of now e) (first_flaw argument_flaw more) taken (pieces_by usual (format_left taken) more) (value_flaw usual (front_of format) watched e)
+      (pieces_have usual (format_left taken) more)
 
-  end_flawless : (ends : Bool) → first_flaw (piece_flaw now) (line_end ends) ≡ None
-  end_flawless true = refl
-  end_flawless false = refl
+  line_end_flawless : (ends : Bool) → first_flaw (piece_flaw now) (line_end ends) ≡ None
+  line_end_flawless true = refl
+  line_end_flawless false = refl
 
   ended_have : (ends : Bool) (flaw : Option Flaw) (pieces : Option (List Piece)) → Have flaw pieces → Have flaw (with_line_end ends pieces)
   ended_have ends flaw None s = tt
   ended_have ends flaw (Some pieces) s =
-      flaws_joined (piece_flaw now) pieces (line_end ends) ∙ (λ i. option_or (s i) (end_flawless ends i)) ∙ flaw_none flaw
+      flaws_joined (piece_flaw now) pieces (line_end ends) ∙ (λ i. option_or (s i) (line_end_flawless ends i)) ∙ flaw_none flaw
 
 -- what branches of a `case` leave: a truth of the table and one of their items, which are together this one
 module _ (now : Environment) where
