@@ -57,7 +57,7 @@ const EXPLANATIONS: [Explanation; 34] = [
         number: 201,
         meaning: "unexpected word: no text of the grammar goes on with this word after those before it, or the text ends too early",
         example: "a = 1 and no semicolon; else without an if",
-        advice: "look at the words of that line, and at the end of the line before it: a semicolon may be missing there; or the construct isn't in the profile, as named blocks, memories, hierarchical names and SystemVerilog; docs/LANGUAGE.md has the grammar",
+        advice: "look at the words of that line, and at the end of the line before it: a semicolon may be missing there; or the construct isn't in the profile, as memories, hierarchical names and SystemVerilog; docs/LANGUAGE.md has the grammar",
     },
     Explanation {
         number: 202,

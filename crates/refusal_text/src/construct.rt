@@ -9,6 +9,7 @@ pub(crate) enum Construct {
     AlwaysFf,
     Assertion,
     Attribute,
+    AttributeBehindName,
     Bind,
     BlockDeclaration,
     BlockName,
@@ -17,6 +18,7 @@ pub(crate) enum Construct {
     Class,
     Defparam,
     DelayRange,
+    Directive,
     Disable,
     DoWhile,
     DumpPath,
@@ -53,6 +55,7 @@ pub(crate) enum Construct {
     Memory,
     Method,
     MissingArgument,
+    MixedPorts,
     MonitorSwitch,
     NetDelay,
     NetKind,
@@ -92,6 +95,7 @@ pub(crate) enum Construct {
     TimeUnit,
     TwoValued,
     Unique,
+    UnnamedPort,
     Vectored,
     WaitFork,
     WideNumber,
@@ -107,12 +111,18 @@ pub(crate) struct Row {
     pub(crate) instead: &'static str,
 }
 
-const ROWS: [Row; 59] = [
+const ROWS: [Row; 63] = [
     Row {
         construct: Construct::Attribute,
         names_word: false,
         what: "an attribute in this place, or of this form",
         instead: "take `(* .. *)` away: it changes no run",
+    },
+    Row {
+        construct: Construct::AttributeBehindName,
+        names_word: false,
+        what: "an attribute behind the name of a block",
+        instead: "write it before `begin`, or take it away: it changes no run",
     },
     Row {
         construct: Construct::BlockDeclaration,
@@ -137,6 +147,12 @@ const ROWS: [Row; 59] = [
         names_word: false,
         what: "min:typ:max values",
         instead: "write the one of the three that you simulate",
+    },
+    Row {
+        construct: Construct::Directive,
+        names_word: true,
+        what: "the directive",
+        instead: "take it away: it changes no run of what the profile has; in place of `uselib name the files of the modules, too",
     },
     Row {
         construct: Construct::Disable,
@@ -285,6 +301,12 @@ const ROWS: [Row; 59] = [
         what: "arguments left out, and empty parentheses",
         instead: "write each argument; one that is left out prints a blank: `\" \"`. `$time` and `$display` stand without \
             parentheses where they have none",
+    },
+    Row {
+        construct: Construct::MixedPorts,
+        names_word: false,
+        what: "directions in a list of ports whose first one has none",
+        instead: "write the direction of each port into the list; or names alone, and items behind it: `m(a, b); input a; output b;`",
     },
     Row {
         construct: Construct::MonitorSwitch,
@@ -477,6 +499,12 @@ const ROWS: [Row; 59] = [
         names_word: false,
         what: "`time` variables",
         instead: "write `reg [63:0]`",
+    },
+    Row {
+        construct: Construct::UnnamedPort,
+        names_word: false,
+        what: "a port without a name",
+        instead: "take the comma away, and the connection in each list by order; or give the port a name, and declare it as `input`",
     },
     Row {
         construct: Construct::Vectored,

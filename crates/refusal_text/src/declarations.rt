@@ -18,11 +18,43 @@ const SWITCHES: [&str; 9] = [
     "tran", "tranif0", "tranif1", "rtran", "rtranif0", "rtranif1", "rnmos", "rpmos", "rcmos",
 ];
 
+// How many words of a list of ports are looked at.
+const FAR: usize = 4_096;
+
+// Whether the word stands in the list of ports.
+fn is_in_list(walk: Walk) -> bool {
+    walk.level == Level::Head && walk.group == Group::Plain && walk.open == 1
+}
+
+// Whether the word stands in an item that declares ports.
+fn is_in_port_item(walk: Walk) -> bool {
+    walk.level == Level::Items && walk.opening == Opening::Port && walk.open == 0
+}
+
+// Whether all words before this one, up to the parenthesis that opens the list of ports, are names and commas.
+fn is_behind_names(words: Words<'_>) -> bool {
+    for fewer in 1..FAR {
+        let before = words.before(fewer);
+        if is(before, "(") {
+            return fewer > 1;
+        }
+        if !is(before, ",") && !words.is_name_before(fewer) {
+            return false;
+        }
+    }
+    false
+}
+
+// Whether the word ends a port that has no name, in a list of names.
+fn ends_no_port(words: Words<'_>) -> bool {
+    let before = words.before(1);
+    let is_first = is(words.word(), ",") && is(before, "(");
+    is_first || (is(before, ",") && is_behind_names(words))
+}
+
 // Whether the word begins a port that is a part of a net.
 fn is_part_port(words: Words<'_>, walk: Walk) -> bool {
-    walk.level == Level::Head
-        && walk.group == Group::Plain
-        && walk.open == 1
+    is_in_list(walk)
         && is_one_of(words.before(1), &["(", ","])
         && words.is_name_after(0)
         && is(words.after(1), "[")
@@ -52,8 +84,11 @@ pub(crate) fn by_name(words: Words<'_>, walk: Walk) -> Option<Construct> {
     if is_one_of(word, &DECLARATIONS) && walk.is_in_block() {
         return Some(Construct::BlockDeclaration);
     }
-    if is(word, "integer") && walk.level == Level::Head && walk.group == Group::Plain {
+    if is(word, "integer") && (is_in_list(walk) || is_in_port_item(walk)) {
         return Some(Construct::PortValue);
+    }
+    if is_one_of(word, &["input", "output"]) && is_in_list(walk) && is_behind_names(words) {
+        return Some(Construct::MixedPorts);
     }
     if is_one_of(word, &["vectored", "scalared"]) && is_one_of(words.before(1), &NETS) {
         return Some(Construct::Vectored);
@@ -73,9 +108,12 @@ fn is_before_value(walk: Walk, opening: Opening) -> bool {
 pub(crate) fn by_symbol(words: Words<'_>, walk: Walk) -> Option<Construct> {
     let assigns = is_before_value(walk, Opening::Assign);
     let is_driven = assigns || is_before_value(walk, Opening::Net);
-    let is_port = walk.level == Level::Head && walk.group == Group::Plain && walk.open == 1;
+    let is_port = is_in_list(walk);
     match words.word() {
-        word if is(word, "=") && is_port => Some(Construct::PortValue),
+        word if is(word, "=") && (is_port || is_in_port_item(walk)) => Some(Construct::PortValue),
+        word if is_one_of(word, &[",", ")"]) && is_port && ends_no_port(words) => {
+            Some(Construct::UnnamedPort)
+        }
         word if is(word, "{") && is_port => Some(Construct::PortExpression),
         word if is(word, "#") && is_driven => Some(Construct::NetDelay),
         word if is(word, "(") && is_driven => Some(Construct::Strength),

@@ -37,9 +37,9 @@ fn is_in_ports(walk: Walk) -> bool {
     walk.level == Level::Head && walk.group == Group::Plain && walk.open == 1
 }
 
-// Whether the word stands in an item that declares ports or nets.
+// Whether the word stands in an item that declares ports.
 fn is_in_item(walk: Walk) -> bool {
-    walk.level == Level::Items && walk.opening == Opening::Net && walk.open == 0
+    walk.level == Level::Items && walk.opening == Opening::Port && walk.open == 0
 }
 
 // Whether the word is the name of a port, where its direction was told before.

@@ -2,6 +2,7 @@
 
 use crate::construct::Construct;
 use crate::numbers::is_wide;
+use crate::undeclared::names_block;
 use crate::walk::{Group, Level, Opening, TYPES, Walk};
 use crate::words::{Words, is, is_one_of};
 use basis::digits_len;
@@ -25,6 +26,7 @@ fn by_range(words: Words<'_>, walk: Walk) -> Option<Construct> {
     match walk.opening {
         Opening::Variable => Some(Construct::Memory),
         Opening::Net => Some(Construct::Memory),
+        Opening::Port => Some(Construct::Memory),
         Opening::Instance if is(words.behind_brackets(), "(") => Some(Construct::InstanceArray),
         _ => None,
     }
@@ -123,10 +125,19 @@ fn by_indexed_part(walk: Walk) -> Option<Construct> {
     Some(Construct::IndexedPart)
 }
 
+// The construct of an attribute.
+fn by_attribute(words: Words<'_>) -> Construct {
+    if names_block(words.previous()) {
+        Construct::AttributeBehindName
+    } else {
+        Construct::Attribute
+    }
+}
+
 /// The construct of an expression that this symbol tells.
 pub(crate) fn by_symbol(words: Words<'_>, walk: Walk) -> Option<Construct> {
     match words.word() {
-        _ if walk.begins_attribute(words) => Some(Construct::Attribute),
+        _ if walk.begins_attribute(words) => Some(by_attribute(words)),
         word if is(word, "[") => by_bracket(words, walk),
         word if is(word, ".") => by_point(words, walk),
         word if is(word, "(") => by_parenthesis(words, walk),

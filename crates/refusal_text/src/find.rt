@@ -3,21 +3,22 @@
 use crate::construct::{Construct, row_of};
 use crate::declared::declared_of;
 use crate::formats::{bad_format, letters_of};
+use crate::mistakes::{Mistake, rule_for};
 use crate::modules::begins_instances;
 use crate::walk::{Level, Walk};
-use crate::words::{Words, is, is_one_of};
+use crate::words::{Words, is_one_of};
 use crate::{bounds, declarations, expressions, formats, keywords, statements, system_verilog};
 use basis::NoMemory;
 use std::alloc::Global;
 use vlex::{TokenKind, Tokens};
 use vsrc::Place;
 
-/// What is told of a word: a construct that the profile leaves out, the number of a fault, or that a module has no such port.
+/// What is told of a word: a construct that the profile leaves out, a mistake, or else the number of a fault.
 #[derive(Clone, Copy, PartialEq, Eq)]
 pub(crate) enum What {
     LeftOut(Construct),
+    Mistake(Mistake),
     Broken(u16),
-    NoPort,
 }
 
 /// What is told, the word, where it stands first, and how often it comes later.
@@ -31,9 +32,6 @@ pub(crate) struct Found<'a> {
 
 // How many words before the one that is refused a construct may begin.
 const NEAR: usize = 4;
-
-// How many words of a task are looked at for a format.
-const FAR: usize = 256;
 
 // The construct that a symbol tells.
 fn by_symbol(words: Words<'_>, walk: Walk) -> Option<Construct> {
@@ -89,7 +87,10 @@ pub(crate) fn is_same(one: &Found<'_>, other: &Found<'_>) -> bool {
             Some(row) => row.names_word,
         },
         What::Broken(number) => number == 111 || number == 301 || number == 303,
-        What::NoPort => true,
+        What::Mistake(mistake) => match rule_for(mistake) {
+            None => false,
+            Some(rule) => rule.names_word,
+        },
     };
     one.what == other.what && (!names_word || one.word == other.word)
 }
@@ -153,11 +154,12 @@ pub(crate) fn found_at<'a>(words: Words<'a>, construct: Construct, word: &'a [u8
 fn keep_formats<'a>(all: &mut Vec<Found<'a>>, words: Words<'a>) -> Result<(), NoMemory> {
     let mut rest = letters_of(words.word());
     for _ in 0..rest.len() {
-        let Some((format, behind)) = bad_format(rest) else {
+        let Some(format) = bad_format(rest) else {
             return Ok(());
         };
-        keep(all, found_at(words, formats::construct_of(format), format))?;
-        rest = behind;
+        let construct = formats::construct_of(format.word);
+        keep(all, found_at(words, construct, format.word))?;
+        rest = format.behind;
     }
     Ok(())
 }
@@ -227,20 +229,4 @@ pub(crate) fn construct_at<'a>(tokens: &'a Tokens<'a>, at: usize) -> Option<Foun
     let words = Words::new(tokens, at);
     let construct = construct_of(words, walk)?;
     Some(told_at(words, construct))
-}
-
-/// The first format that the profile leaves out, from this word to the end of its statement.
-pub(crate) fn format_near<'a>(tokens: &'a Tokens<'a>, from: usize) -> Option<Found<'a>> {
-    for more in 0..FAR {
-        let words = Words::new(tokens, from.saturating_add(more));
-        if is(words.word(), ";") {
-            return None;
-        }
-        if words.is(TokenKind::Text) {
-            if let Some((format, _)) = bad_format(letters_of(words.word())) {
-                return Some(found_at(words, formats::construct_of(format), format));
-            }
-        }
-    }
-    None
 }

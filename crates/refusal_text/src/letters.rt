@@ -2,6 +2,7 @@
 // of the text, so that reading can go on behind it.
 
 use crate::construct::Construct;
+use crate::directives::{is_other, mistake_of, takes_line};
 use crate::find::What;
 use crate::lines::{from, front};
 use crate::numbers;
@@ -9,11 +10,12 @@ use crate::words::is_one_of;
 use basis::is_in_name;
 use memchr::memchr;
 
-/// What is refused at a place: what is told of it, how many letters its word has, and what is put in the place of so many letters, the
-/// first of them and the others.
+/// What is refused at a place: what is told of it, how many letters stand before its word and how many that has, and what is put in the
+/// place of so many letters, the first of them and the others.
 #[derive(Clone, Copy)]
 pub(crate) struct Flaw {
     pub(crate) what: What,
+    pub(crate) before: usize,
     pub(crate) word: usize,
     pub(crate) len: usize,
     pub(crate) first: u8,
@@ -102,6 +104,7 @@ pub(crate) fn use_len(rest: &[u8]) -> usize {
 fn blanked(what: What, word: usize, len: usize) -> Flaw {
     Flaw {
         what,
+        before: 0,
         word,
         len,
         first: b' ',
@@ -113,6 +116,7 @@ fn blanked(what: What, word: usize, len: usize) -> Flaw {
 pub(crate) fn numbered(what: What, word: usize, len: usize) -> Flaw {
     Flaw {
         what,
+        before: 0,
         word,
         len,
         first: b'0',
@@ -178,18 +182,35 @@ fn by_macro(rest: &[u8], files: &[Vec<u8>]) -> Flaw {
         let what = What::LeftOut(Construct::MacroArguments);
         return numbered(what, word, use_len(rest));
     }
+    if is_other(name) {
+        let len = if takes_line(name) {
+            line_len(rest)
+        } else {
+            word
+        };
+        return blanked(What::LeftOut(Construct::Directive), word, len);
+    }
     numbered(What::Broken(111), word, use_len(rest))
 }
 
 // A directive that is ill formed, or isn't first on its line.
-fn by_directive(rest: &[u8]) -> Flaw {
-    let word = len_of(Letters::OfName, from(rest, 1)).saturating_add(1);
+fn by_directive(rest: &[u8], is_first: bool) -> Flaw {
+    let name = front(from(rest, 1), len_of(Letters::OfName, from(rest, 1)));
+    let word = name.len().saturating_add(1);
     if defines(rest, None) {
         let what = What::LeftOut(Construct::MacroArguments);
         return blanked(what, word, definition_len(rest));
     }
+    let what = match mistake_of(
+        name,
+        front(from(rest, word), line_len(from(rest, word))),
+        is_first,
+    ) {
+        None => What::Broken(110),
+        Some(mistake) => What::Mistake(mistake),
+    };
     if rest.starts_with(b"`define") {
-        return blanked(What::Broken(110), word, definition_len(rest));
+        return blanked(what, word, definition_len(rest));
     }
     let kind = word_behind(rest, word);
     let is_known = kind.is_empty() || is_one_of(kind, &["wire", "none"]);
@@ -197,7 +218,7 @@ fn by_directive(rest: &[u8]) -> Flaw {
         let what = What::LeftOut(Construct::NetTypeDirective);
         return blanked(what, word, line_len(rest));
     }
-    blanked(What::Broken(110), word, line_len(rest))
+    blanked(what, word, line_len(rest))
 }
 
 // A comment or a string that isn't ended.
@@ -209,12 +230,12 @@ fn by_open(rest: &[u8]) -> Flaw {
     }
 }
 
-/// What is refused by this number at the head of these letters of the files.
-pub(crate) fn flaw_of(number: u16, rest: &[u8], files: &[Vec<u8>]) -> Flaw {
+/// What is refused by this number at the head of these letters of the files, whether they are the first of their line or not.
+pub(crate) fn flaw_of(number: u16, rest: &[u8], is_first: bool, files: &[Vec<u8>]) -> Flaw {
     match number {
         101 => by_open(rest),
         102 => numbers::flaw_of(rest),
-        110 if rest.starts_with(b"`") => by_directive(rest),
+        110 if rest.starts_with(b"`") => by_directive(rest, is_first),
         111 if rest.starts_with(b"`") => by_macro(rest, files),
         114 => blanked(What::Broken(114), 0, line_len(rest)),
         _ => blanked(What::Broken(number), 0, 1),

@@ -1,8 +1,9 @@
 // Files of which what can't be read by words is taken out, so that reading goes on behind it.
 
 use crate::find::{Found, What, keep};
-use crate::letters::{Flaw, flaw_of};
-use crate::lines::{Files, offset_of};
+use crate::letters::{Flaw, Letters, flaw_of, len_of};
+use crate::lines::{Files, from, front, offset_of};
+use crate::mistakes::Mistake;
 use basis::{NoMemory, OrMemory};
 use std::alloc::Global;
 use vlex::{LexFault, tokens};
@@ -12,6 +13,15 @@ use vsrc::{Place, SrcFault, expand};
 const TURNS: usize = 256;
 
 const BYTES: usize = 67_108_864;
+
+// With these the beginning of a conditional, or of other reserved words, may be taken out, and then its end is one of those.
+const BEGINS: [Mistake; 3] = [
+    Mistake::KeywordsVersion,
+    Mistake::LateDirective,
+    Mistake::NamelessDirective,
+];
+
+const ENDS: [Mistake; 2] = [Mistake::ClosedConditional, Mistake::ClosedKeywords];
 
 /// Files, and what was taken out of them.
 #[derive(Drop)]
@@ -107,20 +117,53 @@ fn told<'a>(files: Files<'a>, place: Place, flaw: Flaw) -> Found<'a> {
     let rest = letters_from(files.texts, place);
     Found {
         what: flaw.what,
-        word: match rest.get(..flaw.word) {
-            None => rest,
-            Some(word) => word,
-        },
+        word: front(from(rest, flaw.before), flaw.word),
         place,
         more: 0,
     }
 }
 
+// Whether nothing but blanks stands before the place on its line.
+fn is_first(texts: &[Vec<u8>], place: Place) -> bool {
+    let Some(text) = texts.get(place.file.saturating_sub(1)) else {
+        return false;
+    };
+    let end = offset_of(text, place);
+    let before = from(front(text, end), end.saturating_sub(place.column));
+    len_of(Letters::Blanks, before) == before.len()
+}
+
+// Whether it is one of these mistakes.
+fn is_among(what: What, mistakes: &[Mistake]) -> bool {
+    for mistake in mistakes {
+        if what == What::Mistake(*mistake) {
+            return true;
+        }
+    }
+    false
+}
+
+// Whether the flaw comes of what was taken out before it: the beginning of what it ends.
+fn follows(all: &[Found<'_>], flaw: Flaw) -> bool {
+    if !is_among(flaw.what, &ENDS) {
+        return false;
+    }
+    for found in all {
+        if is_among(found.what, &BEGINS) {
+            return true;
+        }
+    }
+    false
+}
+
 // Takes out what is refused, and keeps what it was. False where reading can't go on.
 fn mend<'a>(mended: &mut Mended<'a>, files: Files<'a>, refused: Refusal) -> Result<bool, NoMemory> {
     let rest = letters_from(&mended.texts, refused.place);
-    let flaw = flaw_of(refused.number, rest, files.texts);
-    keep(&mut mended.found, told(files, refused.place, flaw))?;
+    let is_first = is_first(&mended.texts, refused.place);
+    let flaw = flaw_of(refused.number, rest, is_first, files.texts);
+    if !follows(&mended.found, flaw) {
+        keep(&mut mended.found, told(files, refused.place, flaw))?;
+    }
     match refused.number {
         112 => Ok(false),
         113 => {

@@ -3,7 +3,8 @@
 use crate::construct::{Row, row_of};
 use crate::find::{Found, What};
 use crate::lines::{Files, front, put_all, put_letters, put_pointed};
-use crate::rules::{NO_PORT, Rule, rule_of};
+use crate::mistakes::rule_for;
+use crate::rules::{Rule, rule_of};
 use basis::NoMemory;
 use itoa::Buffer;
 use vsrc::Place;
@@ -131,6 +132,9 @@ pub(crate) fn put_found(
             None => Ok(()),
             Some(rule) => put_rule(text, files, found, rule),
         },
-        What::NoPort => put_rule(text, files, found, &NO_PORT),
+        What::Mistake(mistake) => match rule_for(mistake) {
+            None => Ok(()),
+            Some(rule) => put_rule(text, files, found, rule),
+        },
     }
 }

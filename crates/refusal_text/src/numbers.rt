@@ -4,6 +4,8 @@ use crate::construct::Construct;
 use crate::find::What;
 use crate::letters::{Flaw, Letters, len_of, numbered, use_len};
 use crate::lines::{from, front};
+use crate::mistakes::Mistake;
+use crate::words::is_one_of;
 use basis::digits_len;
 use memchr::memchr;
 
@@ -46,6 +48,7 @@ fn number(what: What, len: usize) -> Flaw {
 fn cast() -> Flaw {
     Flaw {
         what: What::LeftOut(Construct::Cast),
+        before: 0,
         word: 1,
         len: 1,
         first: b'+',
@@ -105,12 +108,53 @@ fn by_number(rest: &[u8]) -> Flaw {
     number(What::Broken(102), len)
 }
 
+// Whether the letter is an octal digit.
+fn is_octal(letter: u8) -> bool {
+    letter >= b'0' && letter <= b'7'
+}
+
+// Whether the letters, which stand behind a backslash, begin with an octal number over 377.
+fn is_over(letters: &[u8]) -> bool {
+    match letters {
+        [first, second, third, ..] => {
+            *first > b'3' && is_octal(*first) && is_octal(*second) && is_octal(*third)
+        }
+        _ => false,
+    }
+}
+
+// Whether what stands behind a backslash is an escape (3.6.3).
+fn is_escape(letters: &[u8]) -> bool {
+    match letters.first() {
+        None => false,
+        Some(letter) => {
+            is_one_of(front(letters, 1), &["n", "t", "\\", "\""])
+                || (is_octal(*letter) && !is_over(letters))
+        }
+    }
+}
+
+// Where in the string the first escape stands that there isn't; at its start where there is none.
+fn bad_escape(string: &[u8]) -> usize {
+    let mut is_behind = false;
+    for (at, letter) in string.iter().enumerate() {
+        if is_behind && !is_escape(from(string, at)) {
+            return at.saturating_sub(1);
+        }
+        is_behind = *letter == b'\\' && !is_behind;
+    }
+    0
+}
+
 // A string with an escape that there isn't; its letters become blanks.
 fn by_string(rest: &[u8]) -> Flaw {
     let whole = string_len(rest);
+    let before = bad_escape(front(rest, whole));
+    let is_long = is_over(from(rest, before.saturating_add(1)));
     Flaw {
-        what: What::Broken(102),
-        word: whole,
+        what: What::Mistake(Mistake::Escape),
+        before,
+        word: if is_long { 4 } else { 2 },
         len: whole.saturating_sub(1),
         first: b'"',
         other: b' ',
@@ -122,6 +166,7 @@ fn by_escape(rest: &[u8]) -> Flaw {
     let len = len_of(Letters::NoSpaces, rest);
     Flaw {
         what: What::LeftOut(Construct::EscapedName),
+        before: 0,
         word: len,
         len,
         first: b'_',
@@ -140,6 +185,7 @@ pub(crate) fn flaw_of(rest: &[u8]) -> Flaw {
         Some(b'$') => number(What::LeftOut(Construct::Queue), 1),
         _ => Flaw {
             what: What::Broken(102),
+            before: 0,
             word: 1,
             len: 1,
             first: b' ',

@@ -2,7 +2,7 @@
 
 /// What is told of a fault of this number: where it names its word, that word stands before the rest.
 pub(crate) struct Rule {
-    number: u16,
+    pub(crate) number: u16,
     pub(crate) names_word: bool,
     pub(crate) what: &'static str,
     pub(crate) instead: &'static str,
@@ -81,7 +81,7 @@ const RULES: [Rule; 20] = [
         number: 302,
         names_word: true,
         what: "is declared twice",
-        instead: "rename one",
+        instead: "rename one, or take one of the declarations away",
     },
     Rule {
         number: 303,
@@ -134,14 +134,6 @@ const RULES: [Rule; 20] = [
         instead: "declare it as what it is used as: a `reg` where statements write it, a `wire` where an `assign` or an output drives it",
     },
 ];
-
-/// What is told of the name of a port or a parameter that an instance can't be given.
-pub(crate) const NO_PORT: Rule = Rule {
-    number: 305,
-    names_word: true,
-    what: "is no port or parameter of the module, or stands twice",
-    instead: "write the names that the head of the module has, each at most once; a `localparam` can't be set from outside",
-};
 
 /// What is told of the number, if it has a place.
 pub(crate) fn rule_of(number: u16) -> Option<&'static Rule> {

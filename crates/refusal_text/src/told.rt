@@ -2,17 +2,17 @@
 
 use crate::bounds::opens_range;
 use crate::construct::Construct;
-use crate::find::{
-    Found, What, construct_at, construct_near, constructs, format_near, found_at, is_same,
-};
+use crate::find::{Found, What, construct_at, construct_near, constructs, found_at, is_same};
 use crate::lines::Files;
 use crate::mended::{Mended, mend_files};
 use crate::message::put_found;
+use crate::mistakes::{Mistake, rule_for};
 use crate::modules::modules_of;
+use crate::ports::mistake_of;
+use crate::printed::format_near;
 use crate::tops::{missing_modules, put_none, put_several};
 use crate::undeclared::undeclared_names;
-use crate::walk::PRINTS;
-use crate::words::{Words, is, is_one_of};
+use crate::words::{Words, is};
 use basis::NoMemory;
 use std::alloc::Global;
 use vlex::{TokenKind, Tokens, tokens};
@@ -70,41 +70,57 @@ fn is_dump_path(tokens: &Tokens<'_>, at: usize) -> bool {
     words.is(TokenKind::Plain) && is(words.before(1), "(") && is(words.before(2), "$dumpvars")
 }
 
-// Whether the word is the first argument of a task that prints, at which a wrong format is told.
-fn is_first_argument(tokens: &Tokens<'_>, at: usize) -> bool {
-    let words = Words::new(tokens, at);
-    is(words.before(1), "(") && is_one_of(words.before(2), &PRINTS)
-}
-
-// A name that an instance gives something to, and that its module doesn't have.
-fn no_port_at<'a>(tokens: &'a Tokens<'a>, at: usize) -> Found<'a> {
-    let words = Words::new(tokens, at);
+// A mistake at this word.
+fn mistaken<'a>(words: Words<'a>, mistake: Mistake) -> Found<'a> {
     Found {
-        what: What::NoPort,
+        what: What::Mistake(mistake),
         word: words.word(),
         place: words.place(),
         more: 0,
     }
 }
 
-// The construct that the fault is told by, if it comes of one.
-fn construct_of<'a>(tokens: &'a Tokens<'a>, at: usize, number: u16) -> Option<Found<'a>> {
+// The mistake of a port, or of a parameter, that the fault is told by, if it comes of one.
+fn declared_at<'a>(tokens: &'a Tokens<'a>, at: usize, number: u16) -> Option<Found<'a>> {
+    let mistake = mistake_of(tokens, at, number)?;
+    Some(mistaken(Words::new(tokens, at), mistake))
+}
+
+// The first that there is.
+fn first_of<'a>(one: Option<Found<'a>>, other: Option<Found<'a>>) -> Option<Found<'a>> {
+    match one {
+        Some(found) => Some(found),
+        None => other,
+    }
+}
+
+// The construct or the mistake that the fault is told by, if it comes of one.
+fn cause_of<'a>(tokens: &'a Tokens<'a>, at: usize, number: u16) -> Option<Found<'a>> {
+    let words = Words::new(tokens, at);
     match number {
         201 | 202 => construct_near(tokens, at),
         301 => only_instance(construct_at(tokens, at)),
-        305 if is_connected_by_names(Words::new(tokens, at)) => {
-            let words = Words::new(tokens, at);
+        305 if is_connected_by_names(words) => {
             Some(found_at(words, Construct::OutputPart, words.word()))
         }
-        305 if is(Words::new(tokens, at).before(1), ".") => Some(no_port_at(tokens, at)),
-        306 => range_at(tokens, at),
-        303 | 310 if is_dump_path(tokens, at) => Some(found_at(
-            Words::new(tokens, at),
-            Construct::DumpPath,
-            &[],
-        )),
-        310 if is_first_argument(tokens, at) => format_near(tokens, at),
+        305 if is(words.before(1), ".") => Some(mistaken(words, Mistake::NoPort)),
+        303 | 310 if is_dump_path(tokens, at) => { Some(found_at(words, Construct::DumpPath, &[])) }
+        302 | 303 => declared_at(tokens, at, number),
+        306 => first_of(range_at(tokens, at), declared_at(tokens, at, number)),
+        310 => first_of(format_near(words), declared_at(tokens, at, number)),
         _ => None,
+    }
+}
+
+// The number of the fault that is told; none of a construct.
+fn number_of(what: What) -> u16 {
+    match what {
+        What::LeftOut(_) => 0,
+        What::Broken(number) => number,
+        What::Mistake(mistake) => match rule_for(mistake) {
+            None => 0,
+            Some(rule) => rule.number,
+        },
     }
 }
 
@@ -183,10 +199,10 @@ fn put_by_words<'a>(
         more: 0,
     };
     let all = constructs(alloc, tokens)?;
-    let told = construct_of(tokens, at, number).unwrap_or(broken);
-    match told.what {
-        What::Broken(301) => put_modules(alloc, text, files, told, tokens, at)?,
-        What::Broken(303) => put_undeclared(alloc, text, files, told, tokens)?,
+    let told = cause_of(tokens, at, number).unwrap_or(broken);
+    match number_of(told.what) {
+        301 => put_modules(alloc, text, files, told, tokens, at)?,
+        303 => put_undeclared(alloc, text, files, told, tokens)?,
         _ => put_found(text, files, &with_count(told, &all))?,
     }
     put_others(text, files, &all, &told)

@@ -40,8 +40,8 @@ fn is_in_head(words: Words<'_>, walk: Walk) -> bool {
     }
 }
 
-// Whether the word is a name that is declared here.
-fn declares(words: Words<'_>, walk: Walk) -> bool {
+/// Whether the word, a name, is declared here.
+pub(crate) fn declares(words: Words<'_>, walk: Walk) -> bool {
     match walk.level {
         Level::Head => walk.open == 1 && is_in_head(words, walk),
         Level::Items => {
@@ -52,8 +52,8 @@ fn declares(words: Words<'_>, walk: Walk) -> bool {
     }
 }
 
-// Whether the word is the name of a block.
-fn names_block(words: Words<'_>) -> bool {
+/// Whether the word is the name of a block.
+pub(crate) fn names_block(words: Words<'_>) -> bool {
     is(words.before(1), ":") && is(words.before(2), "begin")
 }
 

@@ -35,6 +35,7 @@ pub(crate) enum Opening {
     Other,
     Variable,
     Net,
+    Port,
     Parameter,
     Assign,
     Instance,
@@ -245,7 +246,7 @@ fn opening_of(words: Words<'_>) -> Opening {
     match words.word() {
         word if is_one_of(word, &VARIABLES) => Opening::Variable,
         word if is_one_of(word, &NETS) => Opening::Net,
-        word if is_one_of(word, &["input", "output", "inout"]) => Opening::Net,
+        word if is_one_of(word, &["input", "output", "inout"]) => Opening::Port,
         word if is_one_of(word, &["parameter", "localparam"]) => Opening::Parameter,
         word if is(word, "assign") => Opening::Assign,
         word if is(word, "defparam") => Opening::Defparam,

@@ -73,6 +73,11 @@ impl<'a> Words<'a> {
         Words::new(self.tokens, self.at.saturating_add(more))
     }
 
+    /// The text, looked at from the word so many places earlier.
+    pub(crate) fn earlier(&self, fewer: usize) -> Words<'a> {
+        Words::new(self.tokens, self.at.saturating_sub(fewer))
+    }
+
     /// The word so many places later.
     pub(crate) fn after(&self, more: usize) -> &'a [u8] {
         word_at(self.tokens, self.at.saturating_add(more))

@@ -1,0 +1,249 @@
+// Mistakes that the words of a refusal tell, beside the number of its fault (docs/FAULTS.md).
+
+use crate::rules::Rule;
+
+/// What is wrong, where that can be told more closely than by the number of the fault.
+#[derive(Clone, Copy, PartialEq, Eq)]
+pub(crate) enum Mistake {
+    ClosedConditional,
+    ClosedKeywords,
+    DeclaredPort,
+    Escape,
+    FormatOfString,
+    InputVariable,
+    IntegerPort,
+    KeywordsVersion,
+    LateDirective,
+    LaterParameter,
+    LineForm,
+    NamelessDirective,
+    NoArgument,
+    NoPort,
+    OtherRange,
+    PullForm,
+    SamePort,
+    TimescaleForm,
+    TimescaleHalf,
+    TimescaleOrder,
+    UndirectedPort,
+    UnlistedPort,
+}
+
+// A mistake, and what is told of it.
+struct Row {
+    mistake: Mistake,
+    rule: Rule,
+}
+
+static ROWS: [Row; 22] = [
+    Row {
+        mistake: Mistake::Escape,
+        rule: Rule {
+            number: 102,
+            names_word: true,
+            what: "is no escape of a string",
+            instead: "write `\\\\` for a backslash itself; the escapes are `\\n`, `\\t`, `\\\\`, `\\\"` and octal digits, one to \
+                three, up to `\\377`",
+        },
+    },
+    Row {
+        mistake: Mistake::LateDirective,
+        rule: Rule {
+            number: 110,
+            names_word: true,
+            what: "isn't the first thing on its line",
+            instead: "begin a line with it: no comment may stand before it, either",
+        },
+    },
+    Row {
+        mistake: Mistake::NamelessDirective,
+        rule: Rule {
+            number: 110,
+            names_word: true,
+            what: "has no name behind it",
+            instead: "write the name on the same line",
+        },
+    },
+    Row {
+        mistake: Mistake::ClosedConditional,
+        rule: Rule {
+            number: 110,
+            names_word: true,
+            what: "stands in no open conditional, or behind its ``else`",
+            instead: "take it away, or begin the conditional with `ifdef; a conditional has one `else",
+        },
+    },
+    Row {
+        mistake: Mistake::ClosedKeywords,
+        rule: Rule {
+            number: 110,
+            names_word: true,
+            what: "ends no ``begin_keywords`",
+            instead: "take it away: it changes nothing",
+        },
+    },
+    Row {
+        mistake: Mistake::KeywordsVersion,
+        rule: Rule {
+            number: 110,
+            names_word: true,
+            what: "names no version of Verilog",
+            instead: "write \"1364-2005\", \"1364-2001\", \"1364-2001-noconfig\" or \"1364-1995\"; or take it away with its \
+                `end_keywords: it changes nothing",
+        },
+    },
+    Row {
+        mistake: Mistake::LineForm,
+        rule: Rule {
+            number: 110,
+            names_word: true,
+            what: "needs a number, a file in quotes, and a level of 0, 1 or 2 behind it",
+            instead: "write all three, as `line 12 \"tb.v\" 0; or take it away: it changes nothing",
+        },
+    },
+    Row {
+        mistake: Mistake::PullForm,
+        rule: Rule {
+            number: 110,
+            names_word: true,
+            what: "needs `pull0` or `pull1` behind it",
+            instead: "take it away: an input that isn't connected is z here all the same",
+        },
+    },
+    Row {
+        mistake: Mistake::TimescaleForm,
+        rule: Rule {
+            number: 110,
+            names_word: true,
+            what: "has another form than `1ns/100ps`",
+            instead: "write 1, 10 or 100 and one of s, ms, us, ns, ps and fs, before the slash and behind it",
+        },
+    },
+    Row {
+        mistake: Mistake::TimescaleHalf,
+        rule: Rule {
+            number: 110,
+            names_word: true,
+            what: "has no precision",
+            instead: "write it behind the unit and a slash: `timescale 1ns/1ns",
+        },
+    },
+    Row {
+        mistake: Mistake::TimescaleOrder,
+        rule: Rule {
+            number: 110,
+            names_word: true,
+            what: "has a precision that is longer than its unit",
+            instead: "write the unit first, and behind it a precision that is as long or shorter: `timescale 1ns/1ps",
+        },
+    },
+    Row {
+        mistake: Mistake::DeclaredPort,
+        rule: Rule {
+            number: 302,
+            names_word: true,
+            what: "is a port that is declared already",
+            instead: "take one of the declarations away; of a port that is a variable one says all: `output reg y`",
+        },
+    },
+    Row {
+        mistake: Mistake::IntegerPort,
+        rule: Rule {
+            number: 302,
+            names_word: true,
+            what: "is a port, and no port is an `integer`",
+            instead: "write `output reg signed [31:0] y` in place of both declarations",
+        },
+    },
+    Row {
+        mistake: Mistake::SamePort,
+        rule: Rule {
+            number: 302,
+            names_word: true,
+            what: "stands twice in the list of ports",
+            instead: "give each port a name of its own; two inputs are joined by what the instance connects to both",
+        },
+    },
+    Row {
+        mistake: Mistake::LaterParameter,
+        rule: Rule {
+            number: 303,
+            names_word: true,
+            what: "is a parameter that is declared later",
+            instead: "declare it before the constant that uses it: above that item, or in the head, `#(parameter W = 4)`",
+        },
+    },
+    Row {
+        mistake: Mistake::UndirectedPort,
+        rule: Rule {
+            number: 303,
+            names_word: true,
+            what: "is a port without a direction",
+            instead: "write an item for it, `input b;` or `output b;`, or take it out of the list",
+        },
+    },
+    Row {
+        mistake: Mistake::UnlistedPort,
+        rule: Rule {
+            number: 303,
+            names_word: true,
+            what: "isn't in the list of ports",
+            instead: "put it into the list behind the name of the module; what is no port is declared as `wire` or `reg`",
+        },
+    },
+    Row {
+        mistake: Mistake::NoPort,
+        rule: Rule {
+            number: 305,
+            names_word: true,
+            what: "is no port or parameter of the module, or stands twice",
+            instead: "write the names that the head of the module has, each at most once; a `localparam` can't be set from outside",
+        },
+    },
+    Row {
+        mistake: Mistake::OtherRange,
+        rule: Rule {
+            number: 306,
+            names_word: true,
+            what: "is declared with two ranges that differ",
+            instead: "write the same range both times: `output [3:0] y; reg [3:0] y;`",
+        },
+    },
+    Row {
+        mistake: Mistake::FormatOfString,
+        rule: Rule {
+            number: 310,
+            names_word: true,
+            what: "is given a string, which `%s` alone shows",
+            instead: "write `%s`, or the text itself in place of the format; a letter as a number is `8'h41`",
+        },
+    },
+    Row {
+        mistake: Mistake::InputVariable,
+        rule: Rule {
+            number: 310,
+            names_word: true,
+            what: "is an input, and no input is a variable",
+            instead: "leave the `reg` away; what the module itself writes is a variable of another name",
+        },
+    },
+    Row {
+        mistake: Mistake::NoArgument,
+        rule: Rule {
+            number: 310,
+            names_word: true,
+            what: "has no argument left",
+            instead: "write an argument for each format behind its string, in their order; a percent sign is `%%`",
+        },
+    },
+];
+
+/// What is told of the mistake.
+pub(crate) fn rule_for(mistake: Mistake) -> Option<&'static Rule> {
+    for row in &ROWS {
+        if row.mistake == mistake {
+            return Some(&row.rule);
+        }
+    }
+    None
+}
