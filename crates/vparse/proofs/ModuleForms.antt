@@ -133,26 +133,26 @@ module _ {A B : Type 0} (begin : A → PortTree) (first : Reader A) (rest : Read
   abbrev begun : Both (Both PortTree (List PortTree)) B → List PortTree
   begun (both list end) = listed_of list
 
-  by_end : (one : A) (list : List PortTree) (a : Answer B) →
+  begun_end : (one : A) (list : List PortTree) (a : Answer B) →
       and_then (and_then a (λ end. got (both (both one list) end))) (λ p. got (make p))
       ≡ and_then (and_then a (λ end. got (both (both (begin one) list) end))) (λ p. got (begun p))
-  by_end one list (got end left) = ap (λ b. got b left) (same one list end)
-  by_end one list (stop why left) = refl
+  begun_end one list (got end left) = ap (λ b. got b left) (same one list end)
+  begun_end one list (stop why left) = refl
 
-  by_rest : (one : A) (a : Answer (List PortTree)) →
+  begun_rest : (one : A) (a : Answer (List PortTree)) →
       and_then (and_then (and_then a (λ list. got (both one list))) (λ p. made (both p) next)) (λ p. got (make p))
       ≡ and_then (and_then (and_then a (λ list. got (both (begin one) list))) (λ p. made (both p) next)) (λ p. got (begun p))
-  by_rest one (got list left) = by_end one list (next left)
-  by_rest one (stop why left) = refl
+  begun_rest one (got list left) = begun_end one list (next left)
+  begun_rest one (stop why left) = refl
 
-  by_first : (a : Answer A) →
+  begun_first : (a : Answer A) →
       and_then (and_then (and_then a (λ one. made (both one) rest)) (λ p. made (both p) next)) (λ p. got (make p))
       ≡ and_then (and_then (and_then (and_then a (λ one. got (begin one))) (λ one. made (both one) rest)) (λ p. made (both p) next)) (λ p. got (begun p))
-  by_first (got one left) = by_rest one (rest left)
-  by_first (stop why left) = refl
+  begun_first (got one left) = begun_rest one (rest left)
+  begun_first (stop why left) = refl
 
   begun_is : (words : List Text) → made make (paired (paired first rest) next) words ≡ made begun (paired (paired (made begin first) rest) next) words
-  begun_is words = by_first (first words)
+  begun_is words = begun_first (first words)
 
 behind_is : {A : Type 0} (begin : A → PortTree) (first : Reader A) (read : Reader PortTree) (make : PortsBehind A → List PortTree) →
     ((one : A) (list : List PortTree) (end : Unit {0}) → make (both (both one list) end) ≡ begin one ∷ list) → (words : List Text) →
