@@ -21,8 +21,8 @@ returns-in-Some c =
     let is_top : top_of tree top ≡ Some m = sym c.in_ok-unit.ensures ∙ ap (unit_tree c.args.modules.now.words) c.in-Some.is in
     same_given c.design_of.result _ _ (sym (top_found tree top c.args.scale m is_top)) c.design_of.ensures
 
-pub returns : goal.returns
-returns c =
+pub returns-in_ok-at-in-None : goal.returns-in_ok-at-in-None
+returns-in_ok-at-in-None c =
     let tree : SourceTree = units_tree c.args.modules.now in
     let top : Option Text = named_text c.args.top in
     let is_top : top_of tree top ≡ None = sym c.in_ok-unit.ensures ∙ ap (unit_tree c.args.modules.now.words) c.in-None.is in
