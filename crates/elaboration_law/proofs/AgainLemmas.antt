@@ -1,11 +1,11 @@
 -- Ports that are declared again, and ports that items declare.
-use Rattle.std.proofs.Common.{◌≡◌, Bool, if◌then◌else◌, ◌∷◌, ◌++◌, Option, None, Some, Ok, refl, ◌∙◌}
+use Rattle.std.proofs.Common.{◌≡◌, Bool, Option, None, Some, Ok, refl}
 use Rattle.vast.specs.Words.{Text}
 use Rattle.vast.specs.NumberedModules.{ItemTree, parameters, declaration, events, assignments, initial, always, instances}
 use Rattle.vdesign.specs.declared.expression.Bounds.{Bounds}
 use Rattle.vmodules.specs.Ports.{Second, own_item}
 use Rattle.velab_expr.specs.declared.fault.Rule.TheVariants.{Width}
-use Rattle.velab_expr.specs.Answers.{◌>>=◌, required}
+use Rattle.velab_expr.specs.Answers.{required}
 use Rattle.velab_expr.specs.Scopes.{Scope}
 use Rattle.velab_expr.specs.Ranges.{lower_bounds}
 use Rattle.velab_expr.specs.Symbols.{symbols_by, behind_item}

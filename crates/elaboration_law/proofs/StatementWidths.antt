@@ -27,7 +27,7 @@ use Rattle.vdesign.specs.declared.print.Width.{Width}
 use Rattle.vast.specs.declared.statement.Printing.{Printing}
 use Rattle.format_text.specs.declared.letters.Escape.TheVariants.{Plain}
 use Rattle.format_text.specs.Formats.{FormatFront, letters_of, front_of}
-use Rattle.format_text.specs.Pieces.{Argument, string, value, Taken, text_piece, without_form, last_pieces, letters_in, value_taken, string_by, string_shown, string_taken, format_left, pieces_before, pieces_with_taken, pieces_by, pieces_of, line_end, with_line_end}
+use Rattle.format_text.specs.Pieces.{Argument, string, value, Taken, text_piece, without_form, last_pieces, letters_in, value_taken, string_by, string_shown, string_taken, format_left, pieces_with_taken, pieces_by, pieces_of, line_end, with_line_end}
 use Rattle.vvalue.specs.Value.{Environment}
 use Rattle.vvalue.specs.Flaws.{flaw_of, targets_flaw}
 use Rattle.vvalue.specs.declared.flaw.Flaw.{Flaw}
