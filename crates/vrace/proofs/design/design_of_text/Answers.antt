@@ -1,7 +1,8 @@
-use Rattle.std.proofs.Common.{option_map}
+use Rattle.std.proofs.Common.{option_map, subst}
 use Rattle.std.proofs.lemmas.Result.{err_from_is_err_and}
 use Rattle.vast.specs.NumberedTrees.{source_tree}
 use Rattle.vexpr_parse.specs.Texts.{words_of}
+use Rattle.vhierarchy.specs.Instances.{Elaborates}
 use Rattle.vrace.proofs.DesignLemmas.{names_once}
 use Rattle.vrace.proofs.design.design_of_text.Goals as goal
 
@@ -32,3 +33,13 @@ returns-in_err-origins-clause-err c =
 
 pub returns-clause-placed : goal.returns-clause-placed
 returns-clause-placed c = c.in_ok-origins.ensures.placed c.args.text.now c.in_ok-tokens.ensures.ok (c.in_ok-tree.ensures.ok c.args.text.now c.in_ok-tokens.ensures.ok)
+
+pub returns-clause-ok : goal.returns-clause-ok
+returns-clause-ok c =
+    let tree = source_tree (words_of c.in_ok-tokens.tokens) c.in_ok-tree.tree in
+    let top = option_map (λ name. name.now) c.args.top in
+    record {
+      tree = tree;
+      is_tree = (c.in_ok-tree.ensures.ok c.args.text.now c.in_ok-tokens.ensures.ok).is_tree;
+      elaborated = subst (λ scale. Elaborates tree top scale c.in_ok-design.design) c.timescale.ensures c.in_ok-design.ensures.ok;
+    }

@@ -2,8 +2,13 @@ use Rattle.std.proofs.Common.{subst, arith}
 use Rattle.basis.specs.Reasons.{Because}
 use Rattle.vexpr_parse.specs.Texts.{words_of}
 use Rattle.vparse.specs.Refusals.{HasNoText, IsRefusal}
-use Rattle.vrace.proofs.DesignLemmas.{read_as}
+use Rattle.vrace.proofs.DesignLemmas.{has_many, read_as}
 use Rattle.vrace.proofs.design.tree_of.Goals as goal
+
+pub returns-then-len-gt-MOST_WORDS-clause-err : goal.returns-then-len-gt-MOST_WORDS-clause-err
+returns-then-len-gt-MOST_WORDS-clause-err c = λ source top cut.
+    has_many source c.args.tokens.now cut (omega (arith, c.if-len-gt-MOST_WORDS.true, c.len.ensures.value)) c.place.result c.at.result
+    c.place.ensures c.at.ensures
 
 pub returns-in-Ok-clause-ok : goal.returns-in-Ok-clause-ok
 returns-in-Ok-clause-ok c = λ source cut.
