@@ -748,7 +748,11 @@ def read(text):
 
 
 def printed(tree):
-    return tree if isinstance(tree, str) else "(" + " ".join(map(printed, tree)) + ")"
+    if isinstance(tree, str):
+        return tree
+    # (a block without a name is told by its statements alone)
+    parts = tree[:1] + tree[2:] if tuple(tree[:2]) == ("block", "-") else tree
+    return "(" + " ".join(map(printed, parts)) + ")"
 
 
 # ---- the words of trees
