@@ -1,13 +1,14 @@
 """Texts of designs made at random, by docs/LANGUAGE.md: a module tb, with others below it where it is asked for. What they mean is left to
 second_design.py: here stands only how they are spelled. What each function makes is text.
 """
+import re
 from dataclasses import dataclass, field
 
 from second_design import Object
 from second_values import Bit, Constant, Number, Part, Variable, World, digits, expression
 
 # statements, and how often each is made; those of the second line only where one may stand inside
-LEAVES = {"assign": 6, "post": 5, "delay": 4, "empty": 1, "dump": 1, "finish": 0.2, "stop": 0.1, "held": 1, "later": 1, "trigger": 1, "print": 1.5, "command": 0.4}
+LEAVES = {"assign": 6, "post": 5, "delay": 4, "empty": 1, "dump": 1, "finish": 0.2, "stop": 0.1, "held": 1, "later": 1, "trigger": 1, "print": 1.5, "idle": 0.1, "command": 0.4}
 NESTED = {"block": 4, "test": 3, "again": 1, "for": 1, "forever": 0.5, "on": 2, "any": 1, "until": 1, "repeat": 1, "case": 2}
 DEPTH = 3
 # timescales, as a text spells them
@@ -84,7 +85,7 @@ class Texts:
         self.leaves = {kind: weight for kind, weight in LEAVES.items() if self.is_made(kind)}
 
     def is_made(self, kind):
-        wanted = {"held": "delays", "later": "delays", "trigger": "events", "print": "lines", "command": "dumps"}
+        wanted = {"held": "delays", "later": "delays", "trigger": "events", "print": "lines", "idle": "lines", "command": "dumps"}
         return (kind not in wanted or wanted[kind] in self.asked) and (kind != "trigger" or self.names.events)
 
     # expressions
@@ -94,7 +95,7 @@ class Texts:
         if everything and self.rng.random() < 0.6:
             place = self.rng.randrange(len(everything))
             one = everything[place]
-            if (one.bounds or one.kind in ("integer", "parameter")) and self.rng.random() < 0.4:
+            if (one.bounds or one.kind in ("integer", "time", "parameter")) and self.rng.random() < 0.4:
                 return self.rng.choice([self.bit, self.part])(one.name, place)
             return Variable(one.name, place)
         return Constant((based if self.rng.random() < 0.6 else plain)(self.rng))
@@ -134,7 +135,7 @@ class Texts:
 
     def selected(self, one, room):
         place = self.names.objects.index(one)
-        if one.bounds is None and one.kind != "integer":
+        if one.bounds is None and one.kind not in ("integer", "time"):
             return one.name
         while True:
             made = self.rng.choice([self.bit, self.part])(one.name, place)
@@ -192,7 +193,15 @@ class Texts:
         word = task + self.rng.choice(["", "", "", "", "b", "o", "h"])
         if task != "$monitor" and self.rng.random() < 0.1:
             return f"{word};"
+        if self.rng.random() < 0.05:
+            return f"{word}();"
         return f"{word}({', '.join(self.argument() for _ in range(self.rng.choice([1, 1, 2, 3])))});"
+
+    def make_idle(self, depth):
+        """A task that has no effect; what it is given isn't looked at."""
+        word = self.rng.choice(["$fdisplay", "$fwriteh", "$fstrobe", "$fmonitorb", "$fopen", "$fclose", "$fflush", "$timeformat", "$printtimescale"])
+        one = lambda: self.rng.choice([self.value(), "nowhere", '"%q %m"', "", "-9"])
+        return self.rng.choice([f"{word};", f"{word}({', '.join(one() for _ in range(self.rng.choice([1, 2, 3])))});"])
 
     def form(self):
         """A format of a value; a width now and then."""
@@ -202,6 +211,8 @@ class Texts:
     def argument(self):
         """An argument of a printing task, or a format with the arguments that it takes."""
         shown = lambda: self.rng.choice(["$time", "($time)", self.value()])
+        if self.rng.random() < 0.05:
+            return ""
         if self.rng.random() < 0.3:
             return shown()
         pieces, taken = [], []
@@ -209,7 +220,7 @@ class Texts:
             pieces.append(self.rng.choice(["", "a=", " ", "%%", "\\n", "\\t", '\\"', "\\\\", ";", "\\101", "\\7", "\\1278"]))
             if self.rng.random() < 0.1:
                 pieces.append(self.rng.choice(["%s", "%0s", "%8S", "%08s"]))
-                taken.append(self.rng.choice(['"x"', '""', '"a%d\\n"', '"longer than eight"']))
+                taken.append(self.rng.choice(['"x"', "", '""', '"a%d\\n"', '"longer than eight"']))
             else:
                 pieces.append(self.form())
                 taken.append(shown())
@@ -290,7 +301,7 @@ def declaration(one):
 def some_object(rng, name, can_be_net):
     """An object, declared in one way or another."""
     if rng.random() < 0.2:
-        return Object(name, "integer", 32, True, None)
+        return Object(name, "integer", 32, True, None) if rng.random() < 0.7 else Object(name, "time", 64, False, None)
     kind = "wire" if can_be_net and rng.random() < 0.3 else "reg"
     length, low, signed = rng.choice([1, 1, 2, 8, 64]), rng.randrange(0, 9), rng.random() < 0.3
     bounds = (low + length - 1, low) if rng.random() < 0.5 else (low, low + length - 1)
@@ -332,6 +343,25 @@ class Body:
                 self.item(f"initial {f'begin {self.texts.make_dump(0)} {text} end' if n == 0 and dumps else text}", True)
 
 
+# strings, which stay as they are, and the names that stand for something
+NAMED = re.compile(r'"(?:[^"\\]|\\.)*"|\b(?:v\d+|q\d+|p\d+|e\d+|n\d+_\d+|u\d+|m\d+|block_\d+)\b')
+
+
+def escaped(rng, text):
+    """The text, now and then with some of its names escaped (3.7.1): each time by the same letters, or at times."""
+    if rng.random() < 0.85:
+        return text
+    names = sorted(set(name for name in NAMED.findall(text) if name[0] != '"'))
+    odd = {name: name + rng.choice(["", "+", "[1]", "!", "-x"]) for name in names if rng.random() < 0.3}
+
+    def one(found):
+        name = odd.get(found[0])
+        if name is None or (name == found[0] and rng.random() < 0.5):
+            return found[0]
+        return f"\\{name} "
+    return NAMED.sub(one, text)
+
+
 def module(rng, asked=frozenset()):
     """A text of one module tb, and the line of each of its processes."""
     lines = [rng.choice(TIMESCALES)] if rng.random() < 0.3 else []
@@ -348,7 +378,7 @@ def module(rng, asked=frozenset()):
         parameters(rng, body)
     body.declare(objects)
     body.processes(rng.randrange(1, 5), rng.random() < 0.9)
-    return "\n".join([*lines, "endmodule", ""]), body.process_lines
+    return escaped(rng, "\n".join([*lines, "endmodule", ""])), body.process_lines
 
 
 def parameters(rng, body):
@@ -484,4 +514,4 @@ def design(rng, asked):
     lines += [] if inside and inside[-1] in lines else inside
     texts = [*(one.text for one in below), "\n".join([*lines, "endmodule", ""])]
     rng.shuffle(texts)
-    return f"{rng.choice(TIMESCALES)}\n" * (rng.random() < 0.3) + "".join(texts)
+    return escaped(rng, f"{rng.choice(TIMESCALES)}\n" * (rng.random() < 0.3) + "".join(texts))

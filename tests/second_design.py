@@ -8,7 +8,7 @@ place, left, right), a term (edge, place) or ("event", number), a piece of a pri
 import re
 from dataclasses import dataclass, field
 
-from second_syntax import PRINTING, Expander, Fault, Reader, cut
+from second_syntax import IDLE, PRINTING, Expander, Fault, Reader, cut
 from second_values import Binary, Bit, Conditional, Constant, Conversion, FixedBit, FixedPart, Joined, Number, Part, Repeated, Time, Unary, Variable
 from second_values import World, digits, extended, integer, is_known
 
@@ -52,15 +52,20 @@ def number_of(word):
     return Number(word, (letters + fill * 64)[:length], bool(sign), not size and not sign)
 
 
+# how many bits a variable has that is declared without a range, where it isn't one (4.8)
+LENGTHS = {"integer": 32, "time": 64}
+
 # ---- the size of a module (Limits)
 
 # trees that count nothing by themselves
-PLAIN = {"module", "parameters", "head", "ports", "input", "output", "type", "range", "integer", "parameter", "localparam", "declare", "wire", "reg",
+PLAIN = {"module", "parameters", "head", "ports", "input", "output", "type", "range", "integer", "time", "parameter", "localparam", "declare", "wire", "reg",
          "assigns", "initial", "always", "by-order", "by-name", "delay-value", "default"}
 
 
 def size_of(tree):
     kind, *parts = tree
+    if kind == "left-out" or "$" + kind in IDLE:
+        return 2 if kind == "left-out" else 0
     inner = sum(size_of(part) for part in parts if isinstance(part, tuple))
     if kind == "labelled":
         return inner - 1 + (len(parts[0]) - 2) * size_of(parts[1])
@@ -281,7 +286,7 @@ class Unit:
         if isinstance(meaning, Parameter):
             return True
         one = self.whole.design.objects[meaning.number]
-        return one.bounds is not None or one.kind == "integer"
+        return one.bounds is not None or one.kind in LENGTHS
 
     def part(self, meaning, left, right, before):
         """The bounds of a part of what this name means."""
@@ -324,7 +329,7 @@ class Unit:
         """An object more; its number."""
         objects = self.whole.design.objects
         self.add(name, Named("object", len(objects)))
-        length = abs(bounds[0] - bounds[1]) + 1 if bounds else 32 if kind == "integer" else 1
+        length = abs(bounds[0] - bounds[1]) + 1 if bounds else LENGTHS.get(kind, 1)
         objects.append(Object(f"{self.path}.{name}", kind, length, signed or kind == "integer", bounds))
         return len(objects) - 1
 
@@ -394,11 +399,11 @@ class Unit:
                     self.set_parameter(what[0], name, given.get(name, value) if can_be_given else value)
             elif kind == "declare":
                 word, *type = what[0]
-                signed, bounds = (type[-1][1] == "signed", self.range(type[-1][2], self.parameters)) if type else (True, None)
+                signed, bounds = (type[-1][1] == "signed", self.range(type[-1][2], self.parameters)) if type else (word == "integer", None)
                 for _, name, _ in what[1:]:
                     if word in ("input", "output"):
                         again[name].append(bounds)
-                    elif word != "integer" and name in again:
+                    elif word not in LENGTHS and name in again:
                         again[name].append(bounds)
                     else:
                         self.declare(name, word, signed, bounds)
@@ -569,13 +574,14 @@ class Unit:
             return TASKS[task], self.pieces(base, what, before) + ([] if task == "write" else ["\n"])
         if word == "dumpvars":
             return "dumpvars", self.selection(what)
-        if word in ("dumpfile", "dumpflush"):
+        if word in ("dumpfile", "dumpflush") or "$" + word in IDLE:
             return ("nothing",)
         return (word,)
 
     def pieces(self, base, arguments, before):
         """What a printed text is made of (17.1.1)."""
-        arguments, pieces = list(arguments), []
+        arguments = [("string", '" "') if tree == ("left-out",) else tree for tree in arguments if arguments != [("left-out",)]]
+        pieces = []
         value = lambda form, tree: pieces.append((form, tree[0] != "time", self.checked(tree, before)))
         while arguments:
             tree = arguments.pop(0)
@@ -741,7 +747,7 @@ def directed_names(items):
 
 
 def second_names(items):
-    """The names that items declare as nets or as variables but `integer`."""
+    """The names that items declare as nets or as variables but `integer` and `time`."""
     return [(name, item[1]) for item in items if item[0] == "declare" and item[1][0] in ("wire", "reg") for _, name, _ in item[2:]]
 
 
@@ -813,8 +819,14 @@ def top_of(modules, top):
     return free[0] if len(free) == 1 else None
 
 
+def unescaped(tree):
+    """The tree with its names: of an escaped one the backslash is no part (3.7.1)."""
+    return tree.removeprefix("\\") if isinstance(tree, str) else tuple(map(unescaped, tree))
+
+
 def elaborated(tree, top=None):
     """The design of a tree."""
+    tree = unescaped(tree)
     names = [module[1] for module in tree[1:]]
     if len(set(names)) < len(names):
         raise Refused({302})

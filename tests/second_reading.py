@@ -4,12 +4,15 @@ the scripts random-runs, random-reports and examples compare with the program's 
 What a run shows are its items: a slot end (time, values), a printed line ("line", text), a monitor that is in force from now on ("monitor",
 pieces), a command to the dump ("dumpvars", selection), ("dumpon",), ("dumpoff",) or ("dumpall",).
 """
+import re
 from copy import copy
 
 from second_design import target_size
 from second_values import World, extended, integer, is_known, truth
 
 UNTIL = 40
+# a name that a dump has as it is; another has a backslash before it (3.7.1)
+SIMPLE = re.compile(r"[A-Za-z_][A-Za-z0-9_$]*")
 
 
 # ---- runs (clause 11)
@@ -430,7 +433,9 @@ def header(made, selections):
             for n in range(scope.first, scope.first + scope.count):
                 one = made.objects[n]
                 shown = "" if one.bounds is None else f" [{one.bounds[0]}:{one.bounds[1]}]"
-                yield f"$var {one.kind} {one.length} {code(n)} {one.name.split('.')[-1]}{shown} $end"
+                name = one.name.split(".")[-1]
+                identifier = name if SIMPLE.fullmatch(name) else f"\\{name}"
+                yield f"$var {one.kind} {one.length} {code(n)} {identifier}{shown} $end"
     yield from ["$upscope $end"] * len(open_scopes)
     yield "$enddefinitions $end"
 

@@ -106,7 +106,7 @@ class Report:
     line_races: list
 
 
-NUMBER, NAME = "(0|[1-9][0-9]*)", "[A-Za-z_][A-Za-z0-9_$]*"
+NUMBER, NAME = "(0|[1-9][0-9]*)", "[!-~]+"
 LOG = "(-|[0-9:,]+)"
 
 

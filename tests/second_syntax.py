@@ -14,9 +14,11 @@ generate genvar if ifnone initial inout input instance integer join liblist libr
 notif1 or output parameter pmos posedge primitive pulldown pullup real realtime reg release repeat signed specify specparam supply0 supply1 table
 task time tri tri0 tri1 triand trior trireg unsigned use uwire wait wand while wire wor xnor xor""".split())
 KEYWORDS = set("""always assign begin case casex casez default else end endcase endmodule event for forever if initial input integer localparam
-module negedge or output parameter posedge reg repeat signed wait while wire""".split())
+module negedge or output parameter posedge reg repeat signed time wait while wire""".split())
 PRINTING = ["$" + kind + base for kind in ("display", "write", "strobe", "monitor") for base in ("", "b", "o", "h")]
-SYSTEM_NAMES = set("$dumpfile $dumpvars $dumpon $dumpoff $dumpall $dumpflush $finish $stop $time $signed $unsigned".split()) | set(PRINTING)
+# tasks that have no effect
+IDLE = ["$f" + word[1:] for word in PRINTING] + "$fopen $fclose $fflush $timeformat $printtimescale".split()
+SYSTEM_NAMES = set("$dumpfile $dumpvars $dumpon $dumpoff $dumpall $dumpflush $finish $stop $time $signed $unsigned".split()) | set(PRINTING) | set(IDLE)
 LEFT_OUT = {"**", "+:", "-:"}
 SYMBOLS = """+ - * / % & | ^ ~ ^~ ~^ ~& ~| ! && || == != === !== < <= > >= << >> <<< >>> ? : = @ # ( ) [ ] { } , ; . -> ** +: -:""".split()
 UNARY = "+ - ! ~ & ~& | ~| ^ ~^ ^~".split()
@@ -220,7 +222,7 @@ OCTAL = "[0-3][0-7]{0,2}|[4-7][0-7]?(?![0-7])"
 TOKEN = re.compile(r"""
       (?P<blank> [ \t\n\r\f]+ | //[^\n]* | /\*(?s:.*?)\*/ )
     | (?P<open> /\* )
-    | (?P<name> [A-Za-z_][A-Za-z0-9_$]* )
+    | (?P<name> [A-Za-z_][A-Za-z0-9_$]* | \\[!-\-/-~]+(?![!-~]) )
     | (?P<system> \$[A-Za-z0-9_$]+ )
     | (?P<based> (?: (?P<size>[0-9][0-9_]*) (?P<gap>[ \t\n\r\f]*) )? '[sS]?
         (?: (?: [bB][ \t\n\r\f]*[01xXzZ?][01xXzZ?_]* | [oO][ \t\n\r\f]*[0-7xXzZ?][0-7xXzZ?_]*
@@ -584,6 +586,8 @@ class Reader:
         return self.took("posedge", "negedge") or "change", self.name(below + 1)
 
     def argument(self, below):
+        if self.stands(",", ")"):
+            return ("left-out",)
         return ("string", self.step(below + 1)) if self.here.kind == "string" else self.value(below)
 
     def enclosed(self, read):
@@ -594,7 +598,7 @@ class Reader:
 
     def task(self, level):
         word = self.here.text
-        if word in PRINTING:
+        if word in PRINTING or word in IDLE:
             needs_arguments = word.startswith("$monitor")
             self.step(level + 2 if needs_arguments else level + 1)
             arguments = []
@@ -719,7 +723,7 @@ class Reader:
         elif self.stands("input", "output"):
             tree = ("declare", self.direction(), *self.listed(lambda: ("declared", self.name(), "-")))
         else:
-            word = self.take("parameter", "localparam", "wire", "reg", "integer", "event", "assign")
+            word = self.take("parameter", "localparam", "wire", "reg", "integer", "time", "event", "assign")
             if word in ("parameter", "localparam"):
                 tree = (word, self.parameter_type(), *self.listed(self.name_and_value))
             elif word == "event":
@@ -727,7 +731,7 @@ class Reader:
             elif word == "assign":
                 tree = ("assigns", *self.listed(self.name_and_value))
             else:
-                kind = ("integer",) if word == "integer" else (word, self.range_type())
+                kind = (word,) if word in ("integer", "time") else (word, self.range_type())
                 tree = ("declare", kind, *self.listed(self.declared))
         self.take(";")
         return tree
@@ -844,8 +848,9 @@ SPELLINGS = {
     "comma": lambda term: [",", *spelled(term)],
     "or": lambda term: ["or", *spelled(term)],
     "string": alone,
+    "left-out": lambda: [],
     "path": lambda *names: between(".", [[name] for name in names]),
-    **{word[1:]: printing(word) for word in PRINTING},
+    **{word[1:]: printing(word) for word in PRINTING + IDLE},
     "dumpfile": lambda letters: ["$dumpfile", "(", letters, ")"],
     "dumpvars": lambda *parts: ["$dumpvars", *(enclosed(between(",", [[parts[0]], *map(spelled, parts[1:])])) if parts else [])],
     "dumpon": lambda: ["$dumpon"],
@@ -896,7 +901,7 @@ SPELLINGS = {
     "instance": lambda name, connections: [name, *spelled(connections)],
     "parameter": setting_list("parameter"),
     "localparam": setting_list("localparam"),
-    "declare": lambda kind, *declared: [*spelled(kind), *commas(declared), ";"],
+    "declare": lambda kind, *declared: [*(kind if kind == ("time",) else spelled(kind)), *commas(declared), ";"],
     "events": lambda *names: ["event", *between(",", [[name] for name in names]), ";"],
     "assigns": lambda *settings: ["assign", *commas(settings), ";"],
     "initial": lambda statement: ["initial", *spelled(statement)],
@@ -915,10 +920,10 @@ def spelled(tree):
 
 # ---- depth: a leaf counts 1, and each operator, select, parenthesis, concatenation, replication, conversion and statement round it 1 more
 
-UNCOUNTED = {"delay-number", "delay-name", "delay-value", "named", "any", "any-enclosed", "terms", "change", "posedge", "negedge", "comma", "or", "string", "path",
+UNCOUNTED = {"delay-number", "delay-name", "delay-value", "named", "any", "any-enclosed", "terms", "change", "posedge", "negedge", "comma", "or", "string", "left-out", "path",
              "dumpfile", "dumpvars", "dumpon", "dumpoff", "dumpall", "dumpflush", "finish", "stop", "labels", "labelled", "default",
-             *(word[1:] for word in PRINTING)}
-LEAVES = {"delay-number", "delay-name", "named", "change", "posedge", "negedge", "string", "dumpfile"}
+             *(word[1:] for word in PRINTING + IDLE)}
+LEAVES = {"delay-number", "delay-name", "named", "change", "posedge", "negedge", "string", "left-out", "dumpfile"}
 
 
 def depth(tree):
@@ -966,6 +971,8 @@ class Maker:
         rng = self.rng
         if self.chance(0.6):
             return rng.choice("a b c d e q x z clk data top u1 s S".split())
+        if self.chance(0.05):
+            return rng.choice(["\\a", "\\a+b", "\\begin", "\\reg", "\\u[0]", "\\1", "\\(", "\\$x", "\\;", "\\'b1"])
         if self.chance(0.3):
             return rng.choice("_ __ a$b _1 A$ tran small begins End IF module_ x1 b1 h8 d0 e1 sb1 string include define_ N0$ initially".split())
         name = rng.choice("abcxyzABCXYZ_") + "".join(rng.choice("abhdoxzs0123456789_$ABHDOXZS") for _ in range(rng.randint(0, 8)))
@@ -1045,15 +1052,17 @@ class Maker:
         return (kind, self.term(), *self.some(lambda: (self.rng.choice(["comma", "or"]), self.term()), 0, 2)) if kind == "terms" else (kind,)
 
     def argument(self, depth, deep):
+        if not deep and self.chance(0.08):
+            return ("left-out",)
         return ("string", self.string()) if not deep and self.chance(0.4) else self.expression(depth, deep)
 
     def task(self, depth, deep):
         """Its levels are those within the statement."""
         rng = self.rng
-        kind = rng.choice([word[1:] for word in PRINTING if depth or not word.startswith("$monitor")])
+        kind = rng.choice([word[1:] for word in rng.choice([PRINTING, PRINTING, IDLE]) if depth or not word.startswith("$monitor")])
         if not deep and self.chance(0.5):
             kind = rng.choice(["dumpvars", "dumpvars", "dumpon", "dumpoff", "dumpall", "dumpflush", "finish", "stop"] + (["dumpfile"] if depth else []))
-        if "$" + kind in PRINTING:
+        if "$" + kind in PRINTING + IDLE:
             count = rng.randint(1, 3) if deep or kind.startswith("monitor") else rng.randint(0, 3) if depth else 0
             return (kind, *(self.argument(*room) for room in self.within(depth + 1, count, deep)))
         if kind == "dumpvars":
@@ -1163,7 +1172,7 @@ class Maker:
         if kind == "declare" and self.chance(0.25):
             return (kind, self.direction(deep), *self.some(lambda: ("declared", self.name(), "-"), 1, 3))
         if kind == "declare":
-            kinds = [(word, self.range_type(deep * first)) for word in ("wire", "reg")] + ([("integer",)] if not (deep and first) else [])
+            kinds = [(word, self.range_type(deep * first)) for word in ("wire", "reg")] + ([("integer",), ("time",)] if not (deep and first) else [])
             return (kind, self.rng.choice(kinds), *self.some(self.declared, 0, 2), self.declared(deep * (not first)))
         if kind == "events":
             return (kind, *self.some(self.name, 1, 3))

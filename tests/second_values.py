@@ -2,7 +2,7 @@
 
 A node has its text, and answers its `size` and its sign (`signed`) by itself, its value `at` a size and a sign, and the variables that it
 `reads`. `world` is what is known: a list of letters for each variable, a list of signs, the time as `$time` tells it, and the bounds that
-each variable was declared with, an `integer` with 31 and 0.
+each variable was declared with, an `integer` with 31 and 0, a `time` with 63 and 0.
 """
 from dataclasses import dataclass
 

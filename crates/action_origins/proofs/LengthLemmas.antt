@@ -6,7 +6,7 @@ use Rattle.vast.specs.NumberedWords.{Word}
 use Rattle.vast.specs.NumberedExpressions as text
 use Rattle.vast.specs.NumberedExpressions.{ExpressionTree, ExpressionTrees}
 use Rattle.vast.specs.NumberedStatements as written
-use Rattle.vast.specs.NumberedStatements.{TargetTree, TargetTrees, DelayTree, by_number, by_name, by_value, TermTree, EventTree, by_event, by_any, by_any_enclosed, by_terms, ArgumentTree, quoted, printed, SelectionTree, TaskTree, print, dump_file, dump_vars, dump, end_run, StatementTree, StatementTrees, empty, block, assign, nonblocking, trigger, if_true, if_else, case_of, while_true, repeat_times, forever, for_loop, wait_for, delay, event, task, no_statement, first_statement, BranchTree, BranchTrees, labelled, default, no_branch, first_branch}
+use Rattle.vast.specs.NumberedStatements.{TargetTree, TargetTrees, DelayTree, by_number, by_name, by_value, TermTree, EventTree, by_event, by_any, by_any_enclosed, by_terms, ArgumentTree, quoted, printed, left_out, SelectionTree, TaskTree, print, idle, dump_file, dump_vars, dump, end_run, StatementTree, StatementTrees, empty, block, assign, nonblocking, trigger, if_true, if_else, case_of, while_true, repeat_times, forever, for_loop, wait_for, delay, event, task, no_statement, first_statement, BranchTree, BranchTrees, labelled, default, no_branch, first_branch}
 use Rattle.vast.specs.NumberedModules as modules
 use Rattle.vast.specs.NumberedModules.{RangeTree, TypeTree, ParameterType, integer, typed, SettingTree, DeclaredTree, DirectionTree, input, output, PortTree, HeadParameter, ConnectionTree, ConnectionsTree, InstanceTree, DeclarationKind, variables, integers, directed, ItemTree, parameters, declaration, events, assignments, initial, always, instances}
 use Rattle.vast.specs.declared.statement.Edge.{Edge}
@@ -181,6 +181,7 @@ event_spelled (by_terms term further) =
 argument_spelled : (argument : ArgumentTree) → argument_length argument ≡ length (spell_argument (argument_with letters argument))
 argument_spelled (quoted word) = refl
 argument_spelled (printed value) = expression_spelled value
+argument_spelled left_out = refl
 
 arguments_spelled : (list : List ArgumentTree) → arguments_length list ≡ length (spell_arguments (map (argument_with letters) list))
 arguments_spelled [] = refl
@@ -217,6 +218,7 @@ number_spelled (Some word) = refl
 
 task_spelled : (call : TaskTree) → task_length call ≡ length (spell_task (task_with letters call))
 task_spelled (print kind arguments) = omega (arith, arguments_spelled arguments)
+task_spelled (idle kind arguments) = omega (arith, arguments_spelled arguments)
 task_spelled (dump_file word) = refl
 task_spelled (dump_vars selection) = omega (arith, selection_spelled selection)
 task_spelled (dump kind) = refl
@@ -416,7 +418,7 @@ instance_spelled instance = omega (arith, connections_spelled instance.connectio
 
 declaration_kind_spelled : (kind : DeclarationKind) → declaration_kind_length kind ≡ length (spell_declaration_kind (declaration_kind_with letters kind))
 declaration_kind_spelled (variables net type) = omega (arith, type_spelled type)
-declaration_kind_spelled integers = refl
+declaration_kind_spelled (integers long) = refl
 declaration_kind_spelled (directed direction) = direction_spelled (Some direction)
 
 settings_spelled : (settings : List SettingTree) → list_length setting_length settings ≡ length (listed plain.spell_setting (map (setting_with letters) settings) ++ codes ";" ∷ [])

@@ -4,7 +4,7 @@ use Rattle.vast.specs.NumberedWords.{Word}
 use Rattle.vast.specs.NumberedExpressions as text
 use Rattle.vast.specs.NumberedExpressions.{ExpressionTree, ExpressionTrees}
 use Rattle.vast.specs.NumberedStatements as written
-use Rattle.vast.specs.NumberedStatements.{TargetTree, TargetTrees, DelayTree, by_number, by_name, by_value, TermTree, EventTree, by_event, by_any, by_any_enclosed, by_terms, ArgumentTree, quoted, printed, SelectionTree, TaskTree, print, dump_file, dump_vars, dump, end_run, StatementTree, StatementTrees, empty, block, assign, nonblocking, trigger, if_true, if_else, case_of, while_true, repeat_times, forever, for_loop, wait_for, delay, event, task, no_statement, first_statement, BranchTree, BranchTrees, labelled, default, no_branch, first_branch}
+use Rattle.vast.specs.NumberedStatements.{TargetTree, TargetTrees, DelayTree, by_number, by_name, by_value, TermTree, EventTree, by_event, by_any, by_any_enclosed, by_terms, ArgumentTree, quoted, printed, left_out, SelectionTree, TaskTree, print, idle, dump_file, dump_vars, dump, end_run, StatementTree, StatementTrees, empty, block, assign, nonblocking, trigger, if_true, if_else, case_of, while_true, repeat_times, forever, for_loop, wait_for, delay, event, task, no_statement, first_statement, BranchTree, BranchTrees, labelled, default, no_branch, first_branch}
 use Rattle.vast.specs.NumberedModules as modules
 use Rattle.vast.specs.NumberedModules.{RangeTree, TypeTree, ParameterType, integer, typed, SettingTree, DeclaredTree, DirectionTree, input, output, PortTree, HeadParameter, ConnectionTree, ConnectionsTree, InstanceTree, DeclarationKind, variables, integers, directed, ItemTree, parameters, declaration, events, assignments, initial, always, instances}
 
@@ -111,6 +111,7 @@ event_length (by_terms term further) = 3 + (term_length term + further_length fu
 abbrev pub argument_length : ArgumentTree → ℕ
 argument_length (quoted letters) = 1
 argument_length (printed value) = expression_length value
+argument_length left_out = 0
 
 -- without arguments no parentheses stand
 abbrev pub arguments_length : List ArgumentTree → ℕ
@@ -131,6 +132,7 @@ selection_length selection = 3 + paths_length selection.paths
 
 abbrev pub task_length : TaskTree → ℕ
 task_length (print kind arguments) = 1 + arguments_length arguments
+task_length (idle kind arguments) = 1 + arguments_length arguments
 task_length (dump_file letters) = 4
 task_length (dump_vars selection) = 1 + length_if selection_length selection
 task_length (dump kind) = 1
@@ -251,7 +253,7 @@ instance_length instance = 1 + connections_length instance.connections
 
 abbrev pub declaration_kind_length : DeclarationKind → ℕ
 declaration_kind_length (variables net type) = 1 + type_length type
-declaration_kind_length integers = 1
+declaration_kind_length (integers long) = 1
 declaration_kind_length (directed direction) = direction_length direction
 
 abbrev pub item_length : ItemTree → ℕ

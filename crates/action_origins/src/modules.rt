@@ -298,7 +298,7 @@ pub fn past_declaration_kind(kind: &DeclarationKind, left: usize) -> usize
 {
     match kind {
         DeclarationKind::Variables { kind, .. } => past_type(kind, left.saturating_sub(1)),
-        DeclarationKind::Integers => left.saturating_sub(1),
+        DeclarationKind::Integers { .. } => left.saturating_sub(1),
         DeclarationKind::Directed { direction } => past_direction(direction, left),
     }
 }

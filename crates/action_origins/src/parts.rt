@@ -169,6 +169,7 @@ fn past_argument(argument: &Argument, left: usize) -> usize
     match argument {
         Argument::Text(_) => left.saturating_sub(1),
         Argument::Value(value) => past_expression(value, left),
+        Argument::LeftOut => left,
     }
 }
 
@@ -236,6 +237,7 @@ pub fn past_task(task: &Task, left: usize) -> usize
 {
     match task {
         Task::Print { arguments, .. } => past_arguments(arguments, left.saturating_sub(1)),
+        Task::Idle { arguments, .. } => past_arguments(arguments, left.saturating_sub(1)),
         Task::DumpFile(_) => left.saturating_sub(4),
         Task::DumpVars(selection) => past_selection(selection, left.saturating_sub(1)),
         Task::Dump(_) => left.saturating_sub(1),

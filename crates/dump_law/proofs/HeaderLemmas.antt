@@ -14,9 +14,9 @@ use Rattle.basis.specs.Timescales.{count_number, unit_word}
 use Rattle.module_size.specs.Sizes.{size_of}
 use Rattle.vdesign.specs.Design.{Variable, Scope, Design}
 use Rattle.vdesign.specs.declared.design.Kind.{Kind}
-use Rattle.vdesign.specs.declared.design.Kind.TheVariants.{Reg, Integer, Wire}
+use Rattle.vdesign.specs.declared.design.Kind.TheVariants.{Reg, Integer, Wire, Time}
 use Rattle.vdesign.specs.declared.expression.Bounds.{Bounds}
-use Rattle.vcd_text.specs.DumpText.{line, code, kind_word, bounds_text, variable_line, variable_lines, scope_line, closings, is_written, scope_text, scope_lines, timescale_line, header}
+use Rattle.vcd_text.specs.DumpText.{line, code, identifier, is_simple, kind_word, bounds_text, variable_line, variable_lines, scope_line, closings, is_written, scope_text, scope_lines, timescale_line, header}
 use Rattle.dump_law.specs.Small.{AreSmallBounds, IsSmallVariable, IsShallow, IsSmall}
 use Rattle.dump_law.proofs.LineLemmas.{one_of, code_long, line_long}
 
@@ -28,6 +28,7 @@ small_number n few = length-decimal-le 5 n (omega arith) (omega (arith, few)) (o
 kind_long : (kind : Kind) → length (kind_word kind) ≤ 7
 kind_long Reg = omega arith
 kind_long Integer = omega arith
+kind_long Time = omega arith
 kind_long Wire = omega arith
 
 bounds_long : (bounds : Option Bounds) → AreSmallBounds bounds → length (bounds_text bounds) ≤ 14
@@ -44,9 +45,17 @@ bounds_long (Some bounds) small =
 last_long : (test : ℕ → Bool) (text : List ℕ) → length (after_last test text) ≤ length text
 last_long test text = let left = length-drop (length text - suffix_len (λ c. not (test c)) text) text in omega (arith, left)
 
+identifier_long : (name : List ℕ) → length (identifier name) ≤ 1 + length name
+identifier_long name = by (is_simple name)
+  where
+    by : (b : Bool) → length (if b then name else 92 ∷ name) ≤ 1 + length name
+    by true = omega arith
+    by false = omega arith
+
 variable_long : (n : ℕ) (v : Variable) → n ≤ 1023 → IsSmallVariable v → length (variable_line n v) ≤ 1100 + length v.name
 variable_long n v few small =
-    let name : List ℕ = after_last (λ c. c == 46) v.name in
+    let name : List ℕ = identifier (after_last (λ c. c == 46) v.name) in
+    let escaped = identifier_long (after_last (λ c. c == 46) v.name) in
     let kind = kind_long v.kind in
     let digits = small_number v.length (omega (arith, small.0)) in
     let short = code_long n in
@@ -63,7 +72,7 @@ variable_long n v few small =
     let text = codes "$var " ++ kind_word v.kind ++ codes " " ++ decimal v.length ++ codes " " ++ code n ++ codes " " ++ name ++ bounds_text v.bounds in
     let nine = length-append text (codes " $end") in
     let whole = line_long (text ++ codes " $end") in
-    omega (arith, kind, digits, short, own, range, one, two, three, four, five, six, seven, eight, nine, whole, few)
+    omega (arith, kind, digits, short, own, escaped, range, one, two, three, four, five, six, seven, eight, nine, whole, few)
 
 -- what variables take, and what scopes take
 abbrev room_of : List Variable → ℕ

@@ -1,5 +1,5 @@
 -- The variables of an instance have at most 64 bits, and small bounds.
-use Rattle.std.proofs.Common.{◌≡◌, ◌≤◌, ℕ, nat_le, Bool, true, false, if◌then◌else◌, List, [], ◌∷◌, ◌++◌, All, Option, Some, None, Result, Ok, refl, subst, arith}
+use Rattle.std.proofs.Common.{◌≡◌, ◌≤◌, ℕ, nat_le, Bool, true, false, if◌then◌else◌, List, [], ◌∷◌, ◌++◌, All, Option, Some, None, Result, Ok, refl, subst, arith, not}
 use Rattle.std.specs.Prelude.{option_and_then}
 use Rattle.std.specs.List.{slice_index_or}
 use Rattle.std.proofs.lemmas.List.Elements.{All-nil, All-cons, All-append, All-map}
@@ -9,7 +9,7 @@ use Rattle.vast.specs.NumberedModules.{RangeTree, DeclarationKind, variables, in
 use Rattle.vbits.specs.Numbers as numbers
 use Rattle.vdesign.specs.Design.{Variable}
 use Rattle.vdesign.specs.declared.design.Kind.{Kind}
-use Rattle.vdesign.specs.declared.design.Kind.TheVariants.{Reg, Integer, Wire}
+use Rattle.vdesign.specs.declared.design.Kind.TheVariants.{Reg, Integer, Wire, Time}
 use Rattle.vdesign.specs.declared.expression.Bounds.{Bounds}
 use Rattle.vexpr_parse.proofs.Turning.{le_so}
 use Rattle.vast.specs.declared.module.NetKind.TheVariants as net
@@ -24,7 +24,7 @@ use Rattle.velab_expr.specs.Resolved.{lower_value}
 use Rattle.velab_expr.specs.Scopes.{Scope}
 use Rattle.velab_expr.specs.Symbols.{behind_item}
 use Rattle.velab_declaration.specs.declared.variable.Form.{Form}
-use Rattle.velab_declaration.specs.Variables.{ScopeDrivers, length_of, variable_in, form_of, lower_kind, variables_in, variables_as, lower_declaration, lower_variables, lower_again, lower_port, lower_ports}
+use Rattle.velab_declaration.specs.Variables.{ScopeDrivers, length_of, variable_in, form_of, lower_kind, variables_in, variables_as, lower_declaration, lower_variables, lower_again, lower_port, lower_ports, counted_kind}
 use Rattle.elaboration_law.proofs.StepLemmas.{same_value, then_ok, required_ok, found_ok}
 use Rattle.elaboration_law.proofs.AgainLemmas.{again_keeps}
 use Rattle.dump_law.specs.Small.{AreSmallBounds, IsSmallVariable}
@@ -78,6 +78,7 @@ length_small : (kind : Kind) (bounds : Option Bounds) → IsRanged bounds → (l
 length_small kind (Some bounds) ranged = (ranged.0, (ranged.1, ranged.2))
 length_small Reg None ranged = (omega arith, tt)
 length_small Integer None ranged = (omega arith, tt)
+length_small Time None ranged = (omega arith, tt)
 length_small Wire None ranged = (omega arith, tt)
 
 variable_small : (drivers : ScopeDrivers) (form : Form) (name : Text) → IsRanged form.bounds → IsSmallVariable (variable_in drivers form name)
@@ -102,8 +103,8 @@ module _ (drivers : ScopeDrivers) where
   kind_small scope (variables word type) form is =
       let bounds = then_ok (lower_bounds scope type.range) (λ bounds. Ok (form_of word type.signed bounds)) form is in
       subst (λ (f : Form). IsRanged f.bounds) (same_value (form_of word type.signed bounds.0) form bounds.2) (bounds_small scope type.range bounds.0 bounds.1)
-  kind_small scope integers form is =
-      subst (λ (f : Form). IsRanged f.bounds) (same_value (record { kind = Integer; signed = true; bounds = None }) form is) tt
+  kind_small scope (integers long) form is =
+      subst (λ (f : Form). IsRanged f.bounds) (same_value (record { kind = counted_kind long; signed = not long; bounds = None }) form is) tt
   kind_small scope (directed direction) form is =
       let range = (type_in direction).range in
       let bounds = then_ok (lower_bounds scope range) (λ bounds. Ok (form_of net.Wire (type_in direction).signed bounds)) form is in

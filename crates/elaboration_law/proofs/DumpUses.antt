@@ -6,7 +6,7 @@ use Rattle.std.proofs.lemmas.List.Concat.{flat_map-append}
 use Rattle.vast.specs.Words.{Text}
 use Rattle.vast.specs.NumberedWords.{Word}
 use Rattle.vast.specs.NumberedExpressions as text
-use Rattle.vast.specs.NumberedStatements.{TargetTree, SelectionTree, TaskTree, print, dump_file, dump_vars, dump, end_run, DelayTree, StatementTree, StatementTrees, empty, block, assign, nonblocking, trigger, if_true, if_else, case_of, while_true, repeat_times, forever, for_loop, wait_for, delay, event, task, no_statement, first_statement, BranchTree, BranchTrees, labelled, default, no_branch, first_branch}
+use Rattle.vast.specs.NumberedStatements.{TargetTree, SelectionTree, TaskTree, print, idle, dump_file, dump_vars, dump, end_run, DelayTree, StatementTree, StatementTrees, empty, block, assign, nonblocking, trigger, if_true, if_else, case_of, while_true, repeat_times, forever, for_loop, wait_for, delay, event, task, no_statement, first_statement, BranchTree, BranchTrees, labelled, default, no_branch, first_branch}
 use Rattle.vast.specs.declared.statement.Dumping.TheVariants as dumps
 use Rattle.vdesign.specs.declared.action.Action.{Action}
 use Rattle.vdesign.specs.declared.action.Action.TheVariants.{Assign, Nonblocking, AssignDelayed, NonblockingDelayed, Trigger, Test, Case, While, Repeat, Forever, Delay, EventControl, Wait, ContinuousAssign, Print, DumpVars, Dump, NoOperation, Finish, Stop}
@@ -138,6 +138,7 @@ module _ (scope : Scope) where
 
   task_adds : (table : Table) (call : TaskTree) → Adds of_lowered table (paths_in_task scope.top call) (lower_task scope table call)
   task_adds table (print kind arguments) = silent_adds of_lowered table [] (lower_line scope kind arguments) _ (λ pieces. acted table _)
+  task_adds table (idle kind arguments) = acted table _
   task_adds table (dump_file letters) = acted table _
   task_adds table (dump_vars selection) = selection_adds table _ selection
   task_adds table (dump dumps.On) = acted table _

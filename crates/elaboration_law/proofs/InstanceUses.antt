@@ -133,7 +133,7 @@ module _ (r : UseRule) where
   kind_judged : (place : Place) (scope : Scope) (kind : DeclarationKind) → IsAt place scope → Judged r (at_place place (used_in_kind kind)) (lower_kind scope kind)
   kind_judged place scope (variables word type) h =
       last (at_place place (used_in_range type.range)) (lower_bounds scope type.range) _ (judged_by place scope (used_in_range type.range) (lower_bounds scope type.range) h (bounds_know r.question scope type.range)) (λ bounds. refl)
-  kind_judged place scope integers h = refl
+  kind_judged place scope (integers long) h = refl
   kind_judged place scope (directed direction) h =
       let range = (type_in direction).range in
       last (at_place place (used_in_range range)) (lower_bounds scope range) _ (judged_by place scope (used_in_range range) (lower_bounds scope range) h (bounds_know r.question scope range)) (λ bounds. refl)

@@ -173,7 +173,7 @@ module _ (named : Text → Worth) (vectors : AreVectors named) (drivers : ScopeD
 
   kind_judged : (scope : Scope) → AreWorth true nothing scope named → (kind : DeclarationKind) → Judges is_width (is_range named (range_of_kind kind)) (lower_kind scope kind)
   kind_judged scope h (variables word type) = last_judges is_width (is_range named type.range) (lower_bounds scope type.range) _ (range_judged scope h type.range) (λ bounds. refl)
-  kind_judged scope h integers = refl
+  kind_judged scope h (integers long) = refl
   kind_judged scope h (directed direction) =
       last_judges is_width (is_range named (type_in direction).range) (lower_bounds scope (type_in direction).range) _ (range_judged scope h (type_in direction).range) (λ bounds. refl)
 

@@ -14,7 +14,7 @@ use Rattle.vast.specs.NumberedWords.{Word}
 use Rattle.vast.specs.NumberedModules.{RangeTree, variables, integers, directed, DeclaredTree, ItemTree, parameters, declaration, events, assignments, initial, always, instances, ModuleTree}
 use Rattle.vdesign.specs.Design as design
 use Rattle.vdesign.specs.declared.design.Kind.{Kind}
-use Rattle.vdesign.specs.declared.design.Kind.TheVariants.{Reg, Integer, Wire}
+use Rattle.vdesign.specs.declared.design.Kind.TheVariants.{Reg, Integer, Wire, Time}
 use Rattle.vdesign.specs.declared.expression.Bounds.{Bounds}
 use Rattle.vvalue.specs.Value.{value_at, bounds_of}
 use Rattle.vmodules.specs.Ports.{Port, plain_names, own_item, ports_of}
@@ -23,7 +23,7 @@ use Rattle.velab_expr.specs.Scopes.{Scope, meaning_of, bounds_for}
 use Rattle.velab_expr.specs.Constants.{nothing}
 use Rattle.velab_expr.specs.Ranges.{span}
 use Rattle.velab_declaration.specs.ActionFlaws.{blank_environment}
-use Rattle.velab_declaration.specs.Variables.{Declaration, all_declared, kind_of, declarations_of, declarations, port_declaration, port_names, length_of, ScopeDrivers}
+use Rattle.velab_declaration.specs.Variables.{Declaration, all_declared, kind_of, declarations_of, declarations, port_declaration, port_names, length_of, ScopeDrivers, counted_kind}
 use Rattle.elaboration_law.specs.Places.{variables_of}
 use Rattle.elaboration_law.specs.Doubles.{other_names}
 use Rattle.vmodules.specs.Names.{is_declared, letters_of}
@@ -108,9 +108,11 @@ module _ (constants : Text → Worth) where
   length_sized : (kind : Kind) (range : Option RangeTree) → is_range constants range ≡ true → IsSize (length_of kind (bounds_by constants range))
   length_sized Reg (Some range) e = record { some = omega arith; few = narrow range e }
   length_sized Integer (Some range) e = record { some = omega arith; few = narrow range e }
+  length_sized Time (Some range) e = record { some = omega arith; few = narrow range e }
   length_sized Wire (Some range) e = record { some = omega arith; few = narrow range e }
   length_sized Reg None e = record { some = omega arith; few = omega arith }
   length_sized Integer None e = record { some = omega arith; few = omega arith }
+  length_sized Time None e = record { some = omega arith; few = omega arith }
   length_sized Wire None e = record { some = omega arith; few = omega arith }
 
   declared_sized : (d : Declaration) → is_range constants d.range ≡ true → IsSize (length (declared_worth constants d).value.letters)
@@ -141,7 +143,7 @@ module _ (constants : Text → Worth) where
   item_ranged : (item : ItemTree) → is_item_ranged constants item ≡ true → ranged (declarations_of item) ≡ true
   item_ranged (parameters local type settings) e = refl
   item_ranged (declaration (variables word type) list) e = names_ranged (kind_of word) type.signed type.range list e
-  item_ranged (declaration integers list) e = names_ranged Integer true None list refl
+  item_ranged (declaration (integers long) list) e = names_ranged (counted_kind long) (not long) None list refl
   item_ranged (declaration (directed direction) list) e = refl
   item_ranged (events list) e = refl
   item_ranged (assignments settings) e = refl

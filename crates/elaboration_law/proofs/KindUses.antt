@@ -1,5 +1,5 @@
 -- Names of another kind than their use asks for: what a scope says of the kinds of its names, before it is known what variables they are.
-use Rattle.std.proofs.Common.{◌≡◌, ◌<◌, ℕ, ◌+◌, ◌-◌, nat_lt, Bool, true, false, cond, if◌then◌else◌, not, ◌||◌, ◌&&◌, List, [], ◌∷◌, length, slice_get, option_and_then, Option, Some, None, Ok, Err, refl, sym, ap, subst, ◌∙◌, arith}
+use Rattle.std.proofs.Common.{◌≡◌, ◌<◌, ℕ, ◌+◌, ◌-◌, nat_lt, Bool, true, false, cond, if◌then◌else◌, not, ◌||◌, ◌&&◌, List, [], ◌∷◌, length, slice_get, option_and_then, Option, Some, None, Ok, Err, refl, sym, ap, subst, ◌∙◌, arith, codes}
 use Rattle.std.specs.Prelude.{position, is_some}
 use Rattle.std.specs.List.{position_or_len}
 use Rattle.std.specs.Str.{bytes_eq}
@@ -7,7 +7,7 @@ use Rattle.std.proofs.lemmas.Bool.{ltb-true, ltb-false}
 use Rattle.basis.specs.declared.timescale.Timescale.{Timescale}
 use Rattle.vast.specs.Words.{Text}
 use Rattle.vast.specs.NumberedWords.{Word}
-use Rattle.vast.specs.NumberedStatements.{ArgumentTree, quoted, printed}
+use Rattle.vast.specs.NumberedStatements.{ArgumentTree, quoted, printed, left_out}
 use Rattle.vast.specs.NumberedModules.{ModuleTree, SourceTree}
 use Rattle.vdesign.specs.Design.{Design}
 use Rattle.vdesign.specs.declared.action.Edge.{Edge}
@@ -32,7 +32,8 @@ use Rattle.velab_expr.specs.FirstWords.{first_argument}
 use Rattle.velab_expr.specs.Scopes.{Scope, meaning_at, meaning_of, bounds_for, operand_by, variable_by, event_by}
 use Rattle.velab_expr.specs.Resolved.{lower_expression}
 use Rattle.velab_expr.specs.Selections.{levels_in}
-use Rattle.velab_process.specs.Prints.{between_quotes, is_watched, lower_argument, lower_arguments}
+use Rattle.velab_process.specs.Prints.{between_quotes, given, is_watched, lower_argument, lower_arguments}
+use Rattle.velab_process.proofs.LineLemmas.{given_same}
 use Rattle.velab_process.specs.Waits.{term_by}
 use Rattle.vhierarchy.specs.Instances.{elaborate_top, elaborated}
 use Rattle.elaboration_law.specs.Uses.{Way, Read, ReadIn, Written, WrittenIn, Driven, Triggered, Awaited, Use, use_of, use_of_time, use_of_formats, use_of_levels}
@@ -225,6 +226,15 @@ formats_are default scope format (quoted letters ∷ more) all is =
     ∙ ap (λ (l : List ℕ). is_some taken && is_some (pieces_by default l others.0)) (string_left (letters_of Plain text) (front_of format))
     ∙ (λ i. string_some (letters_of Plain text) (front_of format) i
     && formats_are default scope (left_by_string (front_of format) (letters_of Plain text)) more others.0 others.1 i)
+formats_are default scope format (left_out ∷ more) all is =
+    let text = codes " " in
+    let others = then_ok (lower_arguments scope more) (λ others. Ok (string text ∷ others)) all is in
+    let taken = string_taken (front_of format) (letters_of Plain text) in
+    sym (ap (λ (l : List Argument). is_some (pieces_by default format l)) (same_value (string text ∷ others.0) all others.2))
+    ∙ taken_some taken (pieces_by default (format_left taken) others.0)
+    ∙ ap (λ (l : List ℕ). is_some taken && is_some (pieces_by default l others.0)) (string_left (letters_of Plain text) (front_of format))
+    ∙ (λ i. string_some (letters_of Plain text) (front_of format) i
+    && formats_are default scope (left_by_string (front_of format) (letters_of Plain text)) more others.0 others.1 i)
 formats_are default scope format (printed tree ∷ more) all is =
     let one = then_ok (lower_argument scope (printed tree)) (λ argument. lower_arguments scope more >>= λ others. Ok (argument ∷ others)) all is in
     let e = then_ok (lower_expression scope tree) (λ e. Ok (value (is_watched tree) e)) one.0 one.1 in
@@ -243,11 +253,11 @@ found_kind : {A : Type 0} (x : Option A) (word : Option Word) → Judges is_kind
 found_kind None word = λ e. refl
 found_kind (Some x) word = refl
 
-formats_kind : (scope : Scope) (default : Form) (ends : Bool) (arguments : List ArgumentTree) (all : List Argument) → lower_arguments scope arguments ≡ Ok all →
+formats_kind : (scope : Scope) (default : Form) (ends : Bool) (arguments : List ArgumentTree) (all : List Argument) → lower_arguments scope (given arguments) ≡ Ok all →
     Judges is_kind (formats_fit [] arguments) (found (pieces_of default ends all) Kind (first_argument arguments))
 formats_kind scope default ends arguments all is =
     subst (λ (b : Bool). Judges is_kind b (found (pieces_of default ends all) Kind (first_argument arguments)))
-    (ended_some ends (pieces_by default [] all) ∙ formats_are default scope [] arguments all is)
+    (ended_some ends (pieces_by default [] all) ∙ formats_are default scope [] (given arguments) all is ∙ given_same (formats_fit []) refl arguments)
     (found_kind (pieces_of default ends all) (first_argument arguments))
 
 pub kinds : Question

@@ -250,7 +250,7 @@ instances_tell modules before known (item ∷ more) =
 
 kind_tells : (scope : Scope) (kind : DeclarationKind) → Tells is_local (lower_kind scope kind)
 kind_tells scope (variables word type) = then_tells is_local (lower_bounds scope type.range) _ (bounds_tell scope type.range) (λ bounds. tt)
-kind_tells scope integers = tt
+kind_tells scope (integers long) = tt
 kind_tells scope (directed direction) = then_tells is_local (lower_bounds scope (type_in direction).range) _ (bounds_tell scope (type_in direction).range) (λ bounds. tt)
 
 declaration_tells : (drivers : ScopeDrivers) (scope : Scope) (item : ItemTree) → Tells is_local (lower_declaration drivers scope item)

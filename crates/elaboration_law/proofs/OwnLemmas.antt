@@ -100,7 +100,7 @@ module _ (drivers : ScopeDrivers) where
   kind_named : (form : Form) (kind : DeclarationKind) (list : List DeclaredTree) →
       names (variables_as drivers form kind list) ≡ map (dotted drivers.name) (map (λ (d : Declaration). d.name) (declared_as kind list))
   kind_named form (variables word type) list = in_named form _ _ _ list
-  kind_named form integers list = in_named form _ _ _ list
+  kind_named form (integers long) list = in_named form _ _ _ list
   kind_named form (directed direction) list = refl
 
   abbrev declared_by : ItemTree → List Text

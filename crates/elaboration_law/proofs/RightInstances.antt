@@ -1,5 +1,5 @@
 -- What an instance uses, and the actions that its own steps add: they are right where the uses suit what names stand for.
-use Rattle.std.proofs.Common.{◌≡◌, ℕ, ◌+◌, Bool, true, false, ◌&&◌, List, [], ◌∷◌, ◌++◌, map, length, slice_get, Option, None, Some, Result, Ok, refl, sym, ap, subst, ◌∙◌, if◌then◌else◌, arith, append_assoc}
+use Rattle.std.proofs.Common.{◌≡◌, ℕ, ◌+◌, Bool, true, false, ◌&&◌, List, [], ◌∷◌, ◌++◌, map, length, slice_get, Option, None, Some, Result, Ok, refl, sym, ap, subst, ◌∙◌, if◌then◌else◌, arith, append_assoc, not}
 use Rattle.std.specs.Prelude.{is_some}
 use Rattle.std.specs.List.{list_all, flat_map}
 use Rattle.std.proofs.lemmas.List.{map-append, length-map}
@@ -13,7 +13,6 @@ use Rattle.vmodules.specs.Ports.{Second, Port, type_in, own_items, ports_of}
 use Rattle.vmodules.specs.Connected.{NamedConnection, value_for}
 use Rattle.vdesign.specs.Design.{Variable}
 use Rattle.vdesign.specs.declared.design.Kind.{Kind}
-use Rattle.vdesign.specs.declared.design.Kind.TheVariants.{Integer}
 use Rattle.vdesign.specs.declared.action.Action.{Action}
 use Rattle.vdesign.specs.declared.expression.Bounds.{Bounds}
 use Rattle.vvalue.specs.Flaws.{kind_has_bits, has_bits}
@@ -25,7 +24,7 @@ use Rattle.velab_expr.specs.Resolved.{lower_expression}
 use Rattle.velab_expr.specs.Symbols.{Symbol, parameter_symbol, event_symbol, instance_symbol, name_in, behind_item}
 use Rattle.velab_declaration.specs.declared.variable.Form.{Form}
 use Rattle.velab_declaration.specs.Right.{is_net, is_some_net}
-use Rattle.velab_declaration.specs.Variables.{Declaration, all_declared, declared_as, declarations_of, declarations, port_declaration, ScopeDrivers, variable_in, variables_in, variables_as, form_of, kind_of, lower_kind, lower_again, port_scope, lower_declaration, lower_variables, lower_port, lower_ports}
+use Rattle.velab_declaration.specs.Variables.{Declaration, all_declared, declared_as, declarations_of, declarations, port_declaration, ScopeDrivers, variable_in, variables_in, variables_as, form_of, kind_of, lower_kind, lower_again, port_scope, lower_declaration, lower_variables, lower_port, lower_ports, counted_kind}
 use Rattle.velab_process.specs.Statements.{Table}
 use Rattle.velab_process.specs.Processes.{Processes, process_trees_by, lower_processes, lower_items, with_begins_before}
 use Rattle.velab_process.specs.Connections.{only_name, lower_input, lower_output, lower_connection, lower_join, lower_joins}
@@ -80,7 +79,7 @@ outside_suits place (Some value) = constant_suits place value
 declaration_suits : (place : Place) (item : ItemTree) → all_suit (at_place place (used_in_declaration item)) ≡ true
 declaration_suits place (parameters local type settings) = refl
 declaration_suits place (declaration (variables word type) list) = range_suits place type.range
-declaration_suits place (declaration integers list) = refl
+declaration_suits place (declaration (integers long) list) = refl
 declaration_suits place (declaration (directed direction) list) = range_suits place (type_in direction).range
 declaration_suits place (events names) = refl
 declaration_suits place (assignments settings) = refl
@@ -278,9 +277,9 @@ module _ (drivers : ScopeDrivers) where
       let same = same_value (form_of word type.signed bounds.0) form bounds.2 in
       all_shaped form (kind_of word) type.signed type.range list
       (ap (λ (f : Form). kind_has_bits f.kind (is_some f.bounds)) (sym same) ∙ ap (kind_has_bits (kind_of word)) (bounds_alike scope type.range bounds.0 bounds.1)) (ap (λ (f : Form). is_net f.kind) (sym same))
-  kind_shaped scope form integers list is =
-      let same = same_value (record { kind = Integer; signed = true; bounds = None }) form is in
-      all_shaped form Integer true None list (ap (λ (f : Form). kind_has_bits f.kind (is_some f.bounds)) (sym same)) (ap (λ (f : Form). is_net f.kind) (sym same))
+  kind_shaped scope form (integers long) list is =
+      let same = same_value (record { kind = counted_kind long; signed = not long; bounds = None }) form is in
+      all_shaped form (counted_kind long) (not long) None list (ap (λ (f : Form). kind_has_bits f.kind (is_some f.bounds)) (sym same)) (ap (λ (f : Form). is_net f.kind) (sym same))
   kind_shaped scope form (directed direction) list is = refl
 
   item_shaped : (scope : Scope) (item : ItemTree) (made : List Variable) → lower_declaration drivers scope item ≡ Ok made → map shape made ≡ map declared_shape (declarations_of item)

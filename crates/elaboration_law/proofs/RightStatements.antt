@@ -5,7 +5,7 @@ use Rattle.std.proofs.lemmas.List.Folds.{list_all-append}
 use Rattle.std.proofs.Math.Bool.{and-false}
 use Rattle.basis.proofs.Bools.{and_assoc}
 use Rattle.vast.specs.NumberedExpressions as text
-use Rattle.vast.specs.NumberedStatements.{TargetTree, SelectionTree, ArgumentTree, quoted, printed, TaskTree, print, dump_file, dump_vars, dump, end_run, DelayTree, by_number, by_name, by_value, FurtherTerm, EventTree, by_event, by_any, by_any_enclosed, by_terms, StatementTree, StatementTrees, empty, block, assign, nonblocking, trigger, if_true, if_else, case_of, while_true, repeat_times, forever, for_loop, wait_for, delay, event, task, no_statement, first_statement, BranchTree, BranchTrees, labelled, default, no_branch, first_branch}
+use Rattle.vast.specs.NumberedStatements.{TargetTree, SelectionTree, ArgumentTree, quoted, printed, left_out, TaskTree, print, idle, dump_file, dump_vars, dump, end_run, DelayTree, by_number, by_name, by_value, FurtherTerm, EventTree, by_event, by_any, by_any_enclosed, by_terms, StatementTree, StatementTrees, empty, block, assign, nonblocking, trigger, if_true, if_else, case_of, while_true, repeat_times, forever, for_loop, wait_for, delay, event, task, no_statement, first_statement, BranchTree, BranchTrees, labelled, default, no_branch, first_branch}
 use Rattle.vast.specs.declared.statement.Dumping.TheVariants as dumps
 use Rattle.vdesign.specs.Design.{Variable}
 use Rattle.vdesign.specs.Expressions.{ExpressionTree}
@@ -34,7 +34,8 @@ use Rattle.velab_expr.specs.Written.{lower_target}
 use Rattle.velab_expr.specs.Selections.{lower_selection}
 use Rattle.velab_declaration.specs.Right.{is_some_net, writes_net, writes_variables}
 use Rattle.velab_process.specs.Waits.{edge_of, lower_control}
-use Rattle.velab_process.specs.Prints.{default_form, ends_line, lower_argument, lower_arguments, lower_line}
+use Rattle.velab_process.specs.Prints.{default_form, ends_line, given, lower_argument, lower_arguments, lower_line}
+use Rattle.velab_process.proofs.LineLemmas.{given_same}
 use Rattle.velab_process.specs.Statements.{Table, Lowered, LoweredBranches, with_places_before, assignment_action, lower_amount, lower_own_amount, lower_assignment, lower_task, lower_label, lower_labels, lower_statement, lower_all, lower_branch, lower_branches}
 use Rattle.velab_process.specs.Processes.{ProcessTree, procedural, continuous, Processes, with_begins_before, lower_process, lower_processes}
 use Rattle.elaboration_law.specs.Uses.{Use, Driven, Triggered, use_of, use_of_formats, used_in, used_in_parts, used_in_target, used_in_delay, used_in_own, used_in_assignment, used_in_further, used_in_control, used_in_argument, used_in_arguments, used_in_selection, used_in_task, used_by, used_by_all, used_by_branch, used_by_branches, used_by_process, used_by_processes}
@@ -126,6 +127,7 @@ module _ (vs : List Variable) (place : Place) (scope : Scope) (h : IsAt place sc
   argument_says : (argument : ArgumentTree) → Says argument_bits (hold (used_in_argument argument)) (lower_argument scope argument)
   argument_says (quoted letters) = refl
   argument_says (printed tree) = last_says (bits_in vs) argument_bits (hold (used_in false tree)) (lower_expression scope tree) _ (lower_says vs place scope h real false tree) (λ e. refl)
+  argument_says left_out = refl
 
   arguments_say : (list : List ArgumentTree) → Says (λ l. list_all argument_bits l) (hold (used_in_arguments list)) (lower_arguments scope list)
   arguments_say [] = refl
@@ -205,8 +207,10 @@ module _ (vs : List Variable) (place : Place) (scope : Scope) (h : IsAt place sc
       list_all-append (piece_bits vs) pieces (line_end ends) ∙ (λ i. s i && end_bits ends i) ∙ sym (and_true b)
 
   line_says : (kind : Printing) (arguments : List ArgumentTree) → Says (λ l. list_all (piece_bits vs) l) (hold (used_in_arguments arguments)) (lower_line scope kind arguments)
-  line_says kind arguments = last_says (λ l. list_all argument_bits l) (λ l. list_all (piece_bits vs) l) (hold (used_in_arguments arguments)) (lower_arguments scope arguments) _ (arguments_say arguments) (λ all. by (list_all argument_bits all) (pieces_of (default_form kind) (ends_line kind) all)
-      (ended_bits (ends_line kind) (list_all argument_bits all) (pieces_by (default_form kind) [] all) (pieces_are (default_form kind) [] all)))
+  line_says kind arguments =
+      subst (λ (uses : List Use). Says (λ l. list_all (piece_bits vs) l) (hold uses) (lower_line scope kind arguments)) (given_same used_in_arguments refl arguments)
+      (last_says (λ l. list_all argument_bits l) (λ l. list_all (piece_bits vs) l) (hold (used_in_arguments (given arguments))) (lower_arguments scope (given arguments)) _ (arguments_say (given arguments)) (λ all. by (list_all argument_bits all) (pieces_of (default_form kind) (ends_line kind) all)
+      (ended_bits (ends_line kind) (list_all argument_bits all) (pieces_by (default_form kind) [] all) (pieces_are (default_form kind) [] all))))
     where
       by : (b : Bool) (pieces : Option (List Piece)) → Pieces b pieces → Says (λ l. list_all (piece_bits vs) l) b (found pieces Kind (first_argument arguments))
       by b None s = tt
@@ -264,6 +268,7 @@ module _ (vs : List Variable) (place : Place) (scope : Scope) (h : IsAt place sc
       split table (used_in_arguments arguments) (use_of_formats arguments ∷ []) _
       (subst (λ (b : Bool). Grows table b (lower_task scope table (print kind arguments))) (and_true (hold (used_in_arguments arguments)))
       (through (λ l. list_all (piece_bits vs) l) of_lowered (λ d. all table && d) (hold (used_in_arguments arguments)) (lower_line scope kind arguments) _ (line_says kind arguments) (λ pieces. acted table _)))
+  task_grows table (idle kind arguments) = acted table _
   task_grows table (dump_file letters) = acted table _
   task_grows table (dump_vars selection) = anyway table (hold (used_in_selection selection)) _ (selection_holds selection) (silent_says of_lowered (all table && true) (lower_selection scope selection) _ (λ chosen. acted table _))
   task_grows table (dump dumps.On) = acted table _

@@ -2,7 +2,7 @@
 use Rattle.std.proofs.Common.{ℕ, Bool, true, false, if◌then◌else◌, List, [], ◌∷◌, Option, Some, None, Result, refl}
 use Rattle.vast.specs.NumberedWords.{Word}
 use Rattle.vast.specs.NumberedExpressions as text
-use Rattle.vast.specs.NumberedStatements.{TargetTree, ArgumentTree, quoted, printed, TaskTree, print, dump_file, dump_vars, dump, end_run, DelayTree, by_number, by_name, by_value, FurtherTerm, EventTree, by_event, by_any, by_any_enclosed, by_terms, StatementTree, StatementTrees, empty, block, assign, nonblocking, trigger, if_true, if_else, case_of, while_true, repeat_times, forever, for_loop, wait_for, delay, event, task, no_statement, first_statement, BranchTree, BranchTrees, labelled, default, no_branch, first_branch}
+use Rattle.vast.specs.NumberedStatements.{TargetTree, ArgumentTree, quoted, printed, left_out, TaskTree, print, idle, dump_file, dump_vars, dump, end_run, DelayTree, by_number, by_name, by_value, FurtherTerm, EventTree, by_event, by_any, by_any_enclosed, by_terms, StatementTree, StatementTrees, empty, block, assign, nonblocking, trigger, if_true, if_else, case_of, while_true, repeat_times, forever, for_loop, wait_for, delay, event, task, no_statement, first_statement, BranchTree, BranchTrees, labelled, default, no_branch, first_branch}
 use Rattle.vast.specs.NumberedModules.{ItemTree}
 use Rattle.vmodules.specs.Ports.{Port}
 use Rattle.vmodules.specs.Connected.{NamedConnection, value_for}
@@ -21,7 +21,7 @@ use Rattle.velab_expr.specs.Resolved.{lower_expression}
 use Rattle.velab_expr.specs.Written.{lower_target}
 use Rattle.velab_expr.specs.Selections.{lower_selection}
 use Rattle.velab_process.specs.Waits.{edge_of, term_by, lower_term, lower_further, lower_control}
-use Rattle.velab_process.specs.Prints.{default_form, ends_line, lower_argument, lower_arguments, lower_line}
+use Rattle.velab_process.specs.Prints.{default_form, ends_line, given, lower_argument, lower_arguments, lower_line}
 use Rattle.vast.specs.declared.statement.Printing.{Printing}
 use Rattle.velab_process.specs.Statements.{Table, Lowered, with_places_before, lower_amount, lower_own_amount, lower_assignment, lower_task, lower_label, lower_labels, lower_statement, lower_all, lower_branch, lower_branches}
 use Rattle.velab_process.specs.Processes.{ProcessTree, procedural, continuous, Processes, with_begins_before, lower_process, lower_processes, process_trees_by, lower_items}
@@ -62,6 +62,7 @@ control_tells scope (by_terms term further) body =
 argument_tells : (scope : Scope) (argument : ArgumentTree) → Tells is_local (lower_argument scope argument)
 argument_tells scope (quoted letters) = tt
 argument_tells scope (printed tree) = then_tells is_local (lower_expression scope tree) _ (expression_tells scope tree) (λ e. tt)
+argument_tells scope left_out = tt
 
 arguments_tell : (scope : Scope) (list : List ArgumentTree) → Tells is_local (lower_arguments scope list)
 arguments_tell scope [] = tt
@@ -71,10 +72,11 @@ arguments_tell scope (one ∷ more) =
 
 line_tells : (scope : Scope) (kind : Printing) (arguments : List ArgumentTree) → Tells is_local (lower_line scope kind arguments)
 line_tells scope kind arguments =
-    then_tells is_local (lower_arguments scope arguments) _ (arguments_tell scope arguments) (λ all. found_tells is_local (pieces_of (default_form kind) (ends_line kind) all) Kind (first_argument arguments) refl)
+    then_tells is_local (lower_arguments scope (given arguments)) _ (arguments_tell scope (given arguments)) (λ all. found_tells is_local (pieces_of (default_form kind) (ends_line kind) all) Kind (first_argument arguments) refl)
 
 task_tells : (scope : Scope) (table : Table) (call : TaskTree) → Tells is_local (lower_task scope table call)
 task_tells scope table (print kind arguments) = then_tells is_local (lower_line scope kind arguments) _ (line_tells scope kind arguments) (λ pieces. tt)
+task_tells scope table (idle kind arguments) = tt
 task_tells scope table (dump_file letters) = tt
 task_tells scope table (dump_vars selection) = then_tells is_local (lower_selection scope selection) _ (selection_tells scope selection) (λ chosen. tt)
 task_tells scope table (dump kind) = tt

@@ -1,8 +1,8 @@
 -- Names that statements and processes use: lowered, a question holds of each; and where its rule is told, it doesn't of one.
-use Rattle.std.proofs.Common.{ℕ, Bool, true, false, List, [], ◌∷◌, ◌++◌, Option, Some, None, Result, refl}
+use Rattle.std.proofs.Common.{ℕ, Bool, true, false, List, [], ◌∷◌, ◌++◌, Option, Some, None, Result, refl, subst}
 use Rattle.vast.specs.NumberedWords.{Word}
 use Rattle.vast.specs.NumberedExpressions as text
-use Rattle.vast.specs.NumberedStatements.{TargetTree, ArgumentTree, quoted, printed, TaskTree, print, dump_file, dump_vars, dump, end_run, DelayTree, by_number, by_name, by_value, FurtherTerm, EventTree, by_event, by_any, by_any_enclosed, by_terms, StatementTree, StatementTrees, empty, block, assign, nonblocking, trigger, if_true, if_else, case_of, while_true, repeat_times, forever, for_loop, wait_for, delay, event, task, no_statement, first_statement, BranchTree, BranchTrees, labelled, default, no_branch, first_branch}
+use Rattle.vast.specs.NumberedStatements.{TargetTree, ArgumentTree, quoted, printed, left_out, TaskTree, print, idle, dump_file, dump_vars, dump, end_run, DelayTree, by_number, by_name, by_value, FurtherTerm, EventTree, by_event, by_any, by_any_enclosed, by_terms, StatementTree, StatementTrees, empty, block, assign, nonblocking, trigger, if_true, if_else, case_of, while_true, repeat_times, forever, for_loop, wait_for, delay, event, task, no_statement, first_statement, BranchTree, BranchTrees, labelled, default, no_branch, first_branch}
 use Rattle.vdesign.specs.declared.action.Edge.{Edge}
 use Rattle.vdesign.specs.declared.action.Edge.TheVariants.{Any}
 use Rattle.format_text.specs.Pieces.{pieces_of}
@@ -15,7 +15,8 @@ use Rattle.velab_expr.specs.Resolved.{lower_expression}
 use Rattle.velab_expr.specs.Written.{lower_target}
 use Rattle.velab_expr.specs.Selections.{lower_selection}
 use Rattle.velab_process.specs.Waits.{edge_of, lower_term, lower_further, lower_control}
-use Rattle.velab_process.specs.Prints.{default_form, ends_line, lower_argument, lower_arguments, lower_line}
+use Rattle.velab_process.specs.Prints.{default_form, ends_line, given, lower_argument, lower_arguments, lower_line}
+use Rattle.velab_process.proofs.LineLemmas.{given_same}
 use Rattle.vast.specs.declared.statement.Printing.{Printing}
 use Rattle.velab_process.specs.Statements.{Table, Lowered, with_places_before, lower_amount, lower_own_amount, lower_assignment, lower_task, lower_label, lower_labels, lower_statement, lower_all, lower_branch, lower_branches}
 use Rattle.velab_process.specs.Processes.{ProcessTree, procedural, continuous, Processes, with_begins_before, lower_process, lower_processes}
@@ -48,6 +49,7 @@ module _ (q : Question) (scope : Scope) where
   argument_knows : (argument : ArgumentTree) → Fits q scope (used_in_argument argument) (lower_argument scope argument)
   argument_knows (quoted letters) = refl
   argument_knows (printed tree) = last q scope (used_in false tree) (lower_expression scope tree) _ (expression_knows q scope tree) (λ e. refl)
+  argument_knows left_out = refl
 
   arguments_know : (list : List ArgumentTree) → Fits q scope (used_in_arguments list) (lower_arguments scope list)
   arguments_know [] = refl
@@ -57,12 +59,14 @@ module _ (q : Question) (scope : Scope) where
 
   line_knows : (kind : Printing) (arguments : List ArgumentTree) → Fits q scope (used_in_arguments arguments ++ use_of_formats arguments ∷ []) (lower_line scope kind arguments)
   line_knows kind arguments =
-      known_judges q.asked (q.fits scope) (used_in_arguments arguments) (use_of_formats arguments ∷ []) (lower_arguments scope arguments) _ (arguments_know arguments) (λ all is.
+      subst (λ (uses : List Use). Fits q scope (uses ++ use_of_formats arguments ∷ []) (lower_line scope kind arguments)) (given_same used_in_arguments refl arguments)
+      (known_judges q.asked (q.fits scope) (used_in_arguments (given arguments)) (use_of_formats arguments ∷ []) (lower_arguments scope (given arguments)) _ (arguments_know (given arguments)) (λ all is.
       single q scope (use_of_formats arguments) (found (pieces_of (default_form kind) (ends_line kind) all) Kind (first_argument arguments))
-      (q.of_formats scope (default_form kind) (ends_line kind) arguments all is))
+      (q.of_formats scope (default_form kind) (ends_line kind) arguments all is)))
 
   task_knows : (table : Table) (call : TaskTree) → Fits q scope (used_in_task call) (lower_task scope table call)
   task_knows table (print kind arguments) = last q scope (used_in_arguments arguments ++ use_of_formats arguments ∷ []) (lower_line scope kind arguments) _ (line_knows kind arguments) (λ pieces. refl)
+  task_knows table (idle kind arguments) = refl
   task_knows table (dump_file letters) = refl
   task_knows table (dump_vars selection) = last q scope (used_in_selection selection) (lower_selection scope selection) _ (selection_knows q scope selection) (λ chosen. refl)
   task_knows table (dump kind) = refl

@@ -8,7 +8,7 @@ use Rattle.basis.proofs.Bools.{and_assoc}
 use Rattle.vast.specs.NumberedWords.{Word}
 use Rattle.vast.specs.Words.{Text}
 use Rattle.vast.specs.NumberedExpressions as text
-use Rattle.vast.specs.NumberedStatements.{TargetTree, ArgumentTree, quoted, printed, SelectionTree, TaskTree, print, dump_file, dump_vars, dump, end_run, DelayTree, by_number, by_name, by_value, FurtherTerm, EventTree, by_event, by_any, by_any_enclosed, by_terms, StatementTree, StatementTrees, empty, block, assign, nonblocking, trigger, if_true, if_else, case_of, while_true, repeat_times, forever, for_loop, wait_for, delay, event, task, no_statement, first_statement, BranchTree, BranchTrees, labelled, default, no_branch, first_branch}
+use Rattle.vast.specs.NumberedStatements.{TargetTree, ArgumentTree, quoted, printed, left_out, SelectionTree, TaskTree, print, idle, dump_file, dump_vars, dump, end_run, DelayTree, by_number, by_name, by_value, FurtherTerm, EventTree, by_event, by_any, by_any_enclosed, by_terms, StatementTree, StatementTrees, empty, block, assign, nonblocking, trigger, if_true, if_else, case_of, while_true, repeat_times, forever, for_loop, wait_for, delay, event, task, no_statement, first_statement, BranchTree, BranchTrees, labelled, default, no_branch, first_branch}
 use Rattle.vast.specs.NumberedModules.{ItemTree}
 use Rattle.vast.specs.declared.statement.Dumping.{Dumping}
 use Rattle.vast.specs.declared.statement.Dumping.TheVariants as dumps
@@ -44,7 +44,8 @@ use Rattle.velab_expr.specs.Written.{lower_target}
 use Rattle.velab_expr.specs.Selections.{levels_in, lower_selection}
 use Rattle.velab_declaration.specs.ActionFlaws.{first_flaw, branch_flaw, piece_flaw, assignment_flaw, action_flaw}
 use Rattle.velab_process.specs.Waits.{edge_of, term_by, lower_term, lower_further, lower_control}
-use Rattle.velab_process.specs.Prints.{default_form, ends_line, lower_argument, lower_arguments, lower_line}
+use Rattle.velab_process.specs.Prints.{default_form, ends_line, given, lower_argument, lower_arguments, lower_line}
+use Rattle.velab_process.proofs.LineLemmas.{given_same}
 use Rattle.velab_process.specs.Statements.{Table, Lowered, LoweredBranches, lowered_action, with_places_before, with_branches_before, assignment_action, dump_action, end_action, lower_amount, lower_own_amount, lower_assignment, lower_task, lower_label, lower_labels, lower_statement, lower_all, lower_branch, lower_branches}
 use Rattle.velab_process.specs.Processes.{ProcessTree, procedural, continuous, Processes, with_begins_before, process_trees_by, lower_process, lower_processes, lower_items}
 use Rattle.elaboration_law.specs.Widths.{Worth, meant, is_sized, are_sized, is_target}
@@ -361,6 +362,7 @@ module _ (scope : Scope) (named : Text → Worth) (vectors : AreVectors named) (
   argument_told (quoted letters) = refl
   argument_told (printed tree) =
       goes_on (flaw_of now) (argument_flaw now) (is_sized named tree) (is_sized named tree) (lower_expression scope tree) _ (λ e. e) (expression_told tree) (λ e h. h)
+  argument_told left_out = refl
 
   arguments_told : (list : List ArgumentTree) → Told (first_flaw (argument_flaw now)) (list_all (is_sized_argument named) list) (lower_arguments scope list)
   arguments_told [] = refl
@@ -373,12 +375,17 @@ module _ (scope : Scope) (named : Text → Worth) (vectors : AreVectors named) (
 
   line_told : (kind : Printing) (arguments : List ArgumentTree) → Told (first_flaw (piece_flaw now)) (list_all (is_sized_argument named) arguments) (lower_line scope kind arguments)
   line_told kind arguments =
-      goes_on (first_flaw (argument_flaw now)) (first_flaw (piece_flaw now)) holds holds (lower_arguments scope arguments) _ (λ e. e) (arguments_told arguments) (λ all h.
+      goes_on (first_flaw (argument_flaw now)) (first_flaw (piece_flaw now)) holds holds (lower_arguments scope (given arguments)) _ (λ e. e) told_given (λ all h.
       by (first_flaw (argument_flaw now) all) (pieces_of (default_form kind) (ends_line kind) all) h
       (ended_have now (ends_line kind) (first_flaw (argument_flaw now) all) (pieces_by (default_form kind) [] all) (pieces_have now (default_form kind) [] all)))
     where
       holds : Bool
       holds = list_all (is_sized_argument named) arguments
+
+      told_given : Told (first_flaw (argument_flaw now)) holds (lower_arguments scope (given arguments))
+      told_given =
+          subst (λ (b : Bool). Told (first_flaw (argument_flaw now)) b (lower_arguments scope (given arguments)))
+          (given_same (list_all (is_sized_argument named)) refl arguments) (arguments_told (given arguments))
 
       by : (flaw : Option Flaw) (pieces : Option (List Piece)) → Says flaw holds → Have now flaw pieces → Told (first_flaw (piece_flaw now)) holds (found pieces Kind (first_argument arguments))
       by flaw None h k = λ e. absurd cc
@@ -449,6 +456,7 @@ module _ (scope : Scope) (named : Text → Worth) (vectors : AreVectors named) (
   task_told table b s (print kind arguments) =
       let holds = list_all (is_sized_argument named) arguments in
       goes_on (first_flaw (piece_flaw now)) (of_lowered now) holds (b && holds) (lower_line scope kind arguments) _ (second_false b holds) (line_told kind arguments) (λ pieces h. acted now table b holds _ s h)
+  task_told table b s (idle kind arguments) = with_true b _ (acted_anyway now table b _ s refl)
   task_told table b s (dump_file letters) = with_true b _ (acted_anyway now table b _ s refl)
   task_told table b s (dump_vars selection) = quietly (of_lowered now) (b && true) (lower_selection scope selection) _ (selection_quiet scope selection) (λ chosen. with_true b _ (acted_anyway now table b _ s refl))
   task_told table b s (dump kind) = with_true b _ (acted_anyway now table b (dump_action kind) s (dump_flawless kind))

@@ -15,7 +15,7 @@ use Rattle.vdesign.specs.declared.print.Form.{Form}
 use Rattle.format_text.specs.Pieces.{Argument, pieces_of}
 use Rattle.velab_expr.specs.FirstWords.{first_argument}
 use Rattle.velab_expr.specs.Selections.{levels_in}
-use Rattle.velab_process.specs.Prints.{lower_arguments}
+use Rattle.velab_process.specs.Prints.{lower_arguments, given}
 use Rattle.velab_process.specs.Waits.{lower_term}
 use Rattle.vdesign.specs.declared.action.Edge.{Edge}
 use Rattle.vhierarchy.specs.Instances.{barring}
@@ -104,7 +104,7 @@ pub record Question : Type 1 where
   pub of_event : (scope : Scope) (name : Word) → Judges asked (fits scope (use_of Triggered false name)) (lower_event scope name)
   pub of_term : (scope : Scope) (edge : Edge) (name : Word) → Judges asked (fits scope (use_of (Awaited edge) false name)) (lower_term scope edge name)
   pub of_time : {A : Type 0} (constant : Bool) (scope : Scope) (word : Option Word) (x : A) → Judges asked (fits scope (use_of_time constant)) (required (not constant) Constant word x)
-  pub of_formats : (scope : Scope) (default : Form) (ends : Bool) (arguments : List ArgumentTree) (all : List Argument) → lower_arguments scope arguments ≡ Ok all →
+  pub of_formats : (scope : Scope) (default : Form) (ends : Bool) (arguments : List ArgumentTree) (all : List Argument) → lower_arguments scope (given arguments) ≡ Ok all →
       Judges asked (fits scope (use_of_formats arguments)) (found (pieces_of default ends all) Kind (first_argument arguments))
   pub of_levels : (scope : Scope) (levels : Word) → Judges asked (fits scope (use_of_levels levels)) (found (levels_in levels) Kind (Some levels))
 

@@ -1,5 +1,5 @@
 -- The variables that an instance adds to a design: they have the sizes and the bounds that they are declared with.
-use Rattle.std.proofs.Common.{◌≡◌, ℕ, Bool, true, List, [], ◌∷◌, ◌++◌, map, slice_get, unwrap_or, option_and_then, Option, None, Some, Result, Ok, Err, refl, sym, ap, ◌∙◌}
+use Rattle.std.proofs.Common.{◌≡◌, ℕ, Bool, true, List, [], ◌∷◌, ◌++◌, map, slice_get, unwrap_or, option_and_then, Option, None, Some, Result, Ok, Err, refl, sym, ap, ◌∙◌, not}
 use Rattle.std.specs.List.{flat_map}
 use Rattle.std.proofs.lemmas.List.{map-append}
 use Rattle.vbits.specs.declared.bit4.Bit4.TheVariants.{X}
@@ -8,7 +8,6 @@ use Rattle.vast.specs.Words.{Text}
 use Rattle.vast.specs.NumberedModules.{RangeTree, DeclarationKind, variables, integers, directed, DeclaredTree, ItemTree, parameters, declaration, events, assignments, initial, always, instances}
 use Rattle.vdesign.specs.Design.{Variable}
 use Rattle.vdesign.specs.declared.design.Kind.{Kind}
-use Rattle.vdesign.specs.declared.design.Kind.TheVariants.{Integer}
 use Rattle.vdesign.specs.declared.expression.Bounds.{Bounds}
 use Rattle.vvalue.specs.Value.{value_at, bounds_of, whole_bounds}
 use Rattle.vast.specs.declared.module.NetKind.TheVariants as net
@@ -20,7 +19,7 @@ use Rattle.velab_expr.specs.Constants.{nothing}
 use Rattle.velab_expr.specs.Ranges.{lower_bounds}
 use Rattle.velab_expr.specs.Symbols.{behind_item}
 use Rattle.velab_declaration.specs.ActionFlaws.{blank, blank_environment}
-use Rattle.velab_declaration.specs.Variables.{Declaration, all_declared, kind_of, declared_as, declarations_of, port_declaration, ScopeDrivers, form_of, variable_in, variables_in, variables_as, lower_again, lower_ports, lower_kind, lower_declaration, lower_variables}
+use Rattle.velab_declaration.specs.Variables.{Declaration, all_declared, kind_of, declared_as, declarations_of, port_declaration, ScopeDrivers, form_of, variable_in, variables_in, variables_as, lower_again, lower_ports, lower_kind, lower_declaration, lower_variables, counted_kind}
 use Rattle.elaboration_law.specs.Widths.{Worth, is_range}
 use Rattle.elaboration_law.specs.Worths.{bounds_by, declared_worth}
 use Rattle.elaboration_law.proofs.AgainLemmas.{again_keeps}
@@ -77,7 +76,7 @@ module _ (named : Text → Worth) (drivers : ScopeDrivers) where
             AreDeclared (declared_as (variables word type) list) ((a >>= λ bounds. Ok (form_of word type.signed bounds)) >>= λ form. Ok (variables_in drivers form list))
         by (Ok bounds) r = list_declared (kind_of word) type.signed type.range bounds r.0 list
         by (Err fault) r = tt
-    kind_declared scope h integers list = list_declared Integer true None None refl list
+    kind_declared scope h (integers long) list = list_declared (counted_kind long) (not long) None None refl list
     kind_declared scope h (directed direction) list = by (lower_bounds scope (type_in direction).range)
       where
         by : (a : Result (Option Bounds) ElabFault) → AreDeclared [] ((a >>= λ bounds. Ok (form_of net.Wire (type_in direction).signed bounds)) >>= λ form. Ok (variables_as drivers form (directed direction) list))

@@ -1,9 +1,9 @@
 -- *trusted*: E310: names of another kind than their use asks for, bits of what has none, formats that don't fit, and paths of `$dumpvars` to
 -- variables (IEEE 1364-2005, 4.2, 4.8, 4.10, 5.2.1, 6.1, 6.2, 9.7.2, 9.7.3, 12.1.2, 12.5, 17.1.1, 18.1.2).
-use Rattle.std.specs.Prelude.{◌≡◌, ℕ, Bool, true, false, not, ◌&&◌, ◌||◌, if◌then◌else◌, List, [], ◌∷◌, Option, None, Some, is_some}
+use Rattle.std.specs.Prelude.{◌≡◌, ℕ, Bool, true, false, not, ◌&&◌, ◌||◌, if◌then◌else◌, List, [], ◌∷◌, Option, None, Some, is_some, codes}
 use Rattle.std.specs.List.{Contains, flat_map, list_all}
 use Rattle.vast.specs.Words.{Text}
-use Rattle.vast.specs.NumberedStatements.{ArgumentTree, quoted, printed}
+use Rattle.vast.specs.NumberedStatements.{ArgumentTree, quoted, printed, left_out}
 use Rattle.vast.specs.NumberedModules.{SourceTree, ModuleTree}
 use Rattle.vmodules.specs.Names.{is_declared}
 use Rattle.vmodules.specs.Hierarchy.{top_of}
@@ -121,6 +121,7 @@ abbrev pub formats_fit : List ℕ → List ArgumentTree → Bool
 formats_fit format [] = is_ended (front_of format)
 formats_fit format (quoted letters ∷ more) =
     takes_string (front_of format) && formats_fit (left_by_string (front_of format) (letters_of Plain (between_quotes letters.letters))) more
+formats_fit format (left_out ∷ more) = takes_string (front_of format) && formats_fit (left_by_string (front_of format) (codes " ")) more
 formats_fit format (printed tree ∷ more) = is_some (front_of format) && formats_fit (left_by_value (front_of format)) more
 
 -- ---- the rule

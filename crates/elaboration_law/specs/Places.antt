@@ -93,7 +93,7 @@ used_outside (Some value) = used_in true value
 
 abbrev pub used_in_kind : DeclarationKind → List Use
 used_in_kind (variables word type) = used_in_range type.range
-used_in_kind integers = []
+used_in_kind (integers long) = []
 used_in_kind (directed direction) = used_in_range (type_in direction).range
 
 abbrev pub used_in_declaration : ItemTree → List Use

@@ -3,7 +3,7 @@ use Rattle.std.specs.Prelude.{List, [], ◌∷◌, ◌++◌, map, Option, None, 
 use Rattle.std.specs.List.{flat_map}
 use Rattle.vast.specs.Words.{Text}
 use Rattle.vast.specs.NumberedWords.{Word}
-use Rattle.vast.specs.NumberedStatements.{SelectionTree, TaskTree, print, dump_file, dump_vars, dump, end_run, StatementTree, StatementTrees, empty, block, assign, nonblocking, trigger, if_true, if_else, case_of, while_true, repeat_times, forever, for_loop, wait_for, delay, event, task, no_statement, first_statement, BranchTree, BranchTrees, labelled, default, no_branch, first_branch}
+use Rattle.vast.specs.NumberedStatements.{SelectionTree, TaskTree, print, idle, dump_file, dump_vars, dump, end_run, StatementTree, StatementTrees, empty, block, assign, nonblocking, trigger, if_true, if_else, case_of, while_true, repeat_times, forever, for_loop, wait_for, delay, event, task, no_statement, first_statement, BranchTree, BranchTrees, labelled, default, no_branch, first_branch}
 use Rattle.vast.specs.NumberedModules.{ItemTree}
 use Rattle.velab_expr.specs.Selections.{dotted_path}
 use Rattle.velab_process.specs.Processes.{ProcessTree, procedural, continuous, process_trees_by}
@@ -20,6 +20,7 @@ paths_in top (Some selection) = paths_of top selection.paths
 
 abbrev pub paths_in_task : Text → TaskTree → List Text
 paths_in_task top (print kind arguments) = []
+paths_in_task top (idle kind arguments) = []
 paths_in_task top (dump_file letters) = []
 paths_in_task top (dump_vars selection) = paths_in top selection
 paths_in_task top (dump kind) = []

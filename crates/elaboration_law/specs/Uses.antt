@@ -3,7 +3,7 @@ use Rattle.std.specs.Prelude.{Bool, true, false, List, [], ◌∷◌, ◌++◌, 
 use Rattle.std.specs.List.{flat_map}
 use Rattle.vast.specs.NumberedWords.{Word}
 use Rattle.vast.specs.NumberedExpressions as text
-use Rattle.vast.specs.NumberedStatements.{TargetTree, TargetTrees, whole, bit, part, joined, none, first, ArgumentTree, quoted, printed, SelectionTree, TaskTree, print, dump_file, dump_vars, dump, end_run, DelayTree, by_number, by_name, by_value, FurtherTerm, EventTree, by_event, by_any, by_any_enclosed, by_terms, StatementTree, StatementTrees, empty, block, assign, nonblocking, trigger, if_true, if_else, case_of, while_true, repeat_times, forever, for_loop, wait_for, delay, event, task, no_statement, first_statement, BranchTree, BranchTrees, labelled, default, no_branch, first_branch}
+use Rattle.vast.specs.NumberedStatements.{TargetTree, TargetTrees, whole, bit, part, joined, none, first, ArgumentTree, quoted, printed, left_out, SelectionTree, TaskTree, print, idle, dump_file, dump_vars, dump, end_run, DelayTree, by_number, by_name, by_value, FurtherTerm, EventTree, by_event, by_any, by_any_enclosed, by_terms, StatementTree, StatementTrees, empty, block, assign, nonblocking, trigger, if_true, if_else, case_of, while_true, repeat_times, forever, for_loop, wait_for, delay, event, task, no_statement, first_statement, BranchTree, BranchTrees, labelled, default, no_branch, first_branch}
 use Rattle.vast.specs.NumberedModules.{RangeTree}
 use Rattle.vdesign.specs.declared.action.Edge.{Edge}
 use Rattle.vdesign.specs.declared.action.Edge.TheVariants.{Any}
@@ -96,6 +96,7 @@ used_in_control (by_terms term further) = use_of (Awaited (edge_of term.edge)) f
 abbrev pub used_in_argument : ArgumentTree → List Use
 used_in_argument (quoted letters) = []
 used_in_argument (printed tree) = used_in false tree
+used_in_argument left_out = []
 
 abbrev pub used_in_arguments : List ArgumentTree → List Use
 used_in_arguments [] = []
@@ -107,6 +108,7 @@ used_in_selection (Some selection) = use_of_levels selection.levels ∷ []
 
 abbrev pub used_in_task : TaskTree → List Use
 used_in_task (print kind arguments) = used_in_arguments arguments ++ use_of_formats arguments ∷ []
+used_in_task (idle kind arguments) = []
 used_in_task (dump_file letters) = []
 used_in_task (dump_vars selection) = used_in_selection selection
 used_in_task (dump kind) = []

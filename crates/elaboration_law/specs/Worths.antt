@@ -91,7 +91,7 @@ module _ (outside : Text → Worth) (values : List NamedConnection) (m : ModuleT
 
 abbrev pub range_of_kind : DeclarationKind → Option RangeTree
 range_of_kind (variables word type) = type.range
-range_of_kind integers = None
+range_of_kind (integers long) = None
 range_of_kind (directed direction) = (type_in direction).range
 
 abbrev pub range_by : ItemTree → Option RangeTree

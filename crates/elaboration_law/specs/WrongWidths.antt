@@ -3,7 +3,7 @@ use Rattle.std.specs.Prelude.{◌≡◌, ℕ, zero, suc, Bool, true, false, ◌&
 use Rattle.std.specs.List.{flat_map, list_all}
 use Rattle.vast.specs.Words.{Text}
 use Rattle.vast.specs.NumberedExpressions as text
-use Rattle.vast.specs.NumberedStatements.{TargetTree, ArgumentTree, quoted, printed, TaskTree, print, dump_file, dump_vars, dump, end_run, DelayTree, by_number, by_name, by_value, StatementTree, StatementTrees, empty, block, assign, nonblocking, trigger, if_true, if_else, case_of, while_true, repeat_times, forever, for_loop, wait_for, delay, event, task, no_statement, first_statement, BranchTree, BranchTrees, labelled, default, no_branch, first_branch}
+use Rattle.vast.specs.NumberedStatements.{TargetTree, ArgumentTree, quoted, printed, left_out, TaskTree, print, idle, dump_file, dump_vars, dump, end_run, DelayTree, by_number, by_name, by_value, StatementTree, StatementTrees, empty, block, assign, nonblocking, trigger, if_true, if_else, case_of, while_true, repeat_times, forever, for_loop, wait_for, delay, event, task, no_statement, first_statement, BranchTree, BranchTrees, labelled, default, no_branch, first_branch}
 use Rattle.vast.specs.NumberedModules.{ConnectionsTree, InstanceTree, ItemTree, parameters, declaration, events, assignments, initial, always, instances, ModuleTree, SourceTree}
 use Rattle.vmodules.specs.Names.{letters_of}
 use Rattle.vmodules.specs.Hierarchy.{module_of, top_of}
@@ -32,9 +32,11 @@ module _ (named : Text → Worth) where
   abbrev pub is_sized_argument : ArgumentTree → Bool
   is_sized_argument (quoted letters) = true
   is_sized_argument (printed tree) = is_sized named tree
+  is_sized_argument left_out = true
 
   abbrev pub is_sized_task : TaskTree → Bool
   is_sized_task (print kind arguments) = list_all is_sized_argument arguments
+  is_sized_task (idle kind arguments) = true
   is_sized_task (dump_file letters) = true
   is_sized_task (dump_vars selection) = true
   is_sized_task (dump kind) = true

@@ -5,7 +5,7 @@ use Rattle.vast.specs.NumberedWords.{Word}
 use Rattle.vast.specs.NumberedExpressions as text
 use Rattle.vast.specs.NumberedExpressions.{ExpressionTree, ExpressionTrees}
 use Rattle.vast.specs.NumberedStatements as written
-use Rattle.vast.specs.NumberedStatements.{TargetTree, TargetTrees, DelayTree, by_number, by_name, by_value, EventTree, by_event, by_any, by_any_enclosed, by_terms, ArgumentTree, quoted, printed, SelectionTree, TaskTree, print, dump_file, dump_vars, dump, end_run, StatementTree, StatementTrees, empty, block, assign, nonblocking, trigger, if_true, if_else, case_of, while_true, repeat_times, forever, for_loop, wait_for, delay, event, task, no_statement, first_statement, BranchTree, BranchTrees, labelled, default, no_branch, first_branch}
+use Rattle.vast.specs.NumberedStatements.{TargetTree, TargetTrees, DelayTree, by_number, by_name, by_value, EventTree, by_event, by_any, by_any_enclosed, by_terms, ArgumentTree, quoted, printed, left_out, SelectionTree, TaskTree, print, idle, dump_file, dump_vars, dump, end_run, StatementTree, StatementTrees, empty, block, assign, nonblocking, trigger, if_true, if_else, case_of, while_true, repeat_times, forever, for_loop, wait_for, delay, event, task, no_statement, first_statement, BranchTree, BranchTrees, labelled, default, no_branch, first_branch}
 use Rattle.vast.specs.NumberedModules as modules
 use Rattle.vast.specs.NumberedModules.{RangeTree, TypeTree, ParameterType, integer, typed, SettingTree, DeclaredTree, DirectionTree, input, output, PortTree, HeadParameter, ConnectionTree, ConnectionsTree, InstanceTree, DeclarationKind, variables, integers, directed, ItemTree, parameters, declaration, events, assignments, initial, always, instances, ModuleTree}
 
@@ -72,6 +72,8 @@ word_size word = 1 + length word.letters
 abbrev pub argument_size : ArgumentTree → ℕ
 argument_size (quoted letters) = word_size letters
 argument_size (printed value) = expression_size value
+-- a piece of one letter
+argument_size left_out = 2
 
 abbrev pub path_size : List Word → ℕ
 path_size path = size_of word_size path
@@ -81,6 +83,7 @@ selection_size selection = size_of path_size selection.paths
 
 abbrev pub task_size : TaskTree → ℕ
 task_size (print kind arguments) = size_of argument_size arguments
+task_size (idle kind arguments) = 0
 task_size (dump_file letters) = 0
 task_size (dump_vars selection) = size_if selection_size selection
 task_size (dump kind) = 0
@@ -174,7 +177,7 @@ instance_size overrides instance = 1 + (overrides + connections_size instance.co
 
 abbrev pub declaration_kind_size : DeclarationKind → ℕ
 declaration_kind_size (variables net type) = type_size type
-declaration_kind_size integers = 0
+declaration_kind_size (integers long) = 0
 declaration_kind_size (directed direction) = direction_size direction
 
 abbrev pub item_size : ItemTree → ℕ

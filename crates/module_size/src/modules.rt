@@ -206,7 +206,7 @@ fn take_kind(kind: &DeclarationKind, left: usize) -> usize
 {
     match kind {
         DeclarationKind::Variables { kind, .. } => take_type(kind, left),
-        DeclarationKind::Integers => left,
+        DeclarationKind::Integers { .. } => left,
         DeclarationKind::Directed { direction } => take_direction(direction, left),
     }
 }

@@ -111,6 +111,7 @@ fn take_argument(tokens: &Tokens<'_>, argument: &Argument, left: usize) -> usize
     match argument {
         Argument::Text(word) => take_word(tokens, *word, left),
         Argument::Value(value) => take_expression(value, left),
+        Argument::LeftOut => left.saturating_sub(2),
     }
 }
 
@@ -159,6 +160,7 @@ pub fn take_task(tokens: &Tokens<'_>, task: &Task, left: usize) -> usize
 {
     match task {
         Task::Print { arguments, .. } => take_arguments(tokens, arguments, left),
+        Task::Idle { .. } => left,
         Task::DumpFile(_) => left,
         Task::DumpVars(selection) => take_selection(tokens, selection, left),
         Task::Dump(_) => left,

@@ -30,9 +30,29 @@ fn name_len(text: &[u8]) -> usize {
     text.len()
 }
 
+// How many bytes stand in front of white space.
+fn escape_len(text: &[u8]) -> usize {
+    for (place, byte) in text.iter().enumerate() {
+        if byte.is_ascii_whitespace() {
+            return place;
+        }
+    }
+    text.len()
+}
+
+// The name in front, and what stands behind it; of an escaped one without its backslash (3.7.1).
+fn name_in_front(text: &[u8]) -> Option<(&[u8], &[u8])> {
+    match text.split_first() {
+        Some((first, escaped)) if *first == b'\\' => {
+            escaped.split_at_checked(escape_len(escaped))
+        }
+        _ => text.split_at_checked(name_len(text)),
+    }
+}
+
 // The name of the instance whose ports follow in the source.
 fn instance_in(source: &[u8]) -> Option<&[u8]> {
-    let (name, rest) = source.split_at_checked(name_len(source))?;
+    let (name, rest) = name_in_front(source)?;
     if name.is_empty() || rest.trim_ascii_start().first() != Some(&b'(') {
         return None;
     }

@@ -1,4 +1,4 @@
-// Values as people write them: those of an `integer` in decimal, wide ones in hexadecimal, others in binary (2.5.1).
+// Values as people write them: those of an `integer` and of a `time` in decimal, wide ones in hexadecimal, others in binary (2.5.1).
 
 use crate::pieces::{Piece, put_all};
 use basis::NoMemory;
@@ -26,7 +26,7 @@ pub fn put_value(text: &mut Vec<u8>, variable: &Variable, value: Vec4) -> Result
         put_base(text, value, b"'b")?;
         return put_binary(text, value);
     }
-    if variable.kind == Kind::Integer {
+    if variable.kind == Kind::Integer || variable.kind == Kind::Time {
         return put_short_decimal(text, value);
     }
     put_base(text, value, b"'h")?;

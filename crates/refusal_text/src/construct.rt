@@ -171,8 +171,8 @@ const ROWS: [Row; 63] = [
     Row {
         construct: Construct::EscapedName,
         names_word: false,
-        what: "escaped names",
-        instead: "write a name of letters, digits, `_` and `$`",
+        what: "a dot in an escaped name",
+        instead: "write `_` in its place",
     },
     Row {
         construct: Construct::EventInAssignment,
@@ -192,8 +192,8 @@ const ROWS: [Row; 63] = [
         construct: Construct::FileTask,
         names_word: false,
         what: "system tasks of files",
-        instead: "print by `$display` or `$strobe`, and keep what `vrace replay --lines` writes; assign what a file would hold \
-            in an `initial`",
+        instead: "what writes to files has no effect here, so leave `fd = $fopen(..)` out; assign what a file would hold in an \
+            `initial`",
     },
     Row {
         construct: Construct::Force,
@@ -298,9 +298,8 @@ const ROWS: [Row; 63] = [
     Row {
         construct: Construct::MissingArgument,
         names_word: false,
-        what: "arguments left out, and empty parentheses",
-        instead: "write each argument; one that is left out prints a blank: `\" \"`. `$time` and `$display` stand without \
-            parentheses where they have none",
+        what: "empty parentheses, or no arguments of `$monitor`",
+        instead: "write `$time` and `$finish` without parentheses, and give `$monitor` something to print",
     },
     Row {
         construct: Construct::MixedPorts,
@@ -497,8 +496,8 @@ const ROWS: [Row; 63] = [
     Row {
         construct: Construct::Time,
         names_word: false,
-        what: "`time` variables",
-        instead: "write `reg [63:0]`",
+        what: "a port or a parameter of `time`",
+        instead: "write `[63:0]` in its place",
     },
     Row {
         construct: Construct::UnnamedPort,

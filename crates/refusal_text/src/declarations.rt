@@ -5,7 +5,18 @@ use crate::walk::{Group, Level, NETS, Opening, Walk};
 use crate::words::{Words, is, is_one_of};
 
 // With these a declaration begins, beside those that a keyword tells.
-const DECLARATIONS: [&str; 6] = ["reg", "wire", "integer", "event", "parameter", "localparam"];
+// Behind these `time` stands nowhere here.
+const TYPED: [&str; 4] = ["input", "output", "parameter", "localparam"];
+
+const DECLARATIONS: [&str; 7] = [
+    "reg",
+    "wire",
+    "integer",
+    "time",
+    "event",
+    "parameter",
+    "localparam",
+];
 
 // As items these generate others.
 const GENERATING: [&str; 6] = ["if", "for", "case", "casez", "casex", "begin"];
@@ -83,6 +94,9 @@ pub(crate) fn by_name(words: Words<'_>, walk: Walk) -> Option<Construct> {
     let word = words.word();
     if is_one_of(word, &DECLARATIONS) && walk.is_in_block() {
         return Some(Construct::BlockDeclaration);
+    }
+    if is(word, "time") && is_one_of(words.before(1), &TYPED) {
+        return Some(Construct::Time);
     }
     if is(word, "integer") && (is_in_list(walk) || is_in_port_item(walk)) {
         return Some(Construct::PortValue);

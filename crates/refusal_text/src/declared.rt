@@ -55,7 +55,7 @@ impl<'a> Head<'a> {
     fn after(&self, words: Words<'a>, walk: Walk) -> Head<'a> {
         let mut next = *self;
         if is(words.before(1), "module") {
-            next.module = words.word();
+            next.module = words.name();
             next.is_output = false;
         }
         if walk.level == Level::Items && walk.starts {
@@ -82,7 +82,7 @@ fn outputs_of<'a>(alloc: Global, tokens: &'a Tokens<'a>) -> Result<Vec<Output<'a
         if head.is_output && is_port(words, walk) && outputs.len() < MOST {
             outputs.push(Output {
                 module: head.module,
-                port: words.word(),
+                port: words.name(),
             })?;
         }
         walk = walk.after(words);
@@ -140,10 +140,10 @@ impl<'a> Declared<'a> {
         walk: Walk,
         module: &[u8],
     ) -> Option<Construct> {
-        if is_path(words, walk) && !are_named(&self.modules, words.word()) {
+        if is_path(words, walk) && !are_named(&self.modules, words.name()) {
             return Some(Construct::DumpPath);
         }
-        if is_part(words, walk) && self.has_output(module, words.before(2)) {
+        if is_part(words, walk) && self.has_output(module, words.name_before(2)) {
             return Some(Construct::OutputPart);
         }
         None

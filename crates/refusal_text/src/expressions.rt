@@ -3,7 +3,7 @@
 use crate::construct::Construct;
 use crate::numbers::is_wide;
 use crate::undeclared::names_block;
-use crate::walk::{Group, Level, Opening, TYPES, Walk};
+use crate::walk::{Group, IDLES, Level, Opening, PRINTS, TYPES, Walk};
 use crate::words::{Words, is, is_one_of};
 use basis::digits_len;
 
@@ -90,7 +90,8 @@ fn by_point(words: Words<'_>, walk: Walk) -> Option<Construct> {
 // The construct of `(`: parentheses with nothing inside, or a call of a function.
 fn by_parenthesis(words: Words<'_>, walk: Walk) -> Option<Construct> {
     let before = words.before(1);
-    if before.starts_with(b"$") && is(words.after(1), ")") {
+    let may_be_empty = is_one_of(before, &PRINTS) || is_one_of(before, &IDLES);
+    if before.starts_with(b"$") && is(words.after(1), ")") && !may_be_empty {
         return Some(Construct::MissingArgument);
     }
     let follows = is_one_of(words.before(2), &[".", "#"]) || is(before, "iff");
@@ -100,15 +101,12 @@ fn by_parenthesis(words: Words<'_>, walk: Walk) -> Option<Construct> {
     None
 }
 
-// The construct of a comma with nothing before it or behind it: an argument or a connection that is left out.
+// The construct of a comma with nothing before it or behind it: a connection that is left out.
 fn by_comma(words: Words<'_>, walk: Walk) -> Option<Construct> {
     let next = words.after(1);
     let is_gap = is_one_of(next, &[",", ")"]) || is(words.before(1), "(");
     if !is_gap || walk.open != 1 {
         return None;
-    }
-    if walk.group == Group::Print {
-        return Some(Construct::MissingArgument);
     }
     if walk.level == Level::Items && walk.opening == Opening::Instance {
         return Some(Construct::PortGap);
@@ -188,7 +186,8 @@ pub(crate) fn is_printed(words: Words<'_>, walk: Walk) -> bool {
 
 // Whether the word stands in a system call that isn't one of those.
 fn is_in_other_call(walk: Walk) -> bool {
-    let is_other = walk.group == Group::System || walk.group == Group::Dump;
+    let is_call = walk.group == Group::System || walk.group == Group::Idle;
+    let is_other = is_call || walk.group == Group::Dump;
     (is_other && walk.open == 1) || (walk.call > 1 && walk.open == walk.call)
 }
 

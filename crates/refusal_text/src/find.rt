@@ -190,7 +190,7 @@ pub(crate) fn constructs<'a>(
             keep_formats(&mut all, words)?;
         }
         if begins_instances(words, walk) {
-            module = words.word();
+            module = words.name();
         }
         walk = walk.after(words);
     }

@@ -2,10 +2,11 @@
 
 use crate::construct::Construct;
 use crate::phrase::{Keywords, told_alone};
+use crate::walk::IDLES;
 use crate::words::{Words, is, is_one_of};
 use vlex::TokenKind;
 
-const KEYWORDS: [Keywords; 23] = [
+const KEYWORDS: [Keywords; 22] = [
     Keywords {
         words: &["disable"],
         construct: Construct::Disable,
@@ -25,10 +26,6 @@ const KEYWORDS: [Keywords; 23] = [
     Keywords {
         words: &["real", "realtime"],
         construct: Construct::Real,
-    },
-    Keywords {
-        words: &["time"],
-        construct: Construct::Time,
     },
     Keywords {
         words: &["tri", "uwire", "supply0", "supply1"],
@@ -105,41 +102,17 @@ const KEYWORDS: [Keywords; 23] = [
     },
     Keywords {
         words: &[
-            "$fopen",
-            "$fclose",
-            "$fdisplay",
-            "$fwrite",
-            "$fstrobe",
-            "$fmonitor",
-            "$fdisplayb",
-            "$fdisplayo",
-            "$fdisplayh",
-            "$fwriteb",
-            "$fwriteo",
-            "$fwriteh",
-            "$fstrobeb",
-            "$fstrobeo",
-            "$fstrobeh",
-            "$fmonitorb",
-            "$fmonitoro",
-            "$fmonitorh",
-            "$fflush",
-            "$fgetc",
-            "$fgets",
-            "$fscanf",
-            "$fread",
-            "$fseek",
-            "$ftell",
-            "$rewind",
-            "$feof",
-            "$ferror",
-            "$ungetc",
+            "$fgetc", "$fgets", "$fscanf", "$fread", "$fseek", "$ftell", "$rewind", "$feof",
+            "$ferror", "$ungetc",
         ],
         construct: Construct::FileTask,
     },
 ];
 
-// The system names that the profile has.
+// A value follows these.
+const VALUED: [&str; 6] = ["=", "<=", "(", ",", "{", "!"];
+
+// The system names that the profile has, but for those of `IDLES`.
 const SYSTEM_NAMES: [&str; 27] = [
     "$display",
     "$displayb",
@@ -179,7 +152,11 @@ pub(crate) fn by_keyword(words: Words<'_>) -> Option<Construct> {
     if let Some(construct) = told_alone(word, &KEYWORDS) {
         return Some(construct);
     }
-    if words.is(TokenKind::System) && !is_one_of(word, &SYSTEM_NAMES) {
+    if is(word, "$fopen") && is_one_of(words.before(1), &VALUED) {
+        return Some(Construct::FileTask);
+    }
+    let is_known = is_one_of(word, &SYSTEM_NAMES) || is_one_of(word, &IDLES);
+    if words.is(TokenKind::System) && !is_known {
         return Some(Construct::SystemTask);
     }
     None

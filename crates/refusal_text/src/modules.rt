@@ -50,7 +50,7 @@ pub(crate) fn modules_of<'a>(
     for at in 0..tokens.len() {
         let words = Words::new(tokens, at);
         let named = Named {
-            name: words.word(),
+            name: words.name(),
             place: words.place(),
         };
         if is(words.before(1), "module") {

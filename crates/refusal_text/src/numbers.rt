@@ -161,11 +161,16 @@ fn by_string(rest: &[u8]) -> Flaw {
     }
 }
 
-// A name that is escaped.
+// An escaped name with a dot, or without letters.
 fn by_escape(rest: &[u8]) -> Flaw {
     let len = len_of(Letters::NoSpaces, rest);
+    let what = if len > 1 {
+        What::LeftOut(Construct::EscapedName)
+    } else {
+        What::Broken(102)
+    };
     Flaw {
-        what: What::LeftOut(Construct::EscapedName),
+        what,
         before: 0,
         word: len,
         len,

@@ -87,7 +87,7 @@ fn ways_of<'a>(tokens: &'a Tokens<'a>, module: usize, name: &[u8]) -> Ways {
         if walk.starts {
             item = at;
         }
-        if words.word() == name && declares(words, walk) {
+        if words.name() == name && declares(words, walk) {
             ways = ways.with(walk, item, Words::new(tokens, item).word());
         }
         walk = walk.after(words);
@@ -174,7 +174,7 @@ pub(crate) fn mistake_of<'a>(tokens: &'a Tokens<'a>, at: usize, number: u16) -> 
     }
     let standing = standing_of(tokens, at);
     let walk = standing.walk;
-    let ways = ways_of(tokens, standing.module, words.word());
+    let ways = ways_of(tokens, standing.module, words.name());
     if !declares(words, walk) {
         let is_late = number == 303 && ways.is_parameter;
         return if is_late {

@@ -112,13 +112,15 @@ impl<'a> Printed<'a> {
         })
     }
 
-    // Behind an argument that begins with this word.
+    // Behind an argument that begins with this word, or, where it is left out, ends before it; then it is shown as a string.
     fn taken(&self, words: Words<'a>) -> Printed<'a> {
-        let is_string = words.is(TokenKind::Text);
+        let is_left_out = is_one_of(words.word(), &[",", ")"]);
+        let is_string = words.is(TokenKind::Text) || is_left_out;
         match next_format(self.format) {
             Some(format) if format.form.is_none() => self.refused(left_out(format)),
             Some(format) if is_string => self.shown(format),
             Some(format) => self.left(format.behind),
+            None if is_left_out => self.left(&[]),
             None if is_string => self.left(letters_of(words.word())),
             None => self.left(&[]),
         }
@@ -157,7 +159,15 @@ fn wrong_in<'a>(words: Words<'a>) -> Option<Wrong<'a>> {
             return printed.wrong;
         }
         if printed.open == 0 && is(word.word(), ")") {
-            return at_end(printed.format);
+            let last = if printed.begins {
+                printed.taken(word)
+            } else {
+                printed
+            };
+            return match last.wrong {
+                None => at_end(last.format),
+                wrong => wrong,
+            };
         }
         printed = printed.after(word);
     }

@@ -19,8 +19,8 @@ const RULES: [Rule; 20] = [
         number: 102,
         names_word: false,
         what: "a bad character, number or escape",
-        instead: "write digits of the base, and a blank before a letter; escaped names aren't in the profile, nor octal escapes \
-            over `\\377`",
+        instead: "write digits of the base, and a blank before a letter; behind a backslash some letters of a name, without \
+            a dot; no octal escape over `\\377`",
     },
     Rule {
         number: 110,

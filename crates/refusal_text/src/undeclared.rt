@@ -57,11 +57,12 @@ pub(crate) fn names_block(words: Words<'_>) -> bool {
     is(words.before(1), ":") && is(words.before(2), "begin")
 }
 
-// Whether the word names a module, a block, a port or a parameter of an instance, or what is dumped.
+// Whether the word names a module, a block, a port or a parameter of an instance, or what is dumped; or stands where nothing looks.
 fn is_elsewhere(words: Words<'_>, walk: Walk) -> bool {
     let names_module = is(words.before(1), "module") || (walk.level == Level::Items && walk.starts);
     let is_named = names_module || names_block(words);
-    is_named || is(words.before(1), ".") || walk.group == Group::Dump
+    let is_free = walk.group == Group::Dump || walk.group == Group::Idle;
+    is_named || is(words.before(1), ".") || is_free
 }
 
 // Whether the word is a name, in a module.
@@ -85,7 +86,7 @@ fn declared_of<'a>(
         if is_name(words, walk) && !is_elsewhere(words, walk) && declares(words, walk) {
             all.push(Declared {
                 module,
-                name: words.word(),
+                name: words.name(),
             })?;
         }
         module = module_behind(words, module);
@@ -115,7 +116,7 @@ fn used_beside<'a>(
     for at in 0..tokens.len() {
         let words = Words::new(tokens, at);
         let is_used = is_name(words, walk) && !is_elsewhere(words, walk);
-        if is_used && !has(declared, module, words.word()) {
+        if is_used && !has(declared, module, words.name()) {
             keep(
                 &mut all,
                 Found {

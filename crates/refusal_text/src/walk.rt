@@ -26,6 +26,7 @@ pub(crate) enum Group {
     Event,
     Print,
     Dump,
+    Idle,
     System,
 }
 
@@ -114,7 +115,32 @@ pub(crate) const PRINTS: [&str; 16] = [
     "$monitorh",
 ];
 
-// Names of tasks that print, here or elsewhere, as they are and behind an `f`; a letter for the radix may follow.
+/// The tasks that have no effect.
+pub(crate) const IDLES: [&str; 21] = [
+    "$fopen",
+    "$fclose",
+    "$fflush",
+    "$fdisplay",
+    "$fdisplayb",
+    "$fdisplayo",
+    "$fdisplayh",
+    "$fwrite",
+    "$fwriteb",
+    "$fwriteo",
+    "$fwriteh",
+    "$fstrobe",
+    "$fstrobeb",
+    "$fstrobeo",
+    "$fstrobeh",
+    "$fmonitor",
+    "$fmonitorb",
+    "$fmonitoro",
+    "$fmonitorh",
+    "$timeformat",
+    "$printtimescale",
+];
+
+// Names of tasks that print; a letter for the radix may follow.
 const PRINT_NAMES: [&str; 4] = ["display", "write", "strobe", "monitor"];
 
 // Behind these, parentheses have a statement after them.
@@ -207,14 +233,10 @@ fn is_name_with_radix(word: &[u8], name: &str) -> bool {
     }
 }
 
-// Whether the word is a task that prints, here or elsewhere.
+// Whether the word is a task that prints.
 fn is_print(word: &[u8]) -> bool {
     let Some(name) = word.strip_prefix(b"$") else {
         return false;
-    };
-    let name = match name.strip_prefix(b"f") {
-        None => name,
-        Some(rest) => rest,
     };
     for one in &PRINT_NAMES {
         if is_name_with_radix(name, one) {
@@ -236,6 +258,7 @@ fn group_of(words: Words<'_>) -> Group {
         word if is(word, "$dumpvars") => Group::Dump,
         word if is_one_of(word, &CONDITIONS) => Group::Condition,
         word if is_print(word) => Group::Print,
+        word if is_one_of(word, &IDLES) => Group::Idle,
         word if word.starts_with(b"$") => Group::System,
         _ => Group::Plain,
     }

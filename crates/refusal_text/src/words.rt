@@ -33,6 +33,14 @@ pub(crate) fn is_name(word: &[u8]) -> bool {
     vast::words::is_name(word)
 }
 
+// The letters of a name: without the backslash of an escaped one.
+fn plain(word: &[u8]) -> &[u8] {
+    match word.strip_prefix(b"\\") {
+        None => word,
+        Some(letters) => letters,
+    }
+}
+
 // The word at the place, empty beyond the end.
 fn word_at<'a>(tokens: &'a Tokens<'a>, at: usize) -> &'a [u8] {
     if at < tokens.len() {
@@ -89,6 +97,16 @@ impl<'a> Words<'a> {
             None => &[],
             Some(at) => word_at(self.tokens, at),
         }
+    }
+
+    /// The letters of the name that the word is.
+    pub(crate) fn name(&self) -> &'a [u8] {
+        plain(self.word())
+    }
+
+    /// The letters of the name so many places earlier.
+    pub(crate) fn name_before(&self, fewer: usize) -> &'a [u8] {
+        plain(self.before(fewer))
     }
 
     /// Whether the word so many places later is a name, and no keyword.

@@ -7,40 +7,22 @@ use Rattle.std.proofs.lemmas.Option.{same_Some}
 use Rattle.std.proofs.lemmas.List.{map-append}
 use Rattle.std.specs.Bool.{Decides}
 use Rattle.std.proofs.lemmas.Slice.Eq.{bytes_eq-Decides}
-use Rattle.basis.proofs.Bools.{and_left, and_right, and_both, or_first, or_second}
-use Rattle.basis.specs.Letters.{begins_name, is_in_name}
+use Rattle.basis.proofs.Bools.{and_left, and_right, and_both}
 use Rattle.report_text.specs.Report.{Column}
 use Rattle.report_text.specs.ReportText.{column_line, column_lines}
 use Rattle.report_text.specs.WellFormed.{IsColumn}
-use Rattle.vast.specs.Names.{is_path, is_path_from}
+use Rattle.vast.specs.Words.{is_printable}
+use Rattle.vast.specs.Names.{is_path}
 use Rattle.report_text.specs.Inner.Fronts.{lacks}
 use Rattle.report_text.specs.Inner.Columns.{IsColumnTaken, Differ}
 use Rattle.report_text.specs.Inner.Names.{is_among}
 use Rattle.report_text.specs.Inner.Places.{Place, Took, Stands}
-use Rattle.report_text.proofs.LineLemmas.{lacks_by}
+use Rattle.report_text.proofs.HeadingLemmas.{name_lacks}
 use Rattle.report_text.proofs.ListLemmas.{HasRead, has_more}
 
-abbrev in_path : ℕ → Bool
-in_path c = is_in_name c || (c == 46)
-
-split_path : (a b c d : Bool) (G : Type 0) → ((a && b) || (c && d)) ≡ true → (a ≡ true → b ≡ true → G) → (c ≡ true → d ≡ true → G) → G
-split_path true true c d G h f g = f refl refl
-split_path true false true true G h f g = g refl refl
-split_path true false true false G h f g = absurd cc
-split_path true false false d G h f g = absurd cc
-split_path false b true true G h f g = g refl refl
-split_path false b true false G h f g = absurd cc
-split_path false b false d G h f g = absurd cc
-
-path_bytes : (begun : Bool) (cs : List ℕ) → is_path_from begun cs ≡ true → list_all in_path cs ≡ true
-path_bytes begun [] h = refl
-path_bytes true (c ∷ cs) h =
-    split_path (is_in_name c) (is_path_from true cs) (c == 46) (is_path_from false cs) _ h
-    (λ a b. and_both _ _ (or_first (is_in_name c) (c == 46) a) (path_bytes true cs b)) (λ a b. and_both _ _ (or_second (is_in_name c) (c == 46) a) (path_bytes false cs b))
-path_bytes false (c ∷ cs) h = and_both _ _ (rw (and_left (begins_name c) _ h) refl) (path_bytes true cs (and_right _ _ h))
-
-pub path_lacks : (b : ℕ) (name : List ℕ) → in_path b ≡ false → is_path name ≡ true → lacks b name ≡ true
-path_lacks b name other h = lacks_by in_path b other name (path_bytes false name h)
+-- what is printable has no blank and no line feed
+pub path_lacks : (b : ℕ) (name : List ℕ) → is_printable b ≡ false → is_path name ≡ true → lacks b name ≡ true
+path_lacks b name other h = name_lacks b name other h
 
 pub column_spelled : (column : Column) (rest : List ℕ) → column_line column ++ rest ≡ column.name ++ 32 ∷ (decimal column.width ++ 10 ∷ rest)
 column_spelled column rest = simp append_assoc refl

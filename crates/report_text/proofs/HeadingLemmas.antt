@@ -4,7 +4,6 @@ use Rattle.std.specs.Prelude.{codes}
 use Rattle.std.specs.List.{list_all}
 use Rattle.std.specs.Fmt.{decimal}
 use Rattle.basis.proofs.Bools.{and_left, and_right, and_both}
-use Rattle.basis.specs.Letters.{begins_name, is_in_name}
 use Rattle.sched_core.specs.declared.setting.Departures.{Departures}
 use Rattle.sched_core.specs.declared.setting.Departures.TheVariants.{Taking, Holding}
 use Rattle.sched_core.specs.declared.setting.Looked.{Looked}
@@ -13,20 +12,18 @@ use Rattle.report_text.specs.declared.report.Version.TheVariants.{One, Two, Thre
 use Rattle.report_text.specs.ReportText.{version_number, departures_word}
 use Rattle.report_text.specs.declared.report.Outcome.{Outcome}
 use Rattle.report_text.specs.WellFormed.{HasViews}
-use Rattle.vast.specs.Names.{has_letters_of_name}
+use Rattle.vast.specs.Words.{is_printable, are_printable}
 use Rattle.report_text.specs.Inner.Fronts.{lacks}
 use Rattle.report_text.specs.Inner.Headings.{AreViewsIn, IsNumberLine, label_line_before}
 use Rattle.report_text.proofs.LineLemmas.{lacks_by}
 
-begins_in : (c : ℕ) → begins_name c ≡ true → is_in_name c ≡ true
-begins_in c h = rw h refl
+name_in : (name : List ℕ) → are_printable name ≡ true → list_all is_printable name ≡ true
+name_in [] h = refl
+name_in (c ∷ cs) h = h
 
-name_in : (name : List ℕ) → has_letters_of_name name ≡ true → list_all is_in_name name ≡ true
-name_in [] h = absurd cc
-name_in (c ∷ cs) h = and_both _ _ (begins_in c (and_left _ _ h)) (and_right _ _ h)
-
-pub name_lacks : (b : ℕ) (name : List ℕ) → is_in_name b ≡ false → has_letters_of_name name ≡ true → lacks b name ≡ true
-name_lacks b name other h = lacks_by is_in_name b other name (name_in name h)
+-- what is printable has no blank and no line feed
+pub name_lacks : (b : ℕ) (name : List ℕ) → is_printable b ≡ false → are_printable name ≡ true → lacks b name ≡ true
+name_lacks b name other h = lacks_by is_printable b other name (name_in name h)
 
 pub version_front : (v : Version) (text rest : List ℕ) → text ≡ label_line_before (codes "vrace report ") (decimal (version_number v)) rest → IsNumberLine (codes "vrace report ") 1 3 text (version_number v) rest
 version_front One text rest e = record { small = omega arith; above = omega arith; below = omega arith; whole = e }

@@ -2,59 +2,24 @@
 
 ghost use Rattle.std.specs.Prelude.{◌≡◌, ◌↔◌, IsTrue};
 ghost use Rattle.std.specs.List.{list_all};
-ghost use Rattle.basis.specs.Letters as letters;
-ghost use Rattle.report_text.specs.Inner.Fronts.{goes_on};
 ghost use Rattle.report_text.specs.WellFormed as well_formed;
 ghost use Rattle.vast.specs.Names as names;
 
-use basis::{begins_name, is_in_name};
 use std::cmp::Ordering;
+use vast::words::are_printable;
 
-// Whether each byte is one of a name.
-fn are_in_name(bytes: &[u8]) -> bool
-    ensures { result ≡ list_all letters.is_in_name bytes.now }
-{
-    for byte in bytes {
-        if !is_in_name(*byte) {
-            return false;
-        }
-    }
-    true
-}
-
-/// Whether the word is a name by its letters; a reserved word counts as well.
+/// Whether the word may be a name by its letters; a reserved word counts as well.
 pub fn is_name(word: &[u8]) -> bool
     ensures { result ≡ names.has_letters_of_name word.now }
 {
-    match word.split_first() {
-        Some((first, rest)) => begins_name(*first) && are_in_name(rest),
-        None => false,
-    }
+    are_printable(word)
 }
 
-// Whether a name, or names joined by dots, may go on with this byte.
-fn may_follow(begun: bool, byte: u8) -> bool
-    ensures { result ≡ goes_on begun byte }
-{
-    if begun {
-        is_in_name(byte) || byte == b'.'
-    } else {
-        begins_name(byte)
-    }
-}
-
-/// Whether the word is names joined by dots.
+/// Whether the word may be names joined by dots.
 pub fn is_path(word: &[u8]) -> bool
     ensures { result ≡ names.is_path word.now }
 {
-    let mut begun = false;
-    for byte in word {
-        if !may_follow(begun, *byte) {
-            return false;
-        }
-        begun = *byte != b'.';
-    }
-    begun
+    are_printable(word)
 }
 
 // 0, 1, x or z

@@ -2,7 +2,7 @@
 use Rattle.std.proofs.Common.{◌≡◌, ℕ, Bool, true, false, List, [], ◌∷◌, ◌++◌, length, slice_get, Option, None, Some, Result, Ok, refl, sym, ap, ◌∙◌, append_assoc, append-nil}
 use Rattle.basis.proofs.Lists.{stands_in_front, stands_last}
 use Rattle.vast.specs.NumberedExpressions as text
-use Rattle.vast.specs.NumberedStatements.{TargetTree, DelayTree, TaskTree, print, dump_file, dump_vars, dump, end_run, StatementTree, StatementTrees, empty, block, assign, nonblocking, trigger, if_true, if_else, case_of, while_true, repeat_times, forever, for_loop, wait_for, delay, event, task, no_statement, first_statement, BranchTree, BranchTrees, labelled, default, no_branch, first_branch}
+use Rattle.vast.specs.NumberedStatements.{TargetTree, DelayTree, TaskTree, print, idle, dump_file, dump_vars, dump, end_run, StatementTree, StatementTrees, empty, block, assign, nonblocking, trigger, if_true, if_else, case_of, while_true, repeat_times, forever, for_loop, wait_for, delay, event, task, no_statement, first_statement, BranchTree, BranchTrees, labelled, default, no_branch, first_branch}
 use Rattle.vdesign.specs.declared.action.Action.{Action}
 use Rattle.velab_expr.specs.declared.fault.ElabFault.{ElabFault}
 use Rattle.velab_expr.specs.Answers.{◌>>=◌}
@@ -86,6 +86,7 @@ grown_assignment blocking scope table target amount value =
 
 grown_task : (scope : Scope) (table : Table) (call : TaskTree) → Told (Grown table) (lower_task scope table call)
 grown_task scope table (print kind arguments) = told_next (Grown table) (lower_line scope kind arguments) _ (λ pieces is. front_of_more table.actions _)
+grown_task scope table (idle kind arguments) = front_of_more table.actions _
 grown_task scope table (dump_file letters) = front_of_more table.actions _
 grown_task scope table (dump_vars selection) = told_next (Grown table) (lower_selection scope selection) _ (λ chosen is. front_of_more table.actions _)
 grown_task scope table (dump kind) = front_of_more table.actions _

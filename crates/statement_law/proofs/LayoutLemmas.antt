@@ -1,7 +1,7 @@
 -- The action of a statement that takes a step, at the place at which the statement stands.
 use Rattle.std.proofs.Common.{◌≡◌, ℕ, Bool, true, false, List, [], ◌∷◌, length, slice_get, Option, None, Some, Ok, refl}
 use Rattle.vast.specs.NumberedExpressions as text
-use Rattle.vast.specs.NumberedStatements.{TargetTree, DelayTree, TaskTree, print, dump_file, dump_vars, dump, end_run, StatementTree, empty, block, assign, nonblocking, trigger, if_true, if_else, case_of, while_true, repeat_times, forever, for_loop, wait_for, delay, event, task, BranchTrees}
+use Rattle.vast.specs.NumberedStatements.{TargetTree, DelayTree, TaskTree, print, idle, dump_file, dump_vars, dump, end_run, StatementTree, empty, block, assign, nonblocking, trigger, if_true, if_else, case_of, while_true, repeat_times, forever, for_loop, wait_for, delay, event, task, BranchTrees}
 use Rattle.vast.specs.declared.statement.CaseKind.{CaseKind}
 use Rattle.vdesign.specs.Expressions.{ExpressionTree}
 use Rattle.vdesign.specs.declared.action.Action.{Action}
@@ -50,6 +50,7 @@ own_of scope (Some amount) = Some (amount_of scope amount)
 
 abbrev pub task_action : Scope → TaskTree → Action
 task_action scope (print kind arguments) = Print (when_of kind) (line_for scope kind arguments)
+task_action scope (idle kind arguments) = NoOperation
 task_action scope (dump_file letters) = NoOperation
 task_action scope (dump_vars selected) = DumpVars (selection_of scope selected)
 task_action scope (dump kind) = dump_action kind
@@ -155,6 +156,7 @@ module _ (scope : Scope) (actions : List Action) (table : Table) where
 
   puts_task : (call : TaskTree) → Told (Puts actions (λ place. slice_get actions place ≡ Some (task_action scope call))) (lower_task scope table call)
   puts_task (print kind arguments) = told_value (Puts actions _) [] (lower_line scope kind arguments) _ (puts_action _ _)
+  puts_task (idle kind arguments) = puts_action None NoOperation
   puts_task (dump_file letters) = puts_action None NoOperation
   puts_task (dump_vars selected) = told_value (Puts actions _) [] (lower_selection scope selected) _ (puts_action _ _)
   puts_task (dump kind) = puts_action None (dump_action kind)

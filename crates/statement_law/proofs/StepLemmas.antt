@@ -2,7 +2,7 @@
 use Rattle.std.proofs.Common.{◌≡◌, ℕ, zero, suc, ◌-◌, Bool, true, false, if◌then◌else◌, List, [], ◌∷◌, slice_get, Option, None, Some, refl, sym, ap, subst}
 use Rattle.vbits.specs.Vectors.{Vector}
 use Rattle.vast.specs.NumberedExpressions as text
-use Rattle.vast.specs.NumberedStatements.{TaskTree, print, dump_file, dump_vars, dump, end_run, StatementTree, empty, block, assign, nonblocking, trigger, if_true, if_else, case_of, while_true, repeat_times, forever, for_loop, wait_for, delay, event, task}
+use Rattle.vast.specs.NumberedStatements.{TaskTree, print, idle, dump_file, dump_vars, dump, end_run, StatementTree, empty, block, assign, nonblocking, trigger, if_true, if_else, case_of, while_true, repeat_times, forever, for_loop, wait_for, delay, event, task}
 use Rattle.vast.specs.declared.statement.Dumping.{Dumping}
 use Rattle.vast.specs.declared.statement.Dumping.TheVariants as dumps
 use Rattle.vast.specs.declared.statement.Printing.{Printing}
@@ -78,6 +78,7 @@ module _ (scope : Scope) (now : Environment) (held : Option Vector) (actions : L
     does_task : (call : TaskTree) (place : ℕ) → slice_get actions place ≡ Some (task_action scope call) →
         Tells scope actions (calls scope call rest) (execute place (task_action scope call) after now)
     does_task (print kind arguments) place there = does_print kind (line_for scope kind arguments) place there
+    does_task (idle kind arguments) place there = record { effect = refl; stands = stand }
     does_task (dump_file letters) place there = record { effect = refl; stands = stand }
     does_task (dump_vars selected) place there = record { effect = ap (λ a. record nothing { shown = Some (selection (selection_in a)) }) there; stands = stand }
     does_task (dump kind) place there = does_dump kind place

@@ -3,7 +3,7 @@ use Rattle.std.specs.Prelude.{Bool, true, false, ◌≡◌, ℕ, zero, suc, ◌-
 use Rattle.vbits.specs.Vectors.{Vector}
 use Rattle.vast.specs.NumberedWords.{Word}
 use Rattle.vast.specs.NumberedExpressions as text
-use Rattle.vast.specs.NumberedStatements.{TargetTree, DelayTree, EventTree, ArgumentTree, TaskTree, print, dump_file, dump_vars, dump, end_run, StatementTree, StatementTrees, empty, block, assign, nonblocking, trigger, if_true, if_else, case_of, while_true, repeat_times, forever, for_loop, wait_for, delay, event, task, no_statement, first_statement, BranchTree, BranchTrees, labelled, default, no_branch, first_branch}
+use Rattle.vast.specs.NumberedStatements.{TargetTree, DelayTree, EventTree, ArgumentTree, TaskTree, print, idle, dump_file, dump_vars, dump, end_run, StatementTree, StatementTrees, empty, block, assign, nonblocking, trigger, if_true, if_else, case_of, while_true, repeat_times, forever, for_loop, wait_for, delay, event, task, no_statement, first_statement, BranchTree, BranchTrees, labelled, default, no_branch, first_branch}
 use Rattle.vast.specs.declared.statement.CaseKind.{CaseKind}
 use Rattle.vast.specs.declared.statement.Dumping.{Dumping}
 use Rattle.vast.specs.declared.statement.Dumping.TheVariants as dumps
@@ -205,6 +205,7 @@ dumps_by dumps.Flush rest = moves rest
 
 abbrev pub calls : Scope → TaskTree → List Pending → TreeStep
 calls scope (print kind arguments) rest = prints kind (line_for scope kind arguments) rest
+calls scope (idle kind arguments) rest = moves rest
 calls scope (dump_file letters) rest = moves rest
 calls scope (dump_vars selected) rest = shows (selection (selection_of scope selected)) rest
 calls scope (dump kind) rest = dumps_by kind rest

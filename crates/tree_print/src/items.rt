@@ -87,7 +87,8 @@ pub fn direction(page: &mut Page<'_>, value: &Direction) -> Result<(), NoMemory>
 
 fn declaration_kind(page: &mut Page<'_>, value: &DeclarationKind) -> Result<(), NoMemory> {
     match value {
-        DeclarationKind::Integers => page.empty(b"integer"),
+        DeclarationKind::Integers { long: false } => page.empty(b"integer"),
+        DeclarationKind::Integers { long: true } => page.empty(b"time"),
         DeclarationKind::Directed { direction: way } => direction(page, way),
         DeclarationKind::Variables { net, kind } => {
             page.open(net_word(*net))?;

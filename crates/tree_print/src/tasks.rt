@@ -6,7 +6,7 @@ use basis::NoMemory;
 use vast::statement::{
     Argument, Delay, Dumping, Edge, Event, FurtherTerm, Path, Selection, Target, Task, Term,
 };
-use vast::statement_parts_spelling::print_word;
+use vast::statement_parts_spelling::{idle_word, print_word};
 
 /// What an assignment writes to.
 #[cycle(targets)]
@@ -105,6 +105,10 @@ fn arguments(page: &mut Page<'_>, list: &[Argument]) -> Result<(), NoMemory> {
         match argument {
             Argument::Text(letters) => page.leaf(b"string", *letters)?,
             Argument::Value(value) => expression(page, value)?,
+            Argument::LeftOut => {
+                page.open(b"left-out")?;
+                page.close()?;
+            }
         }
     }
     Ok(())
@@ -133,6 +137,7 @@ fn selection(page: &mut Page<'_>, value: &Option<Selection>) -> Result<(), NoMem
 fn kind(value: &Task) -> &'static [u8] {
     match value {
         Task::Print { kind, .. } => print_word(*kind).get(1..).unwrap_or(&[]),
+        Task::Idle { kind, .. } => idle_word(*kind).get(1..).unwrap_or(&[]),
         Task::DumpFile(_) => b"dumpfile",
         Task::DumpVars(_) => b"dumpvars",
         Task::Dump(Dumping::On) => b"dumpon",
@@ -149,6 +154,10 @@ pub fn task(page: &mut Page<'_>, value: &Task) -> Result<(), NoMemory> {
     page.open(kind(value))?;
     match value {
         Task::Print {
+            arguments: list,
+            ..
+        } => arguments(page, list)?,
+        Task::Idle {
             arguments: list,
             ..
         } => arguments(page, list)?,

@@ -14,3 +14,4 @@ pub mod RefilledExpressions
 pub mod RefilledStatements
 pub mod RefilledModules
 pub mod NumberedTextLemmas
+pub mod NameLemmas

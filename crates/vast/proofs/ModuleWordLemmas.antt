@@ -106,7 +106,7 @@ module _ {V W : Type 0} (f : V → W) (told : Token → V) where
   pub declaration_kind_with_told : (kind : DeclarationKind) →
       declaration_kind_with f (declaration_kind_told told kind) ≡ declaration_kind_told (λ x. f (told x)) kind
   declaration_kind_with_told (declaring.Variables net type) = λ i. variables net (type_with_told type i)
-  declaration_kind_with_told declaring.Integers = refl
+  declaration_kind_with_told (declaring.Integers long) = refl
   declaration_kind_with_told (declaring.Directed direction) = λ i. directed (direction_with_told direction i)
 
   settings_with_told : (list : List Setting) → map (setting_with f) (map (setting_told told) list) ≡ map (setting_told (λ x. f (told x))) list
@@ -204,7 +204,7 @@ module _ {W : Type 0} (told : Token → W) where
   pub declaration_kind_words_told : (kind : DeclarationKind) →
       declaration_kind_words (declaration_kind_told told kind) ≡ map told (declaration_kind_leaves kind)
   declaration_kind_words_told (declaring.Variables net type) = type_words_told type
-  declaration_kind_words_told declaring.Integers = refl
+  declaration_kind_words_told (declaring.Integers long) = refl
   declaration_kind_words_told (declaring.Directed direction) = direction_words_told direction
 
   settings_words_told : (list : List Setting) → flat_map setting_words (map (setting_told told) list) ≡ map told (flat_map setting_leaves list)

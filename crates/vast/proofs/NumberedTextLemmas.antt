@@ -1,8 +1,8 @@
 -- Each text of the program has its tree with numbered words, and it is the only one.
 use Rattle.std.proofs.Common.{◌≡◌, ℕ, suc, ◌+◌, Bool, true, false, if◌then◌else◌, List, [], ◌∷◌, ◌++◌, map, refl, sym, ap, ◌∙◌, arith}
 use Rattle.std.specs.List.{slice_get}
-use Rattle.vast.specs.Words.{Text, is_leaf}
-use Rattle.vast.specs.TokenTexts.{letters, leaves_from}
+use Rattle.vast.specs.Words.{Text, is_leaf, unescaped}
+use Rattle.vast.specs.TokenTexts.{letters, token_text, leaves_from}
 use Rattle.vast.specs.Leaves.{text_leaves}
 use Rattle.vast.specs.Modules.{SourceTree, SourceOf}
 use Rattle.vast.specs.ModuleTrees.{source_told, source_tree}
@@ -27,9 +27,9 @@ module _ (words : List Text) where
   numbered_rest n [] here = refl
   numbered_rest n (word ∷ rest) here =
       let at : n ≡ n + 0 = omega arith in
-      let word_at = ap letters (ap (slice_get words) at ∙ here 0) in
+      let word_at = ap (λ found. unescaped (letters found)) (ap (slice_get words) at ∙ here 0) in
       let after : (i : ℕ) → suc n + i ≡ n + suc i = λ i. omega arith in
-      one_leaf (is_leaf word) (record { number = n }) (record { letters = word; number = n }) (leaves_from (suc n) rest) (words_from (suc n) rest)
+      one_leaf (is_leaf word) (record { number = n }) (record { letters = unescaped word; number = n }) (leaves_from (suc n) rest) (words_from (suc n) rest)
       (λ i. record { letters = word_at i; number = n })
       (numbered_rest (suc n) rest (λ i. ap (slice_get words) (after i) ∙ here (suc i)))
 
@@ -39,9 +39,10 @@ module _ (words : List Text) where
       let here : (i : ℕ) → 0 + i ≡ i = λ i. omega arith in
       numbered_rest 0 words (λ i. ap (slice_get words) (here i))
 
-  -- without its numbers it is the tree of letters
-  pub numbered_letters : (text : TextTree) → source_with (λ word. word.letters) (source_told (numbered words) text) ≡ source_tree words text
-  numbered_letters text = source_with_told (λ word. word.letters) (numbered words) text
+  -- without its numbers it is the tree of letters, without backslashes
+  pub numbered_letters : (text : TextTree) → source_with (λ word. word.letters) (source_told (numbered words) text)
+      ≡ source_with unescaped (source_tree words text)
+  numbered_letters text = source_with_told (λ word. word.letters) (numbered words) text ∙ sym (source_with_told unescaped (token_text words) text)
 
 -- a text of the program that keeps the words of a text in their order has its tree with numbered words
 pub numbered_text : (words : List Text) (text : TextTree) → text_leaves text ≡ leaves_from 0 words →

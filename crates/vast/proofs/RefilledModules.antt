@@ -51,7 +51,7 @@ module _ {V W : Type 0} (spare : V) where
 
   abbrev pub fill_declaration_kind : DeclarationKindOf W → Filling V (DeclarationKindOf V)
   fill_declaration_kind (variables net type) = made_to (variables net) (fill_type type)
-  fill_declaration_kind integers = pure integers
+  fill_declaration_kind (integers long) = pure (integers long)
   fill_declaration_kind (directed direction) = made_to directed (fill_direction direction)
 
   abbrev pub fill_item : ItemOf W → Filling V (ItemOf V)
@@ -144,7 +144,7 @@ module _ {V W : Type 0} (f : V → W) (spare : V) where
   -- kinds of declarations
   pub declaration_kind_fills : (m : DeclarationKindOf V) → Fills (fill_declaration_kind spare (declaration_kind_with f m)) (declaration_kind_words m) m
   declaration_kind_fills (variables net type) = made_fills (variables net) (type_fills type)
-  declaration_kind_fills integers = pure_fills integers
+  declaration_kind_fills (integers long) = pure_fills (integers long)
   declaration_kind_fills (directed direction) = made_fills directed (direction_fills direction)
 
   -- items of a module

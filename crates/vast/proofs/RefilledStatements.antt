@@ -1,7 +1,7 @@
 -- Statements are told by their words and by what they are without them.
 use Rattle.std.proofs.Common.{◌≡◌, map}
 use Rattle.vast.specs.Expressions.{ExpressionOf}
-use Rattle.vast.specs.Statements.{TargetOf, TargetsOf, whole, bit, part, joined, none, first, DelayOf, by_number, by_name, by_value, TermOf, FurtherOf, EventOf, by_event, by_any, by_any_enclosed, by_terms, ArgumentOf, quoted, printed, SelectionOf, TaskOf, print, dump_file, dump_vars, dump, end_run, StatementOf, StatementsOf, empty, block, assign, nonblocking, trigger, if_true, if_else, case_of, while_true, repeat_times, forever, for_loop, wait_for, delay, event, task, no_statement, first_statement, BranchOf, BranchesOf, labelled, default, no_branch, first_branch}
+use Rattle.vast.specs.Statements.{TargetOf, TargetsOf, whole, bit, part, joined, none, first, DelayOf, by_number, by_name, by_value, TermOf, FurtherOf, EventOf, by_event, by_any, by_any_enclosed, by_terms, ArgumentOf, quoted, printed, left_out, SelectionOf, TaskOf, print, idle, dump_file, dump_vars, dump, end_run, StatementOf, StatementsOf, empty, block, assign, nonblocking, trigger, if_true, if_else, case_of, while_true, repeat_times, forever, for_loop, wait_for, delay, event, task, no_statement, first_statement, BranchOf, BranchesOf, labelled, default, no_branch, first_branch}
 use Rattle.vast.specs.TreeWords.{target_with, targets_with, target_words, targets_words, delay_with, delay_words, term_with, term_words, further_with, further_words, event_with, event_words, argument_with, argument_words, selection_with, path_words, selection_words, digits_words, task_with, task_words, statement_with, statements_with, statement_words, statements_words, branch_with, branches_with, branch_words, branches_words, name_words}
 use Rattle.vast.proofs.Refilling.{Filling, pure, word, both, made_to, fill_list, fill_option, Both, two, three, four, Fills, pure_fills, word_fills, both_fills, made_fills, list_fills, words_fill, option_fills, filled_once}
 use Rattle.vast.proofs.RefilledExpressions.{fill_expression, fill_expressions, expression_fills, expressions_fills}
@@ -44,6 +44,7 @@ module _ {V W : Type 0} (spare : V) where
   abbrev pub fill_argument : ArgumentOf W → Filling V (ArgumentOf V)
   fill_argument (quoted letters) = made_to quoted (word spare)
   fill_argument (printed value) = made_to printed (fill_expression spare value)
+  fill_argument left_out = pure left_out
 
   abbrev pub fill_selection : SelectionOf W → Filling V (SelectionOf V)
   fill_selection selection =
@@ -51,6 +52,7 @@ module _ {V W : Type 0} (spare : V) where
 
   abbrev pub fill_task : TaskOf W → Filling V (TaskOf V)
   fill_task (print kind arguments) = made_to (print kind) (fill_list fill_argument arguments)
+  fill_task (idle kind arguments) = made_to (idle kind) (fill_list fill_argument arguments)
   fill_task (dump_file letters) = made_to dump_file (word spare)
   fill_task (dump_vars selection) = made_to dump_vars (fill_option fill_selection selection)
   fill_task (dump kind) = pure (dump kind)
@@ -134,6 +136,7 @@ module _ {V W : Type 0} (f : V → W) (spare : V) where
   pub argument_fills : (m : ArgumentOf V) → Fills (fill_argument spare (argument_with f m)) (argument_words m) m
   argument_fills (quoted letters) = made_fills quoted (word_fills spare letters)
   argument_fills (printed value) = made_fills printed (expression_fills f spare value)
+  argument_fills left_out = pure_fills left_out
 
   -- what is dumped
   pub selection_fills : (m : SelectionOf V) → Fills (fill_selection spare (selection_with f m)) (selection_words m) m
@@ -145,6 +148,8 @@ module _ {V W : Type 0} (f : V → W) (spare : V) where
   pub task_fills : (m : TaskOf V) → Fills (fill_task spare (task_with f m)) (task_words m) m
   task_fills (print kind arguments) =
       made_fills (print kind) (list_fills (fill_argument spare) (argument_with f) argument_words argument_fills arguments)
+  task_fills (idle kind arguments) =
+      made_fills (idle kind) (list_fills (fill_argument spare) (argument_with f) argument_words argument_fills arguments)
   task_fills (dump_file letters) = made_fills dump_file (word_fills spare letters)
   task_fills (dump_vars selection) =
       made_fills dump_vars (option_fills (fill_selection spare) (selection_with f) selection_words selection_fills selection)

@@ -12,9 +12,11 @@ use Rattle.vast.specs.Within.{target_stands, targets_stand, target_within, argum
 use Rattle.vast.specs.declared.expression.Expression.{Expression}
 use Rattle.vast.specs.declared.statement.CaseKind.{CaseKind}
 use Rattle.vast.specs.declared.statement.Printing.{Printing}
+use Rattle.vast.specs.declared.statement.Idle.{Idle}
 use Rattle.vast.specs.declared.statement.Argument.{Argument}
 use Rattle.vast.specs.declared.statement.Task.{Task}
 use Rattle.vast.specs.declared.statement.Task.TheVariants.{Print}
+use Rattle.vast.specs.declared.statement.Task.TheVariants as tasks
 use Rattle.vast.specs.declared.statement.Branch.{Branch}
 use Rattle.vast.specs.declared.statement.Statement.{Statement, Block, Case}
 use Rattle.vast.specs.declared.statement.Target.{Target, Joined}
@@ -207,6 +209,13 @@ module _ (words : List Text) where
       (λ i. fits_print kind (map (argument_tree words) (same i)) && list_all (argument_within n) (map (argument_tree words) (same_too i)))
       ∙ ap (λ b. fits_print kind trees && b) (arguments_are n trees)
       ∙ and_assoc (fits_print kind trees) (list_all fits_argument trees) (nat_le (arguments_depth trees) n)
+      ∙ sym (ap (λ (call : Task). task_within n (task_tree words call)) is)
+
+  pub idle_within : (n : ℕ) (e : Task) (kind : Idle) (arguments : Vec Argument Global) (list : List Argument) → e ≡ tasks.Idle kind arguments →
+      list ≡ arguments.items → list_all (argument_within n) (map (argument_tree words) list) ≡ task_within n (task_tree words e)
+  idle_within n e kind arguments list is same =
+      ap (λ (items : List Argument). list_all (argument_within n) (map (argument_tree words) items)) same
+      ∙ arguments_are n (map (argument_tree words) arguments.items)
       ∙ sym (ap (λ (call : Task). task_within n (task_tree words call)) is)
 
   module _ (n : ℕ) (positive : n ≢ 0) where

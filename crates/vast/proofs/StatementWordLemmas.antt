@@ -1,7 +1,7 @@
 -- The words of statements of the program, as their trees tell them.
 use Rattle.std.proofs.Common.{◌≡◌, [], ◌∷◌, map, Option, Box, refl}
 use Rattle.std.specs.Option.{option_map}
-use Rattle.vast.specs.Statements.{TargetOf, TargetsOf, by_value, TermOf, FurtherOf, by_terms, printed, SelectionOf, print, dump_vars, end_run, block, assign, nonblocking, if_true, if_else, case_of, while_true, repeat_times, forever, for_loop, wait_for, delay, event, task, first_statement, labelled, default, first_branch}
+use Rattle.vast.specs.Statements.{TargetOf, TargetsOf, by_value, TermOf, FurtherOf, by_terms, printed, SelectionOf, print, idle, dump_vars, end_run, block, assign, nonblocking, if_true, if_else, case_of, while_true, repeat_times, forever, for_loop, wait_for, delay, event, task, first_statement, labelled, default, first_branch}
 use Rattle.vast.specs.Statements as written
 use Rattle.vast.specs.ExpressionTrees.{boxed_told}
 use Rattle.vast.specs.StatementTrees.{target_told, target_row_told, delay_told, term_told, further_told, event_told, argument_told, path_told, selection_told, task_told, statement_told, branch_told, statement_row_told, branch_row_told}
@@ -60,6 +60,7 @@ module _ {V W : Type 0} (f : V → W) (told : Token → V) where
   pub argument_with_told : (a : Argument) → argument_with f (argument_told told a) ≡ argument_told (λ x. f (told x)) a
   argument_with_told (arguments.Text word) = refl
   argument_with_told (arguments.Value value) = λ i. printed (boxed_with_told f told value i)
+  argument_with_told arguments.LeftOut = refl
 
   -- paths of names
   pub path_with_told : (path : Path) → map f (path_told told path) ≡ path_told (λ x. f (told x)) path
@@ -76,6 +77,8 @@ module _ {V W : Type 0} (f : V → W) (told : Token → V) where
   pub task_with_told : (call : Task) → task_with f (task_told told call) ≡ task_told (λ x. f (told x)) call
   task_with_told (tasks.Print kind list) =
       λ i. print kind (map_same (argument_with f) (argument_told told) (argument_told (λ x. f (told x))) argument_with_told list.items i)
+  task_with_told (tasks.Idle kind list) =
+      λ i. idle kind (map_same (argument_with f) (argument_told told) (argument_told (λ x. f (told x))) argument_with_told list.items i)
   task_with_told (tasks.DumpFile word) = refl
   task_with_told (tasks.DumpVars selection) =
       λ i. dump_vars (option_same (selection_with f) (selection_told told) (selection_told (λ x. f (told x))) selection_with_told selection i)
@@ -162,6 +165,7 @@ module _ {W : Type 0} (told : Token → W) where
   pub argument_words_told : (a : Argument) → argument_words (argument_told told a) ≡ map told (argument_leaves a)
   argument_words_told (arguments.Text word) = refl
   argument_words_told (arguments.Value value) = boxed_words_told told value
+  argument_words_told arguments.LeftOut = refl
 
   -- what is dumped
   pub selection_words_told : (s : Selection) → selection_words (selection_told told s) ≡ map told (selection_leaves s)
@@ -170,6 +174,7 @@ module _ {W : Type 0} (told : Token → W) where
   -- calls of system tasks
   pub task_words_told : (call : Task) → task_words (task_told told call) ≡ map told (task_leaves call)
   task_words_told (tasks.Print kind list) = flat_words told argument_words (argument_told told) argument_leaves argument_words_told list.items
+  task_words_told (tasks.Idle kind list) = flat_words told argument_words (argument_told told) argument_leaves argument_words_told list.items
   task_words_told (tasks.DumpFile word) = refl
   task_words_told (tasks.DumpVars selection) =
       words_if_some told selection_words (selection_told told) selection_leaves selection_words_told selection

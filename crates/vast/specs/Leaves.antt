@@ -103,6 +103,7 @@ event_leaves (events.Terms term further) = term_leaves term ++ flat_map further_
 abbrev pub argument_leaves : Argument → List Token
 argument_leaves (arguments.Text word) = word ∷ []
 argument_leaves (arguments.Value value) = boxed_leaves value
+argument_leaves arguments.LeftOut = []
 
 abbrev pub path_leaves : Path → List Token
 path_leaves path = path.names.items
@@ -112,6 +113,7 @@ selection_leaves selection = selection.levels ∷ flat_map path_leaves selection
 
 abbrev pub task_leaves : Task → List Token
 task_leaves (tasks.Print kind arguments) = flat_map argument_leaves arguments.items
+task_leaves (tasks.Idle kind arguments) = flat_map argument_leaves arguments.items
 task_leaves (tasks.DumpFile word) = word ∷ []
 task_leaves (tasks.DumpVars selection) = if_some selection_leaves selection
 task_leaves (tasks.Dump kind) = []
@@ -198,7 +200,7 @@ instance_leaves instance = instance.name ∷ connections_leaves instance.connect
 
 abbrev pub declaration_kind_leaves : DeclarationKind → List Token
 declaration_kind_leaves (declaring.Variables net type) = type_leaves type
-declaration_kind_leaves declaring.Integers = []
+declaration_kind_leaves (declaring.Integers long) = []
 declaration_kind_leaves (declaring.Directed direction) = direction_leaves direction
 
 abbrev pub item_leaves : ModuleItem → List Token

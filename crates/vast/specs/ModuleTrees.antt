@@ -67,7 +67,7 @@ module _ {W : Type 0} (told : Token → W) where
 
   abbrev pub declaration_kind_told : DeclarationWords → DeclarationKindOf W
   declaration_kind_told (declaring.Variables net type) = variables net (type_told type)
-  declaration_kind_told declaring.Integers = integers
+  declaration_kind_told (declaring.Integers long) = integers long
   declaration_kind_told (declaring.Directed direction) = directed (direction_told direction)
 
   abbrev pub item_told : ModuleItem → ItemOf W

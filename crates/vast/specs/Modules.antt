@@ -66,7 +66,7 @@ pub record InstanceOf (W : Type 0) : Type 0 where
 -- what variables or nets are declared as
 pub data DeclarationKindOf (W : Type 0) : Type 0 where
   variables : NetKind → TypeOf W → DeclarationKindOf W  -- wire type, or reg type
-  integers : DeclarationKindOf W  -- integer
+  integers : Bool → DeclarationKindOf W  -- integer, or time
   directed : DirectionOf W → DeclarationKindOf W  -- ports: input type, output type and so on
 
 -- A.1.4
@@ -207,9 +207,12 @@ spell_overrides (Some connections) = codes "#" ∷ spell_connections connections
 abbrev pub spell_instance : InstanceTree → List Text
 spell_instance instance = instance.name ∷ spell_connections instance.connections
 
+abbrev pub counted_word : Bool → Text
+counted_word long = if long then codes "time" else codes "integer"
+
 abbrev pub spell_declaration_kind : DeclarationKind → List Text
 spell_declaration_kind (variables kind type) = net_word kind ∷ spell_type type
-spell_declaration_kind integers = codes "integer" ∷ []
+spell_declaration_kind (integers long) = counted_word long ∷ []
 spell_declaration_kind (directed direction) = spell_direction (Some direction)
 
 abbrev pub parameter_word : Bool → Text
@@ -329,7 +332,7 @@ fits_instance levels instance = is_name instance.name && fits_connections levels
 
 abbrev pub fits_declaration_kind : ℕ → DeclarationKind → Bool
 fits_declaration_kind levels (variables kind type) = fits_type levels type
-fits_declaration_kind levels integers = true
+fits_declaration_kind levels (integers long) = true
 fits_declaration_kind levels (directed direction) = fits_direction levels (Some direction)
 
 abbrev pub are_some : {A : Type 0} → (A → Bool) → List A → Bool
@@ -342,7 +345,7 @@ stands_alone declared = is_name declared.name && not (is_some declared.value)
 -- the names of a declaration: of ports they stand alone (12.3.3)
 abbrev pub fits_names : ℕ → DeclarationKind → List DeclaredTree → Bool
 fits_names levels (variables kind type) list = are_some (fits_declared levels) list
-fits_names levels integers list = are_some (fits_declared levels) list
+fits_names levels (integers long) list = are_some (fits_declared levels) list
 fits_names levels (directed direction) list = are_some stands_alone list
 
 abbrev pub fits_body : ℕ → StatementTree → Bool

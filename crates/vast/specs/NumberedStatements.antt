@@ -1,5 +1,5 @@
 -- *product rule*: Statements whose words keep their numbers.
-pub use Rattle.vast.specs.Statements.{whole, bit, part, joined, none, first, by_number, by_name, by_value, by_event, by_any, by_any_enclosed, by_terms, quoted, printed, print, dump_file, dump_vars, dump, end_run, empty, block, assign, nonblocking, trigger, if_true, if_else, case_of, while_true, repeat_times, forever, for_loop, wait_for, delay, event, task, no_statement, first_statement, labelled, default, no_branch, first_branch}
+pub use Rattle.vast.specs.Statements.{whole, bit, part, joined, none, first, by_number, by_name, by_value, by_event, by_any, by_any_enclosed, by_terms, quoted, printed, left_out, print, idle, dump_file, dump_vars, dump, end_run, empty, block, assign, nonblocking, trigger, if_true, if_else, case_of, while_true, repeat_times, forever, for_loop, wait_for, delay, event, task, no_statement, first_statement, labelled, default, no_branch, first_branch}
 use Rattle.vast.specs.Statements.{TargetOf, TargetsOf, DelayOf, TermOf, FurtherOf, EventOf, ArgumentOf, SelectionOf, TaskOf, StatementOf, StatementsOf, BranchOf, BranchesOf}
 use Rattle.vast.specs.NumberedWords.{Word}
 

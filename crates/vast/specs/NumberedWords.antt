@@ -1,7 +1,7 @@
--- *product rule*: A word as elaboration reads it: its letters, and its number among the words of the text, by which a fault tells its
+-- *product rule*: A word as elaboration reads it: its letters, which of an escaped name are those behind the backslash (3.7.1), and its number among the words of the text, by which a fault tells its
 -- place.
 use Rattle.std.specs.Prelude.{ℕ, suc, if◌then◌else◌, List, [], ◌∷◌}
-use Rattle.vast.specs.Words.{Text, is_leaf}
+use Rattle.vast.specs.Words.{Text, is_leaf, unescaped}
 use Rattle.vast.specs.TokenTexts.{token_text}
 use Rattle.vast.specs.declared.token.Token.{Token}
 
@@ -11,11 +11,11 @@ pub record Word : Type 0 where
 
 -- that of a token, among the words of the text
 abbrev pub numbered : List Text → Token → Word
-numbered words token = record { letters = token_text words token; number = token.number }
+numbered words token = record { letters = unescaped (token_text words token); number = token.number }
 
 -- the words of a text that trees keep, with their numbers, the first of which is this one
 abbrev pub words_from : ℕ → List Text → List Word
 words_from number [] = []
 words_from number (word ∷ words) =
-    if is_leaf word then record { letters = word; number = number } ∷ words_from (suc number) words
+    if is_leaf word then record { letters = unescaped word; number = number } ∷ words_from (suc number) words
     else words_from (suc number) words

@@ -4,7 +4,7 @@ use Rattle.vast.specs.Words.{Text}
 use Rattle.vast.specs.TokenTexts.{token_text}
 use Rattle.vast.specs.declared.token.Token.{Token}
 use Rattle.vast.specs.ExpressionTrees.{boxed_told, expressions_told}
-use Rattle.vast.specs.Statements.{TargetOf, TargetsOf, DelayOf, TermOf, FurtherOf, EventOf, ArgumentOf, SelectionOf, TaskOf, StatementOf, StatementsOf, BranchOf, BranchesOf, TargetTree, whole, bit, part, joined, TargetTrees, none, first, DelayTree, by_number, by_name, by_value, TermTree, FurtherTerm, EventTree, by_event, by_any, by_any_enclosed, by_terms, ArgumentTree, quoted, printed, SelectionTree, TaskTree, print, dump_file, dump_vars, dump, end_run, StatementTree, empty, block, assign, nonblocking, trigger, if_true, if_else, case_of, while_true, repeat_times, forever, for_loop, wait_for, delay, event, task, StatementTrees, no_statement, first_statement, BranchTree, labelled, default, BranchTrees, no_branch, first_branch}
+use Rattle.vast.specs.Statements.{TargetOf, TargetsOf, DelayOf, TermOf, FurtherOf, EventOf, ArgumentOf, SelectionOf, TaskOf, StatementOf, StatementsOf, BranchOf, BranchesOf, TargetTree, whole, bit, part, joined, TargetTrees, none, first, DelayTree, by_number, by_name, by_value, TermTree, FurtherTerm, EventTree, by_event, by_any, by_any_enclosed, by_terms, ArgumentTree, quoted, printed, left_out, SelectionTree, TaskTree, print, idle, dump_file, dump_vars, dump, end_run, StatementTree, empty, block, assign, nonblocking, trigger, if_true, if_else, case_of, while_true, repeat_times, forever, for_loop, wait_for, delay, event, task, StatementTrees, no_statement, first_statement, BranchTree, labelled, default, BranchTrees, no_branch, first_branch}
 use Rattle.vast.specs.declared.statement.Target.{Target, Whole, Bit, Part, Joined', Row_of-Target, end_of-Target, more_of-Target}
 use Rattle.vast.specs.declared.statement.Delay.{Delay}
 use Rattle.vast.specs.declared.statement.Delay.TheVariants as delays
@@ -59,6 +59,7 @@ module _ {W : Type 0} (told : Token → W) where
   abbrev pub argument_told : Argument → ArgumentOf W
   argument_told (arguments.Text word) = quoted (told word)
   argument_told (arguments.Value value) = printed (boxed_told told value)
+  argument_told arguments.LeftOut = left_out
 
   abbrev pub path_told : Path → List W
   path_told path = map told path.names.items
@@ -68,6 +69,7 @@ module _ {W : Type 0} (told : Token → W) where
 
   abbrev pub task_told : Task → TaskOf W
   task_told (tasks.Print kind arguments) = print kind (map argument_told arguments.items)
+  task_told (tasks.Idle kind arguments) = idle kind (map argument_told arguments.items)
   task_told (tasks.DumpFile word) = dump_file (told word)
   task_told (tasks.DumpVars selection) = dump_vars (option_map selection_told selection)
   task_told (tasks.Dump kind) = dump kind

@@ -12,6 +12,8 @@ use Rattle.vast.specs.declared.statement.Base.{Base}
 use Rattle.vast.specs.declared.statement.Base.TheVariants as bases
 use Rattle.vast.specs.declared.statement.Printing.{Printing}
 use Rattle.vast.specs.declared.statement.Printing.TheVariants as printing
+use Rattle.vast.specs.declared.statement.Idle.{Idle}
+use Rattle.vast.specs.declared.statement.Idle.TheVariants as idles
 use Rattle.vast.specs.declared.statement.Dumping.{Dumping}
 use Rattle.vast.specs.declared.statement.Dumping.TheVariants as dumping
 
@@ -54,6 +56,7 @@ pub data EventOf (W : Type 0) : Type 0 where
 pub data ArgumentOf (W : Type 0) : Type 0 where
   quoted : W → ArgumentOf W  -- "letters"
   printed : ExpressionOf W → ArgumentOf W
+  left_out : ArgumentOf W
 
 -- 18.1.2: levels, and the paths of names after them
 pub record SelectionOf (W : Type 0) : Type 0 where
@@ -63,6 +66,7 @@ pub record SelectionOf (W : Type 0) : Type 0 where
 -- A.6.9: a call of a system task
 pub data TaskOf (W : Type 0) : Type 0 where
   print : Printing → List (ArgumentOf W) → TaskOf W  -- $display ( argument, .. ), or without arguments $display
+  idle : Idle → List (ArgumentOf W) → TaskOf W  -- $fdisplay ( argument, .. ), or without arguments $fopen
   dump_file : W → TaskOf W  -- $dumpfile ( "letters" )
   dump_vars : Option (SelectionOf W) → TaskOf W  -- $dumpvars ( levels, path, .. ), or $dumpvars
   dump : Dumping → TaskOf W  -- $dumpon
@@ -203,6 +207,7 @@ spell_event (by_terms term further) = codes "@" ∷ in_parentheses (spell_term t
 abbrev pub spell_argument : ArgumentTree → List Text
 spell_argument (quoted letters) = letters ∷ []
 spell_argument (printed tree) = spell_expression tree
+spell_argument left_out = []
 
 -- 17.1
 abbrev pub base_letter : Base → Text
@@ -217,6 +222,22 @@ print_word (printing.Write base) = codes "$write" ++ base_letter base
 print_word (printing.Strobe base) = codes "$strobe" ++ base_letter base
 print_word (printing.Monitor base) = codes "$monitor" ++ base_letter base
 
+-- 17.2.2: of a task that prints to a file
+abbrev pub file_word : Printing → Text
+file_word (printing.Display base) = codes "$fdisplay" ++ base_letter base
+file_word (printing.Write base) = codes "$fwrite" ++ base_letter base
+file_word (printing.Strobe base) = codes "$fstrobe" ++ base_letter base
+file_word (printing.Monitor base) = codes "$fmonitor" ++ base_letter base
+
+-- 17.2.1, 17.2.2, 17.2.6, 17.3.1, 17.3.2: of a task that has no effect here (own)
+abbrev pub idle_word : Idle → Text
+idle_word idles.Open = codes "$fopen"
+idle_word idles.Close = codes "$fclose"
+idle_word idles.Flush = codes "$fflush"
+idle_word (idles.File kind) = file_word kind
+idle_word idles.TimeFormat = codes "$timeformat"
+idle_word idles.PrintTimescale = codes "$printtimescale"
+
 -- 18.1
 abbrev pub dump_word : Dumping → Text
 dump_word dumping.On = codes "$dumpon"
@@ -224,7 +245,7 @@ dump_word dumping.Off = codes "$dumpoff"
 dump_word dumping.All = codes "$dumpall"
 dump_word dumping.Flush = codes "$dumpflush"
 
--- without arguments no parentheses stand
+-- without arguments no parentheses stand; between parentheses with nothing one is left out (17.1.1)
 abbrev pub spell_arguments : List ArgumentTree → List Text
 spell_arguments [] = []
 spell_arguments (one ∷ more) = in_parentheses (listed spell_argument (one ∷ more))
@@ -249,6 +270,7 @@ end_word stops = if stops then codes "$stop" else codes "$finish"
 
 abbrev pub spell_task : TaskTree → List Text
 spell_task (print kind arguments) = print_word kind ∷ spell_arguments arguments
+spell_task (idle kind arguments) = idle_word kind ∷ spell_arguments arguments
 spell_task (dump_file letters) = codes "$dumpfile" ∷ in_parentheses (letters ∷ [])
 spell_task (dump_vars selection) = codes "$dumpvars" ∷ spell_selection selection
 spell_task (dump kind) = dump_word kind ∷ []
@@ -341,6 +363,7 @@ event_depth (by_terms term further) = 1
 abbrev pub argument_depth : ArgumentTree → ℕ
 argument_depth (quoted letters) = 1
 argument_depth (printed tree) = depth tree
+argument_depth left_out = 1
 
 abbrev pub arguments_depth : List ArgumentTree → ℕ
 arguments_depth [] = 0
@@ -348,6 +371,7 @@ arguments_depth (one ∷ more) = max (argument_depth one) (arguments_depth more)
 
 abbrev pub task_depth : TaskTree → ℕ
 task_depth (print kind arguments) = arguments_depth arguments
+task_depth (idle kind arguments) = arguments_depth arguments
 task_depth (dump_file letters) = 1
 task_depth (dump_vars selection) = 0
 task_depth (dump kind) = 0
@@ -444,6 +468,7 @@ fits_event (by_terms term further) = is_name term.name && list_all fits_further_
 abbrev pub fits_argument : ArgumentTree → Bool
 fits_argument (quoted letters) = is_string letters
 fits_argument (printed tree) = fits_expression tree
+fits_argument left_out = true
 
 -- $monitor alone asks for arguments
 abbrev pub fits_print : Printing → List ArgumentTree → Bool
@@ -465,6 +490,7 @@ fits_optional_number (Some digits) = is_number digits
 
 abbrev pub fits_task : TaskTree → Bool
 fits_task (print kind arguments) = fits_print kind arguments && list_all fits_argument arguments
+fits_task (idle kind arguments) = list_all fits_argument arguments
 fits_task (dump_file letters) = is_string letters
 fits_task (dump_vars selection) = fits_selection selection
 fits_task (dump kind) = true

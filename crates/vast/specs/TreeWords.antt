@@ -2,7 +2,7 @@
 use Rattle.std.specs.Prelude.{List, [], ◌∷◌, ◌++◌, map, Option, None, Some, option_map}
 use Rattle.std.specs.List.{flat_map}
 use Rattle.vast.specs.Expressions.{ExpressionOf, ExpressionsOf, number, name, time, bit, part, parentheses, concatenation, replication, conversion, apply, combine, conditional, none, first}
-use Rattle.vast.specs.Statements.{TargetOf, TargetsOf, DelayOf, by_number, by_name, by_value, TermOf, FurtherOf, EventOf, by_event, by_any, by_any_enclosed, by_terms, ArgumentOf, quoted, printed, SelectionOf, TaskOf, print, dump_file, dump_vars, dump, end_run, StatementOf, StatementsOf, empty, block, assign, nonblocking, trigger, if_true, if_else, case_of, while_true, repeat_times, forever, for_loop, wait_for, delay, event, task, no_statement, first_statement, BranchOf, BranchesOf, labelled, default, no_branch, first_branch}
+use Rattle.vast.specs.Statements.{TargetOf, TargetsOf, DelayOf, by_number, by_name, by_value, TermOf, FurtherOf, EventOf, by_event, by_any, by_any_enclosed, by_terms, ArgumentOf, quoted, printed, left_out, SelectionOf, TaskOf, print, idle, dump_file, dump_vars, dump, end_run, StatementOf, StatementsOf, empty, block, assign, nonblocking, trigger, if_true, if_else, case_of, while_true, repeat_times, forever, for_loop, wait_for, delay, event, task, no_statement, first_statement, BranchOf, BranchesOf, labelled, default, no_branch, first_branch}
 use Rattle.vast.specs.Statements as written
 use Rattle.vast.specs.Modules.{RangeOf, TypeOf, ParameterTypeOf, integer, typed, SettingOf, DeclaredOf, DirectionOf, input, output, PortOf, HeadParameterOf, ConnectionOf, ConnectionsOf, by_order, InstanceOf, DeclarationKindOf, variables, integers, directed, ItemOf, parameters, declaration, events, assignments, initial, always, instances, ModuleOf, SourceOf}
 use Rattle.vast.specs.Modules as modules
@@ -61,12 +61,14 @@ module _ {V W : Type 0} (f : V → W) where
   abbrev pub argument_with : ArgumentOf V → ArgumentOf W
   argument_with (quoted letters) = quoted (f letters)
   argument_with (printed value) = printed (expression_with value)
+  argument_with left_out = left_out
 
   abbrev pub selection_with : SelectionOf V → SelectionOf W
   selection_with selection = record { levels = f selection.levels; paths = map (map f) selection.paths }
 
   abbrev pub task_with : TaskOf V → TaskOf W
   task_with (print kind arguments) = print kind (map argument_with arguments)
+  task_with (idle kind arguments) = idle kind (map argument_with arguments)
   task_with (dump_file letters) = dump_file (f letters)
   task_with (dump_vars selection) = dump_vars (option_map selection_with selection)
   task_with (dump kind) = dump kind
@@ -143,7 +145,7 @@ module _ {V W : Type 0} (f : V → W) where
 
   abbrev pub declaration_kind_with : DeclarationKindOf V → DeclarationKindOf W
   declaration_kind_with (variables net type) = variables net (type_with type)
-  declaration_kind_with integers = integers
+  declaration_kind_with (integers long) = integers long
   declaration_kind_with (directed direction) = directed (direction_with direction)
 
   abbrev pub item_with : ItemOf V → ItemOf W
@@ -225,6 +227,7 @@ module _ {W : Type 0} where
   abbrev pub argument_words : ArgumentOf W → List W
   argument_words (quoted letters) = letters ∷ []
   argument_words (printed value) = expression_words value
+  argument_words left_out = []
 
   abbrev pub path_words : List W → List W
   path_words path = path
@@ -237,6 +240,7 @@ module _ {W : Type 0} where
 
   abbrev pub task_words : TaskOf W → List W
   task_words (print kind arguments) = flat_map argument_words arguments
+  task_words (idle kind arguments) = flat_map argument_words arguments
   task_words (dump_file letters) = letters ∷ []
   task_words (dump_vars selection) = words_if selection_words selection
   task_words (dump kind) = []
@@ -324,7 +328,7 @@ module _ {W : Type 0} where
 
   abbrev pub declaration_kind_words : DeclarationKindOf W → List W
   declaration_kind_words (variables net type) = type_words type
-  declaration_kind_words integers = []
+  declaration_kind_words (integers long) = []
   declaration_kind_words (directed direction) = direction_words direction
 
   abbrev pub item_words : ItemOf W → List W

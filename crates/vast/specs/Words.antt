@@ -1,6 +1,6 @@
 -- *trusted*: Words: what may stand for a name or a number in a tree, and which words the profile has (docs/LANGUAGE.md, "Words"; IEEE
 -- 1364-2005, 3.7, 3.5.1). A word is the bytes of one token.
-use Rattle.std.specs.Prelude.{Bool, false, ◌&&◌, ◌||◌, not, ℕ, ◌==◌, List, [], ◌∷◌, codes}
+use Rattle.std.specs.Prelude.{Bool, false, ◌&&◌, ◌||◌, not, nat_le, if◌then◌else◌, ℕ, ◌==◌, List, [], ◌∷◌, codes}
 use Rattle.std.specs.List.{list_any, list_all}
 use Rattle.std.specs.Str.{bytes_eq}
 use Rattle.std.specs.Char.{is_ascii_digit}
@@ -35,9 +35,31 @@ abbrev pub is_reserved : List ℕ → Bool
 is_reserved word = list_any (λ reserved. bytes_eq reserved word) reserved_words
 
 -- 3.7: a letter or `_`, then letters, digits, `_` and `$`, and no reserved word
+abbrev pub is_simple_name : List ℕ → Bool
+is_simple_name [] = false
+is_simple_name (c ∷ cs) = begins_name c && list_all is_in_name cs && not (is_reserved (c ∷ cs))
+
+-- 3.7.1: the printable characters, `!` to `~`
+abbrev pub is_printable : ℕ → Bool
+is_printable c = nat_le 33 c && nat_le c 126
+
+abbrev pub are_printable : List ℕ → Bool
+are_printable [] = false
+are_printable (c ∷ cs) = list_all is_printable (c ∷ cs)
+
+-- 3.7.1: among tokens, an escaped name is a backslash and some of these
+abbrev pub is_escaped_name : List ℕ → Bool
+is_escaped_name [] = false
+is_escaped_name (c ∷ cs) = c == 92 && are_printable cs
+
+-- 3.7
 abbrev pub is_name : List ℕ → Bool
-is_name [] = false
-is_name (c ∷ cs) = begins_name c && list_all is_in_name cs && not (is_reserved (c ∷ cs))
+is_name word = is_simple_name word || is_escaped_name word
+
+-- 3.7.1: what the word of a name names: the backslash isn't part of it
+abbrev pub unescaped : List ℕ → List ℕ
+unescaped [] = []
+unescaped (c ∷ cs) = if c == 92 then cs else c ∷ cs
 
 -- 3.5.1: among tokens the numbers are those that begin with a digit or an apostrophe
 abbrev pub is_number : List ℕ → Bool

@@ -26,7 +26,7 @@ fn declaration_kind_fits(words: &[&[u8]], kind: &DeclarationKind) -> bool
 {
     match kind {
         DeclarationKind::Variables { kind, .. } => type_fits(words, kind, DEPTH),
-        DeclarationKind::Integers => true,
+        DeclarationKind::Integers { .. } => true,
         DeclarationKind::Directed { direction } => direction_fits(words, direction, DEPTH),
     }
 }
@@ -40,7 +40,8 @@ fn names_fit(words: &[&[u8]], kind: &DeclarationKind, declared: &[Declared]) -> 
         DeclarationKind::Variables { .. } => {
             !declared.is_empty() && declared_fit(words, declared, DEPTH)
         }
-        DeclarationKind::Integers => !declared.is_empty() && declared_fit(words, declared, DEPTH),
+        DeclarationKind::Integers { .. } => !declared.is_empty()
+            && declared_fit(words, declared, DEPTH),
         DeclarationKind::Directed { .. } => !declared.is_empty() && are_alone(words, declared),
     }
 }

@@ -108,8 +108,8 @@ pub struct Instance {
 pub enum DeclarationKind {
     /// `wire` or `reg`, and a type
     Variables { net: NetKind, kind: SignAndRange },
-    /// `integer`
-    Integers,
+    /// `integer`, or where it is the longer one `time`
+    Integers { long: bool },
     /// Ports that the list of a module names: `input type`, `output type` and so on (12.3.3)
     Directed { direction: Direction },
 }

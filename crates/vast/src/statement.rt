@@ -49,6 +49,23 @@ pub enum Printing {
     Monitor(Base),
 }
 
+/// A task that has no effect here (own): of files, and of how times are shown.
+#[derive(Clone, Copy, PartialEq, Eq)]
+pub enum Idle {
+    /// `$fopen` (17.2.1)
+    Open,
+    /// `$fclose` (17.2.1)
+    Close,
+    /// `$fflush` (17.2.6)
+    Flush,
+    /// `$fdisplay`, and the like (17.2.2)
+    File(Printing),
+    /// `$timeformat` (17.3.2)
+    TimeFormat,
+    /// `$printtimescale` (17.3.1)
+    PrintTimescale,
+}
+
 /// What is done to the dump (18.1).
 #[derive(Clone, Copy, PartialEq, Eq)]
 pub enum Dumping {
@@ -133,6 +150,8 @@ pub enum Argument {
     Text(Token),
     /// An expression.
     Value(Box<Expression>),
+    /// Nothing
+    LeftOut,
 }
 
 /// `name.name..` (12.5)
@@ -154,6 +173,11 @@ pub enum Task {
     /// `$display(argument, ..)`, or `$display`
     Print {
         kind: Printing,
+        arguments: Vec<Argument>,
+    },
+    /// `$fdisplay(argument, ..)`, or `$fopen`
+    Idle {
+        kind: Idle,
         arguments: Vec<Argument>,
     },
     /// `$dumpfile("letters")` (18.1.1)

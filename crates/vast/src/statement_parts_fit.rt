@@ -149,6 +149,7 @@ fn argument_fits(words: &[&[u8]], argument: &Argument, levels: u32) -> bool
     match argument {
         Argument::Text(word) => levels > 0 && is_string(letters(words, *word)),
         Argument::Value(value) => expression_fits(words, value, levels),
+        Argument::LeftOut => levels > 0,
     }
 }
 
@@ -246,6 +247,7 @@ pub fn task_fits(words: &[&[u8]], task: &Task, levels: u32) -> bool
         Task::Print { kind, arguments } => {
             print_fits(*kind, arguments) && arguments_fit(words, arguments, levels)
         }
+        Task::Idle { arguments, .. } => arguments_fit(words, arguments, levels),
         Task::DumpFile(word) => levels > 0 && is_string(letters(words, *word)),
         Task::DumpVars(selection) => selection_fits(words, selection),
         Task::Dump(_) => true,

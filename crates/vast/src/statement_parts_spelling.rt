@@ -4,7 +4,7 @@
 ghost use Rattle.std.specs.Prelude.{◌≡◌, ◌∷◌, [], flat_map, map, option_map};
 ghost use Rattle.vast.specs.TokenTexts.{token_text, texts};
 ghost use Rattle.vast.specs.ExpressionTrees.{tree_of};
-ghost use Rattle.vast.specs.Statements.{spell_target, spell_targets, spell_delay, spell_optional_delay, edge_word as edge_text, spell_edge, spell_term, spell_further_term, spell_event, spell_argument, print_word as print_text, dump_word as dump_text, spell_arguments, spell_path, spell_selection, spell_number, end_word as end_text, spell_task, case_word as case_text, spell_setting, spell_condition, listed, spell_block_name};
+ghost use Rattle.vast.specs.Statements.{spell_target, spell_targets, spell_delay, spell_optional_delay, edge_word as edge_text, spell_edge, spell_term, spell_further_term, spell_event, spell_argument, print_word as print_text, file_word as file_text, idle_word as idle_text, dump_word as dump_text, spell_arguments, spell_path, spell_selection, spell_number, end_word as end_text, spell_task, case_word as case_text, spell_setting, spell_condition, listed, spell_block_name};
 ghost use Rattle.vast.specs.StatementTrees.{target_tree, target_trees, delay_tree, term_tree, further_term, event_tree, argument_tree, path_tree, selection_tree, task_tree};
 ghost use Rattle.vast.specs.Inner.{Puts, joined_words, assigned_words, dotted_words, paths_words};
 
@@ -12,8 +12,8 @@ use crate::expression::Expression;
 use crate::expression_spelling::{put_expression, put_range};
 use crate::spelling::{Spelling, put, put_comma, put_token};
 use crate::statement::{
-    Argument, Base, CaseKind, Delay, Dumping, Edge, Event, FurtherTerm, Path, Printing, Selection,
-    Target, Task, Term,
+    Argument, Base, CaseKind, Delay, Dumping, Edge, Event, FurtherTerm, Idle, Path, Printing,
+    Selection, Target, Task, Term,
 };
 use crate::token::Token;
 use basis::NoMemory;
@@ -244,6 +244,7 @@ fn put_argument<'t>(
     match argument {
         Argument::Text(word) => put_token(out, words, *word),
         Argument::Value(value) => put_expression(out, words, value),
+        Argument::LeftOut => Ok(()),
     }
 }
 
@@ -408,6 +409,44 @@ pub fn print_word(kind: Printing) -> &'static [u8]
     }
 }
 
+// The word of a task that prints to a file.
+fn file_word(kind: Printing) -> &'static [u8]
+    ensures { result.now ≡ file_text kind }
+{
+    match kind {
+        Printing::Display(Base::Decimal) => b"$fdisplay",
+        Printing::Display(Base::Binary) => b"$fdisplayb",
+        Printing::Display(Base::Octal) => b"$fdisplayo",
+        Printing::Display(Base::Hexadecimal) => b"$fdisplayh",
+        Printing::Write(Base::Decimal) => b"$fwrite",
+        Printing::Write(Base::Binary) => b"$fwriteb",
+        Printing::Write(Base::Octal) => b"$fwriteo",
+        Printing::Write(Base::Hexadecimal) => b"$fwriteh",
+        Printing::Strobe(Base::Decimal) => b"$fstrobe",
+        Printing::Strobe(Base::Binary) => b"$fstrobeb",
+        Printing::Strobe(Base::Octal) => b"$fstrobeo",
+        Printing::Strobe(Base::Hexadecimal) => b"$fstrobeh",
+        Printing::Monitor(Base::Decimal) => b"$fmonitor",
+        Printing::Monitor(Base::Binary) => b"$fmonitorb",
+        Printing::Monitor(Base::Octal) => b"$fmonitoro",
+        Printing::Monitor(Base::Hexadecimal) => b"$fmonitorh",
+    }
+}
+
+/// The word of a task that has no effect.
+pub fn idle_word(kind: Idle) -> &'static [u8]
+    ensures { result.now ≡ idle_text kind }
+{
+    match kind {
+        Idle::Open => b"$fopen",
+        Idle::Close => b"$fclose",
+        Idle::Flush => b"$fflush",
+        Idle::File(printing) => file_word(printing),
+        Idle::TimeFormat => b"$timeformat",
+        Idle::PrintTimescale => b"$printtimescale",
+    }
+}
+
 fn dump_word(kind: Dumping) -> &'static [u8]
     ensures { result.now ≡ dump_text kind }
 {
@@ -447,6 +486,10 @@ pub fn put_task<'t>(
     match task {
         Task::Print { kind, arguments } => {
             put(out, print_word(*kind))?;
+            put_arguments(out, words, arguments)
+        }
+        Task::Idle { kind, arguments } => {
+            put(out, idle_word(*kind))?;
             put_arguments(out, words, arguments)
         }
         Task::DumpFile(word) => {

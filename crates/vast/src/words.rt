@@ -3,7 +3,7 @@
 ghost use Rattle.std.specs.Prelude.{◌≡◌};
 ghost use Rattle.std.specs.List.{list_any, list_all};
 ghost use Rattle.std.specs.Str.{bytes_eq};
-ghost use Rattle.vast.specs.Words.{is_reserved as is_reserved_word, is_name as is_name_text, is_number as is_number_text, is_string as is_string_text, is_time as is_time_text};
+ghost use Rattle.vast.specs.Words.{is_reserved as is_reserved_word, is_name as is_name_text, is_simple_name as is_simple_name_text, is_escaped_name as is_escaped_name_text, is_printable as is_printable_code, are_printable as are_printable_codes, unescaped as unescaped_text, is_number as is_number_text, is_string as is_string_text, is_time as is_time_text};
 ghost use Rattle.basis.specs.Letters.{is_in_name as is_in_name_code};
 
 use basis::{begins_name, is_in_name};
@@ -121,9 +121,16 @@ pub fn is_reserved(text: &[u8]) -> bool
     is_among(text, &RESERVED)
 }
 
-/// Whether the text is a name: a letter or `_`, then letters, digits, `_` and `$`, and no reserved word (3.7).
+/// Whether the text is a name: a simple or an escaped one (3.7).
 pub fn is_name(text: &[u8]) -> bool
     ensures { result ≡ is_name_text text.now }
+{
+    is_simple_name(text) || is_escaped_name(text)
+}
+
+// A letter or `_`, then letters, digits, `_` and `$`, and no reserved word (3.7).
+fn is_simple_name(text: &[u8]) -> bool
+    ensures { result ≡ is_simple_name_text text.now }
 {
     match text.split_first() {
         None => false,
@@ -135,6 +142,48 @@ fn are_in_name(bytes: &[u8]) -> bool
     ensures { result ≡ list_all is_in_name_code bytes.now }
 {
     bytes.iter().all(|c| is_in_name(*c))
+}
+
+// A backslash and some printable characters (3.7.1).
+fn is_escaped_name(text: &[u8]) -> bool
+    ensures { result ≡ is_escaped_name_text text.now }
+{
+    match text.split_first() {
+        None => false,
+        Some((first, rest)) => *first == b'\\' && are_printable(rest),
+    }
+}
+
+/// Whether these are some printable characters (3.7.1).
+pub fn are_printable(bytes: &[u8]) -> bool
+    ensures { result ≡ are_printable_codes bytes.now }
+{
+    match bytes.split_first() {
+        None => false,
+        Some((first, rest)) => is_printable(*first) && are_all_printable(rest),
+    }
+}
+
+fn are_all_printable(bytes: &[u8]) -> bool
+    ensures { result ≡ list_all is_printable_code bytes.now }
+{
+    bytes.iter().all(|c| is_printable(*c))
+}
+
+fn is_printable(byte: u8) -> bool
+    ensures { result ≡ is_printable_code byte }
+{
+    b'!' <= byte && byte <= b'~'
+}
+
+/// What the word of a name names: the backslash of an escaped one isn't part of it (3.7.1).
+pub fn unescaped(text: &[u8]) -> &[u8]
+    ensures { result.now ≡ unescaped_text text.now }
+{
+    match text.split_first() {
+        None => text,
+        Some((first, rest)) => { if *first == b'\\' { rest } else { text } }
+    }
 }
 
 /// Whether a token is a number: it begins with a digit or an apostrophe (3.5.1).

@@ -17,13 +17,13 @@ use Rattle.basis.proofs.Decimals.{decimal_digits}
 use Rattle.basis.proofs.Digits.{decimal_numerals}
 use Rattle.vdesign.specs.declared.expression.Bounds.{Bounds}
 use Rattle.vdesign.specs.declared.design.Kind.{Kind}
-use Rattle.vdesign.specs.declared.design.Kind.TheVariants.{Reg, Integer, Wire}
+use Rattle.vdesign.specs.declared.design.Kind.TheVariants.{Reg, Integer, Wire, Time}
 use Rattle.vdesign.specs.Design.{Variable}
 use Rattle.vcd_read.specs.Words.{Text, words_of}
 use Rattle.vcd_read.specs.Timescale.{count_of, spanned, unit_of}
 use Rattle.vcd_read.specs.Declarations.{HaveNoEnd, declared, end_word, Declares, note, scope, timescale, upscope, variable}
 use Rattle.vcd_read.specs.Declarations as declarations
-use Rattle.vcd_text.specs.DumpText.{bounds_text, closings, code, kind_word, line, scope_line, timescale_line, variable_line, variable_lines}
+use Rattle.vcd_text.specs.DumpText.{bounds_text, closings, code, identifier, kind_word, line, scope_line, timescale_line, variable_line, variable_lines}
 use Rattle.vcd_law.specs.Headers.{AreNamed, AreSmall, IsNamed, IsWord, Plain, all_seen, inmost, inner, own_name, seen}
 use Rattle.vcd_law.proofs.WordsBack.{decimal_is, plain_code, plain_numbers, plain_word, word_comes}
 use Rattle.vcd_law.proofs.PartsBack.{code_some}
@@ -71,6 +71,7 @@ number_more text us n small x =
 kind_some : (kind : Kind) → (c : ℕ) × (cs : Text) × (kind_word kind ≡ c ∷ cs) × Plain (kind_word kind)
 kind_some Reg = (114, codes "eg", refl, plain_word (codes "reg") refl)
 kind_some Integer = (105, codes "nteger", refl, plain_word (codes "integer") refl)
+kind_some Time = (116, codes "ime", refl, plain_word (codes "time") refl)
 kind_some Wire = (119, codes "ire", refl, plain_word (codes "wire") refl)
 
 -- the range as a word
@@ -108,13 +109,13 @@ tail_words w c cs (Some bounds) is plain small rest =
     ∙ ap (λ (ws : List Text). (c ∷ cs) ∷ ws) (word_comes 91 range 32 behind (range_plain bounds small) refl))
 
 abbrev variable_words : ℕ → Variable → List Text
-variable_words n v = codes "$var" ∷ kind_word v.kind ∷ decimal v.length ∷ code n ∷ own_name v ∷ (range_words v.bounds ++ end_word ∷ [])
+variable_words n v = codes "$var" ∷ kind_word v.kind ∷ decimal v.length ∷ code n ∷ identifier (own_name v) ∷ (range_words v.bounds ++ end_word ∷ [])
 
 variable_of : (n : ℕ) (prefix : Text) (v : Variable) → IsNamed prefix v → AreOf (variable_line n v) (variable_words n v)
 variable_of n prefix v named rest =
     let kind = kind_some v.kind in
     let name = code_some n in
-    let own = word_form (own_name v) named.word in
+    let own = word_form (identifier (own_name v)) named.word in
     let first : List ℕ = codes "$var " ++ kind_word v.kind ++ codes " " in
     let second : List ℕ = first ++ decimal v.length ++ codes " " in
     let head : List ℕ = second ++ code n ++ codes " " in
@@ -125,15 +126,15 @@ variable_of n prefix v named rest =
     number_more first (codes "$var" ∷ kind_word v.kind ∷ []) v.length named.length one in
     let three : AreOf head (codes "$var" ∷ kind_word v.kind ∷ decimal v.length ∷ code n ∷ []) =
     word_more second (codes "$var" ∷ kind_word v.kind ∷ decimal v.length ∷ []) (code n) name.0 name.1 name.2 (plain_code n) two in
-    let text : variable_line n v ++ rest ≡ head ++ (own_name v ++ (bounds_text v.bounds ++ behind)) =
-    append_assoc (head ++ own_name v ++ bounds_text v.bounds ++ codes " $end") (10 ∷ []) rest
-    ∙ append_assoc (head ++ own_name v ++ bounds_text v.bounds) (codes " $end") (10 ∷ rest)
-    ∙ append_assoc (head ++ own_name v) (bounds_text v.bounds) behind
-    ∙ append_assoc head (own_name v) (bounds_text v.bounds ++ behind) in
-    ap words_of text ∙ three (own_name v ++ (bounds_text v.bounds ++ behind))
+    let text : variable_line n v ++ rest ≡ head ++ (identifier (own_name v) ++ (bounds_text v.bounds ++ behind)) =
+    append_assoc (head ++ identifier (own_name v) ++ bounds_text v.bounds ++ codes " $end") (10 ∷ []) rest
+    ∙ append_assoc (head ++ identifier (own_name v) ++ bounds_text v.bounds) (codes " $end") (10 ∷ rest)
+    ∙ append_assoc (head ++ identifier (own_name v)) (bounds_text v.bounds) behind
+    ∙ append_assoc head (identifier (own_name v)) (bounds_text v.bounds ++ behind) in
+    ap words_of text ∙ three (identifier (own_name v) ++ (bounds_text v.bounds ++ behind))
     ∙ ap (λ (ws : List Text). codes "$var" ∷ kind_word v.kind ∷ decimal v.length ∷ code n ∷ ws)
-    (tail_words (own_name v) own.0 own.1 v.bounds own.2 (word_plain (own_name v) named.word) named.bounds rest
-    ∙ ap (λ (ws : List Text). own_name v ∷ ws) (sym (append_assoc (range_words v.bounds) (end_word ∷ []) (words_of rest))))
+    (tail_words (identifier (own_name v)) own.0 own.1 v.bounds own.2 (word_plain (identifier (own_name v)) named.word) named.bounds rest
+    ∙ ap (λ (ws : List Text). identifier (own_name v) ∷ ws) (sym (append_assoc (range_words v.bounds) (end_word ∷ []) (words_of rest))))
 
 -- ---- what declarations lead to
 
@@ -200,13 +201,13 @@ lead_variable prefixes n v named before = record {
   are = variable_of n (inmost prefixes) v named;
   goes_on = λ rest unit more d.
       let range : List Text = range_words v.bounds in
-      let name : inmost prefixes ++ declarations.before_range (own_name v) ≡ v.name = ap (λ (own : Text). inmost prefixes ++ own) named.whole ∙ sym named.name in
+      let name : inmost prefixes ++ declarations.name_of (identifier (own_name v)) ≡ v.name = ap (λ (own : Text). inmost prefixes ++ own) named.whole ∙ sym named.name in
       subst (λ (text : Text). Declares before (inmost prefixes) (outer prefixes) (variable_words n v ++ rest) unit
       (record { name = text; width = v.length; code = code n } ∷ more)) name
       (subst (λ (ws : List Text). Declares before (inmost prefixes) (outer prefixes)
-      (codes "$var" ∷ kind_word v.kind ∷ decimal v.length ∷ code n ∷ own_name v ∷ ws) unit
-      (declared (inmost prefixes) (own_name v) v.length (code n) ∷ more)) (sym (append_assoc range (end_word ∷ []) rest))
-      (variable before unit (inmost prefixes) (outer prefixes) (kind_word v.kind) (decimal v.length) (code n) (own_name v) range rest v.length more
+      (codes "$var" ∷ kind_word v.kind ∷ decimal v.length ∷ code n ∷ identifier (own_name v) ∷ ws) unit
+      (declared (inmost prefixes) (identifier (own_name v)) v.length (code n) ∷ more)) (sym (append_assoc range (end_word ∷ []) rest))
+      (variable before unit (inmost prefixes) (outer prefixes) (kind_word v.kind) (decimal v.length) (code n) (identifier (own_name v)) range rest v.length more
       (decimal_is v.length named.length) (no_end_range v.bounds) d));
 }
 

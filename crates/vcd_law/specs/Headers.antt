@@ -4,9 +4,9 @@ use Rattle.std.specs.List.{after_last}
 use Rattle.vdesign.specs.declared.expression.Bounds.{Bounds}
 use Rattle.vdesign.specs.Design.{Variable, Scope, Design}
 use Rattle.vcd_read.specs.Words.{Text, words_of}
-use Rattle.vcd_read.specs.Declarations.{before_range, Declares}
+use Rattle.vcd_read.specs.Declarations.{name_of, Declares}
 use Rattle.vcd_read.specs.Declarations as declarations
-use Rattle.vcd_text.specs.DumpText.{code, header}
+use Rattle.vcd_text.specs.DumpText.{code, header, identifier}
 
 -- no letter is a blank
 abbrev pub Plain : Text → Type 0
@@ -31,8 +31,8 @@ AreSmall (Some bounds) = (bounds.left < 2 ^ 64) × (bounds.right < 2 ^ 64)
 -- a variable of a scope whose names begin so
 pub record IsNamed (prefix : Text) (v : Variable) : Type 0 where
   pub name : v.name ≡ prefix ++ own_name v
-  pub word : IsWord (own_name v)
-  pub whole : before_range (own_name v) ≡ own_name v
+  pub word : IsWord (identifier (own_name v))
+  pub whole : name_of (identifier (own_name v)) ≡ own_name v
   pub length : v.length < 2 ^ 64
   pub bounds : AreSmall v.bounds
 

@@ -1,5 +1,5 @@
 -- *trusted*: What a value change dump declares (IEEE 1364-2005, 18.2.3).
-use Rattle.std.specs.Prelude.{◌≡◌, ℕ, Bool, true, not, ◌&&◌, ◌||◌, if◌then◌else◌, take, ◌==◌, get_or, List, [], ◌∷◌, ◌++◌, Option, Some, None, codes, ⊤}
+use Rattle.std.specs.Prelude.{◌≡◌, ℕ, Bool, true, not, ◌&&◌, ◌||◌, if◌then◌else◌, take, drop, ◌==◌, get_or, List, [], ◌∷◌, ◌++◌, Option, Some, None, codes, ⊤}
 use Rattle.std.specs.List.{prefix_len}
 use Rattle.std.specs.Str.{bytes_eq}
 use Rattle.basis.specs.declared.timescale.Span.{Span}
@@ -44,16 +44,17 @@ abbrev pub HaveNoEnd : List Text → Type 0
 HaveNoEnd [] = ⊤
 HaveNoEnd (word ∷ words) = IsNoEnd word × HaveNoEnd words
 
--- A reference has its name before its range. One that begins with a backslash is an escaped identifier, and all of it is the name (3.7.1).
+-- A reference has its name before its range. One that begins with a backslash is an escaped identifier, and all behind that is the name
+-- (3.7.1).
 abbrev pub is_no_bracket : ℕ → Bool
 is_no_bracket c = not (c == 91)
 
-abbrev pub before_range : Text → Text
-before_range reference = if get_or reference 0 0 == 92 then reference else take (prefix_len is_no_bracket reference) reference
+abbrev pub name_of : Text → Text
+name_of reference = if get_or reference 0 0 == 92 then drop 1 reference else take (prefix_len is_no_bracket reference) reference
 
 -- what is declared by this reference, where names begin so
 abbrev pub declared : Text → Text → ℕ → Text → Variable
-declared prefix reference width code = record { name = prefix ++ before_range reference; width = width; code = code }
+declared prefix reference width code = record { name = prefix ++ name_of reference; width = width; code = code }
 
 -- The words declare this unit of times, if they declare one, and these variables, where the unit before was declared before them, and where
 -- the names of variables begin with the prefix, and outside of the open scope with the outer ones.

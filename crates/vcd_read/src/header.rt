@@ -5,7 +5,7 @@ ghost use Rattle.std.specs.List.{prefix_len};
 ghost use Rattle.vcd_read.specs.Words.{Text};
 ghost use Rattle.vcd_read.specs.Bytes.{left, IsReady, Come, Takes};
 ghost use Rattle.vcd_read.specs.Declaring.{Lead, all_seen, outer_of, seen};
-ghost use Rattle.vcd_read.specs.Declarations.{Declares, declared, before_range, is_declaring, is_no_bracket, is_note, is_telling, last_words};
+ghost use Rattle.vcd_read.specs.Declarations.{Declares, declared, name_of as name_of_reference, is_declaring, is_no_bracket, is_note, is_telling, last_words};
 
 use crate::fault::{VcdFault, VcdFlaw};
 use crate::numbers::decimal_in;
@@ -72,10 +72,13 @@ fn begins_with(word: &[u8], letter: u8) -> bool
 
 // The name of a reference.
 fn name_of(reference: &[u8]) -> &[u8]
-    ensures { result.now ≡ before_range reference.now }
+    ensures { result.now ≡ name_of_reference reference.now }
 {
-    if begins_with(reference, b'\\') {
+    let Some((first, name)) = reference.split_first() else {
         return reference;
+    };
+    if *first == b'\\' {
+        return name;
     }
     reference.split_at(name_len(reference)).0
 }

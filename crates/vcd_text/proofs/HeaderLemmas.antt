@@ -8,7 +8,7 @@ use Rattle.std.proofs.Math.Seq.{take-nil, drop-nil}
 use Rattle.vdesign.specs.Design.{Variable, Scope}
 use Rattle.basis.specs.declared.timescale.Span.{Span}
 use Rattle.basis.specs.Timescales.{count_number, unit_word}
-use Rattle.vcd_text.specs.DumpText.{timescale_line, bounds_text, closings, code, is_written, kind_word, line, following, named_variable_line, scope_line, scope_lines, scope_text, variable_lines}
+use Rattle.vcd_text.specs.DumpText.{timescale_line, bounds_text, closings, code, identifier, is_written, kind_word, line, following, named_variable_line, scope_line, scope_lines, scope_text, variable_lines}
 
 -- what stands in a name's last part
 abbrev pub is_no_dot : ℕ → Bool
@@ -67,7 +67,7 @@ pub variable_put : (text t1 t2 t3 t4 t5 t6 t7 t8 t9 t10 t11 : List ℕ) (name : 
     t5 ≡ t4 ++ codes " " →
     t6 ≡ t5 ++ name →
     t7 ≡ t6 ++ codes " " →
-    t8 ≡ t7 ++ after_last (λ c. c == 46) v.name →
+    t8 ≡ t7 ++ identifier (after_last (λ c. c == 46) v.name) →
     t9 ≡ t8 ++ bounds_text v.bounds →
     t10 ≡ t9 ++ codes " $end" →
     t11 ≡ t10 ++ 10 ∷ [] →
@@ -79,10 +79,10 @@ variable_put text t1 t2 t3 t4 t5 t6 t7 t8 t9 t10 t11 name v s1 s2 s3 s4 s5 s6 s7
     let p5 = piece_more text (codes "$var " ++ kind_word v.kind ++ codes " " ++ decimal v.length) t4 t5 (codes " ") p4 s5 in
     let p6 = piece_more text (codes "$var " ++ kind_word v.kind ++ codes " " ++ decimal v.length ++ codes " ") t5 t6 (name) p5 s6 in
     let p7 = piece_more text (codes "$var " ++ kind_word v.kind ++ codes " " ++ decimal v.length ++ codes " " ++ name) t6 t7 (codes " ") p6 s7 in
-    let p8 = piece_more text (codes "$var " ++ kind_word v.kind ++ codes " " ++ decimal v.length ++ codes " " ++ name ++ codes " ") t7 t8 (after_last (λ c. c == 46) v.name) p7 s8 in
-    let p9 = piece_more text (codes "$var " ++ kind_word v.kind ++ codes " " ++ decimal v.length ++ codes " " ++ name ++ codes " " ++ after_last (λ c. c == 46) v.name) t8 t9 (bounds_text v.bounds) p8 s9 in
-    let p10 = piece_more text (codes "$var " ++ kind_word v.kind ++ codes " " ++ decimal v.length ++ codes " " ++ name ++ codes " " ++ after_last (λ c. c == 46) v.name ++ bounds_text v.bounds) t9 t10 (codes " $end") p9 s10 in
-    piece_more text (codes "$var " ++ kind_word v.kind ++ codes " " ++ decimal v.length ++ codes " " ++ name ++ codes " " ++ after_last (λ c. c == 46) v.name ++ bounds_text v.bounds ++ codes " $end") t10 t11 (10 ∷ []) p10 s11
+    let p8 = piece_more text (codes "$var " ++ kind_word v.kind ++ codes " " ++ decimal v.length ++ codes " " ++ name ++ codes " ") t7 t8 (identifier (after_last (λ c. c == 46) v.name)) p7 s8 in
+    let p9 = piece_more text (codes "$var " ++ kind_word v.kind ++ codes " " ++ decimal v.length ++ codes " " ++ name ++ codes " " ++ identifier (after_last (λ c. c == 46) v.name)) t8 t9 (bounds_text v.bounds) p8 s9 in
+    let p10 = piece_more text (codes "$var " ++ kind_word v.kind ++ codes " " ++ decimal v.length ++ codes " " ++ name ++ codes " " ++ identifier (after_last (λ c. c == 46) v.name) ++ bounds_text v.bounds) t9 t10 (codes " $end") p9 s10 in
+    piece_more text (codes "$var " ++ kind_word v.kind ++ codes " " ++ decimal v.length ++ codes " " ++ name ++ codes " " ++ identifier (after_last (λ c. c == 46) v.name) ++ bounds_text v.bounds ++ codes " $end") t10 t11 (10 ∷ []) p10 s11
 
 pub precision_put : (text t1 t2 t3 t4 t5 t6 name : List ℕ) (p : Span) → t1 ≡ text ++ codes "$timescale " →
     t2 ≡ t1 ++ decimal (count_number p.count) →

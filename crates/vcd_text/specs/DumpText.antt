@@ -1,6 +1,7 @@
 -- *trusted*: `DumpText` (IEEE 1364-2005, clause 18; docs/FORMATS.md): the value change dump of a design and a history.
 use Rattle.std.specs.Prelude.{ℕ, zero, suc, ◌+◌, ◌-◌, ◌==◌, nat_lt, ◌&&◌, ◌||◌, not, length, Bool, true, false, if◌then◌else◌, List, [], ◌∷◌, ◌++◌, Option, Some, None, map, replicate, reverse, take, drop, slice_get, codes, decimal}
-use Rattle.std.specs.List.{after_last, list_any}
+use Rattle.std.specs.List.{after_last, list_all, list_any}
+use Rattle.basis.specs.Letters.{begins_name, is_in_name}
 use Rattle.vbits.specs.declared.bit4.Bit4.TheVariants.{X}
 use Rattle.vbits.specs.Vectors.{Vector, filled, same_letters}
 use Rattle.value_text.specs.ValueText.{binary}
@@ -8,7 +9,7 @@ use Rattle.basis.specs.declared.timescale.Span.{Span}
 use Rattle.basis.specs.Timescales.{count_number, unit_word}
 use Rattle.vdesign.specs.declared.expression.Bounds.{Bounds}
 use Rattle.vdesign.specs.declared.design.Kind.{Kind}
-use Rattle.vdesign.specs.declared.design.Kind.TheVariants.{Reg, Integer, Wire}
+use Rattle.vdesign.specs.declared.design.Kind.TheVariants.{Reg, Integer, Wire, Time}
 use Rattle.vdesign.specs.Design.{Variable, Scope, Design}
 use Rattle.vdesign.specs.declared.action.Action.{Action}
 use Rattle.vdesign.specs.declared.action.Action.TheVariants.{DumpVars}
@@ -152,6 +153,7 @@ time_line t = line (35 ∷ decimal t)
 abbrev pub kind_word : Kind → List ℕ
 kind_word Reg = codes "reg"
 kind_word Integer = codes "integer"
+kind_word Time = codes "time"
 kind_word Wire = codes "wire"
 
 -- the range of what was declared with one
@@ -159,11 +161,20 @@ abbrev pub bounds_text : Option Bounds → List ℕ
 bounds_text None = []
 bounds_text (Some bounds) = codes " [" ++ decimal bounds.left ++ codes ":" ++ decimal bounds.right ++ codes "]"
 
+-- a letter or `_`, then letters, digits, `_` and `$` (3.7)
+abbrev pub is_simple : List ℕ → Bool
+is_simple [] = false
+is_simple (c ∷ cs) = begins_name c && list_all is_in_name cs
+
+-- 18.2.3.8: the identifier of a name, which is an escaped one where the name isn't so (3.7.1)
+abbrev pub identifier : List ℕ → List ℕ
+identifier name = if is_simple name then name else 92 ∷ name
+
 -- $var KIND WIDTH CODE NAME $end, with the name without its scopes
 abbrev pub named_variable_line : List ℕ → Variable → List ℕ
 named_variable_line name variable =
     line (codes "$var " ++ kind_word variable.kind ++ codes " " ++ decimal variable.length ++ codes " " ++ name ++ codes " "
-    ++ after_last (λ c. c == 46) variable.name ++ bounds_text variable.bounds ++ codes " $end")
+    ++ identifier (after_last (λ c. c == 46) variable.name) ++ bounds_text variable.bounds ++ codes " $end")
 
 abbrev pub variable_line : ℕ → Variable → List ℕ
 variable_line n = named_variable_line (code n)

@@ -1,13 +1,14 @@
 // The header of a dump (18.2.3).
 
 ghost use Rattle.std.specs.Prelude.{◌≡◌, ◌++◌, ◌==◌, IfOk, OnOk, if◌then◌else◌, decimal, length, min, suc};
-ghost use Rattle.std.specs.List.{after_last};
-ghost use Rattle.vcd_text.specs.DumpText.{bounds_text, closings, header as header_text, is_written as is_written_before, kind_word, named_variable_line as variable_text, scope_line, timescale_line};
+ghost use Rattle.std.specs.List.{after_last, list_all};
+ghost use Rattle.basis.specs.Letters as letters;
+ghost use Rattle.vcd_text.specs.DumpText.{bounds_text, closings, header as header_text, identifier, is_simple as is_simple_name, is_written as is_written_before, kind_word, named_variable_line as variable_text, scope_line, timescale_line};
 ghost use Rattle.vcd_text.specs.Headers.{IsCodeAfter, Lists, ListsMarked, ListsScope, all_scopes};
 
 use crate::selected::is_any_below;
 use crate::values::follow;
-use basis::{NoMemory, Span};
+use basis::{NoMemory, Span, begins_name, is_in_name};
 use itoa::Buffer;
 use std::alloc::Global;
 use vdesign::design::{Design, Kind, Scope, Variable};
@@ -52,6 +53,7 @@ fn put_kind(text: &mut Vec<u8>, kind: Kind) -> Result<(), NoMemory>
     match kind {
         Kind::Reg => text.extend_from_slice(b"reg")?,
         Kind::Integer => text.extend_from_slice(b"integer")?,
+        Kind::Time => text.extend_from_slice(b"time")?,
         Kind::Wire => text.extend_from_slice(b"wire")?,
     }
     Ok(())
@@ -88,6 +90,33 @@ fn own_name(name: &[u8]) -> &[u8]
     name
 }
 
+fn are_in_name(bytes: &[u8]) -> bool
+    ensures { result ≡ list_all letters.is_in_name bytes.now }
+{
+    bytes.iter().all(|c| is_in_name(*c))
+}
+
+// Whether the name is a letter or `_`, then letters, digits, `_` and `$` (3.7).
+fn is_simple(name: &[u8]) -> bool
+    ensures { result ≡ is_simple_name name.now }
+{
+    match name.split_first() {
+        None => false,
+        Some((first, rest)) => begins_name(*first) && are_in_name(rest),
+    }
+}
+
+// The name as an identifier, an escaped one where it has to be (3.7.1).
+fn put_identifier(text: &mut Vec<u8>, name: &[u8]) -> Result<(), NoMemory>
+    ensures { OnOk result (text.new.items ≡ text.old.items ++ identifier name.now) }
+{
+    if !is_simple(name) {
+        text.push(b'\\')?;
+    }
+    text.extend_from_slice(name)?;
+    Ok(())
+}
+
 // The line of a variable with this code.
 fn put_variable(text: &mut Vec<u8>, name: &[u8], variable: &Variable) -> Result<(), NoMemory>
     ensures { OnOk result (text.new.items ≡ text.old.items ++ variable_text name.now variable.now) }
@@ -99,7 +128,7 @@ fn put_variable(text: &mut Vec<u8>, name: &[u8], variable: &Variable) -> Result<
     text.extend_from_slice(b" ")?;
     text.extend_from_slice(name)?;
     text.extend_from_slice(b" ")?;
-    text.extend_from_slice(own_name(&variable.name))?;
+    put_identifier(text, own_name(&variable.name))?;
     put_bounds(text, variable.bounds)?;
     text.extend_from_slice(b" $end")?;
     text.push(b'\n')?;

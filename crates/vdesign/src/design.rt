@@ -78,6 +78,8 @@ pub enum Kind {
     Reg,
     /// `integer`
     Integer,
+    /// `time`
+    Time,
     /// `wire`
     Wire,
 }

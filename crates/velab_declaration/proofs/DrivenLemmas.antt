@@ -16,14 +16,14 @@ use Rattle.vast.specs.declared.module.NetKind.TheVariants as net
 use Rattle.vast.specs.declared.module.SignAndRange.{SignAndRange}
 use Rattle.vast.specs.declared.module.ModuleItem.{ModuleItem}
 use Rattle.vast.specs.declared.module.ModuleItem.TheVariants.{Declaration}
-use Rattle.vdesign.specs.declared.design.Kind.TheVariants.{Reg, Integer, Wire}
+use Rattle.vdesign.specs.declared.design.Kind.TheVariants.{Reg, Wire}
 use Rattle.vmodules.specs.Names.{is_declared, letters_of}
 use Rattle.vmodules.specs.Ports.{Port}
 use Rattle.vmodules.specs.Inner.{HoldSame, port_form}
 use Rattle.vmodules.specs.declared.ports.PortForm.{PortForm}
 use Rattle.vmodules.proofs.HierarchyLemmas.{append_nil, holds_added}
 use Rattle.velab_declaration.specs.declared.driven.Driver.{Driver}
-use Rattle.velab_declaration.specs.Variables.{Declaration as Declared_as, declared, all_declared, declarations_of, kind_of, port_declaration, net_names}
+use Rattle.velab_declaration.specs.Variables.{Declaration as Declared_as, declared, all_declared, declarations_of, kind_of, port_declaration, net_names, counted_kind}
 use Rattle.velab_declaration.specs.Inner.{among, driver_word, driver_names, kind_item, port_nets, item_nets, nets_as, texts_of}
 
 -- ---- drivers
@@ -61,9 +61,10 @@ no_regs : (signed : Bool) (range : Option RangeTree) (list : List DeclaredTree) 
 no_regs signed range [] = refl
 no_regs signed range (one ∷ more) = no_regs signed range more
 
-no_integers : (signed : Bool) (range : Option RangeTree) (list : List DeclaredTree) → net_names (all_declared Integer signed range list ++ []) ≡ []
-no_integers signed range [] = refl
-no_integers signed range (one ∷ more) = no_integers signed range more
+no_integers : (long signed : Bool) (range : Option RangeTree) (list : List DeclaredTree) → net_names (all_declared (counted_kind long) signed range list ++ []) ≡ []
+no_integers long signed range [] = refl
+no_integers true signed range (one ∷ more) = no_integers true signed range more
+no_integers false signed range (one ∷ more) = no_integers false signed range more
 
 texts_are : (words : List Text) (list : List Declared) → map (λ (one : DeclaredTree). one.name.letters) (map (declared_tree words) list) ≡ letters_of (texts_of words list)
 texts_are words [] = refl
@@ -83,8 +84,8 @@ module _ (words : List Text) (item : ModuleItem) (at : ℕ) (kind : DeclarationW
       opened (declaring.Variables net.Reg type) kind_is
       ∙ no_regs type.signed (option_map (range_tree words) type.range) (map (declared_tree words) written.items)
 
-  pub integer_item : kind ≡ declaring.Integers → item_nets words (item ∷ []) ≡ []
-  integer_item kind_is = opened declaring.Integers kind_is ∙ no_integers true None (map (declared_tree words) written.items)
+  pub integer_item : (long : Bool) → kind ≡ declaring.Integers long → item_nets words (item ∷ []) ≡ []
+  integer_item long kind_is = opened (declaring.Integers long) kind_is ∙ no_integers long (not long) None (map (declared_tree words) written.items)
 
 pub wire_port : (words : List Text) (p : PortForm) → p.net ≡ net.Wire → port_nets words (p ∷ []) ≡ (numbered words p.name).letters ∷ []
 wire_port words p is =

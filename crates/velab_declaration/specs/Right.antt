@@ -3,7 +3,7 @@ use Rattle.std.specs.Prelude.{if◌then◌else◌, Bool, true, false, not, List,
 use Rattle.std.specs.List.{list_all}
 use Rattle.vdesign.specs.Design.{Variable}
 use Rattle.vdesign.specs.declared.design.Kind.{Kind}
-use Rattle.vdesign.specs.declared.design.Kind.TheVariants.{Reg, Integer, Wire}
+use Rattle.vdesign.specs.declared.design.Kind.TheVariants.{Reg, Integer, Wire, Time}
 use Rattle.vdesign.specs.declared.action.Target.{Target}
 use Rattle.velab_expr.specs.declared.fault.Rule.{Rule}
 use Rattle.velab_expr.specs.declared.fault.Rule.TheVariants as rule
@@ -15,6 +15,7 @@ use Rattle.vdesign.specs.declared.action.Action.TheVariants.{Assign, Nonblocking
 abbrev pub is_net : Kind → Bool
 is_net Reg = false
 is_net Integer = false
+is_net Time = false
 is_net Wire = true
 
 abbrev pub is_some_net : Option Variable → Bool

@@ -1,5 +1,5 @@
 -- *trusted*: The variables of an instance (IEEE 1364-2005, 4.2, 4.3.1, 4.8), and the nets that something drives in it (6.1).
-use Rattle.std.specs.Prelude.{ℕ, ◌==◌, Bool, true, false, ◌&&◌, if◌then◌else◌, List, [], ◌∷◌, ◌++◌, map, length, Option, None, Some, option_map, Result, Ok}
+use Rattle.std.specs.Prelude.{ℕ, ◌==◌, Bool, true, false, ◌&&◌, if◌then◌else◌, List, [], ◌∷◌, ◌++◌, map, length, Option, None, Some, option_map, Result, Ok, not}
 use Rattle.std.specs.List.{filter, flat_map, filter_map}
 use Rattle.vbits.specs.declared.bit4.Bit4.TheVariants.{X, Z}
 use Rattle.vbits.specs.declared.bit4.Bit4.{Bit4}
@@ -12,7 +12,7 @@ use Rattle.vast.specs.declared.module.NetKind.{NetKind}
 use Rattle.vast.specs.declared.module.NetKind.TheVariants as net
 use Rattle.vdesign.specs.Design as design
 use Rattle.vdesign.specs.declared.design.Kind.{Kind}
-use Rattle.vdesign.specs.declared.design.Kind.TheVariants.{Reg, Integer, Wire}
+use Rattle.vdesign.specs.declared.design.Kind.TheVariants.{Reg, Integer, Wire, Time}
 use Rattle.vdesign.specs.declared.expression.Bounds.{Bounds}
 use Rattle.velab_expr.specs.declared.fault.ElabFault.{ElabFault}
 use Rattle.velab_expr.specs.Scopes.{Scope, at}
@@ -40,9 +40,13 @@ abbrev pub kind_of : NetKind → Kind
 kind_of net.Wire = Wire
 kind_of net.Reg = Reg
 
+-- 4.8: an integer has a sign, a time has none
+abbrev pub counted_kind : Bool → Kind
+counted_kind long = if long then Time else Integer
+
 abbrev pub declared_as : DeclarationKind → List DeclaredTree → List Declaration
 declared_as (variables word type) list = all_declared (kind_of word) type.signed type.range list
-declared_as integers list = all_declared Integer true None list
+declared_as (integers long) list = all_declared (counted_kind long) (not long) None list
 declared_as (directed direction) list = []  -- 12.3.3: these stand with the ports
 
 abbrev pub declarations_of : ItemTree → List Declaration
@@ -69,11 +73,12 @@ declared_names m = port_names m ++ map (λ d. d.name) (declarations m)
 abbrev pub port_declaration : Port → Declaration
 port_declaration p = declared (kind_of p.net) p.type.signed p.type.range p.name
 
--- without a range a `reg` or a `wire` has 1 bit, an `integer` 32
+-- without a range a `reg` or a `wire` has 1 bit, an `integer` 32, a `time` 64 (4.8)
 abbrev pub length_of : Kind → Option Bounds → ℕ
 length_of kind (Some bounds) = span bounds
 length_of Reg None = 1
 length_of Integer None = 32
+length_of Time None = 64
 length_of Wire None = 1
 
 -- where variables stand: the path of their instance or the top's name, and the names of the nets in it that something drives
@@ -85,6 +90,7 @@ pub record ScopeDrivers : Type 0 where
 abbrev pub start_by : ScopeDrivers → Kind → Text → Bit4
 start_by drivers Reg text = X
 start_by drivers Integer text = X
+start_by drivers Time text = X
 start_by drivers Wire text = if is_declared drivers.driven text then X else Z
 
 -- its name stands behind its instance's and a dot
@@ -105,7 +111,7 @@ driver_of declared = option_map (λ value. declared.name) declared.value
 abbrev pub drivers_as : DeclarationKind → List DeclaredTree → List Word
 drivers_as (variables net.Wire type) list = filter_map driver_of list
 drivers_as (variables net.Reg type) list = []
-drivers_as integers list = []
+drivers_as (integers long) list = []
 drivers_as (directed direction) list = []
 
 -- the names that an item drives, as often as it does (6.1)
@@ -121,6 +127,7 @@ drivers_by (instances letters overrides list) = []
 abbrev pub is_wire : Kind → Bool
 is_wire Reg = false
 is_wire Integer = false
+is_wire Time = false
 is_wire Wire = true
 
 -- the nets among what is declared (4.2.1)
@@ -139,7 +146,7 @@ form_of word signed bounds = record { kind = kind_of word; signed = signed; boun
 -- what a declaration says of each of its names
 abbrev pub lower_kind : Scope → DeclarationKind → Result Form ElabFault
 lower_kind scope (variables word type) = lower_bounds scope type.range >>= λ bounds. Ok (form_of word type.signed bounds)
-lower_kind scope integers = Ok (record { kind = Integer; signed = true; bounds = None })
+lower_kind scope (integers long) = Ok (record { kind = counted_kind long; signed = not long; bounds = None })
 lower_kind scope (directed direction) = lower_bounds scope (type_in direction).range >>= λ bounds. Ok (form_of net.Wire (type_in direction).signed bounds)
 
 -- a variable for each name
@@ -148,7 +155,7 @@ variables_in drivers form list = map (λ one. variable_in drivers form one.name.
 
 abbrev pub variables_as : ScopeDrivers → Form → DeclarationKind → List DeclaredTree → List design.Variable
 variables_as drivers form (variables word type) list = variables_in drivers form list
-variables_as drivers form integers list = variables_in drivers form list
+variables_as drivers form (integers long) list = variables_in drivers form list
 variables_as drivers form (directed direction) list = []  -- 12.3.3: these stand with the ports
 
 abbrev pub lower_names : ScopeDrivers → Scope → DeclarationKind → List DeclaredTree → Result (List design.Variable) ElabFault

@@ -92,7 +92,7 @@ fn add_kind<'t>(
 {
     match kind {
         DeclarationKind::Variables { .. } => add_own(tokens, made, list, into),
-        DeclarationKind::Integers => add_all(tokens, list, into),
+        DeclarationKind::Integers { .. } => add_all(tokens, list, into),
         DeclarationKind::Directed { .. } => Ok(()),
     }
 }

@@ -100,7 +100,7 @@ fn add_item<'t>(
                 net: NetKind::Reg,
                 ..
             } => Ok(()),
-            DeclarationKind::Integers => Ok(()),
+            DeclarationKind::Integers { .. } => Ok(()),
             DeclarationKind::Directed { .. } => Ok(()),
         },
         ModuleItem::Events { .. } => Ok(()),

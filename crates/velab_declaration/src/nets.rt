@@ -97,7 +97,7 @@ fn add_item<'t>(
         ModuleItem::Parameters { .. } => Ok(()),
         ModuleItem::Declaration { kind, declared, .. } => match kind {
             DeclarationKind::Variables { net, .. } => add_variables(tokens, *net, declared, into),
-            DeclarationKind::Integers => Ok(()),
+            DeclarationKind::Integers { .. } => Ok(()),
             DeclarationKind::Directed { .. } => Ok(()),
         },
         ModuleItem::Events { .. } => Ok(()),

@@ -17,6 +17,7 @@ fn is_net(kind: Kind) -> bool
     match kind {
         Kind::Reg => false,
         Kind::Integer => false,
+        Kind::Time => false,
         Kind::Wire => true,
     }
 }

@@ -46,6 +46,7 @@ fn length_of(form: Form) -> u32
         None => match form.kind {
             Kind::Reg => 1,
             Kind::Integer => 32,
+            Kind::Time => 64,
             Kind::Wire => 1,
         },
     }
@@ -67,6 +68,7 @@ fn start_of(drivers: &ScopeDrivers<'_, '_>, kind: Kind, name: &[u8]) -> Bit4
     match kind {
         Kind::Reg => Bit4::X,
         Kind::Integer => Bit4::X,
+        Kind::Time => Bit4::X,
         Kind::Wire => {
             if drivers.driven.place(name).is_some() {
                 Bit4::X
@@ -171,6 +173,12 @@ fn kind_of(net: NetKind) -> Kind
     }
 }
 
+fn counted_kind(long: bool) -> Kind
+    ensures { result ≡ variables.counted_kind long }
+{
+    if long { Kind::Time } else { Kind::Integer }
+}
+
 // What a declaration says of each of its names. E303, E306 or E307 where its range is none.
 fn form_of(
     alloc: Global,
@@ -191,9 +199,9 @@ fn form_of(
                 bounds,
             })
         }
-        DeclarationKind::Integers => Ok(Form {
-            kind: Kind::Integer,
-            signed: true,
+        DeclarationKind::Integers { long } => Ok(Form {
+            kind: counted_kind(*long),
+            signed: !*long,
             bounds: None,
         }),
         DeclarationKind::Directed { direction } => {
@@ -227,7 +235,7 @@ fn put_formed(
         DeclarationKind::Variables { .. } => {
             put_own(alloc, tokens, drivers, made, form, list, into)
         }
-        DeclarationKind::Integers => put_all(alloc, tokens, drivers, form, list, into),
+        DeclarationKind::Integers { .. } => put_all(alloc, tokens, drivers, form, list, into),
         DeclarationKind::Directed { .. } => Ok(()),
     }
 }

@@ -107,6 +107,7 @@ fn first_of(argument: &Argument) -> Option<u32>
     match argument {
         Argument::Text(word) => Some(word.number),
         Argument::Value(value) => first_in(value),
+        Argument::LeftOut => None,
     }
 }
 

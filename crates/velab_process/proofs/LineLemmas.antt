@@ -3,6 +3,8 @@ use Rattle.std.proofs.Common.{◌≡◌, Bool, true, false, ◌&&◌, List, [], 
 use Rattle.vdesign.specs.declared.print.Form.{Form}
 use Rattle.vdesign.specs.declared.print.Piece.{Piece}
 use Rattle.vast.specs.NumberedWords.{Word}
+use Rattle.vast.specs.NumberedStatements.{ArgumentTree, quoted, printed, left_out}
+use Rattle.velab_process.specs.Prints.{given}
 use Rattle.velab_expr.specs.declared.fault.Rule.TheVariants.{Kind}
 use Rattle.velab_expr.specs.declared.fault.ElabFault.{ElabFault}
 use Rattle.velab_expr.specs.Answers.{◌>>=◌, found}
@@ -73,3 +75,11 @@ line_by default form ends line_ends (Ok all) is_right old new pieces right word 
     (is ∙ ap (λ (e : Bool). with_line_end e (pieces_with new [])) ends_is)
     ∙ sym same)
 line_by default form ends line_ends (Err fault) is_right old new pieces right word form_is ends_is starts prints is same = absurd prints
+
+-- what is said of empty parentheses as of no argument is said of what is given
+pub given_same : {A : Type 0} (f : List ArgumentTree → A) → f [] ≡ f (left_out ∷ []) → (arguments : List ArgumentTree) → f (given arguments) ≡ f arguments
+given_same f alike [] = refl
+given_same f alike (left_out ∷ []) = alike
+given_same f alike (quoted letters ∷ []) = refl
+given_same f alike (printed tree ∷ []) = refl
+given_same f alike (one ∷ other ∷ more) = refl

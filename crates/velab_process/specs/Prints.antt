@@ -1,8 +1,8 @@
 -- *trusted*: Print tasks of the text, their names resolved and their formats read (IEEE 1364-2005, 17.1).
-use Rattle.std.specs.Prelude.{◌-◌, Bool, true, false, List, [], ◌∷◌, length, take, drop, Result, Ok}
+use Rattle.std.specs.Prelude.{◌-◌, Bool, true, false, if◌then◌else◌, List, [], ◌∷◌, length, take, drop, codes, Result, Ok}
 use Rattle.vast.specs.Words.{Text}
 use Rattle.vast.specs.NumberedExpressions as text
-use Rattle.vast.specs.NumberedStatements.{ArgumentTree, quoted, printed}
+use Rattle.vast.specs.NumberedStatements.{ArgumentTree, quoted, printed, left_out}
 use Rattle.vast.specs.declared.statement.Base.{Base}
 use Rattle.vast.specs.declared.statement.Base.TheVariants as bases
 use Rattle.vast.specs.declared.statement.Printing.{Printing}
@@ -64,12 +64,25 @@ is_watched _ = true
 abbrev pub lower_argument : Scope → ArgumentTree → Result Argument ElabFault
 lower_argument scope (quoted letters) = Ok (string (between_quotes letters.letters))
 lower_argument scope (printed tree) = lower_expression scope tree >>= λ e. Ok (value (is_watched tree) e)
+-- 17.1.1: a blank is printed in the place of an argument that is left out
+lower_argument scope left_out = Ok (string (codes " "))
 
 abbrev pub lower_arguments : Scope → List ArgumentTree → Result (List Argument) ElabFault
 lower_arguments scope [] = Ok []
 lower_arguments scope (one ∷ more) = lower_argument scope one >>= λ argument. lower_arguments scope more >>= λ others. Ok (argument ∷ others)
 
+abbrev pub is_left_out : ArgumentTree → Bool
+is_left_out (quoted letters) = false
+is_left_out (printed tree) = false
+is_left_out left_out = true
+
+-- in empty parentheses there is no argument (own)
+abbrev pub given : List ArgumentTree → List ArgumentTree
+given [] = []
+given (one ∷ []) = if is_left_out one then [] else one ∷ []
+given (one ∷ other ∷ more) = one ∷ other ∷ more
+
 -- the pieces that a task prints, where its formats are right (17.1.1); they are told by the first word of the arguments
 abbrev pub lower_line : Scope → Printing → List ArgumentTree → Result (List Piece) ElabFault
 lower_line scope kind arguments =
-    lower_arguments scope arguments >>= λ all. found (pieces_of (default_form kind) (ends_line kind) all) Kind (first_argument arguments)
+    lower_arguments scope (given arguments) >>= λ all. found (pieces_of (default_form kind) (ends_line kind) all) Kind (first_argument arguments)

@@ -58,7 +58,7 @@ process_of word declared = option_map (process_by word declared.name) declared.v
 
 abbrev pub starts_of : DeclarationKind → List DeclaredTree → List ProcessTree
 starts_of (variables word type) list = filter_map (process_of word) list
-starts_of integers list = filter_map (process_of net.Reg) list
+starts_of (integers long) list = filter_map (process_of net.Reg) list
 starts_of (directed direction) list = []
 
 -- 6.1.2

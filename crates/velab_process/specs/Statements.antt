@@ -3,7 +3,7 @@
 use Rattle.std.specs.Prelude.{ℕ, if◌then◌else◌, List, [], ◌∷◌, ◌++◌, length, Option, None, Some, option_map, Bool, true, false, Result, Ok}
 use Rattle.vast.specs.NumberedWords.{Word}
 use Rattle.vast.specs.NumberedExpressions as text
-use Rattle.vast.specs.NumberedStatements.{TargetTree, DelayTree, by_number, by_name, by_value, TaskTree, print, dump_file, dump_vars, dump, end_run, StatementTree, StatementTrees, empty, block, assign, nonblocking, trigger, if_true, if_else, case_of, while_true, repeat_times, forever, for_loop, wait_for, delay, event, task, no_statement, first_statement, BranchTree, BranchTrees, labelled, default, no_branch, first_branch}
+use Rattle.vast.specs.NumberedStatements.{TargetTree, DelayTree, by_number, by_name, by_value, TaskTree, print, idle, dump_file, dump_vars, dump, end_run, StatementTree, StatementTrees, empty, block, assign, nonblocking, trigger, if_true, if_else, case_of, while_true, repeat_times, forever, for_loop, wait_for, delay, event, task, no_statement, first_statement, BranchTree, BranchTrees, labelled, default, no_branch, first_branch}
 use Rattle.vdesign.specs.declared.action.Action.{Action}
 use Rattle.vdesign.specs.declared.action.Action.TheVariants.{Assign, Nonblocking, AssignDelayed, NonblockingDelayed, Trigger, Test, Case, While, Repeat, Forever, Delay, EventControl, Wait, Print, DumpVars, Dump, NoOperation, Finish, Stop}
 use Rattle.vdesign.specs.declared.action.Branch.{Branch}
@@ -89,6 +89,7 @@ end_action stops = if stops then Stop else Finish
 abbrev pub lower_task : Scope → Table → TaskTree → Result Lowered ElabFault
 lower_task scope table (print kind arguments) =  -- 17.1
     lower_line scope kind arguments >>= λ pieces. Ok (lowered_action table (first_argument arguments) (Print (when_of kind) pieces))
+lower_task scope table (idle kind arguments) = Ok (lowered_action table None NoOperation)  -- clause 17 (own)
 lower_task scope table (dump_file letters) = Ok (lowered_action table None NoOperation)  -- 18.1.1
 lower_task scope table (dump_vars selection) =  -- 18.1.2
     lower_selection scope selection >>= λ chosen. Ok (lowered_action table (option_map (λ s. s.levels) selection) (DumpVars chosen))

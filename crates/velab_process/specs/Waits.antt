@@ -3,7 +3,7 @@ use Rattle.std.specs.Prelude.{List, [], ◌∷◌, ◌++◌, Option, None, Some,
 use Rattle.std.specs.List.{flat_map}
 use Rattle.vast.specs.NumberedWords.{Word}
 use Rattle.vast.specs.NumberedExpressions as text
-use Rattle.vast.specs.NumberedStatements.{TargetTree, TargetTrees, ArgumentTree, quoted, printed, TaskTree, print, dump_file, dump_vars, dump, end_run, DelayTree, by_number, by_name, by_value, FurtherTerm, EventTree, by_event, by_any, by_any_enclosed, by_terms, StatementTree, StatementTrees, empty, block, assign, nonblocking, trigger, if_true, if_else, case_of, while_true, repeat_times, forever, for_loop, wait_for, delay, event, task, no_statement, first_statement, BranchTree, BranchTrees, labelled, default, no_branch, first_branch}
+use Rattle.vast.specs.NumberedStatements.{TargetTree, TargetTrees, ArgumentTree, quoted, printed, left_out, TaskTree, print, idle, dump_file, dump_vars, dump, end_run, DelayTree, by_number, by_name, by_value, FurtherTerm, EventTree, by_event, by_any, by_any_enclosed, by_terms, StatementTree, StatementTrees, empty, block, assign, nonblocking, trigger, if_true, if_else, case_of, while_true, repeat_times, forever, for_loop, wait_for, delay, event, task, no_statement, first_statement, BranchTree, BranchTrees, labelled, default, no_branch, first_branch}
 use Rattle.vast.specs.NumberedStatements as written
 use Rattle.vast.specs.declared.statement.Edge.{Edge as WrittenEdge}
 use Rattle.vast.specs.declared.statement.Edge.TheVariants.{Rising, Falling}
@@ -110,6 +110,7 @@ read_by_assignment target amount value = read_by_target target ++ (read_by_own a
 abbrev pub read_by_argument : ArgumentTree → List Word
 read_by_argument (quoted letters) = []
 read_by_argument (printed tree) = names_in tree
+read_by_argument left_out = []
 
 abbrev pub read_by_arguments : List ArgumentTree → List Word
 read_by_arguments [] = []
@@ -117,6 +118,8 @@ read_by_arguments (one ∷ more) = read_by_argument one ++ read_by_arguments mor
 
 abbrev pub read_by_task : TaskTree → List Word
 read_by_task (print kind arguments) = read_by_arguments arguments
+-- a task that has no effect reads nothing (own)
+read_by_task (idle kind arguments) = []
 read_by_task (dump_file letters) = []
 read_by_task (dump_vars selection) = []
 read_by_task (dump kind) = []

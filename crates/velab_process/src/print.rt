@@ -101,6 +101,31 @@ fn is_watched(value: &Value) -> bool
     }
 }
 
+fn is_left_out(argument: &Argument) -> bool
+    ensures { (words : List Text) → result ≡ spec.is_left_out (argument_tree words argument.now) }
+{
+    match argument {
+        Argument::Text(_) => false,
+        Argument::Value(_) => false,
+        Argument::LeftOut => true,
+    }
+}
+
+// The arguments, where there are some: none stands in empty parentheses.
+fn given(arguments: &[Argument]) -> &[Argument]
+    ensures { (words : List Text) → map (argument_tree words) result.now
+        ≡ spec.given (map (argument_tree words) arguments.now) }
+{
+    let Some((first, rest)) = arguments.split_first() else {
+        return arguments;
+    };
+    if rest.is_empty() && is_left_out(first) {
+        rest
+    } else {
+        arguments
+    }
+}
+
 // What there is, where it is right.
 fn right_pieces(is_right: bool, pieces: Option<Pieces>) -> Option<Pieces>
     ensures { result ≡ only_right is_right pieces }
@@ -128,6 +153,7 @@ impl<'a> Elaborator<'a> {
                 let shown = self.expression(value)?;
                 Ok(printer.value(is_watched(value), shown)?)
             }
+            Argument::LeftOut => Ok(printer.string(b" ")?),
         }
     }
 
@@ -159,7 +185,7 @@ impl<'a> Elaborator<'a> {
             (lower_line self.now.scope.now kind (map (argument_tree (words_of self.now.tokens.now)) arguments.now)) }
     {
         let mut printer = Printer::new(self.alloc, default_form(kind));
-        let is_right = self.put_arguments(&mut printer, arguments)?;
+        let is_right = self.put_arguments(&mut printer, given(arguments))?;
         let pieces = printer.finish(ends_line(kind))?;
         match right_pieces(is_right, pieces) {
             Some(line) => Ok(line),

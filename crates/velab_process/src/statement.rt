@@ -289,6 +289,7 @@ impl<'a> Elaborator<'a> {
     {
         match task {
             Task::Print { kind, arguments } => self.lower_print(*kind, arguments, table, into),
+            Task::Idle { .. } => put(table, into, None, Action::NoOperation),
             Task::DumpFile(_) => put(table, into, None, Action::NoOperation),
             Task::DumpVars(selection) => {
                 let word = levels_of(selection);
@@ -837,7 +838,7 @@ impl<'a> Elaborator<'a> {
                 DeclarationKind::Variables { net, .. } => {
                     self.lower_starts(*net, declared, table, into)
                 }
-                DeclarationKind::Integers => {
+                DeclarationKind::Integers { .. } => {
                     self.lower_starts(NetKind::Reg, declared, table, into)
                 }
                 DeclarationKind::Directed { .. } => Ok(()),

@@ -237,6 +237,7 @@ fn put_argument(
     match argument {
         Argument::Text(_) => Ok(()),
         Argument::Value(value) => put_names(scope, tokens, value, terms),
+        Argument::LeftOut => Ok(()),
     }
 }
 
@@ -268,6 +269,7 @@ fn put_task(
 {
     match task {
         Task::Print { arguments, .. } => put_arguments(scope, tokens, arguments, terms),
+        Task::Idle { .. } => Ok(()),
         Task::DumpFile(_) => Ok(()),
         Task::DumpVars(_) => Ok(()),
         Task::Dump(_) => Ok(()),

@@ -8,7 +8,7 @@ use Rattle.std.proofs.lemmas.List.{append-nil}
 use Rattle.std.proofs.lemmas.Bool.Decides.{nat_tests}
 use Rattle.basis.proofs.Bools.{and_left, and_right, and_both, clash}
 use Rattle.basis.specs.Letters.{begins_name, is_in_name}
-use Rattle.vast.specs.Words.{Text, is_name, is_number, is_time, is_reserved}
+use Rattle.vast.specs.Words.{Text, is_name, is_number, is_time, is_reserved, is_escaped_name, are_printable}
 use Rattle.vast.specs.Expressions.{ExpressionTree, number, name, time, bit, part, parentheses, concatenation, replication, conversion, apply, combine, conditional, ExpressionTrees, none, first, spell_expression, spell_parts, spell_more_parts, fits_expression, fits_parts, depth, greatest_depth, rank, rank_of, unary_rank, unary_word, binary_word, conversion_word}
 use Rattle.vast.specs.declared.expression.UnaryOperator.{UnaryOperator}
 use Rattle.vast.specs.declared.expression.UnaryOperator.TheVariants as unary
@@ -29,16 +29,17 @@ use Rattle.vexpr_parse.proofs.ExpressionRules.{example, ranked_higher, ends_part
 
 -- what words begin
 
-no_digit : (c : ℕ) → begins_name c ≡ true → (is_ascii_digit c || (c == 39)) ≡ false
-no_digit c e = grind (arith, nat_tests)
+no_letter : (c : ℕ) → (is_ascii_digit c || (c == 39)) ≡ true → begins_name c ≡ false
+no_letter c e = grind (arith, nat_tests)
+
+no_backslash : (c : ℕ) → (is_ascii_digit c || (c == 39)) ≡ true → (c == 92) ≡ false
+no_backslash c e = grind (arith, nat_tests)
 
 number_no_name : (word : Text) → is_number word ≡ true → is_name word ≡ false
 number_no_name [] e = refl
 number_no_name (c ∷ cs) e =
-    elim (cases_Bool (begins_name c)) [
-      | inl holds ↦ absurd (clash (is_ascii_digit c || (c == 39)) e (no_digit c holds))
-      | inr fails ↦ ap (λ b. b && list_all is_in_name cs && not (is_reserved (c ∷ cs))) fails
-    ]
+    ap (λ b. (b && list_all is_in_name cs && not (is_reserved (c ∷ cs))) || is_escaped_name (c ∷ cs)) (no_letter c e)
+    ∙ ap (λ b. b && are_printable cs) (no_backslash c e)
 
 start_name : (word : Text) → is_name word ≡ true → beginning_of word ≡ start.Name
 unfolding beginning_of

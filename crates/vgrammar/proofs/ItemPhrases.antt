@@ -85,8 +85,11 @@ AssignOrLater = Either (Both (List_of SettingTree) (Unit {0})) (Either Statement
 abbrev EventOrLater : Type 0
 EventOrLater = Either (Both (List_of Text) (Unit {0})) AssignOrLater
 
+abbrev TimeOrLater : Type 0
+TimeOrLater = Either (Both (List_of DeclaredTree) (Unit {0})) EventOrLater
+
 abbrev IntegerOrLater : Type 0
-IntegerOrLater = Either (Both (List_of DeclaredTree) (Unit {0})) EventOrLater
+IntegerOrLater = Either (Both (List_of DeclaredTree) (Unit {0})) TimeOrLater
 
 abbrev DirectedOrLater : Type 0
 DirectedOrLater = Either Directed IntegerOrLater
@@ -95,9 +98,9 @@ loose : {A : Type 0} {r : Reader A} {s : Shape A} → Phrase r always s → Phra
 loose q = phrase_within ends_statement q (λ next e. refl)
 
 no_names : (is_name (codes "always") ≡ false) × (is_name (codes "initial") ≡ false) × (is_name (codes "assign") ≡ false)
-    × (is_name (codes "event") ≡ false) × (is_name (codes "integer") ≡ false)
+    × (is_name (codes "event") ≡ false) × (is_name (codes "integer") ≡ false) × (is_name (codes "time") ≡ false)
 unfolding reserved_words
-no_names = (refl, refl, refl, refl, refl)
+no_names = (refl, refl, refl, refl, refl, refl)
 
 no_net_name : (kind : NetKind) → is_name (net_word kind) ≡ false
 unfolding reserved_words
@@ -536,8 +539,11 @@ module _ (below : ℕ) where
   abbrev FromEvent : Shape EventOrLater
   FromEvent = either_shape (past_shape (codes "event") Names) FromAssign
 
+  abbrev FromTime : Shape TimeOrLater
+  FromTime = either_shape (past_shape (codes "time") Declared) FromEvent
+
   abbrev FromInteger : Shape IntegerOrLater
-  FromInteger = either_shape (past_shape (codes "integer") Declared) FromEvent
+  FromInteger = either_shape (past_shape (codes "integer") Declared) FromTime
 
   abbrev FromDirected : Shape DirectedOrLater
   FromDirected = either_shape DirectedShape FromInteger
@@ -584,8 +590,11 @@ module _ (below : ℕ) where
   from_event_worded : Worded FromEvent
   from_event_worded = either_worded (past_shape (codes "event") Names) FromAssign (λ tree v. zero-lt-suc _) from_assign_worded
 
+  from_time_worded : Worded FromTime
+  from_time_worded = either_worded (past_shape (codes "time") Declared) FromEvent (λ tree v. zero-lt-suc _) from_event_worded
+
   from_integer_worded : Worded FromInteger
-  from_integer_worded = either_worded (past_shape (codes "integer") Declared) FromEvent (λ tree v. zero-lt-suc _) from_event_worded
+  from_integer_worded = either_worded (past_shape (codes "integer") Declared) FromTime (λ tree v. zero-lt-suc _) from_time_worded
 
   directed_worded : Worded DirectedShape
   directed_worded (both (input wire kind) more) v = zero-lt-suc _
@@ -618,9 +627,13 @@ module _ (below : ℕ) where
       Tested test false FromEvent
   from_event_not test a r = either_tested test false (past_shape (codes "event") Names) FromAssign (λ tree v rest. a) r
 
-  from_integer_not : (test : Option Text → Bool) → test (Some (codes "integer")) ≡ false → Tested test false FromEvent →
+  from_time_not : (test : Option Text → Bool) → test (Some (codes "time")) ≡ false → Tested test false FromEvent →
+      Tested test false FromTime
+  from_time_not test a r = either_tested test false (past_shape (codes "time") Declared) FromEvent (λ tree v rest. a) r
+
+  from_integer_not : (test : Option Text → Bool) → test (Some (codes "integer")) ≡ false → Tested test false FromTime →
       Tested test false FromInteger
-  from_integer_not test a r = either_tested test false (past_shape (codes "integer") Declared) FromEvent (λ tree v rest. a) r
+  from_integer_not test a r = either_tested test false (past_shape (codes "integer") Declared) FromTime (λ tree v rest. a) r
 
   -- the words that a direction begins with
   directed_begins : (test : Option Text → Bool) (answer : Bool) → test (Some (codes "input")) ≡ answer →
@@ -647,6 +660,7 @@ module _ (below : ℕ) where
       (either_phrase (is_meant net_of) (loose variables_phrase)
       (either_phrase is_direction (loose directed_phrase)
       (either_phrase (is_front (codes "integer")) (loose (past_phrase (codes "integer") declared_list_phrase declared_example))
+      (either_phrase (is_front (codes "time")) (loose (past_phrase (codes "time") declared_list_phrase declared_example))
       (either_phrase (is_front (codes "event")) (loose (past_phrase (codes "event") names_phrase names_example))
       (either_phrase (is_front (codes "assign")) (loose (past_phrase (codes "assign") settings_phrase settings_example))
       (either_phrase (is_front (codes "initial")) (past_phrase (codes "initial") body_phrase a_body)
@@ -661,23 +675,27 @@ module _ (below : ℕ) where
       (from_assign_not (is_front (codes "event")) refl (from_initial_not (is_front (codes "event")) refl
       (from_always_not (is_front (codes "event")) refl (not_named (codes "event") no_names.3)))))
       (λ tree v. zero-lt-suc _) from_event_worded (λ tree v rest. refl)
-      (from_event_not (is_front (codes "integer")) refl
+      (from_event_not (is_front (codes "time")) refl
+      (from_assign_not (is_front (codes "time")) refl (from_initial_not (is_front (codes "time")) refl
+      (from_always_not (is_front (codes "time")) refl (not_named (codes "time") no_names.5))))))
+      (λ tree v. zero-lt-suc _) from_time_worded (λ tree v rest. refl)
+      (from_time_not (is_front (codes "integer")) refl (from_event_not (is_front (codes "integer")) refl
       (from_assign_not (is_front (codes "integer")) refl (from_initial_not (is_front (codes "integer")) refl
-      (from_always_not (is_front (codes "integer")) refl (not_named (codes "integer") no_names.4))))))
+      (from_always_not (is_front (codes "integer")) refl (not_named (codes "integer") no_names.4)))))))
       directed_worded from_integer_worded (directed_begins is_direction true refl refl)
-      (from_integer_not is_direction refl
+      (from_integer_not is_direction refl (from_time_not is_direction refl
       (from_event_not is_direction refl (from_assign_not is_direction refl (from_initial_not is_direction refl
-      (from_always_not is_direction refl not_directed))))))
+      (from_always_not is_direction refl not_directed)))))))
       variables_worded from_directed_worded net_begins
-      (from_directed_not (is_meant net_of) refl refl (from_integer_not (is_meant net_of) refl
+      (from_directed_not (is_meant net_of) refl refl (from_integer_not (is_meant net_of) refl (from_time_not (is_meant net_of) refl
       (from_event_not (is_meant net_of) refl (from_assign_not (is_meant net_of) refl (from_initial_not (is_meant net_of) refl
-      (from_always_not (is_meant net_of) refl not_net)))))))
+      (from_always_not (is_meant net_of) refl not_net))))))))
       parameters_worded from_variables_worded local_begins
       (either_tested (is_meant local_of) false VariablesShape FromDirected (variables_not (is_meant local_of) net_not_local)
-      (from_directed_not (is_meant local_of) refl refl (from_integer_not (is_meant local_of) refl
+      (from_directed_not (is_meant local_of) refl refl (from_integer_not (is_meant local_of) refl (from_time_not (is_meant local_of) refl
       (from_event_not (is_meant local_of) refl
       (from_assign_not (is_meant local_of) refl (from_initial_not (is_meant local_of) refl
-      (from_always_not (is_meant local_of) refl not_local)))))))
+      (from_always_not (is_meant local_of) refl not_local))))))))
     where
       net_begins : Tested (is_meant net_of) true VariablesShape
       net_begins (both net.Wire more) v rest = refl
@@ -702,10 +720,11 @@ module _ (below : ℕ) where
       spelled (other_way (other_way (other_way (one_way (both (both one more) end))))) = refl
       spelled (other_way (other_way (other_way (other_way (one_way (both (both one more) end)))))) = refl
       spelled (other_way (other_way (other_way (other_way (other_way (one_way (both (both one more) end))))))) = refl
-      spelled (other_way (other_way (other_way (other_way (other_way (other_way (one_way tree))))))) = refl
+      spelled (other_way (other_way (other_way (other_way (other_way (other_way (one_way (both (both one more) end)))))))) = refl
       spelled (other_way (other_way (other_way (other_way (other_way (other_way (other_way (one_way tree)))))))) = refl
-      spelled (other_way (other_way (other_way (other_way (other_way (other_way (other_way (other_way (both letters (both None (both (both one more) end))))))))))) = refl
-      spelled (other_way (other_way (other_way (other_way (other_way (other_way (other_way (other_way (both letters (both (Some tree) (both (both one more) end))))))))))) = refl
+      spelled (other_way (other_way (other_way (other_way (other_way (other_way (other_way (other_way (one_way tree))))))))) = refl
+      spelled (other_way (other_way (other_way (other_way (other_way (other_way (other_way (other_way (other_way (both letters (both None (both (both one more) end)))))))))))) = refl
+      spelled (other_way (other_way (other_way (other_way (other_way (other_way (other_way (other_way (other_way (both letters (both (Some tree) (both (both one more) end)))))))))))) = refl
 
       overridden : (letters : Text) (tree : Option ConnectionsTree) (one : InstanceTree) (more : List InstanceTree) →
           ((is_name letters && fits_overrides levels tree) && are_some (fits_instance levels) (one ∷ more))
@@ -726,11 +745,12 @@ module _ (below : ℕ) where
       valid (other_way (other_way (one_way (both tree (both (both one more) end))))) =
           ap (λ b. fits_direction levels (Some tree) && b) (some_valid stands_alone one more)
       valid (other_way (other_way (other_way (one_way (both (both one more) end))))) = some_valid (fits_declared levels) one more
-      valid (other_way (other_way (other_way (other_way (one_way (both (both one more) end)))))) = some_valid is_name one more
-      valid (other_way (other_way (other_way (other_way (other_way (one_way (both (both one more) end))))))) = some_valid (fits_setting levels) one more
-      valid (other_way (other_way (other_way (other_way (other_way (other_way (one_way tree))))))) = refl
+      valid (other_way (other_way (other_way (other_way (one_way (both (both one more) end)))))) = some_valid (fits_declared levels) one more
+      valid (other_way (other_way (other_way (other_way (other_way (one_way (both (both one more) end))))))) = some_valid is_name one more
+      valid (other_way (other_way (other_way (other_way (other_way (other_way (one_way (both (both one more) end)))))))) = some_valid (fits_setting levels) one more
       valid (other_way (other_way (other_way (other_way (other_way (other_way (other_way (one_way tree)))))))) = refl
-      valid (other_way (other_way (other_way (other_way (other_way (other_way (other_way (other_way (both letters (both tree (both (both one more) end))))))))))) =
+      valid (other_way (other_way (other_way (other_way (other_way (other_way (other_way (other_way (one_way tree))))))))) = refl
+      valid (other_way (other_way (other_way (other_way (other_way (other_way (other_way (other_way (other_way (both letters (both tree (both (both one more) end)))))))))))) =
           overridden letters tree one more
 
       closes : (tree : Item) (next : Option Text) → closes_item (item_of tree) next ≡ true → ItemParts.closes tree next ≡ true
@@ -740,9 +760,10 @@ module _ (below : ℕ) where
       closes (other_way (other_way (other_way (one_way (both list end))))) next e = refl
       closes (other_way (other_way (other_way (other_way (one_way (both list end)))))) next e = refl
       closes (other_way (other_way (other_way (other_way (other_way (one_way (both list end))))))) next e = refl
-      closes (other_way (other_way (other_way (other_way (other_way (other_way (one_way tree))))))) next e = e
+      closes (other_way (other_way (other_way (other_way (other_way (other_way (one_way (both list end)))))))) next e = refl
       closes (other_way (other_way (other_way (other_way (other_way (other_way (other_way (one_way tree)))))))) next e = e
-      closes (other_way (other_way (other_way (other_way (other_way (other_way (other_way (other_way (both letters (both tree (both list end))))))))))) next e = refl
+      closes (other_way (other_way (other_way (other_way (other_way (other_way (other_way (other_way (one_way tree))))))))) next e = e
+      closes (other_way (other_way (other_way (other_way (other_way (other_way (other_way (other_way (other_way (both letters (both tree (both list end)))))))))))) next e = refl
 
   pub item_phrase : Phrase (item levels) ends_statement item_shape
   item_phrase = made_phrase item_of item_shape back item_makes item_closed item_parts_phrase
@@ -757,16 +778,17 @@ module _ (below : ℕ) where
       back (declaration (variables kind tree) (one ∷ more)) v = record { parts = other_way (one_way (both kind (both tree (both (both one more) tt)))); is = refl }
       back (declaration (directed tree) []) v = absurd (no_list (fits_direction levels (Some tree)) true v)
       back (declaration (directed tree) (one ∷ more)) v = record { parts = other_way (other_way (one_way (both tree (both (both one more) tt)))); is = refl }
-      back (declaration integers []) v = absurd (no_list true true v)
-      back (declaration integers (one ∷ more)) v = record { parts = other_way (other_way (other_way (one_way (both (both one more) tt)))); is = refl }
+      back (declaration (integers long) []) v = absurd (no_list true true v)
+      back (declaration (integers false) (one ∷ more)) v = record { parts = other_way (other_way (other_way (one_way (both (both one more) tt)))); is = refl }
+      back (declaration (integers true) (one ∷ more)) v = record { parts = other_way (other_way (other_way (other_way (one_way (both (both one more) tt))))); is = refl }
       back (events []) v = absurd (no_list true true v)
-      back (events (one ∷ more)) v = record { parts = other_way (other_way (other_way (other_way (one_way (both (both one more) tt))))); is = refl }
+      back (events (one ∷ more)) v = record { parts = other_way (other_way (other_way (other_way (other_way (one_way (both (both one more) tt)))))); is = refl }
       back (assignments []) v = absurd (no_list true true v)
-      back (assignments (one ∷ more)) v = record { parts = other_way (other_way (other_way (other_way (other_way (one_way (both (both one more) tt)))))); is = refl }
-      back (initial body) v = record { parts = other_way (other_way (other_way (other_way (other_way (other_way (one_way body)))))); is = refl }
-      back (always_item body) v = record { parts = other_way (other_way (other_way (other_way (other_way (other_way (other_way (one_way body))))))); is = refl }
+      back (assignments (one ∷ more)) v = record { parts = other_way (other_way (other_way (other_way (other_way (other_way (one_way (both (both one more) tt))))))); is = refl }
+      back (initial body) v = record { parts = other_way (other_way (other_way (other_way (other_way (other_way (other_way (one_way body))))))); is = refl }
+      back (always_item body) v = record { parts = other_way (other_way (other_way (other_way (other_way (other_way (other_way (other_way (one_way body)))))))); is = refl }
       back (instances letters tree []) v = absurd (no_list (is_name letters && fits_overrides levels tree) true v)
       back (instances letters tree (one ∷ more)) v = record {
-        parts = other_way (other_way (other_way (other_way (other_way (other_way (other_way (other_way (both letters (both tree (both (both one more) tt))))))))));
+        parts = other_way (other_way (other_way (other_way (other_way (other_way (other_way (other_way (other_way (both letters (both tree (both (both one more) tt)))))))))));
         is = refl;
       }

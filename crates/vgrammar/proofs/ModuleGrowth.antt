@@ -93,11 +93,12 @@ module _ (below : ℕ) where
       (paired_growth type_growth (ended_growth declared_growth)))
       (either_growth is_direction (paired_growth direction_growth (ended_growth alone_growth))
       (either_growth (is_front (codes "integer")) (past_growth (codes "integer") (ended_growth declared_growth))
+      (either_growth (is_front (codes "time")) (past_growth (codes "time") (ended_growth declared_growth))
       (either_growth (is_front (codes "event")) (past_growth (codes "event") (ended_growth named_word))
       (either_growth (is_front (codes "assign")) (past_growth (codes "assign") (ended_growth setting_growth))
       (either_growth (is_front (codes "initial")) (past_growth (codes "initial") body_growth)
       (either_growth (is_front (codes "always")) (past_growth (codes "always") body_growth)
-      (paired_growth named_word (paired_growth overrides_growth (ended_growth instance_growth))))))))))
+      (paired_growth named_word (paired_growth overrides_growth (ended_growth instance_growth)))))))))))
 
   item_growth : Growth (item levels) (item (up levels))
   item_growth = made_growth item_of item_parts_growth

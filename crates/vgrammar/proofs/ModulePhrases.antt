@@ -391,7 +391,7 @@ module _ (below : ℕ) where
   pub item_worded : Worded (item_shape below)
   item_worded (parameters local kind list) v = zero-lt-suc _
   item_worded (declaration (variables kind tree) list) v = zero-lt-suc _
-  item_worded (declaration integers list) v = zero-lt-suc _
+  item_worded (declaration (integers long) list) v = zero-lt-suc _
   item_worded (declaration (directed (input wire tree)) list) v = zero-lt-suc _
   item_worded (declaration (directed (output net tree)) list) v = zero-lt-suc _
   item_worded (events list) v = zero-lt-suc _

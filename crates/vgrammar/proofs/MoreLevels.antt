@@ -108,12 +108,12 @@ module _ (n m : ℕ) (fewer : n ≤ m) where
 
   declaration_more : (tree : DeclarationKind) → fits_declaration_kind n tree ≡ true → fits_declaration_kind m tree ≡ true
   declaration_more (variables kind tree) v = type_more tree v
-  declaration_more integers v = refl
+  declaration_more (integers long) v = refl
   declaration_more (directed direction) v = direction_more (Some direction) v
 
   names_more : (kind : DeclarationKind) (list : List DeclaredTree) → fits_names n kind list ≡ true → fits_names m kind list ≡ true
   names_more (variables kind tree) list v = some_more (fits_declared n) (fits_declared m) declared_more list v
-  names_more integers list v = some_more (fits_declared n) (fits_declared m) declared_more list v
+  names_more (integers long) list v = some_more (fits_declared n) (fits_declared m) declared_more list v
   names_more (directed direction) list v = v
 
   body_more : (tree : StatementTree) → fits_body n tree ≡ true → fits_body m tree ≡ true

@@ -9,7 +9,7 @@ use Rattle.vexpr_parse.proofs.ReaderRules.{IsLead}
 use Rattle.vexpr_parse.proofs.Grows.{Keeps, past_keep, Grows, LeadGrows, led_grows, if_grows, expression_keep, expression_grows}
 use Rattle.vgrammar.specs.Parts.{roomy}
 use Rattle.vgrammar.specs.Starts.{begins_target, meant_if, is_word, edge_of, comma_of, is_meant}
-use Rattle.vgrammar.specs.Statements.{value, named, comma_list, word_only, select, target_of, named_target, joined_of, joined_targets, target_lead, target, delay_of, amount, optional_delay, term_of, term, further_of, event_of, control, argument_of, arguments, path_of, selection_of, selection}
+use Rattle.vgrammar.specs.Statements.{value, named, comma_list, word_only, select, target_of, named_target, joined_of, joined_targets, target_lead, target, delay_of, amount, optional_delay, term_of, term, further_of, event_of, control, begins_argument, argument_of, arguments, path_of, selection_of, selection}
 use Rattle.vgrammar.proofs.TargetPhrases.{select_phrase, target_phrase, target_leads}
 use Rattle.vgrammar.proofs.Growth.{up, some_left, grows_further, Growth, phrase_keep, got_growth, past_growth, made_growth, paired_growth, worded_growth, either_growth, maybe_growth, maybe_growth_where, many_growth, OpenLead, lead_open, room_open, room_rises, roomy_rises, roomy_keep, past_passes}
 
@@ -131,8 +131,8 @@ control_growth =
 pub arguments_growth : (below : ℕ) → nat_le 1 below ≡ true → Growth (arguments below) (arguments (up below))
 arguments_growth below level =
     past_growth (codes "(")
-    (paired_growth (comma_growth (made_growth argument_of (either_growth (is_word is_string) (worded_growth (meant_if is_string))
-    (value_growth below level)))) (only_growth (codes ")")))
+    (paired_growth (comma_growth (made_growth argument_of (maybe_growth begins_argument
+    (either_growth (is_word is_string) (worded_growth (meant_if is_string)) (value_growth below level))))) (only_growth (codes ")")))
 
 pub selection_growth : Growth selection selection
 selection_growth =

@@ -1,5 +1,5 @@
 -- Delays, event controls, arguments and what is dumped, behind their first words.
-use Rattle.std.proofs.Common.{◌≡◌, ℕ, suc, ◌<◌, Bool, true, false, ◌&&◌, not, nat_le, List, [], ◌∷◌, ◌++◌, Option, None, Some, length, flat_map, refl, sym, ap, ◌∙◌, codes, zero-lt-suc}
+use Rattle.std.proofs.Common.{◌≡◌, ℕ, suc, ◌<◌, Bool, true, false, ◌&&◌, ◌||◌, not, nat_le, List, [], ◌∷◌, ◌++◌, Option, None, Some, length, flat_map, refl, sym, ap, ◌∙◌, codes, zero-lt-suc, subst}
 use Rattle.std.specs.List.{list_all}
 use Rattle.std.specs.Str.{bytes_eq}
 use Rattle.std.proofs.lemmas.Bool.{false_from_ne_true}
@@ -7,17 +7,19 @@ use Rattle.basis.proofs.Bools.{and_left, and_both, clash}
 use Rattle.basis.proofs.Numbers.{one_within}
 use Rattle.vast.specs.Words.{Text, is_name, is_number, is_string, reserved_words}
 use Rattle.vast.specs.Expressions.{ExpressionTree, spell_expression, fits_expression, depth}
-use Rattle.vast.specs.Statements.{DelayTree, by_number, by_name, by_value, in_parentheses, spell_delay, delay_depth, fits_delay, TermTree, FurtherTerm, EventTree, by_event, by_any, by_any_enclosed, by_terms, edge_word, spell_edge, spell_term, spell_further_term, fits_event, fits_further_term, ArgumentTree, quoted, printed, spell_argument, argument_depth, fits_argument, SelectionTree, spell_path, fits_path}
+use Rattle.vast.specs.Statements.{DelayTree, by_number, by_name, by_value, in_parentheses, spell_delay, delay_depth, fits_delay, TermTree, FurtherTerm, EventTree, by_event, by_any, by_any_enclosed, by_terms, edge_word, spell_edge, spell_term, spell_further_term, fits_event, fits_further_term, ArgumentTree, quoted, printed, left_out, spell_argument, argument_depth, fits_argument, SelectionTree, spell_path, fits_path}
 use Rattle.vast.specs.declared.statement.Edge.{Edge}
 use Rattle.vast.specs.declared.statement.Edge.TheVariants as edge
 use Rattle.vexpr_parse.specs.Readers.{front, is_front, past}
-use Rattle.vexpr_parse.specs.Words.{binary_of, ends}
+use Rattle.vexpr_parse.specs.Words.{binary_of, unary_of, beginning_of, ends}
+use Rattle.vexpr_parse.specs.declared.beginning.Beginning.TheVariants as start
+use Rattle.vexpr_parse.specs.Lawful.{Ends}
 use Rattle.vexpr_parse.proofs.ReaderRules.{same_text}
 use Rattle.vgrammar.specs.Parts.{Both, both, Either, one_way, other_way, paired, worded, many, either}
-use Rattle.vgrammar.specs.Starts.{is_word, edge_of, comma_of, comma_word, is_meant, is_some_meaning}
-use Rattle.vgrammar.specs.Statements.{value, named, numbered, List_of, comma_list, word_only, Amount, delay_of, amount, optional_delay, term_of, term, further_of, further_term, Terms, Event, event_of, enclosed_event, control, argument_of, argument, Arguments, arguments, path_of, path, Selection, selection_of, selection}
+use Rattle.vgrammar.specs.Starts.{is_word, meant_if, edge_of, comma_of, comma_word, is_meant, is_some_meaning}
+use Rattle.vgrammar.specs.Statements.{value, named, numbered, List_of, comma_list, word_only, Amount, delay_of, amount, optional_delay, term_of, term, further_of, further_term, Terms, Event, event_of, enclosed_event, control, begins_argument, argument_of, argument, Arguments, arguments, path_of, path, Selection, selection_of, selection}
 use Rattle.vgrammar.proofs.Phrases.{Shape, Phrase, Example, Worded, Makes, From, always, phrase_within, made_phrase, past_shape, past_phrase, nothing_phrase, worded_shape, worded_phrase, paired_shape, before_phrase, paired_example, free_phrase, next_phrase}
-use Rattle.vgrammar.proofs.PhraseChoices.{ends_maybe, maybe_shape, maybe_phrase, either_shape, either_phrase, Tested, allows_all, many_shape, many_phrase}
+use Rattle.vgrammar.proofs.PhraseChoices.{ends_maybe, maybe_shape, maybe_phrase, either_shape, either_phrase, either_tested, either_worded, Tested, allows_all, many_shape, many_phrase}
 use Rattle.vgrammar.proofs.LevelFacts.{and_true}
 use Rattle.vgrammar.proofs.ValuePhrases.{value_shape, value_phrase, value_example, value_worded, nothing_example, word_if_phrase, only_shape, only_phrase, only_example, comma, comma_shape, more_behind, comma_phrase, allows_each}
 use Rattle.vgrammar.proofs.WordPhrases.{name_no_number, as_written, refused_first, value_refuses, string_is_other}
@@ -354,52 +356,98 @@ control_phrase =
 
 -- Arguments
 
+-- where an argument ends, that may be left out
+abbrev pub ends_argument : Ends
+ends_argument = ends_maybe begins_argument (ends 0)
+
 abbrev pub argument_shape : ℕ → Shape ArgumentTree
 argument_shape n = record {
   spell = spell_argument;
   valid = λ tree. fits_argument tree && nat_le (argument_depth tree) n;
-  closes = λ tree. ends 0;
+  closes = λ tree. ends_argument;
   stops = λ tree next. true;
 }
 
 module _ (below : ℕ) (level : nat_le 1 below ≡ true) where
-  abbrev ArgumentParts : Shape (Either Text ExpressionTree)
-  ArgumentParts = either_shape (text_shape is_string) (value_shape below)
+  abbrev SomeArgument : Shape (Either Text ExpressionTree)
+  SomeArgument = either_shape (text_shape is_string) (value_shape below)
+
+  abbrev ArgumentParts : Shape (Option (Either Text ExpressionTree))
+  ArgumentParts = maybe_shape begins_argument (ends 0) SomeArgument
 
   argument_makes : Makes argument_of ArgumentParts (argument_shape below) []
   argument_makes = record { spelled = spelled; valid = valid; closes = closes; stops = λ tree next e. refl }
     where
-      spelled : (tree : Either Text ExpressionTree) → spell_argument (argument_of tree) ≡ ArgumentParts.spell tree
-      spelled (one_way letters) = refl
-      spelled (other_way tree) = refl
+      spelled : (tree : Option (Either Text ExpressionTree)) → spell_argument (argument_of tree) ≡ ArgumentParts.spell tree
+      spelled None = refl
+      spelled (Some (one_way letters)) = refl
+      spelled (Some (other_way tree)) = refl
 
-      valid : (tree : Either Text ExpressionTree) →
+      valid : (tree : Option (Either Text ExpressionTree)) →
           (fits_argument (argument_of tree) && nat_le (argument_depth (argument_of tree)) below) ≡ ArgumentParts.valid tree
-      valid (one_way letters) = ap (λ b. is_string letters && b) level ∙ and_true (is_string letters)
-      valid (other_way tree) = refl
+      valid None = level
+      valid (Some (one_way letters)) = ap (λ b. is_string letters && b) level ∙ and_true (is_string letters)
+      valid (Some (other_way tree)) = refl
 
-      closes : (tree : Either Text ExpressionTree) (next : Option Text) → ends 0 next ≡ true → ArgumentParts.closes tree next
+      closes : (tree : Option (Either Text ExpressionTree)) (next : Option Text) → ends_argument next ≡ true → ArgumentParts.closes tree next
           ≡ true
-      closes (one_way letters) next e = refl
-      closes (other_way tree) next e = e
+      closes None next e = e
+      closes (Some (one_way letters)) next e = refl
+      closes (Some (other_way tree)) next e = and_left (ends 0 next) (not (begins_argument next)) e
 
-  pub argument_phrase : Phrase (argument below) (ends 0) (argument_shape below)
-  argument_phrase =
-      made_phrase argument_of (argument_shape below) back argument_makes (λ tree next e. e)
-      (either_phrase (is_word is_string) (phrase_within (ends 0) (word_if_phrase is_string) (λ next e. refl)) (value_phrase below)
+  -- a comma or a parenthesis begins no argument
+  some_phrase : Phrase (either (is_word is_string) (worded (meant_if is_string)) (value below)) (ends 0) SomeArgument
+  some_phrase =
+      either_phrase (is_word is_string) (phrase_within (ends 0) (word_if_phrase is_string) (λ next e. refl)) (value_phrase below)
       (λ tree v. zero-lt-suc 0) (value_worded below) (λ tree v rest. v)
       (refused_first (is_word is_string) (value_phrase below) (value_worded below) refl
-      (λ word words tree left is e. value_refuses below word (string_is_other word is) words tree left e)))
+      (λ word words tree left is e. value_refuses below word (string_is_other word is) words tree left e))
+
+  some_worded : Worded SomeArgument
+  some_worded = either_worded (text_shape is_string) (value_shape below) (λ tree v. zero-lt-suc 0) (value_worded below)
+
+  begins_not : (text : Text) → is_string text ≡ false → beginning_of text ≡ start.Other → Tested (is_front text) false SomeArgument
+  begins_not text no_string other =
+      either_tested (is_front text) false (text_shape is_string) (value_shape below)
+      (λ letters v rest. no_text letters v)
+      (refused_first (is_front text) (value_phrase below) (value_worded below) refl
+      (λ word words tree left is e. value_refuses below word (subst (λ w. beginning_of w ≡ start.Other) (same_text text word is) other) words tree left e))
+    where
+      by : (b : Bool) (letters : Text) → bytes_eq text letters ≡ b → is_string letters ≡ true → b ≡ false
+      by true letters is v = let no : true ≡ false = sym v ∙ ap is_string (sym (same_text text letters is)) ∙ no_string in absurd cc
+      by false letters is v = refl
+
+      no_text : (letters : Text) → is_string letters ≡ true → bytes_eq text letters ≡ false
+      no_text letters v = by (bytes_eq text letters) letters refl v
+
+  comma_begins_not : Tested (is_front (codes ",")) false SomeArgument
+  unfolding beginning_of unary_of reserved_words
+  comma_begins_not = begins_not (codes ",") refl refl
+
+  parenthesis_begins_not : Tested (is_front (codes ")")) false SomeArgument
+  unfolding beginning_of unary_of reserved_words
+  parenthesis_begins_not = begins_not (codes ")") refl refl
+
+  some_begins : Tested begins_argument true SomeArgument
+  some_begins tree v rest =
+      ap (λ b. not (b || is_front (codes ")") (front (SomeArgument.spell tree ++ rest)))) (comma_begins_not tree v rest)
+      ∙ ap not (parenthesis_begins_not tree v rest)
+
+  pub argument_phrase : Phrase (argument below) ends_argument (argument_shape below)
+  argument_phrase =
+      made_phrase argument_of (argument_shape below) back argument_makes (λ tree next e. e)
+      (maybe_phrase begins_argument some_phrase some_worded some_begins)
     where
       back : (tree : ArgumentTree) → (fits_argument tree && nat_le (argument_depth tree) below) ≡ true → From argument_of tree
-      back (quoted letters) v = record { parts = one_way letters; is = refl }
-      back (printed tree) v = record { parts = other_way tree; is = refl }
+      back (quoted letters) v = record { parts = Some (one_way letters); is = refl }
+      back (printed tree) v = record { parts = Some (other_way tree); is = refl }
+      back left_out v = record { parts = None; is = refl }
 
   argument_example : Example (argument_shape below)
   argument_example = record { tree = quoted (codes "\""); valid = level }
 
   abbrev pub arguments_shape : Shape Arguments
-  arguments_shape = past_shape (codes "(") (paired_shape (comma_shape (ends 0) (argument_shape below)) (only_shape (codes ")")))
+  arguments_shape = past_shape (codes "(") (paired_shape (comma_shape ends_argument (argument_shape below)) (only_shape (codes ")")))
 
   pub arguments_example : Example arguments_shape
   arguments_example = record {
@@ -408,7 +456,7 @@ module _ (below : ℕ) (level : nat_le 1 below ≡ true) where
   }
 
   pub arguments_inner_phrase : Phrase (paired (comma_list (argument below)) (word_only (codes ")"))) always
-      (paired_shape (comma_shape (ends 0) (argument_shape below)) (only_shape (codes ")")))
+      (paired_shape (comma_shape ends_argument (argument_shape below)) (only_shape (codes ")")))
   unfolding binary_of
   arguments_inner_phrase =
       before_phrase (codes ")") (comma_phrase argument_phrase argument_example refl) (nothing_phrase always) nothing_example refl

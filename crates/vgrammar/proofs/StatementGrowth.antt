@@ -14,7 +14,7 @@ use Rattle.vgrammar.specs.declared.start.StatementStart.{StatementStart}
 use Rattle.vgrammar.specs.declared.start.StatementStart.TheVariants as start
 use Rattle.vgrammar.specs.Parts.{Both, both, made, paired, worded, maybe, roomy}
 use Rattle.vgrammar.specs.Starts.{start_of, begins_target, is_target, is_some_meaning, meant_if, sign_of}
-use Rattle.vgrammar.specs.Statements.{value, word_only, optional_delay, assignment_of, assignment_parts, assignment, target_lead, target, guarded, if_of, guarded_of, setting, for_of, delayed_of, event_body_of, block_of, has_default, branch_of, default_branch, branch, case_parts_of, case_parts, arguments, print_of, optional_print_of, dump_file_of, dump_vars_of, dump_of, end_of, trigger_of, statement_by, lead_by, statement, ends_statement, block_name}
+use Rattle.vgrammar.specs.Statements.{value, word_only, optional_delay, assignment_of, assignment_parts, assignment, target_lead, target, guarded, if_of, guarded_of, setting, for_of, delayed_of, event_body_of, block_of, has_default, branch_of, default_branch, branch, case_parts_of, case_parts, arguments, print_of, optional_print_of, idle_of, dump_file_of, dump_vars_of, dump_of, end_of, trigger_of, statement_by, lead_by, statement, ends_statement, block_name}
 use Rattle.vgrammar.proofs.PartPhrases.{arguments_inner_phrase, arguments_phrase}
 use Rattle.vgrammar.proofs.StatementPhrases.{signed_phrase, assignment_phrase}
 use Rattle.vgrammar.proofs.StatementLevels.{statement_phrase, statement_leads}
@@ -39,6 +39,7 @@ statement_open n level (start.Print (printing.Write base)) = lead_open ends_stat
     (statement_leads n (start.Print (printing.Write base)))
 statement_open n level (start.Print (printing.Strobe base)) = lead_open ends_statement _
     (statement_leads n (start.Print (printing.Strobe base)))
+statement_open n level (start.Idle kind) = lead_open ends_statement _ (statement_leads n (start.Idle kind))
 statement_open n level (start.Print (printing.Monitor base)) = room_open ends_statement n _ level
     (statement_leads n (start.Print (printing.Monitor base)))
 statement_open n level start.DumpFile = room_open ends_statement n _ level (statement_leads n start.DumpFile)
@@ -170,6 +171,7 @@ module _ (below : ℕ) (g : Growth (statement below) (statement (up below))) whe
       (made_growth (optional_print_of (printing.Write base)) (optional_growth optional_arguments)).rises
   leads_rise (start.Print (printing.Strobe base)) =
       (made_growth (optional_print_of (printing.Strobe base)) (optional_growth optional_arguments)).rises
+  leads_rise (start.Idle kind) = (made_growth (idle_of kind) (optional_growth optional_arguments)).rises
   leads_rise (start.Print (printing.Monitor base)) = rising (statement_leads (up below) (start.Print (printing.Monitor base)))
       (λ level. made_growth (print_of (printing.Monitor base))
       (paired_growth (arguments_growth below level) (only_growth (codes ";"))))

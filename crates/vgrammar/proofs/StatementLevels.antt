@@ -6,10 +6,11 @@ use Rattle.basis.proofs.Bools.{and_left, and_right, or_left, or_right, or_first,
 use Rattle.basis.proofs.Numbers.{one_within}
 use Rattle.vast.specs.Words.{Text, is_name, is_string, reserved_words}
 use Rattle.vast.specs.Expressions.{ExpressionTree, fits_expression, depth}
-use Rattle.vast.specs.Statements.{TargetTree, whole, bit, part, joined, TaskTree, print, dump_file, dump_vars, dump, end_run, StatementTree, empty, block, assign, nonblocking, trigger, if_true, if_else, case_of, while_true, repeat_times, forever, for_loop, wait_for, delay, event, task, StatementTrees, no_statement, first_statement, BranchTree, BranchTrees, no_branch, first_branch, spell_target, spell_statement, target_depth, statement_depth, fits_target, fits_statement}
+use Rattle.vast.specs.Statements.{TargetTree, whole, bit, part, joined, TaskTree, print, idle, dump_file, dump_vars, dump, end_run, StatementTree, empty, block, assign, nonblocking, trigger, if_true, if_else, case_of, while_true, repeat_times, forever, for_loop, wait_for, delay, event, task, StatementTrees, no_statement, first_statement, BranchTree, BranchTrees, no_branch, first_branch, spell_target, spell_statement, target_depth, statement_depth, fits_target, fits_statement}
 use Rattle.vast.specs.declared.statement.CaseKind.TheVariants as case_kind
 use Rattle.vast.specs.declared.statement.Base.TheVariants as bases
 use Rattle.vast.specs.declared.statement.Printing.TheVariants as printing
+use Rattle.vast.specs.declared.statement.Idle.TheVariants as idles
 use Rattle.vast.specs.declared.statement.Dumping.TheVariants as dumping
 use Rattle.vast.proofs.ExpressionLemmas.{depth_positive}
 use Rattle.vexpr_parse.specs.declared.stop.Stop.TheVariants.{NoTree, TooDeep}
@@ -23,7 +24,7 @@ use Rattle.vgrammar.specs.declared.start.StatementStart.{StatementStart}
 use Rattle.vgrammar.specs.declared.start.StatementStart.TheVariants as start
 use Rattle.vgrammar.specs.Parts.{both, made, roomy}
 use Rattle.vgrammar.specs.Starts.{start_word, statement_starts, start_of, begins_target, is_target, is_some_meaning}
-use Rattle.vgrammar.specs.Statements.{Assignment, assignment_of, assignment_parts, assignment, if_of, guarded_of, for_of, delayed_of, event_body_of, statements_in, block_of, block_parts, branches_in, case_parts_of, case_parts, print_of, optional_print_of, dump_file_of, dump_vars_of, dump_of, end_of, trigger_of, statement_by, lead_by, begins_statement, statement, ends_statement}
+use Rattle.vgrammar.specs.Statements.{Assignment, assignment_of, assignment_parts, assignment, if_of, guarded_of, for_of, delayed_of, event_body_of, statements_in, block_of, block_parts, branches_in, case_parts_of, case_parts, print_of, optional_print_of, idle_of, dump_file_of, dump_vars_of, dump_of, end_of, trigger_of, statement_by, lead_by, begins_statement, statement, ends_statement}
 use Rattle.vgrammar.proofs.Phrases.{Shape, Sound, Phrase, Makes, always, sound_eats, phrase_within, made_lawful, made_sound, made_complete, same_got}
 use Rattle.vgrammar.proofs.PhraseChoices.{Tested}
 use Rattle.vgrammar.proofs.PhraseLeads.{LeadSound, led_sound, if_sound, room_sound, made_lead_sound, made_lead, roomy_lead}
@@ -75,6 +76,27 @@ start_found (start.Print (printing.Monitor bases.Decimal)) = refl
 start_found (start.Print (printing.Monitor bases.Binary)) = refl
 start_found (start.Print (printing.Monitor bases.Octal)) = refl
 start_found (start.Print (printing.Monitor bases.Hexadecimal)) = refl
+start_found (start.Idle (idles.File (printing.Display bases.Decimal))) = refl
+start_found (start.Idle (idles.File (printing.Display bases.Binary))) = refl
+start_found (start.Idle (idles.File (printing.Display bases.Octal))) = refl
+start_found (start.Idle (idles.File (printing.Display bases.Hexadecimal))) = refl
+start_found (start.Idle (idles.File (printing.Write bases.Decimal))) = refl
+start_found (start.Idle (idles.File (printing.Write bases.Binary))) = refl
+start_found (start.Idle (idles.File (printing.Write bases.Octal))) = refl
+start_found (start.Idle (idles.File (printing.Write bases.Hexadecimal))) = refl
+start_found (start.Idle (idles.File (printing.Strobe bases.Decimal))) = refl
+start_found (start.Idle (idles.File (printing.Strobe bases.Binary))) = refl
+start_found (start.Idle (idles.File (printing.Strobe bases.Octal))) = refl
+start_found (start.Idle (idles.File (printing.Strobe bases.Hexadecimal))) = refl
+start_found (start.Idle (idles.File (printing.Monitor bases.Decimal))) = refl
+start_found (start.Idle (idles.File (printing.Monitor bases.Binary))) = refl
+start_found (start.Idle (idles.File (printing.Monitor bases.Octal))) = refl
+start_found (start.Idle (idles.File (printing.Monitor bases.Hexadecimal))) = refl
+start_found (start.Idle idles.Open) = refl
+start_found (start.Idle idles.Close) = refl
+start_found (start.Idle idles.Flush) = refl
+start_found (start.Idle idles.TimeFormat) = refl
+start_found (start.Idle idles.PrintTimescale) = refl
 start_found start.DumpFile = refl
 start_found start.DumpVars = refl
 start_found (start.Dump dumping.On) = refl
@@ -116,6 +138,27 @@ no_target (start.Print (printing.Monitor bases.Decimal)) = refl
 no_target (start.Print (printing.Monitor bases.Binary)) = refl
 no_target (start.Print (printing.Monitor bases.Octal)) = refl
 no_target (start.Print (printing.Monitor bases.Hexadecimal)) = refl
+no_target (start.Idle (idles.File (printing.Display bases.Decimal))) = refl
+no_target (start.Idle (idles.File (printing.Display bases.Binary))) = refl
+no_target (start.Idle (idles.File (printing.Display bases.Octal))) = refl
+no_target (start.Idle (idles.File (printing.Display bases.Hexadecimal))) = refl
+no_target (start.Idle (idles.File (printing.Write bases.Decimal))) = refl
+no_target (start.Idle (idles.File (printing.Write bases.Binary))) = refl
+no_target (start.Idle (idles.File (printing.Write bases.Octal))) = refl
+no_target (start.Idle (idles.File (printing.Write bases.Hexadecimal))) = refl
+no_target (start.Idle (idles.File (printing.Strobe bases.Decimal))) = refl
+no_target (start.Idle (idles.File (printing.Strobe bases.Binary))) = refl
+no_target (start.Idle (idles.File (printing.Strobe bases.Octal))) = refl
+no_target (start.Idle (idles.File (printing.Strobe bases.Hexadecimal))) = refl
+no_target (start.Idle (idles.File (printing.Monitor bases.Decimal))) = refl
+no_target (start.Idle (idles.File (printing.Monitor bases.Binary))) = refl
+no_target (start.Idle (idles.File (printing.Monitor bases.Octal))) = refl
+no_target (start.Idle (idles.File (printing.Monitor bases.Hexadecimal))) = refl
+no_target (start.Idle idles.Open) = refl
+no_target (start.Idle idles.Close) = refl
+no_target (start.Idle idles.Flush) = refl
+no_target (start.Idle idles.TimeFormat) = refl
+no_target (start.Idle idles.PrintTimescale) = refl
 no_target start.DumpFile = refl
 no_target start.DumpVars = refl
 no_target (start.Dump dumping.On) = refl
@@ -216,6 +259,7 @@ module _ (below : ℕ) (read : Reader StatementTree) (p : Phrase read ends_state
       (tasks.optional_example (tasks.Arg below))
   leads_by (start.Print (printing.Monitor base)) = lead_room ends_statement below 1 _ (λ level. made_lead (print_of (printing.Monitor base))
       (loose (tasks.print_phrase below level)) (tasks.print_example below level))
+  leads_by (start.Idle kind) = made_lead (idle_of kind) (loose (tasks.optional_print_phrase below)) (tasks.optional_example (tasks.Arg below))
   leads_by start.DumpFile = lead_room ends_statement below 1 _
       (λ level. made_lead dump_file_of (loose (tasks.dump_file_phrase below))
       (tasks.dump_file_example below))
@@ -267,6 +311,8 @@ module _ (below : ℕ) (read : Reader StatementTree) (p : Phrase read ends_state
   sound_by (start.Print (printing.Monitor base)) = room_sound Out (start_word (start.Print (printing.Monitor base))) below 1 _
       (λ level. made_lead_sound (print_of (printing.Monitor base)) (start_word (start.Print (printing.Monitor base))) Out (tasks.print_makes below (printing.Monitor base))
       (tasks.print_phrase below level))
+  sound_by (start.Idle kind) = made_lead_sound (idle_of kind) (start_word (start.Idle kind)) Out (tasks.idle_makes below kind)
+      (tasks.optional_print_phrase below)
   sound_by start.DumpFile = room_sound Out (codes "$dumpfile") below 1 _
       (λ level. made_lead_sound dump_file_of (codes "$dumpfile") Out (tasks.dump_file_makes below level)
       (tasks.dump_file_phrase below))
@@ -469,6 +515,11 @@ module _ (below : ℕ) (read : Reader StatementTree) (p : Phrase read ends_state
       (and_left _ true (sym ((tasks.print_makes below (printing.Monitor base)).valid (both (both (both one more) tt) tt)) ∙ v)) in
       room_read (start.Print (printing.Monitor base)) (print_of (printing.Monitor base)) (tasks.print_makes below (printing.Monitor base))
       (tasks.print_phrase below level) refl level (both (both (both one more) tt) tt) rest v c
+  task_read (idle kind []) rest =
+      read_by (start.Idle kind) (idle_of kind) (tasks.idle_makes below kind) (tasks.optional_print_phrase below) refl (both None tt) rest
+  task_read (idle kind (one ∷ more)) rest =
+      read_by (start.Idle kind) (idle_of kind) (tasks.idle_makes below kind) (tasks.optional_print_phrase below) refl
+      (both (Some (both (both one more) tt)) tt) rest
   task_read (dump_file letters) rest = λ v c.
       let level = two_level (is_string letters) v in
       room_read start.DumpFile dump_file_of (tasks.dump_file_makes below level) (tasks.dump_file_phrase below) refl level

@@ -4,20 +4,21 @@ use Rattle.std.specs.List.{list_all}
 use Rattle.basis.proofs.Bools.{and_left, and_right}
 use Rattle.basis.proofs.Numbers.{one_within}
 use Rattle.vast.specs.Words.{Text, is_number, is_string}
-use Rattle.vast.specs.Statements.{ArgumentTree, quoted, printed, SelectionTree, StatementTree, print_word, dump_word, end_word, argument_depth, arguments_depth, fits_argument, fits_print, fits_selection, spell_statement}
+use Rattle.vast.specs.Statements.{ArgumentTree, quoted, printed, left_out, SelectionTree, StatementTree, print_word, idle_word, dump_word, end_word, argument_depth, arguments_depth, fits_argument, fits_print, fits_selection, spell_statement}
 use Rattle.vast.specs.declared.statement.Dumping.{Dumping}
 use Rattle.vast.specs.declared.statement.Printing.{Printing}
 use Rattle.vast.specs.declared.statement.Printing.TheVariants as printing
+use Rattle.vast.specs.declared.statement.Base.TheVariants as bases
+use Rattle.vast.specs.declared.statement.Idle.{Idle}
 use Rattle.vast.proofs.ExpressionLemmas.{depth_positive}
 use Rattle.vexpr_parse.specs.Readers.{Reader, front, is_front}
-use Rattle.vexpr_parse.specs.Words.{ends}
 use Rattle.vgrammar.specs.Parts.{Both, both, paired, maybe, roomy}
-use Rattle.vgrammar.specs.Statements.{word_only, Arguments, arguments, print_of, optional_print_of, dump_file_of, dump_file_parts, selection, dump_vars_of, dump_of, end_of, end_parts}
+use Rattle.vgrammar.specs.Statements.{word_only, Arguments, arguments, print_of, optional_print_of, idle_of, dump_file_of, dump_file_parts, selection, dump_vars_of, dump_of, end_of, end_parts}
 use Rattle.vgrammar.proofs.Phrases.{Shape, Phrase, Example, Makes, always, past_shape, past_phrase, past_example, nothing_phrase, paired_shape, before_phrase, paired_example, free_phrase}
 use Rattle.vgrammar.proofs.PhraseChoices.{maybe_shape, maybe_phrase, roomy_phrase}
 use Rattle.vgrammar.proofs.LevelFacts.{one_up, and_true, some_level}
 use Rattle.vgrammar.proofs.ValuePhrases.{nothing_example, word_if_phrase, only_shape, only_phrase, only_example, comma_shape, allows_each}
-use Rattle.vgrammar.proofs.PartPhrases.{text_shape, a_number, numbered_phrase, argument_shape, arguments_phrase, arguments_example, selection_shape, selection_phrase}
+use Rattle.vgrammar.proofs.PartPhrases.{text_shape, a_number, numbered_phrase, ends_argument, argument_shape, arguments_phrase, arguments_example, selection_shape, selection_phrase}
 use Rattle.vgrammar.proofs.StatementShapes.{closes_statement, statement_shape, all_within}
 
 abbrev open_next : Option Text → Bool
@@ -64,7 +65,7 @@ module _ (below : ℕ) where
   Out = statement_shape (suc below)
 
   abbrev pub Arg : Shape Arguments
-  Arg = past_shape (codes "(") (paired_shape (comma_shape (ends 0) (argument_shape below)) (only_shape (codes ")")))
+  Arg = past_shape (codes "(") (paired_shape (comma_shape ends_argument (argument_shape below)) (only_shape (codes ")")))
 
   print_valid : (kind : Printing) (one : ArgumentTree) (more : List ArgumentTree) →
       ((fits_print kind (one ∷ more) && list_all fits_argument (one ∷ more)) && nat_le (1 + arguments_depth (one ∷ more))
@@ -85,6 +86,7 @@ module _ (below : ℕ) where
       depth_of : (tree : ArgumentTree) → 0 < argument_depth tree
       depth_of (quoted letters) = omega arith
       depth_of (printed value) = depth_positive value
+      depth_of left_out = omega arith
 
   -- $monitor
 
@@ -151,6 +153,28 @@ module _ (below : ℕ) where
 
       stops : (tree : Both (Option Arguments) (Unit {0})) (next : Option Text) →
           closes_statement (optional_print_of kind tree) next ≡ true
+      stops (both None end) next = refl
+      stops (both (Some (both (both one more) closing)) end) next = refl
+
+  -- $fdisplay, and the like
+
+  pub idle_makes : (kind : Idle) → Makes (idle_of kind) (optional_shape Arg) Out (idle_word kind ∷ [])
+  idle_makes kind = record {
+    spelled = spelled;
+    valid = valid;
+    closes = λ tree next e. optional_closes Arg tree next;
+    stops = λ tree next e. stops tree next;
+  }
+    where
+      spelled : (tree : Both (Option Arguments) (Unit {0})) → spell_statement (idle_of kind tree) ≡ idle_word kind ∷ (optional_shape Arg).spell tree
+      spelled (both None end) = refl
+      spelled (both (Some (both (both one more) closing)) end) = refl
+
+      valid : (tree : Both (Option Arguments) (Unit {0})) → Out.valid (idle_of kind tree) ≡ (optional_shape Arg).valid tree
+      valid (both None end) = one_within below
+      valid (both (Some (both (both one more) closing)) end) = print_valid (printing.Display bases.Decimal) one more ∙ sym (and_true _)
+
+      stops : (tree : Both (Option Arguments) (Unit {0})) (next : Option Text) → closes_statement (idle_of kind tree) next ≡ true
       stops (both None end) next = refl
       stops (both (Some (both (both one more) closing)) end) next = refl
 

@@ -1,12 +1,12 @@
 -- Words that are told apart: by their first byte, by what they mean, by what no reader takes.
-use Rattle.std.proofs.Common.{◌≡◌, ℕ, zero, suc, ◌<◌, Bool, true, false, ◌||◌, ◌==◌, not, if◌then◌else◌, List, [], ◌∷◌, ◌++◌, Option, None, Some, length, refl, sym, ap, ◌∙◌, arith, subst}
+use Rattle.std.proofs.Common.{◌≡◌, ℕ, zero, suc, ◌<◌, Bool, true, false, ◌&&◌, ◌||◌, ◌==◌, not, if◌then◌else◌, List, [], ◌∷◌, ◌++◌, Option, None, Some, length, refl, sym, ap, ◌∙◌, arith, subst}
+use Rattle.std.specs.List.{list_all}
 use Rattle.std.specs.Str.{bytes_eq}
 use Rattle.std.specs.Char.{is_ascii_digit}
 use Rattle.std.proofs.lemmas.Bool.Decides.{nat_tests}
 use Rattle.std.proofs.lemmas.Bool.{false_from_ne_true}
-use Rattle.basis.proofs.Bools.{and_left}
-use Rattle.basis.specs.Letters.{begins_name}
-use Rattle.vast.specs.Words.{Text, is_name, is_number, is_string, is_reserved}
+use Rattle.basis.specs.Letters.{begins_name, is_in_name}
+use Rattle.vast.specs.Words.{Text, is_name, is_number, is_string, is_reserved, are_printable}
 use Rattle.vast.specs.Expressions.{ExpressionTree}
 use Rattle.vexpr_parse.specs.declared.beginning.Beginning.TheVariants as start
 use Rattle.vexpr_parse.specs.Readers.{got, Reader, front, and_then, follow}
@@ -20,10 +20,19 @@ use Rattle.vgrammar.proofs.PhraseChoices.{Tested}
 
 pub name_no_number : (word : Text) → is_name word ≡ true → is_number word ≡ false
 name_no_number [] e = refl
-name_no_number (c ∷ cs) e = no_digit c (and_left (begins_name c) _ (and_left _ (not (is_reserved (c ∷ cs))) e))
+name_no_number (c ∷ cs) e = by_first (begins_name c) (c == 92) refl refl e
   where
     no_digit : (c : ℕ) → begins_name c ≡ true → (is_ascii_digit c || (c == 39)) ≡ false
     no_digit c e = grind (arith, nat_tests)
+
+    backslash_no_digit : (c : ℕ) → (c == 92) ≡ true → (is_ascii_digit c || (c == 39)) ≡ false
+    backslash_no_digit c e = grind (arith, nat_tests)
+
+    by_first : (letter backslash : Bool) → begins_name c ≡ letter → (c == 92) ≡ backslash →
+        ((letter && list_all is_in_name cs && not (is_reserved (c ∷ cs))) || (backslash && are_printable cs)) ≡ true → is_number (c ∷ cs) ≡ false
+    by_first true backslash is_letter is_backslash e = no_digit c is_letter
+    by_first false true is_letter is_backslash e = backslash_no_digit c is_backslash
+    by_first false false is_letter is_backslash e = let no : false ≡ true = e in absurd cc
 
 pub as_written : {A : Type 0} (spell : A → Text) (all : List A) (word : Text) (tree : A) → written spell all word ≡ Some tree →
     spell tree ≡ word

@@ -158,8 +158,8 @@ Directed = Both DirectionTree (Both (List_of DeclaredTree) (Unit {0}))
 abbrev pub directed_of : Directed → ItemTree
 directed_of (both tree (both list end)) = declaration (directed tree) (listed_of list)
 
-abbrev pub integers_of : Both (List_of DeclaredTree) (Unit {0}) → ItemTree
-integers_of (both list end) = declaration integers (listed_of list)
+abbrev pub integers_of : Bool → Both (List_of DeclaredTree) (Unit {0}) → ItemTree
+integers_of long (both list end) = declaration (integers long) (listed_of list)
 
 abbrev pub events_of : Both (List_of Text) (Unit {0}) → ItemTree
 events_of (both list end) = events (listed_of list)
@@ -176,19 +176,20 @@ instances_of (both letters (both tree (both list end))) = instances letters tree
 abbrev pub Item : Type 0
 Item =
     Either Parameters (Either Variables (Either Directed (Either (Both (List_of DeclaredTree) (Unit {0}))
-    (Either (Both (List_of Text) (Unit {0}))
-    (Either (Both (List_of SettingTree) (Unit {0})) (Either StatementTree (Either StatementTree Instances)))))))
+    (Either (Both (List_of DeclaredTree) (Unit {0})) (Either (Both (List_of Text) (Unit {0}))
+    (Either (Both (List_of SettingTree) (Unit {0})) (Either StatementTree (Either StatementTree Instances))))))))
 
 abbrev pub item_of : Item → ItemTree
 item_of (one_way tree) = parameters_of tree
 item_of (other_way (one_way tree)) = variables_of tree
 item_of (other_way (other_way (one_way tree))) = directed_of tree
-item_of (other_way (other_way (other_way (one_way tree)))) = integers_of tree
-item_of (other_way (other_way (other_way (other_way (one_way tree))))) = events_of tree
-item_of (other_way (other_way (other_way (other_way (other_way (one_way tree)))))) = assignments_of tree
-item_of (other_way (other_way (other_way (other_way (other_way (other_way (one_way tree))))))) = initial tree
-item_of (other_way (other_way (other_way (other_way (other_way (other_way (other_way (one_way tree)))))))) = always tree
-item_of (other_way (other_way (other_way (other_way (other_way (other_way (other_way (other_way tree)))))))) = instances_of tree
+item_of (other_way (other_way (other_way (one_way tree)))) = integers_of false tree
+item_of (other_way (other_way (other_way (other_way (one_way tree))))) = integers_of true tree
+item_of (other_way (other_way (other_way (other_way (other_way (one_way tree)))))) = events_of tree
+item_of (other_way (other_way (other_way (other_way (other_way (other_way (one_way tree))))))) = assignments_of tree
+item_of (other_way (other_way (other_way (other_way (other_way (other_way (other_way (one_way tree)))))))) = initial tree
+item_of (other_way (other_way (other_way (other_way (other_way (other_way (other_way (other_way (one_way tree))))))))) = always tree
+item_of (other_way (other_way (other_way (other_way (other_way (other_way (other_way (other_way (other_way tree))))))))) = instances_of tree
 
 abbrev pub item_parts : ℕ → Reader Item
 item_parts levels =
@@ -196,11 +197,12 @@ item_parts levels =
     (either (is_meant net_of) (paired (worded net_of) (paired (type levels) (ended (declared levels))))
     (either is_direction (paired (direction levels) (ended alone))
     (either (is_front (codes "integer")) (past (codes "integer") (ended (declared levels)))
+    (either (is_front (codes "time")) (past (codes "time") (ended (declared levels)))
     (either (is_front (codes "event")) (past (codes "event") (ended named))
     (either (is_front (codes "assign")) (past (codes "assign") (ended (setting levels)))
     (either (is_front (codes "initial")) (past (codes "initial") (statement levels))
     (either (is_front (codes "always")) (past (codes "always") (statement levels))
-    (paired named (paired (overrides levels) (ended (instance_behind levels)))))))))))
+    (paired named (paired (overrides levels) (ended (instance_behind levels))))))))))))
 
 abbrev pub item : ℕ → Reader ItemTree
 item levels = made item_of (item_parts levels)

@@ -2,12 +2,13 @@
 use Rattle.std.specs.Prelude.{Bool, true, false, ◌||◌, if◌then◌else◌, List, [], ◌∷◌, Option, Some, None, codes}
 use Rattle.std.specs.Str.{bytes_eq}
 use Rattle.vast.specs.Words.{Text, is_name}
-use Rattle.vast.specs.Statements.{case_word, edge_word, print_word, dump_word, end_word}
+use Rattle.vast.specs.Statements.{case_word, edge_word, print_word, idle_word, dump_word, end_word}
 use Rattle.vast.specs.declared.statement.CaseKind.TheVariants as case_kind
 use Rattle.vast.specs.declared.statement.Edge.{Edge}
 use Rattle.vast.specs.declared.statement.Edge.TheVariants as edge
 use Rattle.vast.specs.declared.statement.Base.TheVariants as bases
 use Rattle.vast.specs.declared.statement.Printing.TheVariants as printing
+use Rattle.vast.specs.declared.statement.Idle.TheVariants as idles
 use Rattle.vast.specs.declared.statement.Dumping.TheVariants as dumping
 use Rattle.vexpr_parse.specs.Words.{written}
 use Rattle.vgrammar.specs.declared.start.Guard.{Guard}
@@ -32,6 +33,7 @@ start_word start.For = codes "for"
 start_word start.Delay = codes "#"
 start_word start.Event = codes "@"
 start_word (start.Print kind) = print_word kind
+start_word (start.Idle kind) = idle_word kind
 start_word start.DumpFile = codes "$dumpfile"
 start_word start.DumpVars = codes "$dumpvars"
 start_word (start.Dump kind) = dump_word kind
@@ -51,6 +53,16 @@ statement_starts =
     ∷ start.Print (printing.Strobe bases.Octal) ∷ start.Print (printing.Strobe bases.Hexadecimal)
     ∷ start.Print (printing.Monitor bases.Decimal) ∷ start.Print (printing.Monitor bases.Binary)
     ∷ start.Print (printing.Monitor bases.Octal) ∷ start.Print (printing.Monitor bases.Hexadecimal)
+    ∷ start.Idle (idles.File (printing.Display bases.Decimal)) ∷ start.Idle (idles.File (printing.Display bases.Binary))
+    ∷ start.Idle (idles.File (printing.Display bases.Octal)) ∷ start.Idle (idles.File (printing.Display bases.Hexadecimal))
+    ∷ start.Idle (idles.File (printing.Write bases.Decimal)) ∷ start.Idle (idles.File (printing.Write bases.Binary))
+    ∷ start.Idle (idles.File (printing.Write bases.Octal)) ∷ start.Idle (idles.File (printing.Write bases.Hexadecimal))
+    ∷ start.Idle (idles.File (printing.Strobe bases.Decimal)) ∷ start.Idle (idles.File (printing.Strobe bases.Binary))
+    ∷ start.Idle (idles.File (printing.Strobe bases.Octal)) ∷ start.Idle (idles.File (printing.Strobe bases.Hexadecimal))
+    ∷ start.Idle (idles.File (printing.Monitor bases.Decimal)) ∷ start.Idle (idles.File (printing.Monitor bases.Binary))
+    ∷ start.Idle (idles.File (printing.Monitor bases.Octal)) ∷ start.Idle (idles.File (printing.Monitor bases.Hexadecimal))
+    ∷ start.Idle idles.Open ∷ start.Idle idles.Close ∷ start.Idle idles.Flush ∷ start.Idle idles.TimeFormat
+    ∷ start.Idle idles.PrintTimescale
     ∷ start.DumpFile ∷ start.DumpVars
     ∷ start.Dump dumping.On ∷ start.Dump dumping.Off ∷ start.Dump dumping.All ∷ start.Dump dumping.Flush
     ∷ start.End true ∷ start.End false ∷ []

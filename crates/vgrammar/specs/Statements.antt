@@ -4,11 +4,12 @@ use Rattle.std.specs.Str.{bytes_eq}
 use Rattle.vast.specs.Words.{Text, is_name, is_number, is_string}
 use Rattle.vast.specs.Expressions.{ExpressionTree}
 use Rattle.vast.specs.Expressions.{first as first_part}
-use Rattle.vast.specs.Statements.{TargetTree, whole, bit, part, joined, TargetTrees, none, first as first_target, DelayTree, by_number, by_name, by_value, TermTree, FurtherTerm, EventTree, by_event, by_any, by_any_enclosed, by_terms, ArgumentTree, quoted, printed, SelectionTree, print, dump_file, dump_vars, dump, end_run, StatementTree, empty, block, assign, nonblocking, trigger, if_true, if_else, case_of, while_true, repeat_times, forever, for_loop, wait_for, delay, event, task, StatementTrees, no_statement, first_statement, BranchTree, labelled, default, BranchTrees, no_branch, first_branch, is_default, ends_in_if}
+use Rattle.vast.specs.Statements.{TargetTree, whole, bit, part, joined, TargetTrees, none, first as first_target, DelayTree, by_number, by_name, by_value, TermTree, FurtherTerm, EventTree, by_event, by_any, by_any_enclosed, by_terms, ArgumentTree, quoted, printed, left_out, SelectionTree, print, idle, dump_file, dump_vars, dump, end_run, StatementTree, empty, block, assign, nonblocking, trigger, if_true, if_else, case_of, while_true, repeat_times, forever, for_loop, wait_for, delay, event, task, StatementTrees, no_statement, first_statement, BranchTree, labelled, default, BranchTrees, no_branch, first_branch, is_default, ends_in_if}
 use Rattle.vast.specs.declared.statement.CaseKind.{CaseKind}
 use Rattle.vast.specs.declared.statement.Dumping.{Dumping}
 use Rattle.vast.specs.declared.statement.Edge.{Edge}
 use Rattle.vast.specs.declared.statement.Printing.{Printing}
+use Rattle.vast.specs.declared.statement.Idle.{Idle}
 use Rattle.vast.specs.declared.statement.Printing.TheVariants as printing
 use Rattle.vexpr_parse.specs.declared.stop.Stop.TheVariants.{NoTree}
 use Rattle.vexpr_parse.specs.Readers.{Reader, Lead, goes, refused, lower, got, stop, led, room, past, choose, is_front}
@@ -259,12 +260,17 @@ case_parts below read = guarded below (paired (branches below read) (word_only (
 
 -- Tasks
 
-abbrev pub argument_of : Either Text ExpressionTree → ArgumentTree
-argument_of (one_way letters) = quoted letters
-argument_of (other_way tree) = printed tree
+-- 17.1.1: an argument may be left out
+abbrev pub begins_argument : Option Text → Bool
+begins_argument next = not (is_front (codes ",") next || is_front (codes ")") next)
+
+abbrev pub argument_of : Option (Either Text ExpressionTree) → ArgumentTree
+argument_of None = left_out
+argument_of (Some (one_way letters)) = quoted letters
+argument_of (Some (other_way tree)) = printed tree
 
 abbrev pub argument : ℕ → Reader ArgumentTree
-argument below = made argument_of (either (is_word is_string) (worded (meant_if is_string)) (value below))
+argument below = made argument_of (maybe begins_argument (either (is_word is_string) (worded (meant_if is_string)) (value below)))
 
 abbrev pub Arguments : Type 0
 Arguments = Both (List_of ArgumentTree) (Unit {0})
@@ -290,6 +296,10 @@ print_lead below (printing.Write base) = optional_print below (printing.Write ba
 print_lead below (printing.Strobe base) = optional_print below (printing.Strobe base)
 print_lead below (printing.Monitor base) = room below 1
     (goes (made (print_of (printing.Monitor base)) (paired (arguments below) (word_only (codes ";")))))
+
+abbrev pub idle_of : Idle → Both (Option Arguments) (Unit {0}) → StatementTree
+idle_of kind (both None end) = task (idle kind [])
+idle_of kind (both (Some (both (both one more) closing)) end) = task (idle kind (one ∷ more))
 
 abbrev pub dump_file_of : Both Text (Unit {0}) → StatementTree
 dump_file_of (both letters end) = task (dump_file letters)
@@ -345,6 +355,8 @@ statement_by below read start.For = room below 1 (goes (made for_of (for_parts b
 statement_by below read start.Delay = room below 1 (goes (made delayed_of (paired (amount below) read)))
 statement_by below read start.Event = room below 1 (goes (made event_body_of (paired control read)))
 statement_by below read (start.Print kind) = print_lead below kind
+statement_by below read (start.Idle kind) =
+    goes (made (idle_of kind) (paired (maybe (is_front (codes "(")) (roomy below 1 (arguments below))) (word_only (codes ";"))))
 statement_by below read start.DumpFile = room below 1 (goes (made dump_file_of dump_file_parts))
 statement_by below read start.DumpVars =
     goes (made dump_vars_of (paired (maybe (is_front (codes "(")) selection) (word_only (codes ";"))))

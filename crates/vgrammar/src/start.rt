@@ -6,8 +6,8 @@ ghost use Rattle.vast.specs.Statements.{dump_word as dump_text};
 ghost use Rattle.vexpr_parse.specs.Words.{written};
 ghost use Rattle.vgrammar.specs.Starts.{guard_word as guard_text, start_word as start_text, start_of as start_of_text, begins_target as begins_target_text};
 
-use vast::statement::{Base, CaseKind, Dumping, Printing};
-use vast::statement_parts_spelling::{case_word, print_word};
+use vast::statement::{Base, CaseKind, Dumping, Idle, Printing};
+use vast::statement_parts_spelling::{case_word, idle_word, print_word};
 use vast::words::is_name;
 
 /// What the first word of a statement begins, unless it begins what an assignment writes to (IEEE 1364-2005, A.6.4).
@@ -35,6 +35,8 @@ pub enum StatementStart {
     Event,
     /// `$display`, and the like
     Print(Printing),
+    /// `$fdisplay`, and the like
+    Idle(Idle),
     /// `$dumpfile`
     DumpFile,
     /// `$dumpvars`
@@ -56,7 +58,7 @@ pub enum Guard {
     Wait,
 }
 
-static STARTS: [StatementStart; 38] = [
+static STARTS: [StatementStart; 59] = [
     StatementStart::Empty,
     StatementStart::Begin,
     StatementStart::Trigger,
@@ -87,6 +89,27 @@ static STARTS: [StatementStart; 38] = [
     StatementStart::Print(Printing::Monitor(Base::Binary)),
     StatementStart::Print(Printing::Monitor(Base::Octal)),
     StatementStart::Print(Printing::Monitor(Base::Hexadecimal)),
+    StatementStart::Idle(Idle::File(Printing::Display(Base::Decimal))),
+    StatementStart::Idle(Idle::File(Printing::Display(Base::Binary))),
+    StatementStart::Idle(Idle::File(Printing::Display(Base::Octal))),
+    StatementStart::Idle(Idle::File(Printing::Display(Base::Hexadecimal))),
+    StatementStart::Idle(Idle::File(Printing::Write(Base::Decimal))),
+    StatementStart::Idle(Idle::File(Printing::Write(Base::Binary))),
+    StatementStart::Idle(Idle::File(Printing::Write(Base::Octal))),
+    StatementStart::Idle(Idle::File(Printing::Write(Base::Hexadecimal))),
+    StatementStart::Idle(Idle::File(Printing::Strobe(Base::Decimal))),
+    StatementStart::Idle(Idle::File(Printing::Strobe(Base::Binary))),
+    StatementStart::Idle(Idle::File(Printing::Strobe(Base::Octal))),
+    StatementStart::Idle(Idle::File(Printing::Strobe(Base::Hexadecimal))),
+    StatementStart::Idle(Idle::File(Printing::Monitor(Base::Decimal))),
+    StatementStart::Idle(Idle::File(Printing::Monitor(Base::Binary))),
+    StatementStart::Idle(Idle::File(Printing::Monitor(Base::Octal))),
+    StatementStart::Idle(Idle::File(Printing::Monitor(Base::Hexadecimal))),
+    StatementStart::Idle(Idle::Open),
+    StatementStart::Idle(Idle::Close),
+    StatementStart::Idle(Idle::Flush),
+    StatementStart::Idle(Idle::TimeFormat),
+    StatementStart::Idle(Idle::PrintTimescale),
     StatementStart::DumpFile,
     StatementStart::DumpVars,
     StatementStart::Dump(Dumping::On),
@@ -133,6 +156,7 @@ fn start_word(start: StatementStart) -> &'static [u8]
         StatementStart::Delay => b"#",
         StatementStart::Event => b"@",
         StatementStart::Print(kind) => print_word(kind),
+        StatementStart::Idle(kind) => idle_word(kind),
         StatementStart::DumpFile => b"$dumpfile",
         StatementStart::DumpVars => b"$dumpvars",
         StatementStart::Dump(kind) => dump_word(kind),

@@ -8,14 +8,15 @@ use Rattle.std.proofs.lemmas.List.Folds.{list_all-append}
 use Rattle.std.proofs.lemmas.Slice.Eq.{bytes_eq-Decides}
 use Rattle.basis.proofs.Bools.{and_left, and_right, and_both, or_left, or_right, or_first, or_second}
 use Rattle.basis.specs.declared.timescale.Timescale.{Timescale}
-use Rattle.basis.specs.Letters.{begins_name, is_in_name}
-use Rattle.vast.specs.Words.{Text, is_name, is_reserved}
-use Rattle.vast.specs.Names.{has_letters_of_name, is_path_from, is_path}
-use Rattle.vast.specs.Modules.{DerivesText, SourceTree as PlainTree, fits, fits_module, fits_item, fits_declared, fits_optional, fits_optional_parameters, fits_optional_ports, fits_port, fits_direction, fits_declaration_kind, fits_overrides, fits_instance, fits_connections, fits_names, fits_behind, is_named_port, is_directed, are_some}
+use Rattle.vast.specs.Words.{Text, is_name, unescaped, is_printable, are_printable}
+use Rattle.vast.specs.Names.{is_path}
+use Rattle.vast.specs.Modules.{DerivesText, SourceTree as PlainTree, fits, fits_module, fits_item, fits_declared, fits_optional, fits_optional_parameters, fits_optional_ports, fits_port, fits_direction, fits_declaration_kind, fits_overrides, fits_instance, fits_connections, fits_names, fits_behind, is_named_port, is_directed, are_some, stands_alone}
+use Rattle.vast.specs.Modules as plain
 use Rattle.vast.specs.NumberedWords.{Word}
 use Rattle.vast.specs.NumberedModules.{ConnectionsTree, InstanceTree, ItemTree, parameters, declaration, variables, integers, directed, events, assignments, initial, always, instances, DeclarationKind, DirectionTree, input, output, PortTree, ModuleTree, SourceTree, RangeTree, DeclaredTree}
 use Rattle.vast.specs.NumberedTexts.{IsNumbered}
-use Rattle.vast.specs.TreeWords.{declared_with, instance_with, item_with, declaration_kind_with, connections_with, direction_with, port_with, module_with, source_with}
+use Rattle.vast.specs.TreeWords.{declared_with, instance_with, item_with, port_with, module_with, source_with}
+use Rattle.vast.proofs.NameLemmas.{name_printable}
 use Rattle.vmodules.specs.Names.{has_double, is_declared, letters_of, first_again}
 use Rattle.vmodules.specs.Connected.{open_names, misfit, misfit_if}
 use Rattle.vmodules.specs.Hierarchy.{instantiated_names, module_names, module_of, rival_of, roots, only_of, top_of}
@@ -23,10 +24,9 @@ use Rattle.vmodules.specs.Ports.{Port, port_by, ports_behind, direction_for, dec
 use Rattle.vdesign.specs.Named.{AreNamed}
 use Rattle.vdesign.specs.Design.{Variable, Design}
 use Rattle.vdesign.specs.declared.design.Kind.{Kind}
-use Rattle.vdesign.specs.declared.design.Kind.TheVariants.{Integer}
 use Rattle.velab_expr.specs.Scopes.{Scope}
 use Rattle.velab_expr.specs.Symbols.{behind_item, symbols_by}
-use Rattle.velab_declaration.specs.Variables.{port_names, ScopeDrivers, Declaration, all_declared, kind_of, declared_as, declarations_of, port_declaration, variable_in, form_of, variables_in, variables_as, lower_kind, lower_declaration, lower_variables, lower_again, port_scope, lower_ports}
+use Rattle.velab_declaration.specs.Variables.{port_names, ScopeDrivers, Declaration, all_declared, kind_of, declared_as, declarations_of, port_declaration, variable_in, form_of, variables_in, variables_as, lower_kind, lower_declaration, lower_variables, lower_again, port_scope, lower_ports, counted_kind}
 use Rattle.velab_declaration.specs.declared.variable.Form.{Form}
 use Rattle.velab_expr.specs.Answers.{◌>>=◌, provided, required, found}
 use Rattle.velab_expr.specs.Ranges.{lower_bounds}
@@ -40,46 +40,15 @@ use Rattle.vhierarchy.specs.Instances.{barring, faultless, Instantiation, instan
 
 -- ---- letters and paths
 
-letters : (text : Text) → is_name text ≡ true → has_letters_of_name text ≡ true
-letters [] e = e
-letters (c ∷ cs) e = and_left (begins_name c && list_all is_in_name cs) (not (is_reserved (c ∷ cs))) e
+some_all : (text : Text) → are_printable text ≡ true → list_all is_printable text ≡ true
+some_all [] e = refl
+some_all (c ∷ cs) e = e
 
-either : {P : Type 0} (a b : Bool) → (a || b) ≡ true → (a ≡ true → P) → (b ≡ true → P) → P
-either true b e f g = f refl
-either false b e f g = g e
-
--- the rest of the last name of a path
-ends_path : (cs : Text) → list_all is_in_name cs ≡ true → is_path_from true cs ≡ true
-ends_path [] e = refl
-ends_path (c ∷ cs) e =
-    or_first (is_in_name c && is_path_from true cs) (c == 46 && is_path_from false cs)
-    (and_both (is_in_name c) (is_path_from true cs) (and_left (is_in_name c) (list_all is_in_name cs) e) (ends_path cs (and_right (is_in_name c) (list_all is_in_name cs) e)))
-
-name_is_path : (text : Text) → has_letters_of_name text ≡ true → is_path text ≡ true
-name_is_path [] e = e
-name_is_path (c ∷ cs) e =
-    and_both (begins_name c) (is_path_from true cs) (and_left (begins_name c) (list_all is_in_name cs) e)
-    (ends_path cs (and_right (begins_name c) (list_all is_in_name cs) e))
-
--- a path, a dot and a path
-goes_on : (begun : Bool) (cs path : Text) → is_path_from begun cs ≡ true → is_path path ≡ true → is_path_from begun (cs ++ 46 ∷ path) ≡ true
-goes_on true [] path e h = or_second (is_in_name 46 && is_path_from true path) (46 == 46 && is_path_from false path) h
-goes_on false [] path e h = absurd (true≢false (sym e))
-goes_on true (c ∷ cs) path e h =
-    either {P = is_path_from true (c ∷ cs ++ 46 ∷ path) ≡ true}
-    (is_in_name c && is_path_from true cs) (c == 46 && is_path_from false cs) e
-    (λ a. or_first (is_in_name c && is_path_from true (cs ++ 46 ∷ path)) (c == 46 && is_path_from false (cs ++ 46 ∷ path))
-    (and_both (is_in_name c) (is_path_from true (cs ++ 46 ∷ path)) (and_left (is_in_name c) (is_path_from true cs) a)
-    (goes_on true cs path (and_right (is_in_name c) (is_path_from true cs) a) h)))
-    (λ b. or_second (is_in_name c && is_path_from true (cs ++ 46 ∷ path)) (c == 46 && is_path_from false (cs ++ 46 ∷ path))
-    (and_both (c == 46) (is_path_from false (cs ++ 46 ∷ path)) (and_left (c == 46) (is_path_from false cs) b)
-    (goes_on false cs path (and_right (c == 46) (is_path_from false cs) b) h)))
-goes_on false (c ∷ cs) path e h =
-    and_both (begins_name c) (is_path_from true (cs ++ 46 ∷ path)) (and_left (begins_name c) (is_path_from true cs) e)
-    (goes_on true cs path (and_right (begins_name c) (is_path_from true cs) e) h)
-
-dotted_is_path : (scope text : Text) → is_path scope ≡ true → is_name text ≡ true → is_path (scope ++ 46 ∷ text) ≡ true
-dotted_is_path scope text e h = goes_on false scope text e (name_is_path text (letters text h))
+-- a path, a dot and a name
+dotted_is_path : (scope text : Text) → is_path scope ≡ true → are_printable text ≡ true → is_path (scope ++ 46 ∷ text) ≡ true
+dotted_is_path [] text e h = absurd (true≢false (sym e))
+dotted_is_path (c ∷ cs) text e h =
+    list_all-append is_printable (c ∷ cs) (46 ∷ text) ∙ and_both (list_all is_printable (c ∷ cs)) (list_all is_printable text) e (some_all text h)
 
 -- ---- declared names, and those of instances
 
@@ -96,18 +65,18 @@ instance_names (always statement) = []
 instance_names (instances text overrides list) = map (λ one. one.name.letters) list
 
 abbrev item_is_named : ItemTree → Bool
-item_is_named item = list_all is_name (names (declarations_of item)) && list_all is_name (instance_names item)
+item_is_named item = list_all are_printable (names (declarations_of item)) && list_all are_printable (instance_names item)
 
 abbrev ports_are_named : ModuleTree → Bool
-ports_are_named m = list_all is_name (names (map port_declaration (ports_of m)))
+ports_are_named m = list_all are_printable (names (map port_declaration (ports_of m)))
 
 abbrev is_named : ModuleTree → Bool
-is_named m = is_name m.name.letters && (ports_are_named m && list_all item_is_named m.items)
+is_named m = are_printable m.name.letters && (ports_are_named m && list_all item_is_named m.items)
 
 abbrev wanted_is_named : Instantiation → Bool
-wanted_is_named w = is_name w.name.letters && is_named w.child
+wanted_is_named w = are_printable w.name.letters && is_named w.child
 
--- ---- what the grammar derives has its names; it knows trees without numbers
+-- ---- what the grammar derives has its names; it knows trees without numbers, and with backslashes
 
 abbrev letters_in : Word → Text
 letters_in word = word.letters
@@ -118,109 +87,184 @@ passes f p q step [] all = refl
 passes f p q step (one ∷ more) all =
     and_both (q one) (list_all q more) (step one (and_left (p (f one)) (list_all p (map f more)) all)) (passes f p q step more (and_right (p (f one)) (list_all p (map f more)) all))
 
+-- the names of a tree without numbers, as a design has them
+abbrev shows_declared : plain.DeclaredTree → Bool
+shows_declared declared = are_printable declared.name
+
+abbrev shows_instance : plain.InstanceTree → Bool
+shows_instance instance = are_printable instance.name
+
+abbrev shows_port : plain.PortTree → Bool
+shows_port port = are_printable port.name
+
+abbrev shows_ports : Option (List plain.PortTree) → Bool
+shows_ports None = true
+shows_ports (Some list) = list_all shows_port list
+
+abbrev shows_item : plain.ItemTree → Bool
+shows_item (parameters local type settings) = true
+shows_item (declaration kind list) = list_all shows_declared list
+shows_item (events list) = true
+shows_item (assignments settings) = true
+shows_item (initial statement) = true
+shows_item (always statement) = true
+shows_item (instances name overrides list) = list_all shows_instance list
+
+abbrev shows_module : plain.ModuleTree → Bool
+shows_module m = are_printable m.name && (shows_ports m.ports && list_all shows_item m.items)
+
+-- what passes one test passes another when it is changed
+changed : {A B : Type 0} (f : A → B) (p : A → Bool) (q : B → Bool) → ((one : A) → p one ≡ true → q (f one) ≡ true) →
+    (list : List A) → list_all p list ≡ true → list_all q (map f list) ≡ true
+changed f p q step [] all = refl
+changed f p q step (one ∷ more) all =
+    and_both (q (f one)) (list_all q (map f more)) (step one (and_left (p one) (list_all p more) all))
+    (changed f p q step more (and_right (p one) (list_all p more) all))
+
+declared_shows : (one : plain.DeclaredTree) → fits_declared 64 one ≡ true → shows_declared (declared_with unescaped one) ≡ true
+declared_shows one fit = name_printable one.name (and_left (is_name one.name) (fits_optional 64 one.value) fit)
+
+alone_shows : (one : plain.DeclaredTree) → stands_alone one ≡ true → shows_declared (declared_with unescaped one) ≡ true
+alone_shows one fit = name_printable one.name (and_left (is_name one.name) (not (is_some one.value)) fit)
+
+instance_shows : (one : plain.InstanceTree) → fits_instance 64 one ≡ true → shows_instance (instance_with unescaped one) ≡ true
+instance_shows one fit = name_printable one.name (and_left (is_name one.name) (fits_connections 64 one.connections) fit)
+
+port_shows : (one : plain.PortTree) → fits_port 64 one ≡ true → shows_port (port_with unescaped one) ≡ true
+port_shows one fit = name_printable one.name (and_right (fits_direction 64 one.direction) (is_name one.name) fit)
+
+named_port_shows : (one : plain.PortTree) → is_named_port one ≡ true → shows_port (port_with unescaped one) ≡ true
+named_port_shows one fit = name_printable one.name (and_right (not (is_directed one.direction)) (is_name one.name) fit)
+
+names_show : (kind : plain.DeclarationKind) (list : List plain.DeclaredTree) → fits_names 64 kind list ≡ true →
+    list_all shows_declared (map (declared_with unescaped) list) ≡ true
+names_show (variables word type) list fit =
+    changed (declared_with unescaped) (fits_declared 64) shows_declared declared_shows list (and_right (nat_le 1 (length list)) (list_all (fits_declared 64) list) fit)
+names_show (integers long) list fit =
+    changed (declared_with unescaped) (fits_declared 64) shows_declared declared_shows list (and_right (nat_le 1 (length list)) (list_all (fits_declared 64) list) fit)
+names_show (directed direction) list fit =
+    changed (declared_with unescaped) stands_alone shows_declared alone_shows list (and_right (nat_le 1 (length list)) (list_all stands_alone list) fit)
+
+item_shows : (item : plain.ItemTree) → fits_item 64 item ≡ true → shows_item (item_with unescaped item) ≡ true
+item_shows (parameters local type settings) fit = refl
+item_shows (declaration kind list) fit = names_show kind list (and_right (fits_declaration_kind 64 kind) (fits_names 64 kind list) fit)
+item_shows (events list) fit = refl
+item_shows (assignments settings) fit = refl
+item_shows (initial statement) fit = refl
+item_shows (always statement) fit = refl
+item_shows (instances name overrides list) fit =
+    changed (instance_with unescaped) (fits_instance 64) shows_instance instance_shows list
+    (and_right (nat_le 1 (length list)) (list_all (fits_instance 64) list) (and_right (is_name name && fits_overrides 64 overrides) (are_some (fits_instance 64) list) fit))
+
+ports_show : (ports : Option (List plain.PortTree)) → fits_optional_ports 64 ports ≡ true → shows_ports (option_map (map (port_with unescaped)) ports) ≡ true
+ports_show None fit = refl
+ports_show (Some []) fit = refl
+ports_show (Some (port ∷ more)) fit = by port.direction fit
+  where
+    by : (direction : Option plain.DirectionTree) → fits_behind 64 direction (port ∷ more) ≡ true → list_all shows_port (map (port_with unescaped) (port ∷ more)) ≡ true
+    by None e = changed (port_with unescaped) is_named_port shows_port named_port_shows (port ∷ more) e
+    by (Some direction) e = changed (port_with unescaped) (fits_port 64) shows_port port_shows (port ∷ more) e
+
+module_shows : (m : plain.ModuleTree) → fits_module 64 m ≡ true → shows_module (module_with unescaped m) ≡ true
+module_shows m fit =
+    let heads = fits_optional_parameters 64 m.parameters in
+    let ports = fits_optional_ports 64 m.ports in
+    let front : (is_name m.name && heads && ports) ≡ true = and_left (is_name m.name && heads && ports) (list_all (fits_item 64) m.items) fit in
+    and_both (are_printable (unescaped m.name)) (shows_ports (option_map (map (port_with unescaped)) m.ports) && list_all shows_item (map (item_with unescaped) m.items))
+    (name_printable m.name (and_left (is_name m.name) heads (and_left (is_name m.name && heads) ports front)))
+    (and_both (shows_ports (option_map (map (port_with unescaped)) m.ports)) (list_all shows_item (map (item_with unescaped) m.items))
+    (ports_show m.ports (and_right (is_name m.name && heads) ports front))
+    (changed (item_with unescaped) (fits_item 64) shows_item item_shows m.items (and_right (is_name m.name && heads && ports) (list_all (fits_item 64) m.items) fit)))
+
+all_show : (tree : PlainTree) → fits 64 tree ≡ true → list_all shows_module (source_with unescaped tree) ≡ true
+all_show tree fit = changed (module_with unescaped) (fits_module 64) shows_module module_shows tree fit
+
+-- ---- and so has the tree with numbers
+
 all_declared_named : (kind : _) (signed : _) (range : _) (list : List DeclaredTree) →
-    list_all (fits_declared 64) (map (declared_with letters_in) list) ≡ true → list_all is_name (names (all_declared kind signed range list)) ≡ true
+    list_all shows_declared (map (declared_with letters_in) list) ≡ true → list_all are_printable (names (all_declared kind signed range list)) ≡ true
 all_declared_named kind signed range [] fit = refl
 all_declared_named kind signed range (one ∷ more) fit =
-    let plain = declared_with letters_in one in
-    let rest = map (declared_with letters_in) more in
-    and_both (is_name one.name.letters) (list_all is_name (names (all_declared kind signed range more)))
-    (and_left (is_name one.name.letters) (fits_optional 64 plain.value) (and_left (fits_declared 64 plain) (list_all (fits_declared 64) rest) fit))
-    (all_declared_named kind signed range more (and_right (fits_declared 64 plain) (list_all (fits_declared 64) rest) fit))
+    let rest = list_all shows_declared (map (declared_with letters_in) more) in
+    and_both (are_printable one.name.letters) (list_all are_printable (names (all_declared kind signed range more)))
+    (and_left (are_printable one.name.letters) rest fit)
+    (all_declared_named kind signed range more (and_right (are_printable one.name.letters) rest fit))
 
-kind_named : (kind : DeclarationKind) (list : List DeclaredTree) → fits_names 64 (declaration_kind_with letters_in kind) (map (declared_with letters_in) list) ≡ true →
-    list_all is_name (names (declared_as kind list)) ≡ true
-kind_named (variables word type) list fit =
-    all_declared_named (kind_of word) type.signed type.range list
-    (and_right (nat_le 1 (length (map (declared_with letters_in) list))) (list_all (fits_declared 64) (map (declared_with letters_in) list)) fit)
-kind_named integers list fit =
-    all_declared_named Integer true None list
-    (and_right (nat_le 1 (length (map (declared_with letters_in) list))) (list_all (fits_declared 64) (map (declared_with letters_in) list)) fit)
+kind_named : (kind : DeclarationKind) (list : List DeclaredTree) → list_all shows_declared (map (declared_with letters_in) list) ≡ true →
+    list_all are_printable (names (declared_as kind list)) ≡ true
+kind_named (variables word type) list fit = all_declared_named (kind_of word) type.signed type.range list fit
+kind_named (integers long) list fit = all_declared_named (counted_kind long) (not long) None list fit
 kind_named (directed direction) list fit = refl
 
-instances_named : (list : List InstanceTree) → list_all (fits_instance 64) (map (instance_with letters_in) list) ≡ true → list_all is_name (map (λ (one : InstanceTree). one.name.letters) list) ≡ true
+instances_named : (list : List InstanceTree) → list_all shows_instance (map (instance_with letters_in) list) ≡ true →
+    list_all are_printable (map (λ (one : InstanceTree). one.name.letters) list) ≡ true
 instances_named [] fit = refl
 instances_named (one ∷ more) fit =
-    let plain = instance_with letters_in one in
-    let rest = map (instance_with letters_in) more in
-    and_both (is_name one.name.letters) (list_all is_name (map (λ (x : InstanceTree). x.name.letters) more))
-    (and_left (is_name one.name.letters) (fits_connections 64 plain.connections) (and_left (fits_instance 64 plain) (list_all (fits_instance 64) rest) fit))
-    (instances_named more (and_right (fits_instance 64 plain) (list_all (fits_instance 64) rest) fit))
+    let rest = list_all shows_instance (map (instance_with letters_in) more) in
+    and_both (are_printable one.name.letters) (list_all are_printable (map (λ (x : InstanceTree). x.name.letters) more))
+    (and_left (are_printable one.name.letters) rest fit) (instances_named more (and_right (are_printable one.name.letters) rest fit))
 
-item_named : (item : ItemTree) → fits_item 64 (item_with letters_in item) ≡ true → item_is_named item ≡ true
+item_named : (item : ItemTree) → shows_item (item_with letters_in item) ≡ true → item_is_named item ≡ true
 item_named (parameters local type settings) fit = refl
-item_named (declaration kind declared) fit =
-    let plain = map (declared_with letters_in) declared in
-    and_both (list_all is_name (names (declared_as kind declared))) true
-    (kind_named kind declared
-    (and_right (fits_declaration_kind 64 (declaration_kind_with letters_in kind)) (fits_names 64 (declaration_kind_with letters_in kind) plain) fit))
-    refl
+item_named (declaration kind declared) fit = and_both (list_all are_printable (names (declared_as kind declared))) true (kind_named kind declared fit) refl
 item_named (events list) fit = refl
 item_named (assignments list) fit = refl
 item_named (initial statement) fit = refl
 item_named (always statement) fit = refl
-item_named (instances text overrides list) fit =
-    let plain = map (instance_with letters_in) list in
-    instances_named list
-    (and_right (nat_le 1 (length plain)) (list_all (fits_instance 64) plain)
-    (and_right (is_name text.letters && fits_overrides 64 (option_map (connections_with letters_in) overrides)) (are_some (fits_instance 64) plain) fit))
+item_named (instances text overrides list) fit = instances_named list fit
 
 port_name : (direction : Option DirectionTree) (text : Word) → (port_by direction text).name ≡ text
 port_name None text = refl
 port_name (Some (input wire type)) text = refl
 port_name (Some (output net type)) text = refl
 
-ports_named : (before : Option DirectionTree) (list : List PortTree) → list_all (fits_port 64) (map (port_with letters_in) list) ≡ true →
-    list_all is_name (names (map port_declaration (ports_behind before list))) ≡ true
+ports_named : (before : Option DirectionTree) (list : List PortTree) → list_all shows_port (map (port_with letters_in) list) ≡ true →
+    list_all are_printable (names (map port_declaration (ports_behind before list))) ≡ true
 ports_named before [] fit = refl
 ports_named before (port ∷ more) fit =
-    let plain = port_with letters_in port in
-    let rest = map (port_with letters_in) more in
-    and_both (is_name (port_by (option_or port.direction before) port.name).name.letters)
-    (list_all is_name (names (map port_declaration (ports_behind (option_or port.direction before) more))))
-    (ap (λ (w : Word). is_name w.letters) (port_name (option_or port.direction before) port.name)
-    ∙ and_right (fits_direction 64 plain.direction) (is_name port.name.letters) (and_left (fits_port 64 plain) (list_all (fits_port 64) rest) fit))
-    (ports_named (option_or port.direction before) more (and_right (fits_port 64 plain) (list_all (fits_port 64) rest) fit))
+    let rest = list_all shows_port (map (port_with letters_in) more) in
+    and_both (are_printable (port_by (option_or port.direction before) port.name).name.letters)
+    (list_all are_printable (names (map port_declaration (ports_behind (option_or port.direction before) more))))
+    (ap (λ (w : Word). are_printable w.letters) (port_name (option_or port.direction before) port.name) ∙ and_left (are_printable port.name.letters) rest fit)
+    (ports_named (option_or port.direction before) more (and_right (are_printable port.name.letters) rest fit))
 
 -- ports that items declare have the names of the list
-plain_named : (items : List ItemTree) (list : List PortTree) → list_all is_named_port (map (port_with letters_in) list) ≡ true →
-    list_all is_name (names (map port_declaration (map (λ port. declared_port items port.name) list))) ≡ true
+plain_named : (items : List ItemTree) (list : List PortTree) → list_all shows_port (map (port_with letters_in) list) ≡ true →
+    list_all are_printable (names (map port_declaration (map (λ port. declared_port items port.name) list))) ≡ true
 plain_named items [] fit = refl
 plain_named items (port ∷ more) fit =
-    let plain = port_with letters_in port in
-    let rest = map (port_with letters_in) more in
-    and_both (is_name (declared_port items port.name).name.letters) (list_all is_name (names (map port_declaration (map (λ p. declared_port items p.name) more))))
-    (ap (λ (w : Word). is_name w.letters) (port_name (direction_for items port.name.letters) port.name)
-    ∙ and_right (not (is_directed plain.direction)) (is_name port.name.letters) (and_left (is_named_port plain) (list_all is_named_port rest) fit))
-    (plain_named items more (and_right (is_named_port plain) (list_all is_named_port rest) fit))
+    let rest = list_all shows_port (map (port_with letters_in) more) in
+    and_both (are_printable (declared_port items port.name).name.letters)
+    (list_all are_printable (names (map port_declaration (map (λ p. declared_port items p.name) more))))
+    (ap (λ (w : Word). are_printable w.letters) (port_name (direction_for items port.name.letters) port.name) ∙ and_left (are_printable port.name.letters) rest fit)
+    (plain_named items more (and_right (are_printable port.name.letters) rest fit))
 
-listed_named : (items : List ItemTree) (list : Option (List PortTree)) → fits_optional_ports 64 (option_map (map (port_with letters_in)) list) ≡ true →
-    list_all is_name (names (map port_declaration (ports_listed items list))) ≡ true
+listed_named : (items : List ItemTree) (list : Option (List PortTree)) → shows_ports (option_map (map (port_with letters_in)) list) ≡ true →
+    list_all are_printable (names (map port_declaration (ports_listed items list))) ≡ true
 listed_named items None fit = refl
 listed_named items (Some []) fit = refl
-listed_named items (Some (port ∷ more)) fit = by port.direction fit
+listed_named items (Some (port ∷ more)) fit = by port.direction
   where
-    plain : List PortTree
-    plain = port ∷ more
+    plain_ports : List PortTree
+    plain_ports = port ∷ more
 
-    by : (direction : Option DirectionTree) → fits_behind 64 (option_map (direction_with letters_in) direction) (map (port_with letters_in) plain) ≡ true →
-        list_all is_name (names (map port_declaration (if not (is_some direction) then map (λ p. declared_port items p.name) plain else ports_behind None plain))) ≡ true
-    by None e = plain_named items plain e
-    by (Some direction) e = ports_named None plain e
+    by : (direction : Option DirectionTree) →
+        list_all are_printable (names (map port_declaration (if not (is_some direction) then map (λ p. declared_port items p.name) plain_ports else ports_behind None plain_ports))) ≡ true
+    by None = plain_named items plain_ports fit
+    by (Some direction) = ports_named None plain_ports fit
 
-module_fits : (m : ModuleTree) → fits_module 64 (module_with letters_in m) ≡ true → is_named m ≡ true
-module_fits m fit =
-    let plain = module_with letters_in m in
-    let heads = fits_optional_parameters 64 plain.parameters in
-    let ports_fit = fits_optional_ports 64 plain.ports in
-    let front : (is_name m.name.letters && heads && ports_fit) ≡ true = and_left (is_name m.name.letters && heads && ports_fit) (list_all (fits_item 64) plain.items) fit in
-    and_both (is_name m.name.letters) (ports_are_named m && list_all item_is_named m.items)
-    (and_left (is_name m.name.letters) heads (and_left (is_name m.name.letters && heads) ports_fit front))
-    (and_both (ports_are_named m) (list_all item_is_named m.items) (listed_named m.items m.ports (and_right (is_name m.name.letters && heads) ports_fit front))
-    (passes (item_with letters_in) (fits_item 64) item_is_named item_named m.items (and_right (is_name m.name.letters && heads && ports_fit) (list_all (fits_item 64) plain.items) fit)))
+module_named : (m : ModuleTree) → shows_module (module_with letters_in m) ≡ true → is_named m ≡ true
+module_named m fit =
+    let ports = shows_ports (option_map (map (port_with letters_in)) m.ports) in
+    let items = list_all shows_item (map (item_with letters_in) m.items) in
+    let inner = and_right (are_printable m.name.letters) (ports && items) fit in
+    and_both (are_printable m.name.letters) (ports_are_named m && list_all item_is_named m.items)
+    (and_left (are_printable m.name.letters) (ports && items) fit)
+    (and_both (ports_are_named m) (list_all item_is_named m.items) (listed_named m.items m.ports (and_left ports items inner))
+    (passes (item_with letters_in) shows_item item_is_named item_named m.items (and_right ports items inner)))
 
-all_named : (tree : SourceTree) → fits 64 (source_with letters_in tree) ≡ true → list_all is_named tree ≡ true
-all_named tree fit = passes (module_with letters_in) (fits_module 64) is_named module_fits tree fit
+all_named : (tree : SourceTree) → list_all shows_module (source_with letters_in tree) ≡ true → list_all is_named tree ≡ true
+all_named tree fit = passes (module_with letters_in) shows_module is_named module_named tree fit
 
 -- ---- modules that are found
 
@@ -291,7 +335,7 @@ both_pass {A} p (Ok front) b first second = by (b front) (second front)
 both_pass p (Err fault) b first second = refl
 
 list_named : (child : ModuleTree) (known : ℕ) (overrides : Option ConnectionsTree) (list : List InstanceTree) → is_named child ≡ true →
-    list_all is_name (map (λ (one : InstanceTree). one.name.letters) list) ≡ true → all_pass wanted_is_named (lower_list child known overrides list) ≡ true
+    list_all are_printable (map (λ (one : InstanceTree). one.name.letters) list) ≡ true → all_pass wanted_is_named (lower_list child known overrides list) ≡ true
 list_named child known overrides [] e all = refl
 list_named child known overrides (one ∷ more) e all =
     let fits : Option Word = misfit one.name (letters_of (port_names child)) one.connections in
@@ -299,11 +343,11 @@ list_named child known overrides (one ∷ more) e all =
     one_passes wanted_is_named (lower_instance child known overrides one) (lower_list child known overrides more)
     (barred_one wanted_is_named (misfit_if one.name (letters_of (open_names child)) overrides) Ports (barring fits Ports given)
     (barred_one wanted_is_named fits Ports given
-    (and_both (is_name one.name.letters) (is_named child) (and_left (is_name one.name.letters) (list_all is_name (map (λ (x : InstanceTree). x.name.letters) more)) all) e)))
-    (list_named child known overrides more e (and_right (is_name one.name.letters) (list_all is_name (map (λ (x : InstanceTree). x.name.letters) more)) all))
+    (and_both (are_printable one.name.letters) (is_named child) (and_left (are_printable one.name.letters) (list_all are_printable (map (λ (x : InstanceTree). x.name.letters) more)) all) e)))
+    (list_named child known overrides more e (and_right (are_printable one.name.letters) (list_all are_printable (map (λ (x : InstanceTree). x.name.letters) more)) all))
 
 of_named : (name : Word) (before known : ℕ) (child : Option ModuleTree) (overrides : Option ConnectionsTree) (list : List InstanceTree) →
-    ((m : ModuleTree) → child ≡ Some m → is_named m ≡ true) → list_all is_name (map (λ (one : InstanceTree). one.name.letters) list) ≡ true →
+    ((m : ModuleTree) → child ≡ Some m → is_named m ≡ true) → list_all are_printable (map (λ (one : InstanceTree). one.name.letters) list) ≡ true →
     all_pass wanted_is_named (lower_instances_of name before known child overrides list) ≡ true
 of_named name before known None overrides list e all = refl
 of_named name before known (Some child) overrides list e all =
@@ -339,19 +383,19 @@ have_paths = all_pass (λ v. is_path v.name)
 
 module _ (drivers : ScopeDrivers) (e : is_path drivers.name ≡ true) where
   declared_paths : (form : Form) (kind : Kind) (signed : Bool) (range : Option RangeTree) (list : List DeclaredTree) →
-      list_all is_name (names (all_declared kind signed range list)) ≡ true → all_paths (variables_in drivers form list) ≡ true
+      list_all are_printable (names (all_declared kind signed range list)) ≡ true → all_paths (variables_in drivers form list) ≡ true
   declared_paths form kind signed range [] all = refl
   declared_paths form kind signed range (one ∷ more) all =
       and_both (is_path (drivers.name ++ 46 ∷ one.name.letters)) (all_paths (variables_in drivers form more))
-      (dotted_is_path drivers.name one.name.letters e (and_left (is_name one.name.letters) (list_all is_name (names (all_declared kind signed range more))) all))
-      (declared_paths form kind signed range more (and_right (is_name one.name.letters) (list_all is_name (names (all_declared kind signed range more))) all))
+      (dotted_is_path drivers.name one.name.letters e (and_left (are_printable one.name.letters) (list_all are_printable (names (all_declared kind signed range more))) all))
+      (declared_paths form kind signed range more (and_right (are_printable one.name.letters) (list_all are_printable (names (all_declared kind signed range more))) all))
 
-  kind_paths : (form : Form) (kind : DeclarationKind) (list : List DeclaredTree) → list_all is_name (names (declared_as kind list)) ≡ true → all_paths (variables_as drivers form kind list) ≡ true
+  kind_paths : (form : Form) (kind : DeclarationKind) (list : List DeclaredTree) → list_all are_printable (names (declared_as kind list)) ≡ true → all_paths (variables_as drivers form kind list) ≡ true
   kind_paths form (variables word type) list all = declared_paths form (kind_of word) type.signed type.range list all
-  kind_paths form integers list all = declared_paths form Integer true None list all
+  kind_paths form (integers long) list all = declared_paths form (counted_kind long) (not long) None list all
   kind_paths form (directed direction) list all = refl
 
-  item_paths : (scope : Scope) (item : ItemTree) → list_all is_name (names (declarations_of item)) ≡ true → have_paths (lower_declaration drivers scope item) ≡ true
+  item_paths : (scope : Scope) (item : ItemTree) → list_all are_printable (names (declarations_of item)) ≡ true → have_paths (lower_declaration drivers scope item) ≡ true
   item_paths scope (parameters local type settings) all = refl
   item_paths scope (declaration kind list) all = by (lower_kind scope kind)
     where
@@ -369,20 +413,20 @@ module _ (drivers : ScopeDrivers) (e : is_path drivers.name ≡ true) where
   paths_from scope (item ∷ more) all =
       both_pass (λ (v : Variable). is_path v.name) (lower_declaration drivers scope item) (λ front. lower_variables drivers (behind_item scope item) more)
       (item_paths scope item
-      (and_left (list_all is_name (names (declarations_of item))) (list_all is_name (instance_names item)) (and_left (item_is_named item) (list_all item_is_named more) all)))
+      (and_left (list_all are_printable (names (declarations_of item))) (list_all are_printable (instance_names item)) (and_left (item_is_named item) (list_all item_is_named more) all)))
       (λ front. paths_from (behind_item scope item) more (and_right (item_is_named item) (list_all item_is_named more) all))
 
-  port_paths : (scope : Scope) (ports : List Port) → list_all is_name (names (map port_declaration ports)) ≡ true → have_paths (lower_ports drivers scope ports) ≡ true
+  port_paths : (scope : Scope) (ports : List Port) → list_all are_printable (names (map port_declaration ports)) ≡ true → have_paths (lower_ports drivers scope ports) ≡ true
   port_paths scope [] all = refl
   port_paths scope (p ∷ ps) all =
       by (lower_bounds scope p.type.range) (λ bounds. lower_again scope p.again bounds) (lower_ports drivers scope ps)
-      (port_paths scope ps (and_right (is_name p.name.letters) (list_all is_name (names (map port_declaration ps))) all))
+      (port_paths scope ps (and_right (are_printable p.name.letters) (list_all are_printable (names (map port_declaration ps))) all))
     where
       whole : (a : Result (Option Bounds) ElabFault) (b : Result (List Variable) ElabFault) → have_paths b ≡ true →
           have_paths ((a >>= λ bounds. Ok (variable_in drivers (form_of p.net p.type.signed bounds) p.name.letters)) >>= λ one. b >>= λ others. Ok (one ∷ others)) ≡ true
       whole (Ok bounds) (Ok others) rest =
           and_both (is_path (drivers.name ++ 46 ∷ p.name.letters)) (all_paths others)
-          (dotted_is_path drivers.name p.name.letters e (and_left (is_name p.name.letters) (list_all is_name (names (map port_declaration ps))) all)) rest
+          (dotted_is_path drivers.name p.name.letters e (and_left (are_printable p.name.letters) (list_all are_printable (names (map port_declaration ps))) all)) rest
       whole (Ok bounds) (Err fault) rest = refl
       whole (Err fault) b rest = refl
 
@@ -393,34 +437,34 @@ module _ (drivers : ScopeDrivers) (e : is_path drivers.name ≡ true) where
 
 -- without the ports of a list of names alone
 own_declared : (is_port : Text → Bool) (kind : Kind) (signed : Bool) (range : Option RangeTree) (list : List DeclaredTree) →
-    list_all is_name (names (all_declared kind signed range list)) ≡ true →
-    list_all is_name (names (all_declared kind signed range (filter (λ one. not (is_port one.name.letters)) list))) ≡ true
+    list_all are_printable (names (all_declared kind signed range list)) ≡ true →
+    list_all are_printable (names (all_declared kind signed range (filter (λ one. not (is_port one.name.letters)) list))) ≡ true
 own_declared is_port kind signed range [] all = refl
 own_declared is_port kind signed range (one ∷ more) all =
     by (is_port one.name.letters)
-    (own_declared is_port kind signed range more (and_right (is_name one.name.letters) (list_all is_name (names (all_declared kind signed range more))) all))
+    (own_declared is_port kind signed range more (and_right (are_printable one.name.letters) (list_all are_printable (names (all_declared kind signed range more))) all))
   where
     rest : List DeclaredTree
     rest = filter (λ one. not (is_port one.name.letters)) more
 
-    by : (b : Bool) → list_all is_name (names (all_declared kind signed range rest)) ≡ true →
-        list_all is_name (names (all_declared kind signed range (if not b then one ∷ rest else rest))) ≡ true
+    by : (b : Bool) → list_all are_printable (names (all_declared kind signed range rest)) ≡ true →
+        list_all are_printable (names (all_declared kind signed range (if not b then one ∷ rest else rest))) ≡ true
     by true later = later
     by false later =
-        and_both (is_name one.name.letters) (list_all is_name (names (all_declared kind signed range rest)))
-        (and_left (is_name one.name.letters) (list_all is_name (names (all_declared kind signed range more))) all) later
+        and_both (are_printable one.name.letters) (list_all are_printable (names (all_declared kind signed range rest)))
+        (and_left (are_printable one.name.letters) (list_all are_printable (names (all_declared kind signed range more))) all) later
 
-own_kind_named : (is_port : Text → Bool) (kind : DeclarationKind) (list : List DeclaredTree) → list_all is_name (names (declared_as kind list)) ≡ true →
-    list_all is_name (names (declared_as kind (own_names is_port kind list))) ≡ true
+own_kind_named : (is_port : Text → Bool) (kind : DeclarationKind) (list : List DeclaredTree) → list_all are_printable (names (declared_as kind list)) ≡ true →
+    list_all are_printable (names (declared_as kind (own_names is_port kind list))) ≡ true
 own_kind_named is_port (variables word type) list all = own_declared is_port (kind_of word) type.signed type.range list all
-own_kind_named is_port integers list all = all
+own_kind_named is_port (integers long) list all = all
 own_kind_named is_port (directed direction) list all = refl
 
 own_item_named : (is_port : Text → Bool) (item : ItemTree) → item_is_named item ≡ true → item_is_named (own_item is_port item) ≡ true
 own_item_named is_port (parameters local type settings) all = all
 own_item_named is_port (declaration kind list) all =
-    and_both (list_all is_name (names (declared_as kind (own_names is_port kind list)))) true
-    (own_kind_named is_port kind list (and_left (list_all is_name (names (declared_as kind list))) true all)) refl
+    and_both (list_all are_printable (names (declared_as kind (own_names is_port kind list)))) true
+    (own_kind_named is_port kind list (and_left (list_all are_printable (names (declared_as kind list))) true all)) refl
 own_item_named is_port (events list) all = all
 own_item_named is_port (assignments settings) all = all
 own_item_named is_port (initial statement) all = all
@@ -452,7 +496,7 @@ few_paths name part all = by (nat_le (length part.begins) 256) (nat_le (length p
     by false b = refl
 
 own_paths : (context : Context) (ports : List Port) (children : List Instantiation) (scope : Scope) (part : Part) → is_path context.path ≡ true →
-    list_all is_name (names (map port_declaration ports)) ≡ true → list_all item_is_named context.unit.items ≡ true →
+    list_all are_printable (names (map port_declaration ports)) ≡ true → list_all item_is_named context.unit.items ≡ true →
     all_paths part.variables ≡ true → part_paths (lower_own context ports children scope part) ≡ true
 own_paths context ports children scope part e ports_named items_named before =
     let drivers : ScopeDrivers = scope_drivers_by context ports children scope in
@@ -483,7 +527,7 @@ module _ (modules : SourceTree) (named : list_all is_named modules ≡ true) whe
       all_paths part.variables ≡ true → part_paths (elaborate_instance levels modules part context) ≡ true
   grown_paths zero part context e unit before = refl
   grown_paths (suc levels) part context e unit before =
-      let inner = and_right (is_name context.unit.name.letters) (ports_are_named context.unit && list_all item_is_named context.unit.items) unit in
+      let inner = and_right (are_printable context.unit.name.letters) (ports_are_named context.unit && list_all item_is_named context.unit.items) unit in
       let ports = and_left (ports_are_named context.unit) (list_all item_is_named context.unit.items) inner in
       let items = and_right (ports_are_named context.unit) (list_all item_is_named context.unit.items) inner in
       then_paths (lower_names part context) _
@@ -491,8 +535,8 @@ module _ (modules : SourceTree) (named : list_all is_named modules ≡ true) whe
       (λ children children_are. then_paths (lower_own context (ports_of context.unit) children scope part) _
       (λ own own_is.
       each_keeps (λ so_far child. elaborate_instance levels modules so_far (child_context scope context child)) wanted_is_named
-      (λ so_far one good. grown_paths levels so_far (child_context scope context one) (dotted_is_path context.path one.name.letters e (and_left (is_name one.name.letters) (is_named one.child) good))
-      (and_right (is_name one.name.letters) (is_named one.child) good))
+      (λ so_far one good. grown_paths levels so_far (child_context scope context one) (dotted_is_path context.path one.name.letters e (and_left (are_printable one.name.letters) (is_named one.child) good))
+      (and_right (are_printable one.name.letters) (is_named one.child) good))
       children own (all_told wanted_is_named (lower_instances modules 0 scope.known context.unit.items) children (from_named modules named 0 scope.known context.unit.items items) children_are)
       (sym (ap part_paths own_is) ∙ own_paths context (ports_of context.unit) children scope part e ports items before))))
 
@@ -537,7 +581,7 @@ distinct_at (x ∷ vs) none (suc i) (suc j) v w lt first second =
 design_named : (scale : Timescale) (m : ModuleTree) (part : Part) → is_named m ≡ true → all_paths part.variables ≡ true →
     has_double (variable_paths part) ≡ false → AreNamed (design_by scale m part)
 design_named scale m part e paths none = record {
-  top = letters m.name.letters (and_left (is_name m.name.letters) (ports_are_named m && list_all item_is_named m.items) e);
+  top = and_left (are_printable m.name.letters) (ports_are_named m && list_all item_is_named m.items) e;
   paths = path_at part.variables paths;
   distinct = distinct_at part.variables none;
 }
@@ -577,7 +621,7 @@ module _ (tree : SourceTree) (all : list_all is_named tree ≡ true) (top : Opti
   found_named whole rival (Some m) is_top is =
       let unit = top_named tree top m all is_top in
       whole_named scale m unit whole (elaborate_top tree m)
-      (top_paths tree all m (name_is_path m.name.letters (letters m.name.letters (and_left (is_name m.name.letters) (ports_are_named m && list_all item_is_named m.items) unit))) unit) is
+      (top_paths tree all m (and_left (are_printable m.name.letters) (ports_are_named m && list_all item_is_named m.items) unit) unit) is
 
   design_is_named : (answer : Result Whole ElabFault) (design : Design) → ((whole : Whole) → answer ≡ Ok whole → AreNamed (design_by scale whole.unit whole.part)) → as_design scale answer ≡ Ok design → AreNamed design
   design_is_named (Ok whole) design named is =
@@ -585,9 +629,9 @@ module _ (tree : SourceTree) (all : list_all is_named tree ≡ true) (top : Opti
       subst AreNamed same (named whole refl)
   design_is_named (Err fault) design named is = absurd cc
 
-pub named_by : (words : List Text) (plain : PlainTree) (tree : SourceTree) (top : Option Text) (scale : Timescale) (design : Design) →
-    DerivesText words plain → IsNumbered words plain tree → Elaborates tree top scale design → AreNamed design
-named_by words plain tree top scale design derives numbered elaborates =
-    let all = all_named tree (ap (fits 64) numbered.is_tree ∙ derives.fitting) in
+pub named_by : (words : List Text) (text : PlainTree) (tree : SourceTree) (top : Option Text) (scale : Timescale) (design : Design) →
+    DerivesText words text → IsNumbered words text tree → Elaborates tree top scale design → AreNamed design
+named_by words text tree top scale design derives numbered elaborates =
+    let all = all_named tree (ap (list_all shows_module) numbered.is_tree ∙ all_show text derives.fitting) in
     design_is_named tree all top scale (elaborated_whole tree top) design
     (λ whole is. found_named tree all top scale whole (rival_of tree top) (top_of tree top) refl (unbroken_is (broken_ports tree) (top_whole tree top) whole (not_barred_is Doubled (first_again (module_names tree)) _ whole is))) elaborates

@@ -1,20 +1,21 @@
 -- Blanks, names, symbols and numbers that begin with an apostrophe.
-use Rattle.std.proofs.Common.{◌≡◌, ◌≢◌, ℕ, zero, suc, ◌+◌, ◌<◌, ◌≤◌, true, false, ◌&&◌, ◌||◌, not, nat_eq, List, [], ◌∷◌, length, take, get_or, refl, sym, ◌∙◌, ap, arith}
+use Rattle.std.proofs.Common.{◌≡◌, ◌≢◌, ℕ, zero, suc, ◌+◌, ◌<◌, ◌≤◌, true, false, ◌&&◌, ◌||◌, not, nat_eq, List, [], ◌∷◌, length, take, drop, get_or, refl, sym, ◌∙◌, ap, subst, arith}
 use Rattle.std.specs.List.{list_all, prefix_len}
 use Rattle.std.proofs.lemmas.Bool.{ne_eqb}
 use Rattle.basis.proofs.Bools.{and_false}
-use Rattle.vlex.specs.declared.bytes.Set.TheVariants.{Blanks, Words}
+use Rattle.vlex.specs.declared.bytes.Set.TheVariants.{Blanks, Words, Escapes}
 use Rattle.vlex.specs.declared.bytes.Lead.{Lead}
 use Rattle.vlex.specs.declared.bytes.Lead.TheVariants as lead
 use Rattle.vlex.specs.declared.form.Form.TheVariants.{Blank, Token}
 use Rattle.vlex.specs.declared.kind.TokenKind.TheVariants.{Name, System, Based, Symbol}
 use Rattle.vlex.specs.Bytes.{is_in, lead_of}
-use Rattle.vlex.specs.Forms.{form_of, form_by, is_word, is_based, is_symbol, is_double, is_triple}
+use Rattle.vlex.specs.Forms.{form_of, form_by, is_word, is_escaped, is_based, is_symbol, is_double, is_triple}
 use Rattle.vlex.specs.Inner.{IsLongest, Never}
 use Rattle.vlex.specs.Lexed.{IsFront, IsStuck, is_free}
 use Rattle.vlex.proofs.Runs.{run_longest}
 use Rattle.vlex.proofs.Pieces.{piece_by, barred_by, stuck_by}
 use Rattle.vlex.proofs.Sizes.{free_based}
+use Rattle.vlex.proofs.Leads.{says}
 
 told_by : (c : ℕ) (l : Lead) → lead_of c ≡ l → (cs : List ℕ) → form_of (c ∷ cs) ≡ form_by l c cs
 told_by c l e cs = ap (λ k. form_by k c cs) e
@@ -23,9 +24,12 @@ free_blank : (first : ℕ) (rest : List ℕ) → is_free Blank first rest ≡ tr
 free_blank first [] = refl
 free_blank first (x ∷ xs) = refl
 
-free_name : (first : ℕ) (rest : List ℕ) → is_free (Token Name) first rest ≡ true
-free_name first [] = refl
-free_name first (x ∷ xs) = refl
+free_name : (first : ℕ) (rest : List ℕ) → first ≢ 92 → is_free (Token Name) first rest ≡ true
+free_name first [] other = refl
+free_name first (x ∷ xs) other = ap (λ b. not (b && nat_eq x 46)) (ne_eqb first 92 other)
+
+letter_not_backslash : (c : ℕ) → lead_of c ≡ lead.Letter → c ≢ 92
+letter_not_backslash c e same = let clash : lead.Backslash ≡ lead.Letter = sym (ap lead_of same) ∙ e in cc
 
 free_system : (first : ℕ) (rest : List ℕ) → is_free (Token System) first rest ≡ true
 free_system first [] = refl
@@ -39,7 +43,7 @@ blanks c cs whole e sum =
 pub name : (c : ℕ) (cs : List ℕ) (whole : ℕ) → lead_of c ≡ lead.Letter → whole ≡ 1 + prefix_len (is_in Words) cs → IsFront (c ∷ cs) (Token Name) whole
 name c cs whole e sum =
     let same : whole ≡ suc (prefix_len (is_in Words) cs) = omega (arith, sum) in
-    piece_by c cs (list_all (is_in Words)) (Token Name) (told_by c lead.Letter e) (prefix_len (is_in Words) cs) whole same (run_longest (is_in Words) cs) (free_name c _)
+    piece_by c cs (list_all (is_in Words)) (Token Name) (told_by c lead.Letter e) (prefix_len (is_in Words) cs) whole same (run_longest (is_in Words) cs) (free_name c _ (letter_not_backslash c e))
 
 pub nothing : (c : ℕ) (cs : List ℕ) → lead_of c ≡ lead.Other → IsStuck (c ∷ cs)
 nothing c cs e = stuck_by c cs (λ _. false) Blank (told_by c lead.Other e) (λ n _. refl)
@@ -69,6 +73,57 @@ dollar_alone c cs e none = stuck_by c cs is_word (Token System) (told_by c lead.
   fails : (n : ℕ) → n ≤ length cs → is_word (take n cs) ≡ false
   fails zero le = refl
   fails (suc n) le = word_fails (take (suc n) cs) ((run_longest (is_in Words) cs).longest (suc n) (omega (arith, none)) le)
+
+-- Escaped names
+
+escape_fails : (cs : List ℕ) → list_all (is_in Escapes) cs ≡ false → is_escaped cs ≡ false
+escape_fails [] h = refl
+escape_fails (c ∷ cs) h = h
+
+escape_passes : (cs : List ℕ) (n : ℕ) → 0 < n → n ≤ length cs → list_all (is_in Escapes) (take n cs) ≡ true → is_escaped (take n cs) ≡ true
+escape_passes cs zero some le h = absurd (omega arith)
+escape_passes [] (suc n) some le h = absurd (omega arith)
+escape_passes (c ∷ cs) (suc n) some le h = h
+
+escape_longest : (cs : List ℕ) → prefix_len (is_in Escapes) cs ≢ 0 → IsLongest is_escaped cs (prefix_len (is_in Escapes) cs)
+escape_longest cs some =
+    let run = run_longest (is_in Escapes) cs in
+    record {
+      within = run.within;
+      passes = escape_passes cs (prefix_len (is_in Escapes) cs) (omega arith) run.within run.passes;
+      longest = λ n lt le. escape_fails (take n cs) (run.longest n lt le);
+    }
+
+-- behind a backslash and so many bytes nothing is barred but a dot
+free_escaped : (c : ℕ) (cs : List ℕ) (len : ℕ) → c ≡ 92 → is_free (Token Name) c (drop len cs) ≡ not (nat_eq (get_or cs len 0) 46)
+free_escaped c [] zero e = refl
+free_escaped c [] (suc len) e = refl
+free_escaped c (x ∷ xs) zero e = ap (λ b. not (nat_eq b 92 && nat_eq x 46)) e
+free_escaped c (x ∷ xs) (suc len) e = free_escaped c xs len e
+
+backslash_is : (c : ℕ) → lead_of c ≡ lead.Backslash → c ≡ 92
+backslash_is c e = says c lead.Backslash e
+
+pub escaped_name : (c : ℕ) (cs : List ℕ) (len : ℕ) → lead_of c ≡ lead.Backslash → len ≡ prefix_len (is_in Escapes) cs → len ≢ 0 → get_or cs len 0 ≢ 46
+    → IsFront (c ∷ cs) (Token Name) (1 + len)
+escaped_name c cs len e is some other =
+    let same : 1 + len ≡ suc len = omega arith in
+    piece_by c cs is_escaped (Token Name) (told_by c lead.Backslash e) len (1 + len) same
+    (subst (IsLongest is_escaped cs) (sym is) (escape_longest cs (λ none. some (is ∙ none))))
+    (free_escaped c cs len (backslash_is c e) ∙ ap not (ne_eqb (get_or cs len 0) 46 other))
+
+pub dotted_escape : (c : ℕ) (cs : List ℕ) (len : ℕ) → lead_of c ≡ lead.Backslash → len ≡ prefix_len (is_in Escapes) cs → len ≢ 0 → get_or cs len 0 ≡ 46
+    → IsStuck (c ∷ cs)
+dotted_escape c cs len e is some dot =
+    barred_by c cs is_escaped (Token Name) (told_by c lead.Backslash e) len
+    (subst (IsLongest is_escaped cs) (sym is) (escape_longest cs (λ none. some (is ∙ none))))
+    (free_escaped c cs len (backslash_is c e) ∙ ap (λ b. not (nat_eq b 46)) dot)
+
+pub backslash_alone : (c : ℕ) (cs : List ℕ) → lead_of c ≡ lead.Backslash → prefix_len (is_in Escapes) cs ≡ 0 → IsStuck (c ∷ cs)
+backslash_alone c cs e none = stuck_by c cs is_escaped (Token Name) (told_by c lead.Backslash e) fails where
+  fails : (n : ℕ) → n ≤ length cs → is_escaped (take n cs) ≡ false
+  fails zero le = refl
+  fails (suc n) le = escape_fails (take (suc n) cs) ((run_longest (is_in Escapes) cs).longest (suc n) (omega (arith, none)) le)
 
 -- Based numbers without size
 

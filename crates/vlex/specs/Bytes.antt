@@ -3,9 +3,9 @@ use Rattle.std.specs.Prelude.{ℕ, Bool, ◌==◌, ◌&&◌, ◌||◌, not, nat_
 use Rattle.std.specs.List.{list_any}
 use Rattle.std.specs.Char.{is_ascii_digit, is_ascii_alphabetic, is_ascii_hexdigit}
 use Rattle.vlex.specs.declared.bytes.Set.{Set}
-use Rattle.vlex.specs.declared.bytes.Set.TheVariants.{Blanks, Marks, Words, Decimals, Binaries, Octals, Hexadecimals, Underscores, LineBytes}
+use Rattle.vlex.specs.declared.bytes.Set.TheVariants.{Blanks, Marks, Words, Escapes, Decimals, Binaries, Octals, Hexadecimals, Underscores, LineBytes}
 use Rattle.vlex.specs.declared.bytes.Lead.{Lead}
-use Rattle.vlex.specs.declared.bytes.Lead.TheVariants.{Blank, Letter, Dollar, Digit, Apostrophe, Quote, Slash, Punctuation, Other}
+use Rattle.vlex.specs.declared.bytes.Lead.TheVariants.{Blank, Letter, Backslash, Dollar, Digit, Apostrophe, Quote, Slash, Punctuation, Other}
 
 -- 3.5.1: x in either case
 abbrev pub is_x_digit : ℕ → Bool
@@ -35,6 +35,8 @@ is_in Blanks c = is_blank c
 is_in Marks c = not (is_blank c)
 -- letters, digits, _ and $ (3.7)
 is_in Words c = is_ascii_alphabetic c || is_ascii_digit c || c == 95 || c == 36
+-- what an escaped name is made of: the printable characters (3.7.1), but no dot, which parts the names of a path (own)
+is_in Escapes c = nat_le 33 c && nat_le c 126 && not (c == 46)
 -- digits of each base, with _ (3.5.1)
 is_in Decimals c = is_ascii_digit c || c == 95
 is_in Binaries c = c == 48 || c == 49 || is_unknown c || c == 95
@@ -53,6 +55,7 @@ abbrev pub lead_of : ℕ → Lead
 lead_of c =
     if is_in Blanks c then Blank
     else if is_ascii_alphabetic c || c == 95 then Letter
+    else if c == 92 then Backslash
     else if c == 36 then Dollar
     else if is_ascii_digit c then Digit
     else if is_apostrophe c then Apostrophe

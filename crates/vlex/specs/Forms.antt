@@ -5,7 +5,7 @@ use Rattle.std.specs.List.{list_all, list_any, prefix_len}
 use Rattle.std.specs.Str.{bytes_eq}
 use Rattle.vsrc.specs.Outside.{block_end, string_end}
 use Rattle.vlex.specs.declared.bytes.Set.{Set}
-use Rattle.vlex.specs.declared.bytes.Set.TheVariants.{Blanks, Words, Decimals, Binaries, Octals, Hexadecimals, Underscores, LineBytes}
+use Rattle.vlex.specs.declared.bytes.Set.TheVariants.{Blanks, Words, Escapes, Decimals, Binaries, Octals, Hexadecimals, Underscores, LineBytes}
 use Rattle.vlex.specs.declared.bytes.Lead.{Lead}
 use Rattle.vlex.specs.declared.bytes.Lead.TheVariants as lead
 use Rattle.vlex.specs.declared.form.Form.{Form}
@@ -20,6 +20,11 @@ only_if test form = if test then Some form else None
 abbrev pub is_word : List ℕ → Bool
 is_word [] = false
 is_word (c ∷ cs) = list_all (is_in Words) (c ∷ cs)
+
+-- 3.7.1: what stands behind a backslash, up to white space: one byte at least
+abbrev pub is_escaped : List ℕ → Bool
+is_escaped [] = false
+is_escaped (c ∷ cs) = list_all (is_in Escapes) (c ∷ cs)
 
 -- an end that is found is that of the bytes
 abbrev pub is_whole : Option ℕ → List ℕ → Bool
@@ -151,6 +156,7 @@ slash_form (c ∷ cs) =
 abbrev pub form_by : Lead → ℕ → List ℕ → Option Form
 form_by lead.Blank c cs = only_if (list_all (is_in Blanks) cs) Blank
 form_by lead.Letter c cs = only_if (list_all (is_in Words) cs) (Token Name)
+form_by lead.Backslash c cs = only_if (is_escaped cs) (Token Name)
 form_by lead.Dollar c cs = only_if (is_word cs) (Token System)
 form_by lead.Digit c cs = number_form (c ∷ cs)
 form_by lead.Apostrophe c cs = only_if (is_based cs) (Token Based)

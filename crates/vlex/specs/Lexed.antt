@@ -23,12 +23,12 @@ pub record Piece : Type 0 where
   pub text : List ℕ
 
 -- what may not follow at once: an apostrophe after a plain number, a letter, digit, _ or $
--- after a based one, / or * after a slash
+-- after a based one, / or * after a slash, a dot after an escaped name (own)
 abbrev pub is_barred : Form → ℕ → ℕ → Bool
 is_barred (Token Plain) first c = c == 39
 is_barred (Token Based) first c = is_in Words c
 is_barred (Token Symbol) first c = first == 47 && (c == 47 || c == 42)
-is_barred (Token Name) first c = false
+is_barred (Token Name) first c = first == 92 && c == 46
 is_barred (Token System) first c = false
 is_barred (Token Text) first c = false
 is_barred Blank first c = false

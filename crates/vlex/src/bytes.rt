@@ -14,6 +14,8 @@ pub enum Set {
     /// All others.
     Marks,
     Words,
+    /// Those of an escaped name.
+    Escapes,
     Decimals,
     Binaries,
     Octals,
@@ -27,6 +29,7 @@ pub enum Set {
 pub enum Lead {
     Blank,
     Letter,
+    Backslash,
     Dollar,
     Digit,
     Apostrophe,
@@ -59,6 +62,7 @@ pub fn is_in(set: Set, byte: u8) -> bool
             || byte.is_ascii_digit()
             || byte == b'_'
             || byte == b'$',
+        Set::Escapes => b'!' <= byte && byte <= b'~' && byte != b'.',
         Set::Decimals => byte.is_ascii_digit() || byte == b'_',
         Set::Binaries => byte == b'0' || byte == b'1' || is_unknown(byte) || byte == b'_',
         Set::Octals => (b'0' <= byte && byte <= b'7') || is_unknown(byte) || byte == b'_',
@@ -79,6 +83,8 @@ pub fn lead_of(byte: u8) -> Lead
         Lead::Blank
     } else if byte.is_ascii_alphabetic() || byte == b'_' {
         Lead::Letter
+    } else if byte == b'\\' {
+        Lead::Backslash
     } else if byte == b'$' {
         Lead::Dollar
     } else if byte.is_ascii_digit() {

@@ -25,6 +25,7 @@ fn front_by(first: u8, rest: &[u8]) -> Front
     match lead_of(first) {
         Lead::Blank => Front::Piece(Form::Blank, 1 + run_len(Set::Blanks, rest)),
         Lead::Letter => Front::Piece(Form::Token(TokenKind::Name), 1 + run_len(Set::Words, rest)),
+        Lead::Backslash => escaped(first, rest),
         Lead::Dollar => system(first, rest),
         Lead::Digit => number(first, rest),
         Lead::Apostrophe => number_with_base(first, rest),
@@ -33,6 +34,21 @@ fn front_by(first: u8, rest: &[u8]) -> Front
         Lead::Punctuation => symbol(first, rest),
         Lead::Other => Front::Bad,
     }
+}
+
+// The escaped name that begins with a backslash (3.7.1). A dot parts the names of a path, so none may stand in it.
+fn escaped(first: u8, rest: &[u8]) -> Front
+    requires { lead_of first ≡ Lead.Backslash }
+    ensures { IsAnswer (first ∷ rest.now) result }
+{
+    let len = run_len(Set::Escapes, rest);
+    if len == 0 {
+        return Front::Bad;
+    }
+    if byte_at(rest, len) == b'.' {
+        return Front::Bad;
+    }
+    Front::Piece(Form::Token(TokenKind::Name), 1 + len)
 }
 
 // The system name that begins with `$`.

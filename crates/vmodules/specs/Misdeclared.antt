@@ -51,7 +51,7 @@ holds how.Registers net = is_reg net
 
 abbrev pub declares_as : Declaring → DeclarationKind → Bool
 declares_as declaring (variables net type) = holds declaring net
-declares_as declaring integers = false
+declares_as declaring (integers long) = false
 declares_as declaring (directed direction) = directs declaring direction
 
 -- the names that are declared so

@@ -57,7 +57,7 @@ declares list name = list_any (λ one. bytes_eq one.name.letters name) list
 
 abbrev pub direction_as : DeclarationKind → Option DirectionTree
 direction_as (variables net type) = None
-direction_as integers = None
+direction_as (integers long) = None
 direction_as (directed direction) = Some direction
 
 -- which way an item says that a port of this name goes
@@ -82,7 +82,7 @@ second_named net type (one ∷ more) name =
 
 abbrev pub second_as : DeclarationKind → List DeclaredTree → Text → Option Second
 second_as (variables net type) list name = second_named net type list name
-second_as integers list name = None
+second_as (integers long) list name = None
 second_as (directed direction) list name = None
 
 -- as what net or variable an item declares this name
@@ -137,7 +137,7 @@ plain_names (Some list) = if is_plain list then map (λ port. port.name) list el
 -- the items of a module without the nets and variables that are ports of a list of names alone: those stand with the ports
 abbrev pub own_names : (Text → Bool) → DeclarationKind → List DeclaredTree → List DeclaredTree
 own_names is_port (variables net type) list = filter (λ one. not (is_port one.name.letters)) list
-own_names is_port integers list = list
+own_names is_port (integers long) list = list
 own_names is_port (directed direction) list = list
 
 abbrev pub own_item : (Text → Bool) → ItemTree → ItemTree

@@ -1,18 +1,20 @@
-// The letters of the tokens that trees keep by number.
+// The letters of the tokens that trees keep by number: of an escaped name those behind the backslash (3.7.1).
 
 ghost use Rattle.std.specs.Prelude.{◌≡◌};
 ghost use Rattle.vast.specs.TokenTexts.{token_text};
+ghost use Rattle.vast.specs.Words.{unescaped as unescaped_text};
 ghost use Rattle.vexpr_parse.specs.Texts.{words_of};
 
 use vast::token::Token;
+use vast::words::unescaped;
 use vlex::Tokens;
 
 /// The letters of a token; none, where there are fewer tokens.
 pub fn letters<'t>(tokens: &Tokens<'t>, token: Token) -> &'t [u8]
-    ensures { result.now ≡ token_text (words_of tokens.now) token }
+    ensures { result.now ≡ unescaped_text (token_text (words_of tokens.now) token) }
 {
     if (token.number as usize) < tokens.len() {
-        tokens.text(token.number as usize)
+        unescaped(tokens.text(token.number as usize))
     } else {
         b""
     }

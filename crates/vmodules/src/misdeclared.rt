@@ -113,7 +113,7 @@ fn declares_as(declaring: Declaring, kind: &DeclarationKind) -> bool
 {
     match kind {
         DeclarationKind::Variables { net, .. } => holds(declaring, *net),
-        DeclarationKind::Integers => false,
+        DeclarationKind::Integers { .. } => false,
         DeclarationKind::Directed { direction } => directs(declaring, direction),
     }
 }

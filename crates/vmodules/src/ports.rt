@@ -136,7 +136,7 @@ fn direction_as<'u>(kind: &'u DeclarationKind) -> Option<&'u Direction>
 {
     match kind {
         DeclarationKind::Variables { .. } => None,
-        DeclarationKind::Integers => None,
+        DeclarationKind::Integers { .. } => None,
         DeclarationKind::Directed { direction } => Some(direction),
     }
 }
@@ -217,7 +217,7 @@ fn second_as<'u>(
 {
     match kind {
         DeclarationKind::Variables { net, kind } => second_by_name(tokens, *net, kind, list, name),
-        DeclarationKind::Integers => None,
+        DeclarationKind::Integers { .. } => None,
         DeclarationKind::Directed { .. } => None,
     }
 }

@@ -11,7 +11,7 @@ use Rattle.vgrammar.specs.declared.start.StatementStart.{StatementStart}
 use Rattle.vgrammar.specs.declared.start.StatementStart.TheVariants as start
 use Rattle.vgrammar.specs.Parts.{made, paired, maybe, roomy}
 use Rattle.vgrammar.specs.Starts.{start_of, start_word, statement_starts, begins_target, is_target, is_some_meaning, is_meant, meant_if, is_word, sign_of, edge_of, comma_of}
-use Rattle.vgrammar.specs.Statements.{value, named, numbered, word_only, comma_list, select, target_of, named_target, joined_of, joined_targets, target, delay_of, amount, assignment_of, assignment, guarded, if_of, guarded_of, setting, for_of, delayed_of, term_of, term, further_of, event_of, control, event_body_of, block_of, has_default, branch_of, default_branch, branch, case_parts_of, case_parts, argument_of, arguments, print_of, optional_print_of, dump_file_of, path_of, selection_of, selection, dump_vars_of, end_of, dump_of, trigger_of, statement_by, lead_by, begins_statement, statement}
+use Rattle.vgrammar.specs.Statements.{value, named, numbered, word_only, comma_list, select, target_of, named_target, joined_of, joined_targets, target, delay_of, amount, assignment_of, assignment, guarded, if_of, guarded_of, setting, for_of, delayed_of, term_of, term, further_of, event_of, control, event_body_of, block_of, has_default, branch_of, default_branch, branch, case_parts_of, case_parts, begins_argument, argument_of, arguments, print_of, optional_print_of, idle_of, dump_file_of, path_of, selection_of, selection, dump_vars_of, end_of, dump_of, trigger_of, statement_by, lead_by, begins_statement, statement}
 use Rattle.vgrammar.specs.Modules.{range_of, type_of, parameter_type_of, setting_of, declared_of, connection_of, connections_of, instance_of, ended, net_of, local_of, item_of, first_parameter_of, head_parameter_of, direction_of, is_direction, alone_of, port_of, named_port_of, ports_behind, ports_of, head_list_of, module_of, is_some_word}
 use Rattle.vgrammar.specs.Modules as with_levels
 use Rattle.vparse.specs.TextReaders.{free_value, range, type, parameter_type, setting as module_setting, declared, connection, connections, item, head_parameters, direction, ports, module_tree, source}
@@ -98,8 +98,8 @@ control_safe =
 
 arguments_safe : (below : ℕ) → Safe (arguments below)
 arguments_safe below =
-    past_safe (codes "(") (paired_safe (comma_safe (made_safe argument_of (either_safe (is_word is_string) (worded_safe (meant_if is_string))
-    (value_safe below)))) (only_safe (codes ")")))
+    past_safe (codes "(") (paired_safe (comma_safe (made_safe argument_of (maybe_safe begins_argument (either_safe (is_word is_string) (worded_safe (meant_if is_string))
+    (value_safe below))))) (only_safe (codes ")")))
 
 selection_safe : Safe selection
 selection_safe =
@@ -167,6 +167,8 @@ module _ (below : ℕ) (s : Safe (statement below)) where
     kinds_fine (start.Print (printing.Strobe base)) =
         made_safe (optional_print_of (printing.Strobe base)) (ended_safe (roomy_safe below (codes "(") parenthesis_inside (arguments_safe below)))
     kinds_fine (start.Print (printing.Monitor base)) = within (made_safe (print_of (printing.Monitor base)) (ended_safe (arguments_safe below)))
+    kinds_fine (start.Idle kind) =
+        made_safe (idle_of kind) (ended_safe (roomy_safe below (codes "(") parenthesis_inside (arguments_safe below)))
     kinds_fine start.DumpFile =
         within (made_safe dump_file_of (past_safe (codes "(") (paired_safe (worded_safe (meant_if is_string))
         (past_safe (codes ")") (only_safe (codes ";"))))))
@@ -249,12 +251,13 @@ item_safe =
     (either_safe (is_meant net_of) (paired_safe (worded_safe net_of) (paired_safe type_safe (list_safe declared_safe)))
     (either_safe is_direction (paired_safe direction_safe (list_safe (made_safe alone_of named_word)))
     (either_safe (is_front (codes "integer")) (past_safe (codes "integer") (list_safe declared_safe))
+    (either_safe (is_front (codes "time")) (past_safe (codes "time") (list_safe declared_safe))
     (either_safe (is_front (codes "event")) (past_safe (codes "event") (list_safe named_word))
     (either_safe (is_front (codes "assign")) (past_safe (codes "assign") (list_safe setting_safe))
     (either_safe (is_front (codes "initial")) (past_safe (codes "initial") (statement_safe 64))
     (either_safe (is_front (codes "always")) (past_safe (codes "always") (statement_safe 64))
     (paired_safe named_word (paired_safe (maybe_safe (is_front (codes "#")) (past_safe (codes "#") connections_safe))
-    (list_safe (made_safe instance_of (paired_safe named_word connections_safe)))))))))))))
+    (list_safe (made_safe instance_of (paired_safe named_word connections_safe))))))))))))))
 
 heads_safe : Safe head_parameters
 heads_safe =

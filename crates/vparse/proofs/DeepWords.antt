@@ -1,14 +1,15 @@
 -- A word that is refused for want of levels stands inside the profile.
-use Rattle.std.proofs.Common.{◌≡◌, ℕ, zero, suc, Bool, true, false, ◌&&◌, ◌||◌, ◌==◌, not, nat_le, if◌then◌else◌, List, [], ◌∷◌, ◌++◌, Option, None, Some, length, codes, refl, ap, ◌∙◌, arith, subst}
+use Rattle.std.proofs.Common.{◌≡◌, ℕ, zero, suc, Bool, true, false, ◌&&◌, ◌||◌, ◌==◌, not, nat_le, if◌then◌else◌, List, [], ◌∷◌, ◌++◌, Option, None, Some, length, codes, refl, ap, ◌∙◌, arith, inl, inr, subst}
 use Rattle.std.specs.List.{list_any, list_all}
 use Rattle.std.specs.Str.{bytes_eq}
 use Rattle.std.proofs.lemmas.Bool.Decides.{nat_tests}
 use Rattle.basis.proofs.Bools.{and_left, and_right}
-use Rattle.basis.specs.Letters.{begins_name, is_in_name}
+use Rattle.basis.specs.Letters.{begins_name}
 use Rattle.vast.specs.Words.{Text, is_name, is_number, is_reserved, reserved_words}
 use Rattle.vast.specs.Expressions.{ExpressionTree, number, name, time, bit, part, parentheses, conversion, apply, combine, conditional, concatenation, replication, unary_word, binary_word, depth, rank, unary_rank}
 use Rattle.vast.specs.declared.expression.BinaryOperator.{BinaryOperator}
 use Rattle.vast.specs.declared.expression.UnaryOperator.{UnaryOperator}
+use Rattle.vast.proofs.NameLemmas.{simple_or_escaped, name_not_reserved}
 use Rattle.vexpr_parse.specs.declared.beginning.Beginning.{Beginning}
 use Rattle.vexpr_parse.specs.declared.beginning.Beginning.TheVariants as start
 use Rattle.vexpr_parse.specs.declared.beginning.Round.{Round}
@@ -59,8 +60,12 @@ unnamed (other ∷ more) word n e = by_test (bytes_eq other word) refl (unnamed 
     by_test true same so = absurd (clash (is_name other) (and_left (not (is_name other)) _ n) (ap is_name (same_text other word same) ∙ e))
     by_test false same so = so
 
-no_dollar : (c : ℕ) → begins_name c ≡ true → (c == 36) ≡ false
-no_dollar c e = grind (arith, nat_tests)
+letter_no_dollar : (c : ℕ) → begins_name c ≡ true → (c == 36) ≡ false
+letter_no_dollar c e = grind (arith, nat_tests)
+
+no_dollar : (c : ℕ) (cs : Text) → is_name (c ∷ cs) ≡ true → (c == 36) ≡ false
+no_dollar c cs e =
+    elim (simple_or_escaped c cs e) [ inl simple ↦ letter_no_dollar c simple.first | inr escaped ↦ ap (λ b. b == 36) escaped.backslash ]
 
 left_out_unnamed : list_all (λ other. not (is_name other)) left_out ≡ true
 unfolding left_out reserved_words
@@ -69,14 +74,12 @@ left_out_unnamed = refl
 pub name_inside : (word : Text) → is_name word ≡ true → Inside word
 name_inside [] e = let no : false ≡ true = e in absurd cc
 name_inside (c ∷ cs) e =
-    let parts = and_left (begins_name c && list_all is_in_name cs) (not (is_reserved (c ∷ cs))) e in
     by_parts (is_reserved (c ∷ cs)) (c == 36) (is_among left_out (c ∷ cs)) (is_among keywords (c ∷ cs)) (is_among system_names (c ∷ cs))
-    (and_right (begins_name c && list_all is_in_name cs) (not (is_reserved (c ∷ cs))) e)
-    (no_dollar c (and_left (begins_name c) (list_all is_in_name cs) parts)) (unnamed left_out (c ∷ cs) left_out_unnamed e)
+    (name_not_reserved (c ∷ cs) e) (no_dollar c cs e) (unnamed left_out (c ∷ cs) left_out_unnamed e)
   where
-    by_parts : (reserved system out keyword known : Bool) → not reserved ≡ true → system ≡ false → out ≡ false →
+    by_parts : (reserved system out keyword known : Bool) → reserved ≡ false → system ≡ false → out ≡ false →
         ((reserved && not keyword) || (system && not known) || out) ≡ false
-    by_parts true system out keyword known n f g = let no : false ≡ true = n in absurd cc
+    by_parts true system out keyword known n f g = let no : true ≡ false = n in absurd cc
     by_parts false true out keyword known n f g = let no : true ≡ false = f in absurd cc
     by_parts false false true keyword known n f g = let no : true ≡ false = g in absurd cc
     by_parts false false false keyword known n f g = refl

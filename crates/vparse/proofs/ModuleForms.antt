@@ -262,11 +262,17 @@ Named = Either (Both (List_of Text) (Unit {0})) Assigned
 abbrev named_parts : Reader Named
 named_parts = either (is_front (codes "event")) (past (codes "event") (ended named)) assigned_parts
 
+abbrev Timed : Type 0
+Timed = Either (Both (List_of DeclaredTree) (Unit {0})) Named
+
+abbrev timed_parts : Reader Timed
+timed_parts = either (is_front (codes "time")) (past (codes "time") (ended declared)) named_parts
+
 abbrev Listed : Type 0
-Listed = Either (Both (List_of DeclaredTree) (Unit {0})) Named
+Listed = Either (Both (List_of DeclaredTree) (Unit {0})) Timed
 
 abbrev listed_parts : Reader Listed
-listed_parts = either (is_front (codes "integer")) (past (codes "integer") (ended declared)) named_parts
+listed_parts = either (is_front (codes "integer")) (past (codes "integer") (ended declared)) timed_parts
 
 abbrev DirectedOrLater : Type 0
 DirectedOrLater = Either Directed Listed
@@ -286,8 +292,11 @@ of_directed tree = of_variables (other_way tree)
 abbrev of_listed : Listed → ItemTree
 of_listed tree = of_directed (other_way tree)
 
+abbrev of_timed : Timed → ItemTree
+of_timed tree = of_listed (other_way tree)
+
 abbrev of_named : Named → ItemTree
-of_named tree = of_listed (other_way tree)
+of_named tree = of_timed (other_way tree)
 
 abbrev of_assigned : Assigned → ItemTree
 of_assigned tree = of_named (other_way tree)
@@ -307,6 +316,9 @@ assigned_item = choose (is_front (codes "assign")) (past (codes "assign") assign
 abbrev named_item : Reader ItemTree
 named_item = choose (is_front (codes "event")) (past (codes "event") events_at) assigned_item
 
+abbrev timed_item : Reader ItemTree
+timed_item = choose (is_front (codes "time")) (past (codes "time") (integers_at true)) named_item
+
 process_is : (words : List Text) → made of_process process_parts words ≡ process_item words
 process_is words =
     either_rule of_process (is_front (codes "initial")) (past (codes "initial") (statement 64)) alone_parts
@@ -318,10 +330,14 @@ process_is words =
 
 listed_is : (words : List Text) → made of_listed listed_parts words ≡ listed_item words
 listed_is words =
-    either_rule of_listed (is_front (codes "integer")) (past (codes "integer") (ended declared)) named_parts
-    (past (codes "integer") integers_at) named_item words
-    (past_rule integers_of (codes "integer") (ended declared) integers_at
-    (until_is (codes ";") declared integers_of (declaration integers) (λ one list. refl)) words)
+    either_rule of_listed (is_front (codes "integer")) (past (codes "integer") (ended declared)) timed_parts
+    (past (codes "integer") (integers_at false)) timed_item words
+    (past_rule (integers_of false) (codes "integer") (ended declared) (integers_at false)
+    (until_is (codes ";") declared (integers_of false) (declaration (integers false)) (λ one list. refl)) words)
+    (either_rule of_timed (is_front (codes "time")) (past (codes "time") (ended declared)) named_parts
+    (past (codes "time") (integers_at true)) named_item words
+    (past_rule (integers_of true) (codes "time") (ended declared) (integers_at true)
+    (until_is (codes ";") declared (integers_of true) (declaration (integers true)) (λ one list. refl)) words)
     (either_rule of_named (is_front (codes "event")) (past (codes "event") (ended named)) assigned_parts
     (past (codes "event") events_at) assigned_item words
     (past_rule events_of (codes "event") (ended named) events_at (until_is (codes ";") named events_of events (λ one list. refl)) words)
@@ -329,7 +345,7 @@ listed_is words =
     (past (codes "assign") assignments_at) process_item words
     (past_rule assignments_of (codes "assign") (ended setting) assignments_at
     (until_is (codes ";") setting assignments_of assignments (λ one list. refl)) words)
-    (process_is words)))
+    (process_is words))))
 
 directed_item_is : (words : List Text) → made of_directed directed_parts words ≡ directed_item words
 directed_item_is words =

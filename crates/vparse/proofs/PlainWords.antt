@@ -10,6 +10,10 @@ pub integer_plain : is_leaf (codes "integer") ≡ false
 unfolding reserved_words
 integer_plain = refl
 
+pub time_plain : is_leaf (codes "time") ≡ false
+unfolding reserved_words
+time_plain = refl
+
 pub wire_plain : is_leaf (codes "wire") ≡ false
 unfolding reserved_words
 wire_plain = refl

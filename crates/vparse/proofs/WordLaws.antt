@@ -1,10 +1,10 @@
 -- Among a text's tokens, which a number is and which a name is, by their bytes and by their kinds.
-use Rattle.std.proofs.Common.{◌≡◌, ◌⊎◌, ℕ, Bool, true, false, ◌&&◌, ◌||◌, ◌==◌, not, List, [], ◌∷◌, ◌++◌, None, Some, take, drop, refl, sym, ap, ◌∙◌, arith, inl, inr, subst, All}
+use Rattle.std.proofs.Common.{◌≡◌, ◌⊎◌, ℕ, Bool, true, false, ◌&&◌, ◌||◌, ◌==◌, not, nat_le, List, [], ◌∷◌, ◌++◌, None, Some, take, drop, refl, sym, ap, ◌∙◌, arith, inl, inr, subst, All}
 use Rattle.std.specs.List.{list_all, prefix_len}
 use Rattle.std.proofs.lemmas.Bool.{ne_eqb, cases_eq, and_parts, not-true}
 use Rattle.std.proofs.lemmas.Bool.Decides.{nat_tests}
 use Rattle.std.proofs.lemmas.List.Elements.{All-nil, All-cons, All-weaker}
-use Rattle.vlex.specs.declared.bytes.Set.TheVariants.{Words, Decimals}
+use Rattle.vlex.specs.declared.bytes.Set.TheVariants.{Words, Escapes, Decimals}
 use Rattle.vlex.specs.declared.bytes.Lead.{Lead}
 use Rattle.vlex.specs.declared.bytes.Lead.TheVariants as lead
 use Rattle.vlex.specs.declared.form.Form.{Form}
@@ -12,14 +12,16 @@ use Rattle.vlex.specs.declared.form.Form.TheVariants.{Blank, Comment, Token}
 use Rattle.vlex.specs.declared.kind.TokenKind.{TokenKind}
 use Rattle.vlex.specs.declared.kind.TokenKind.TheVariants.{Name, System, Plain, Based, Text as Quoted, Symbol}
 use Rattle.vlex.specs.Bytes.{is_in, lead_of}
-use Rattle.vlex.specs.Forms.{only_if, form_of, form_by, number_by, number_form, slash_form}
+use Rattle.vlex.specs.Forms.{only_if, is_escaped, form_of, form_by, number_by, number_form, slash_form}
 use Rattle.vlex.specs.Lexed.{Cut, Lexed, Piece, IsFront, is_delay, readable, token_of as pieces_by}
 use Rattle.vlex.specs.Lexed.Cut.{done, piece}
 use Rattle.vlex.proofs.Cuts.{seen_front}
 use Rattle.vlex.proofs.Instances.{all_words}
 use Rattle.vlex.proofs.Leads.{Says, says}
 use Rattle.basis.specs.Letters.{begins_name, is_in_name}
-use Rattle.vast.specs.Words.{Text, is_name, is_number, is_reserved}
+use Rattle.vast.specs.Words.{Text, is_name, is_number, is_reserved, is_printable, are_printable}
+use Rattle.vast.proofs.NameLemmas.{escaped_free}
+use Rattle.basis.proofs.Bools.{and_left, and_right, and_both}
 use Rattle.std.specs.Char.{is_ascii_digit}
 use Rattle.vparse.specs.Words.{TellsNumber, TellsName}
 
@@ -54,16 +56,50 @@ words_in_name (c ∷ cs) = ap (λ b. b && list_all (is_in Words) cs) (word_in_na
 no_digit : (c : ℕ) → begins_name c ≡ true → (is_ascii_digit c || (c == 39)) ≡ false
 no_digit c e = grind (arith, nat_tests)
 
+letter_no_backslash : (c : ℕ) → begins_name c ≡ true → (c == 92) ≡ false
+letter_no_backslash c e = grind (arith, nat_tests)
+
+digit_no_backslash : (c : ℕ) → is_ascii_digit c ≡ true → (c == 92) ≡ false
+digit_no_backslash c e = grind (arith, nat_tests)
+
+or_nothing : (b : Bool) → (b || false) ≡ b
+or_nothing true = refl
+or_nothing false = refl
+
 digit_no_letter : (c : ℕ) → is_ascii_digit c ≡ true → begins_name c ≡ false
 digit_no_letter c e = grind (arith, nat_tests)
 
 name_tells : (c : ℕ) (cs : List ℕ) → begins_name c ≡ true → list_all is_in_name cs ≡ true → Tells Name (c ∷ cs)
-name_tells c cs first all = record { number = no_digit c first; name = ap (λ b. b && list_all is_in_name cs && not (is_reserved (c ∷ cs))) first ∙ ap (λ b. b && not (is_reserved (c ∷ cs))) all }
+name_tells c cs first all = record {
+  number = no_digit c first;
+  name = ap (λ b. (b && not (is_reserved (c ∷ cs))) || (c == 92 && are_printable cs)) (and_both (begins_name c) (list_all is_in_name cs) first all)
+      ∙ ap (λ b. not (is_reserved (c ∷ cs)) || (b && are_printable cs)) (letter_no_backslash c first)
+      ∙ or_nothing (not (is_reserved (c ∷ cs)));
+}
 
-other_tells : (kind : TokenKind) (c : ℕ) (cs : List ℕ) → is_word kind ≡ false → (is_ascii_digit c || (c == 39)) ≡ is_numeric kind → begins_name c ≡ false → Tells kind (c ∷ cs)
-other_tells kind c cs other first letter = record {
+-- the bytes of an escaped name are printable
+escapes_printable : (cs : List ℕ) → is_escaped cs ≡ true → are_printable cs ≡ true
+escapes_printable [] e = e
+escapes_printable (c ∷ cs) e = all_printable (c ∷ cs) e
+  where
+    one_printable : (c : ℕ) → is_in Escapes c ≡ true → is_printable c ≡ true
+    one_printable c e = and_left (nat_le 33 c && nat_le c 126) (not (c == 46)) e
+
+    all_printable : (cs : List ℕ) → list_all (is_in Escapes) cs ≡ true → list_all is_printable cs ≡ true
+    all_printable [] e = refl
+    all_printable (c ∷ cs) e =
+        and_both (is_printable c) (list_all is_printable cs) (one_printable c (and_left (is_in Escapes c) (list_all (is_in Escapes) cs) e))
+        (all_printable cs (and_right (is_in Escapes c) (list_all (is_in Escapes) cs) e))
+
+escape_tells : (cs : List ℕ) → is_escaped cs ≡ true → Tells Name (92 ∷ cs)
+escape_tells cs all = record { number = refl; name = escapes_printable cs all ∙ ap not (sym (escaped_free cs)) }
+
+other_tells : (kind : TokenKind) (c : ℕ) (cs : List ℕ) → is_word kind ≡ false → (is_ascii_digit c || (c == 39)) ≡ is_numeric kind → begins_name c ≡ false →
+    (c == 92) ≡ false → Tells kind (c ∷ cs)
+other_tells kind c cs other first letter backslash = record {
   number = first;
-  name = ap (λ b. b && list_all is_in_name cs && not (is_reserved (c ∷ cs))) letter ∙ sym (ap (λ b. b && not (is_reserved (c ∷ cs))) other);
+  name = ap (λ b. (b && list_all is_in_name cs && not (is_reserved (c ∷ cs))) || (c == 92 && are_printable cs)) letter
+      ∙ ap (λ b. b && are_printable cs) backslash ∙ sym (ap (λ b. b && not (is_reserved (c ∷ cs))) other);
 }
 
 -- what holds at a byte and a kind holds at what equals them
@@ -109,19 +145,22 @@ by_lead lead.Blank c cs kind s e = absurd (no_blank _ kind e)
 by_lead lead.Letter c cs kind s e =
     let t = token_of _ Name kind e in
     told_at c Name kind c cs refl t.0 (name_tells c cs s (sym (words_in_name cs) ∙ t.1))
-by_lead lead.Dollar c cs kind s e = told_at 36 System kind c cs s (token_of _ System kind e).0 (other_tells System 36 cs refl refl refl)
+by_lead lead.Backslash c cs kind s e =
+    let t = token_of _ Name kind e in
+    told_at 92 Name kind c cs s t.0 (escape_tells cs t.1)
+by_lead lead.Dollar c cs kind s e = told_at 36 System kind c cs s (token_of _ System kind e).0 (other_tells System 36 cs refl refl refl refl)
 by_lead lead.Digit c cs kind s e =
     let first : (is_ascii_digit c || (c == 39)) ≡ true = ap (λ b. b || (c == 39)) s in
     elim (digit_numeric (c ∷ cs) kind e) [
-      | inl plain ↦ told_at c Plain kind c cs refl plain (other_tells Plain c cs refl first (digit_no_letter c s))
-      | inr based ↦ told_at c Based kind c cs refl based (other_tells Based c cs refl first (digit_no_letter c s))
+      | inl plain ↦ told_at c Plain kind c cs refl plain (other_tells Plain c cs refl first (digit_no_letter c s) (digit_no_backslash c s))
+      | inr based ↦ told_at c Based kind c cs refl based (other_tells Based c cs refl first (digit_no_letter c s) (digit_no_backslash c s))
     ]
-by_lead lead.Apostrophe c cs kind s e = told_at 39 Based kind c cs s (token_of _ Based kind e).0 (other_tells Based 39 cs refl refl refl)
-by_lead lead.Quote c cs kind s e = told_at 34 Quoted kind c cs s (token_of _ Quoted kind e).0 (other_tells Quoted 34 cs refl refl refl)
-by_lead lead.Slash c cs kind s e = told_at 47 Symbol kind c cs s (slash_symbol cs kind e) (other_tells Symbol 47 cs refl refl refl)
+by_lead lead.Apostrophe c cs kind s e = told_at 39 Based kind c cs s (token_of _ Based kind e).0 (other_tells Based 39 cs refl refl refl refl)
+by_lead lead.Quote c cs kind s e = told_at 34 Quoted kind c cs s (token_of _ Quoted kind e).0 (other_tells Quoted 34 cs refl refl refl refl)
+by_lead lead.Slash c cs kind s e = told_at 47 Symbol kind c cs s (slash_symbol cs kind e) (other_tells Symbol 47 cs refl refl refl refl)
 by_lead lead.Punctuation c cs kind s e =
     let first : (is_ascii_digit c || (c == 39)) ≡ false = ap (λ b. b || (c == 39)) s.digit ∙ ne_eqb c 39 s.apostrophe in
-    told_at c Symbol kind c cs refl (token_of _ Symbol kind e).0 (other_tells Symbol c cs refl first s.letter)
+    told_at c Symbol kind c cs refl (token_of _ Symbol kind e).0 (other_tells Symbol c cs refl first s.letter (ne_eqb c 92 s.backslash))
 by_lead lead.Other c cs kind s e = let clash : None ≡ Some (Token kind) = e in absurd cc
 
 front_tells : (text : List ℕ) (kind : TokenKind) (len : ℕ) → IsFront text (Token kind) len → Tells kind (take len text)

@@ -229,8 +229,8 @@ variables_at net words = and_then (type words) (λ kind. made (declaration (vari
 abbrev pub directed_at : Reader ItemTree
 directed_at words = and_then (direction words) (λ tree. made (declaration (directed tree)) (all_until (codes ";") alone))
 
-abbrev pub integers_at : Reader ItemTree
-integers_at = made (declaration integers) (all_until (codes ";") declared)
+abbrev pub integers_at : Bool → Reader ItemTree
+integers_at long = made (declaration (integers long)) (all_until (codes ";") declared)
 
 abbrev pub events_at : Reader ItemTree
 events_at = made events (all_until (codes ";") named)
@@ -252,9 +252,10 @@ process_item =
 
 abbrev pub listed_item : Reader ItemTree
 listed_item =
-    choose (is_front (codes "integer")) (past (codes "integer") integers_at)
+    choose (is_front (codes "integer")) (past (codes "integer") (integers_at false))
+    (choose (is_front (codes "time")) (past (codes "time") (integers_at true))
     (choose (is_front (codes "event")) (past (codes "event") events_at)
-    (choose (is_front (codes "assign")) (past (codes "assign") assignments_at) process_item))
+    (choose (is_front (codes "assign")) (past (codes "assign") assignments_at) process_item)))
 
 abbrev pub directed_item : Reader ItemTree
 directed_item = choose is_direction directed_at listed_item

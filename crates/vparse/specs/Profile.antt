@@ -12,15 +12,20 @@ keywords =
     ∷ codes "else" ∷ codes "end" ∷ codes "endcase" ∷ codes "endmodule" ∷ codes "event" ∷ codes "for" ∷ codes "forever"
     ∷ codes "if" ∷ codes "initial" ∷ codes "input" ∷ codes "integer" ∷ codes "localparam" ∷ codes "module"
     ∷ codes "negedge" ∷ codes "or" ∷ codes "output" ∷ codes "parameter" ∷ codes "posedge" ∷ codes "reg"
-    ∷ codes "repeat" ∷ codes "signed" ∷ codes "wait" ∷ codes "while" ∷ codes "wire" ∷ []
+    ∷ codes "repeat" ∷ codes "signed" ∷ codes "time" ∷ codes "wait" ∷ codes "while" ∷ codes "wire" ∷ []
 
 -- the system names that the grammar names
 unfoldable pub system_names : List Text
 system_names =
     codes "$display" ∷ codes "$displayb" ∷ codes "$displayo" ∷ codes "$displayh" ∷ codes "$write" ∷ codes "$writeb"
     ∷ codes "$writeo" ∷ codes "$writeh" ∷ codes "$strobe" ∷ codes "$strobeb" ∷ codes "$strobeo" ∷ codes "$strobeh"
-    ∷ codes "$monitor" ∷ codes "$monitorb" ∷ codes "$monitoro" ∷ codes "$monitorh" ∷ codes "$dumpfile"
-    ∷ codes "$dumpvars" ∷ codes "$dumpon" ∷ codes "$dumpoff" ∷ codes "$dumpall" ∷ codes "$dumpflush"
+    ∷ codes "$monitor" ∷ codes "$monitorb" ∷ codes "$monitoro" ∷ codes "$monitorh"
+    ∷ codes "$fdisplay" ∷ codes "$fdisplayb" ∷ codes "$fdisplayo" ∷ codes "$fdisplayh" ∷ codes "$fwrite"
+    ∷ codes "$fwriteb" ∷ codes "$fwriteo" ∷ codes "$fwriteh" ∷ codes "$fstrobe" ∷ codes "$fstrobeb"
+    ∷ codes "$fstrobeo" ∷ codes "$fstrobeh" ∷ codes "$fmonitor" ∷ codes "$fmonitorb" ∷ codes "$fmonitoro"
+    ∷ codes "$fmonitorh" ∷ codes "$fopen" ∷ codes "$fclose" ∷ codes "$fflush" ∷ codes "$timeformat"
+    ∷ codes "$printtimescale"
+    ∷ codes "$dumpfile" ∷ codes "$dumpvars" ∷ codes "$dumpon" ∷ codes "$dumpoff" ∷ codes "$dumpall" ∷ codes "$dumpflush"
     ∷ codes "$finish" ∷ codes "$stop" ∷ codes "$time" ∷ codes "$signed" ∷ codes "$unsigned" ∷ []
 
 -- operators of the standard that the profile leaves out (5.1, 5.2.1)

@@ -83,20 +83,21 @@ fn port_directions(
     })
 }
 
-// Behind `integer`.
+// Behind `integer`, or `time`.
 fn integers(
     alloc: Global,
     tokens: &Tokens<'_>,
     cursor: &mut Cursor,
     at: u32,
+    long: bool,
 ) -> Result<ModuleItem, OrMemory<Stop>>
-    ensures gives { Gives item_tree integers_at tokens.now cursor.old cursor.new result }
+    ensures gives { Gives item_tree (integers_at long) tokens.now cursor.old cursor.new result }
     ensures kept { IfOk result (Keeps item_leaves tokens.now cursor.old cursor.new) }
 {
     let declared = declared_names(alloc, tokens, cursor)?;
     Ok(ModuleItem::Declaration {
         at,
-        kind: DeclarationKind::Integers,
+        kind: DeclarationKind::Integers { long },
         declared,
     })
 }
@@ -191,7 +192,7 @@ fn process_item<F: Fn(&mut Cursor) -> Result<Statement, OrMemory<Stop>>>(
 }
 
 // A list behind one word, or what `process_item` reads.
-#[tactic(auto, using(crate::proofs::PlainWords::integer_plain, crate::proofs::PlainWords::event_plain, crate::proofs::PlainWords::assign_plain))]
+#[tactic(auto, using(crate::proofs::PlainWords::integer_plain, crate::proofs::PlainWords::time_plain, crate::proofs::PlainWords::event_plain, crate::proofs::PlainWords::assign_plain))]
 fn listed_item<F: Fn(&mut Cursor) -> Result<Statement, OrMemory<Stop>>>(
     alloc: Global,
     read: &F,
@@ -207,7 +208,10 @@ fn listed_item<F: Fn(&mut Cursor) -> Result<Statement, OrMemory<Stop>>>(
 {
     if cursor.begins(tokens, b"integer") {
         cursor.pass(tokens);
-        integers(alloc, tokens, cursor, at)
+        integers(alloc, tokens, cursor, at, false)
+    } else if cursor.begins(tokens, b"time") {
+        cursor.pass(tokens);
+        integers(alloc, tokens, cursor, at, true)
     } else if cursor.begins(tokens, b"event") {
         cursor.pass(tokens);
         events(alloc, tokens, cursor, at)

@@ -5,7 +5,7 @@ ghost use Rattle.vparse.specs.Profile.{keywords, system_names, left_out, is_amon
 
 use vast::words::{is_among, is_reserved};
 
-static KEYWORDS: [&[u8]; 31] = [
+static KEYWORDS: [&[u8]; 32] = [
     b"always",
     b"assign",
     b"begin",
@@ -34,12 +34,13 @@ static KEYWORDS: [&[u8]; 31] = [
     b"reg",
     b"repeat",
     b"signed",
+    b"time",
     b"wait",
     b"while",
     b"wire",
 ];
 
-static SYSTEM_NAMES: [&[u8]; 27] = [
+static SYSTEM_NAMES: [&[u8]; 48] = [
     b"$display",
     b"$displayb",
     b"$displayo",
@@ -56,6 +57,27 @@ static SYSTEM_NAMES: [&[u8]; 27] = [
     b"$monitorb",
     b"$monitoro",
     b"$monitorh",
+    b"$fdisplay",
+    b"$fdisplayb",
+    b"$fdisplayo",
+    b"$fdisplayh",
+    b"$fwrite",
+    b"$fwriteb",
+    b"$fwriteo",
+    b"$fwriteh",
+    b"$fstrobe",
+    b"$fstrobeb",
+    b"$fstrobeo",
+    b"$fstrobeh",
+    b"$fmonitor",
+    b"$fmonitorb",
+    b"$fmonitoro",
+    b"$fmonitorh",
+    b"$fopen",
+    b"$fclose",
+    b"$fflush",
+    b"$timeformat",
+    b"$printtimescale",
     b"$dumpfile",
     b"$dumpvars",
     b"$dumpon",

@@ -7,6 +7,7 @@ use Rattle.vast.specs.declared.token.Token.{Token}
 use Rattle.vast.specs.declared.statement.CaseKind.TheVariants as case_kind
 use Rattle.vast.specs.declared.statement.Base.TheVariants as bases
 use Rattle.vast.specs.declared.statement.Printing.TheVariants as printing
+use Rattle.vast.specs.declared.statement.Idle.TheVariants as idles
 use Rattle.vast.specs.declared.statement.Dumping.TheVariants as dumping
 use Rattle.vexpr_parse.specs.Words.{written}
 use Rattle.vexpr_parse.proofs.ReaderRules.{same_text, chosen, passed_over}
@@ -106,6 +107,27 @@ start_word_plain (start.Print (printing.Monitor bases.Decimal)) = refl
 start_word_plain (start.Print (printing.Monitor bases.Binary)) = refl
 start_word_plain (start.Print (printing.Monitor bases.Octal)) = refl
 start_word_plain (start.Print (printing.Monitor bases.Hexadecimal)) = refl
+start_word_plain (start.Idle (idles.File (printing.Display bases.Decimal))) = refl
+start_word_plain (start.Idle (idles.File (printing.Display bases.Binary))) = refl
+start_word_plain (start.Idle (idles.File (printing.Display bases.Octal))) = refl
+start_word_plain (start.Idle (idles.File (printing.Display bases.Hexadecimal))) = refl
+start_word_plain (start.Idle (idles.File (printing.Write bases.Decimal))) = refl
+start_word_plain (start.Idle (idles.File (printing.Write bases.Binary))) = refl
+start_word_plain (start.Idle (idles.File (printing.Write bases.Octal))) = refl
+start_word_plain (start.Idle (idles.File (printing.Write bases.Hexadecimal))) = refl
+start_word_plain (start.Idle (idles.File (printing.Strobe bases.Decimal))) = refl
+start_word_plain (start.Idle (idles.File (printing.Strobe bases.Binary))) = refl
+start_word_plain (start.Idle (idles.File (printing.Strobe bases.Octal))) = refl
+start_word_plain (start.Idle (idles.File (printing.Strobe bases.Hexadecimal))) = refl
+start_word_plain (start.Idle (idles.File (printing.Monitor bases.Decimal))) = refl
+start_word_plain (start.Idle (idles.File (printing.Monitor bases.Binary))) = refl
+start_word_plain (start.Idle (idles.File (printing.Monitor bases.Octal))) = refl
+start_word_plain (start.Idle (idles.File (printing.Monitor bases.Hexadecimal))) = refl
+start_word_plain (start.Idle idles.Open) = refl
+start_word_plain (start.Idle idles.Close) = refl
+start_word_plain (start.Idle idles.Flush) = refl
+start_word_plain (start.Idle idles.TimeFormat) = refl
+start_word_plain (start.Idle idles.PrintTimescale) = refl
 start_word_plain start.DumpFile = refl
 start_word_plain start.DumpVars = refl
 start_word_plain (start.Dump dumping.On) = refl

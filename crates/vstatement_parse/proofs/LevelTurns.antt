@@ -57,6 +57,7 @@ leads below (start.Print (printing.Display base)) word words = at_once below (be
 leads below (start.Print (printing.Write base)) word words = at_once below (behind_word below (start.Print (printing.Write base))) word words
 leads below (start.Print (printing.Strobe base)) word words = at_once below (behind_word below (start.Print (printing.Strobe base))) word words
 leads below (start.Print (printing.Monitor base)) word words = refl
+leads below (start.Idle kind) word words = at_once below (behind_word below (start.Idle kind)) word words
 leads below start.DumpFile word words = refl
 leads below start.DumpVars word words = at_once below (behind_word below start.DumpVars) word words
 leads below (start.Dump kind) word words = dumped kind words ∙ at_once below (dump_at kind) word words

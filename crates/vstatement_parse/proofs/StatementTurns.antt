@@ -1,9 +1,9 @@
 -- What the code that reads lists in statements goes on from.
 use Rattle.std.specs.Str.{bytes_eq}
-use Rattle.std.proofs.Common.{◌≡◌, ℕ, zero, suc, nat_le, ◌<◌, arith, length, Bool, true, false, if◌then◌else◌, codes, Result, subst, List, [], ◌∷◌, map, Vec, Global, refl, sym, ap, ◌∙◌, Option}
+use Rattle.std.proofs.Common.{◌≡◌, ℕ, zero, suc, nat_le, ◌<◌, arith, length, Bool, true, false, if◌then◌else◌, codes, Result, subst, List, [], ◌∷◌, map, Vec, Global, refl, sym, ap, ◌∙◌, Option, zero-lt-suc}
 use Rattle.basis.proofs.Numbers.{one_within}
 use Rattle.vast.specs.Words.{Text, is_name}
-use Rattle.vast.specs.Statements.{block, first_statement, ArgumentTree, quoted, printed, spell_argument}
+use Rattle.vast.specs.Statements.{block, first_statement, spell_argument}
 use Rattle.vast.specs.StatementTrees.{statement_tree, statement_trees, event_tree}
 use Rattle.vast.specs.declared.statement.Event.{Event}
 use Rattle.basis.specs.declared.memory.OrMemory.{OrMemory}
@@ -21,11 +21,10 @@ use Rattle.vgrammar.specs.Starts.{comma_word, is_word}
 use Rattle.vgrammar.specs.Statements.{further_term, statement, statements_in, block_of, named, term, word_only, event_of, enclosed_event, control, path, path_of, argument, block_name, ended_statements}
 use Rattle.vstatement_parse.specs.Gives.{Answered, block_at, enclosed_at, terms_at, further_terms, names_behind, path_at, block_name_text}
 use Rattle.vgrammar.proofs.ManyTurns.{goes_on_first, past_eats_too}
-use Rattle.vgrammar.proofs.Phrases.{sound_eats}
+use Rattle.vgrammar.proofs.Phrases.{sound_eats, past_shape, past_sound}
 use Rattle.vgrammar.proofs.PartPhrases.{further_shape, further_phrase, text_shape, named_phrase, path_shape, path_phrase, argument_shape, argument_phrase}
 use Rattle.vgrammar.proofs.StatementShapes.{statement_shape, statement_worded}
 use Rattle.vgrammar.proofs.StatementLevels.{statement_phrase}
-use Rattle.vgrammar.proofs.ValuePhrases.{value_worded}
 use Rattle.vast.specs.declared.token.Token.{Token}
 
 pub further_eats : Eats further_term
@@ -149,9 +148,6 @@ level_of (suc n) e = one_within n
 
 pub argument_eats : (below : ℕ) → 0 < below → Eats (past (codes ",") (argument below))
 argument_eats below e =
-    past_eats_too (codes ",") (argument below) (sound_eats (argument below) (argument_shape below)
-    (argument_phrase below (level_of below e)).sound some)
-  where
-    some : (tree : ArgumentTree) → (argument_shape below).valid tree ≡ true → 0 < length (spell_argument tree)
-    some (quoted letters) v = omega arith
-    some (printed tree) v = value_worded below tree v
+    sound_eats (past (codes ",") (argument below)) (past_shape (codes ",") (argument_shape below))
+    (past_sound (codes ",") (argument below) (argument_shape below) (argument_phrase below (level_of below e)).sound)
+    (λ tree v. zero-lt-suc (length (spell_argument tree)))

@@ -1,13 +1,14 @@
 -- *internal*: What is read after the first words of statements.
 use Rattle.std.specs.Prelude.{ℕ, List, [], codes}
-use Rattle.vast.specs.Statements.{StatementTree, ArgumentTree, empty, task, print}
+use Rattle.vast.specs.Statements.{StatementTree, ArgumentTree, empty, task, print, idle}
 use Rattle.vast.specs.declared.statement.Printing.{Printing}
 use Rattle.vast.specs.declared.statement.Printing.TheVariants as printing
+use Rattle.vast.specs.declared.statement.Idle.{Idle}
 use Rattle.vexpr_parse.specs.Readers.{Reader, got, and_then, led, past, choose, is_front}
 use Rattle.vgrammar.specs.declared.start.StatementStart.{StatementStart}
 use Rattle.vgrammar.specs.Parts.{made, paired, maybe, roomy}
 use Rattle.vgrammar.specs.Starts.{start_of, is_target}
-use Rattle.vgrammar.specs.Statements.{word_only, arguments, print_of, optional_print_of, statement, statement_by, lead_by, assignment}
+use Rattle.vgrammar.specs.Statements.{word_only, arguments, print_of, optional_print_of, idle_of, statement, statement_by, lead_by, assignment}
 use Rattle.vgrammar.specs.declared.start.StatementStart.TheVariants as start
 use Rattle.vstatement_parse.specs.Gives.{arguments_within, trigger_at, dump_at, dump_file_at, dump_vars_at, end_at, guarded_at, forever_at, delayed_at, event_at, block_at}
 use Rattle.vstatement_parse.specs.Rounds.{if_at, for_at}
@@ -32,6 +33,15 @@ optional_arguments below = choose (is_front (codes "(")) (roomy below 1 (require
 
 abbrev pub printed_with : Printing → Reader (List ArgumentTree) → Reader StatementTree
 printed_with kind read words = and_then (read words) (λ all. past (codes ";") (got (task (print kind all))))
+
+-- behind a task without effect
+abbrev pub idle_at : Idle → ℕ → Reader StatementTree
+idle_at kind below =
+    made (idle_of kind)
+    (paired (maybe (is_front (codes "(")) (roomy below 1 (arguments below))) (word_only (codes ";")))
+
+abbrev pub idle_with : Idle → Reader (List ArgumentTree) → Reader StatementTree
+idle_with kind read words = and_then (read words) (λ all. past (codes ";") (got (task (idle kind all))))
 
 -- a statement that begins so
 abbrev pub begun_at : ℕ → StatementStart → Reader StatementTree
@@ -61,6 +71,7 @@ levels_of (start.Print (printing.Display base)) = 0
 levels_of (start.Print (printing.Write base)) = 0
 levels_of (start.Print (printing.Strobe base)) = 0
 levels_of (start.Print (printing.Monitor base)) = 1
+levels_of (start.Idle kind) = 0
 levels_of start.DumpFile = 1
 levels_of start.DumpVars = 0
 levels_of (start.Dump kind) = 0
@@ -82,6 +93,7 @@ behind_word below (start.Print (printing.Display base)) = print_at (printing.Dis
 behind_word below (start.Print (printing.Write base)) = print_at (printing.Write base) below
 behind_word below (start.Print (printing.Strobe base)) = print_at (printing.Strobe base) below
 behind_word below (start.Print (printing.Monitor base)) = monitor_at (printing.Monitor base) below
+behind_word below (start.Idle kind) = idle_at kind below
 behind_word below start.DumpFile = dump_file_at
 behind_word below start.DumpVars = dump_vars_at
 behind_word below (start.Dump kind) = dump_at kind

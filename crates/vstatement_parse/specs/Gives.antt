@@ -1,7 +1,7 @@
 -- *internal*: What the program's functions answer that read by the definitions.
 use Rattle.std.specs.Prelude.{◌≡◌, ℕ, Bool, not, List, [], ◌∷◌, ◌++◌, Option, Some, Box, Vec, map, option_map, codes, Result, Ok, Err, IfOk}
 use Rattle.std.specs.List.{flat_map}
-use Rattle.vast.specs.Words.{Text}
+use Rattle.vast.specs.Words.{Text, is_string}
 use Rattle.vast.specs.Expressions.{ExpressionTree}
 use Rattle.std.specs.Borrow.{MutBor}
 use Rattle.vast.specs.ExpressionTrees.{boxed_tree}
@@ -18,12 +18,12 @@ use Rattle.vexpr_parse.specs.Texts.{words_of}
 use Rattle.vexpr_parse.specs.declared.cursor.Cursor.{Cursor}
 use Rattle.vlex.specs.Tokenized.{Tokenized}
 use Rattle.vast.specs.Statements.{TargetTree, joined, StatementTree, task, dump, forever, TermTree, FurtherTerm, DelayTree, EventTree, SelectionTree, ArgumentTree}
-use Rattle.vgrammar.specs.Parts.{Both, both, other_way, made, maybe, paired, worded, one_behind, many}
-use Rattle.vgrammar.specs.Starts.{is_meant, edge_of, comma_of}
+use Rattle.vgrammar.specs.Parts.{Both, both, Either, other_way, either, made, maybe, paired, worded, one_behind, many}
+use Rattle.vgrammar.specs.Starts.{is_meant, is_word, meant_if, edge_of, comma_of}
 use Rattle.vast.specs.declared.statement.Edge.{Edge}
 use Rattle.vast.specs.declared.statement.Path.{Path}
 use Rattle.vast.specs.declared.statement.FurtherTerm.{FurtherTerm as FurtherWords}
-use Rattle.vgrammar.specs.Statements.{select, target_of, target, targets_in, target_lead, named, word_only, trigger_of, numbered, end_of, end_parts, dump_file_of, dump_file_parts, statement, guarded_of, guarded, delayed_of, amount, term, further_term, event_of, enclosed_event, event_body_of, control, block_of, block_parts, path, selection, dump_vars_of, argument}
+use Rattle.vgrammar.specs.Statements.{select, target_of, target, targets_in, target_lead, named, word_only, trigger_of, numbered, end_of, end_parts, dump_file_of, dump_file_parts, statement, guarded_of, guarded, delayed_of, amount, term, further_term, event_of, enclosed_event, event_body_of, control, block_of, block_parts, path, selection, dump_vars_of, value, argument_of, argument}
 use Rattle.vgrammar.specs.declared.start.Guard.{Guard}
 use Rattle.vast.specs.declared.token.Token.{Token}
 use Rattle.vast.specs.TokenTexts.{token_text}
@@ -228,6 +228,13 @@ dump_vars_at = made dump_vars_of (paired optional_selection (word_only (codes ";
 -- what is printed
 abbrev pub all_arguments : {T : Type 0} → List Text → Vec Argument T → List ArgumentTree
 all_arguments words arguments = map (argument_tree words) arguments.items
+
+-- an argument that isn't left out
+abbrev pub argument_kind : Either Text ExpressionTree → ArgumentTree
+argument_kind parts = argument_of (Some parts)
+
+abbrev pub some_argument : ℕ → Reader ArgumentTree
+some_argument below = made argument_kind (either (is_word is_string) (worded (meant_if is_string)) (value below))
 
 -- the arguments with the first one
 abbrev pub arguments_behind : ℕ → ArgumentTree → Reader (List ArgumentTree)

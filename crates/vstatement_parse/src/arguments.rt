@@ -1,11 +1,11 @@
 // What printing tasks are given (IEEE 1364-2005, 17.1.1).
 
 ghost use Rattle.std.specs.Prelude.{◌≡◌, ◌<◌, codes, IfOk};
-ghost use Rattle.vexpr_parse.specs.Answers.{Keeps, KeepsBehind};
+ghost use Rattle.vexpr_parse.specs.Answers.{ahead, Keeps, KeepsBehind};
 ghost use Rattle.vast.specs.Leaves.{argument_leaves};
 ghost use Rattle.vast.specs.StatementTrees.{argument_tree};
-ghost use Rattle.vexpr_parse.specs.Readers.{past};
-ghost use Rattle.vstatement_parse.specs.Gives.{Gives, all_arguments, arguments_behind, arguments_within, all_argument_leaves};
+ghost use Rattle.vexpr_parse.specs.Readers.{front, past};
+ghost use Rattle.vstatement_parse.specs.Gives.{Gives, all_arguments, some_argument as some_argument_at, arguments_behind, arguments_within, all_argument_leaves};
 ghost use Rattle.vgrammar.specs.Statements as reading;
 ghost use Rattle.vexpr_parse.specs.Texts.{words_of};
 
@@ -17,8 +17,14 @@ use vast::statement::Argument;
 use vexpr_parse::{Cursor, Stop};
 use vlex::Tokens;
 
-// A string, or an expression.
-#[tactic(auto, using(crate::proofs::LeafWords::string_leaf))]
+// Whether an argument begins here, or is left out.
+fn begins_argument(tokens: &Tokens<'_>, cursor: &Cursor) -> bool
+    ensures { result ≡ reading.begins_argument (front (ahead tokens.now cursor.now)) }
+{
+    !(cursor.begins(tokens, b",") || cursor.begins(tokens, b")"))
+}
+
+// A string, an expression, or nothing.
 fn argument(
     alloc: Global,
     tokens: &Tokens<'_>,
@@ -27,6 +33,25 @@ fn argument(
 ) -> Result<Argument, OrMemory<Stop>>
     requires { 0 < below }
     ensures gives { Gives argument_tree (reading.argument below)
+        tokens.now cursor.old cursor.new result }
+    ensures kept { IfOk result (Keeps argument_leaves tokens.now cursor.old cursor.new) }
+{
+    if !begins_argument(tokens, cursor) {
+        return Ok(Argument::LeftOut);
+    }
+    some_argument(alloc, tokens, cursor, below)
+}
+
+// A string, or an expression.
+#[tactic(auto, using(crate::proofs::LeafWords::string_leaf))]
+fn some_argument(
+    alloc: Global,
+    tokens: &Tokens<'_>,
+    cursor: &mut Cursor,
+    below: u32,
+) -> Result<Argument, OrMemory<Stop>>
+    requires { 0 < below }
+    ensures gives { Gives argument_tree (some_argument_at below)
         tokens.now cursor.old cursor.new result }
     ensures kept { IfOk result (Keeps argument_leaves tokens.now cursor.old cursor.new) }
 {

@@ -17,7 +17,7 @@ use crate::events::waiting;
 use crate::guarded::{delayed_statement, forever, guarded_statement};
 use crate::loops::for_statement;
 use crate::paths::dump_vars;
-use crate::printing::{monitor, print};
+use crate::printing::{idle, monitor, print};
 use crate::tasks::{dump, dump_file, end_run};
 use basis::OrMemory;
 use std::alloc::Global;
@@ -45,6 +45,7 @@ fn levels_of(start: StatementStart) -> u64
         StatementStart::Print(Printing::Write(_)) => 0,
         StatementStart::Print(Printing::Strobe(_)) => 0,
         StatementStart::Print(Printing::Monitor(_)) => 1,
+        StatementStart::Idle(_) => 0,
         StatementStart::DumpFile => 1,
         StatementStart::DumpVars => 0,
         StatementStart::Dump(_) => 0,
@@ -106,6 +107,7 @@ fn behind_word<F: Fn(&mut Cursor) -> Result<Statement, OrMemory<Stop>>>(
         StatementStart::Delay => delayed_statement(alloc, read, below, tokens, cursor, at),
         StatementStart::Event => waiting(alloc, read, below, tokens, cursor, at),
         StatementStart::Print(kind) => task_that_prints(alloc, tokens, cursor, below, at, kind),
+        StatementStart::Idle(kind) => idle(alloc, tokens, cursor, below, at, kind),
         StatementStart::DumpFile => dump_file(tokens, cursor, at),
         StatementStart::DumpVars => dump_vars(alloc, tokens, cursor, at),
         StatementStart::Dump(kind) => dump(tokens, cursor, at, kind),

@@ -4,7 +4,7 @@ use Rattle.std.specs.Prelude.{ℕ, ◌+◌, ◌-◌, ◌*◌, max, min, nat_le, 
 use Rattle.std.specs.Option.{option_or}
 use Rattle.vdesign.specs.Design.{Variable}
 use Rattle.vdesign.specs.declared.design.Kind.{Kind}
-use Rattle.vdesign.specs.declared.design.Kind.TheVariants.{Reg, Integer, Wire}
+use Rattle.vdesign.specs.declared.design.Kind.TheVariants.{Reg, Integer, Wire, Time}
 use Rattle.vdesign.specs.declared.expression.Bounds.{Bounds}
 use Rattle.vdesign.specs.declared.action.Target.{Target}
 use Rattle.vdesign.specs.declared.action.Target.TheVariants as target
@@ -21,6 +21,7 @@ unless false flaw = Some flaw
 -- 4.2, 4.8: an `integer` has bits, and so has what is declared with a range
 abbrev pub kind_has_bits : Kind → Bool → Bool
 kind_has_bits Integer ranged = true
+kind_has_bits Time ranged = true
 kind_has_bits Reg ranged = ranged
 kind_has_bits Wire ranged = ranged
 

@@ -39,6 +39,7 @@ fn kind_has_bits(kind: Kind, ranged: bool) -> bool
 {
     match kind {
         Kind::Integer => true,
+        Kind::Time => true,
         Kind::Reg => ranged,
         Kind::Wire => ranged,
     }

@@ -1,8 +1,7 @@
 -- *internal*: What stands at the front of a text, and how it is told from what follows.
-use Rattle.std.specs.Prelude.{◌≡◌, ℕ, ◌<◌, ◌^◌, ◌==◌, Bool, true, false, not, ◌||◌, List, ◌∷◌, ◌++◌, Option, MatchOption, decimal}
+use Rattle.std.specs.Prelude.{◌≡◌, ℕ, ◌<◌, ◌^◌, ◌==◌, true, not, List, ◌∷◌, ◌++◌, Option, MatchOption, decimal}
 use Rattle.std.specs.Borrow.{Bor}
 use Rattle.std.specs.List.{list_all}
-use Rattle.basis.specs.Letters.{begins_name, is_in_name}
 
 -- the byte stands nowhere in the text
 abbrev pub lacks : ℕ → List ℕ → Bool
@@ -11,11 +10,6 @@ lacks byte = list_all (λ c. not (c == byte))
 -- the text is cut in two at the first such byte
 abbrev pub IsCut : ℕ → List ℕ → List ℕ → List ℕ → Type 0
 IsCut byte text left right = (lacks byte left ≡ true) × (text ≡ left ++ byte ∷ right)
-
--- names joined by dots, a name begun or not, may go on with this byte
-abbrev pub goes_on : Bool → ℕ → Bool
-goes_on true c = is_in_name c || (c == 46)
-goes_on false c = begins_name c
 
 -- each rest of which this holds is what was answered
 abbrev pub EachRest : (List ℕ → Type 0) → Option (Bor (List ℕ)) → Type 0

@@ -4,7 +4,7 @@ use Rattle.vast.specs.TokenTexts.{texts}
 use Rattle.vast.specs.StatementTrees.{argument_tree}
 use Rattle.vast.specs.Within.{argument_within}
 use Rattle.vast.proofs.FitLemmas.{goes_on, ends_here}
-use Rattle.vast.proofs.StatementFitLemmas.{print_within}
+use Rattle.vast.proofs.StatementFitLemmas.{print_within, idle_within}
 use Rattle.vast.proofs.statement_parts_fit.task_fits.Goals as goal
 
 pub returns-then-print_fits : goal.returns-then-print_fits
@@ -24,3 +24,8 @@ returns-else-print_fits c =
     ∙ ap (λ b. b && all) (c.print_fits.ensures words)
     ∙ print_within words c.args.levels c.args.task.now c.in-Print.kind c.in-Print.arguments items items c.in-Print.is c.deref.ensures.value
     c.deref.ensures.value
+
+pub returns-in-Idle : goal.returns-in-Idle
+returns-in-Idle c =
+    c.arguments_fit-in-Idle.ensures
+    ∙ idle_within (texts c.args.words.now) c.args.levels c.args.task.now c.in-Idle.kind c.in-Idle.arguments _ c.in-Idle.is c.deref-in-Idle.ensures.value

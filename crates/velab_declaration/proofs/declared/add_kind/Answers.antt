@@ -29,17 +29,17 @@ returns-in-Variables-clause-err c =
 pub returns-in-Integers-clause-ok : goal.returns-in-Integers-clause-ok
 returns-in-Integers-clause-ok c =
     subst (λ (l : List Word). OnOk c.add_all.result (c.add_all.new.into ≡ with_words c.args.into.now l))
-    (integers_names (words_of c.args.tokens.now) c.args.made.now c.args.list.now c.args.kind.now c.in-Integers.is)
+    (integers_names (words_of c.args.tokens.now) c.args.made.now c.args.list.now c.args.kind.now _ c.in-Integers.is)
     c.add_all.ensures.ok
 
 pub returns-in-Integers-clause-right : goal.returns-in-Integers-clause-right
 returns-in-Integers-clause-right c =
     subst (λ (l : List Word). OnOk c.add_all.result (again_behind c.args.into.now l ≡ None))
-    (integers_names (words_of c.args.tokens.now) c.args.made.now c.args.list.now c.args.kind.now c.in-Integers.is)
+    (integers_names (words_of c.args.tokens.now) c.args.made.now c.args.list.now c.args.kind.now _ c.in-Integers.is)
     c.add_all.ensures.right
 
 pub returns-in-Integers-clause-err : goal.returns-in-Integers-clause-err
 returns-in-Integers-clause-err c =
     subst (λ (l : List Word). IfFault c.add_all.result (DoublesIn c.args.into.now l))
-    (integers_names (words_of c.args.tokens.now) c.args.made.now c.args.list.now c.args.kind.now c.in-Integers.is)
+    (integers_names (words_of c.args.tokens.now) c.args.made.now c.args.list.now c.args.kind.now _ c.in-Integers.is)
     c.add_all.ensures.err

@@ -20,4 +20,4 @@ pub returns-in-Integers : goal.returns-in-Integers
 returns-in-Integers c =
     let words = words_of c.args.tokens.now in
     same_still c.args.into.now (item_nets words (c.args.item.now ∷ []))
-    (integer_item words c.args.item.now c.in-Declaration.at c.in-Declaration.kind c.in-Declaration.declared c.in-Declaration.is c.in-Integers.is)
+    (integer_item words c.args.item.now c.in-Declaration.at c.in-Declaration.kind c.in-Declaration.declared c.in-Declaration.is _ c.in-Integers.is)

@@ -1,27 +1,34 @@
 use Rattle.std.proofs.Common.{Option, List, Err, map, sym, ap, subst, ◌∙◌}
 use Rattle.vast.specs.NumberedTrees.{argument_tree}
+use Rattle.vast.specs.NumberedStatements.{ArgumentTree}
 use Rattle.vexpr_parse.specs.Texts.{words_of}
 use Rattle.vdesign.specs.declared.print.Piece.{Piece}
 use Rattle.velab_expr.specs.declared.fault.Rule.TheVariants.{Kind}
 use Rattle.velab_expr.specs.Answers.{Refuses, found}
 use Rattle.velab_expr.specs.FirstWords.{first_argument}
-use Rattle.velab_process.specs.Prints.{default_form, ends_line, lower_arguments, lower_line}
+use Rattle.velab_process.specs.Prints.{default_form, ends_line, given, lower_arguments, lower_line}
+use Rattle.velab_process.specs.Inner.{Prints, HasOk}
 use Rattle.velab_process.proofs.LineLemmas.{line_by}
 use Rattle.velab_process.proofs.elaborator.Elaborator.pieces.Goals as goal
 
 pub returns-in-Some : goal.returns-in-Some
 returns-in-Some c =
-    let trees = map (argument_tree (words_of c.args.self.now.tokens.now)) c.args.arguments.now in
-    line_by (default_form c.args.kind) c.default_form.result (ends_line c.args.kind) c.ends_line.result (lower_arguments c.args.self.now.scope.now trees) c.in_ok-is_right.is_right c.new-printer.result c.put_arguments.new.printer c.in_ok-pieces.pieces c.right_pieces.result
-    (first_argument trees) c.default_form.ensures c.ends_line.ensures c.new-printer.ensures c.in_ok-is_right.ensures c.in_ok-pieces.ensures c.right_pieces.ensures
+    let words = words_of c.args.self.now.tokens.now in
+    let trees = map (argument_tree words) c.args.arguments.now in
+    let taken = subst (λ (l : List ArgumentTree). HasOk (lower_arguments c.args.self.now.scope.now l)
+    (λ all. Prints c.new-printer.result all c.in_ok-is_right.is_right c.put_arguments.new.printer)) (c.given.ensures words) c.in_ok-is_right.ensures in
+    line_by (default_form c.args.kind) c.default_form.result (ends_line c.args.kind) c.ends_line.result (lower_arguments c.args.self.now.scope.now (given trees)) c.in_ok-is_right.is_right c.new-printer.result c.put_arguments.new.printer c.in_ok-pieces.pieces c.right_pieces.result
+    (first_argument trees) c.default_form.ensures c.ends_line.ensures c.new-printer.ensures taken c.in_ok-pieces.ensures c.right_pieces.ensures
     ∙ ap (λ (ps : Option (List Piece)). found ps Kind (first_argument trees)) c.in-Some.is
 
 pub returns-in-None : goal.returns-in-None
 returns-in-None c =
     let words = words_of c.args.self.now.tokens.now in
     let trees = map (argument_tree words) c.args.arguments.now in
+    let taken = subst (λ (l : List ArgumentTree). HasOk (lower_arguments c.args.self.now.scope.now l)
+    (λ all. Prints c.new-printer.result all c.in_ok-is_right.is_right c.put_arguments.new.printer)) (c.given.ensures words) c.in_ok-is_right.ensures in
     subst (λ fault. Refuses fault (lower_line c.args.self.now.scope.now c.args.kind trees)) (sym c.refused.ensures)
-    (line_by (default_form c.args.kind) c.default_form.result (ends_line c.args.kind) c.ends_line.result (lower_arguments c.args.self.now.scope.now trees) c.in_ok-is_right.is_right c.new-printer.result c.put_arguments.new.printer c.in_ok-pieces.pieces c.right_pieces.result
-    (first_argument trees) c.default_form.ensures c.ends_line.ensures c.new-printer.ensures c.in_ok-is_right.ensures c.in_ok-pieces.ensures c.right_pieces.ensures
+    (line_by (default_form c.args.kind) c.default_form.result (ends_line c.args.kind) c.ends_line.result (lower_arguments c.args.self.now.scope.now (given trees)) c.in_ok-is_right.is_right c.new-printer.result c.put_arguments.new.printer c.in_ok-pieces.pieces c.right_pieces.result
+    (first_argument trees) c.default_form.ensures c.ends_line.ensures c.new-printer.ensures taken c.in_ok-pieces.ensures c.right_pieces.ensures
     ∙ ap (λ (ps : Option (List Piece)). found ps Kind (first_argument trees)) c.in-None.is
     ∙ ap (λ at. Err (record { rule = Kind; at = at })) (sym (c.first_argument.ensures words)))
