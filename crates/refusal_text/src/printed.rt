@@ -36,24 +36,19 @@ const OPENING: [&str; 3] = ["(", "[", "{"];
 
 const CLOSING: [&str; 3] = [")", "]", "}"];
 
-// Arguments up to a word: what is left of the last format, how many brackets are open, whether an argument begins, what was wrong.
+// Arguments up to a word: the string whose format is read and what is left of it, how many brackets are open, whether an argument begins,
+// what was wrong.
 #[derive(Clone, Copy)]
 struct Printed<'a> {
+    string: Words<'a>,
     format: &'a [u8],
     open: usize,
     begins: bool,
-    wrong: Option<Wrong<'a>>,
+    wrong: Option<Found<'a>>,
 }
 
-// A format, and what is wrong with it.
-#[derive(Clone, Copy)]
-struct Wrong<'a> {
-    what: What,
-    format: &'a [u8],
-}
-
-/// The text, looked at from the first word of a task's arguments, whose first name, number or string this word is.
-pub(crate) fn arguments_at<'a>(words: Words<'a>) -> Option<Words<'a>> {
+// The text, looked at from the first word of a task's arguments, whose first name, number or string this word is.
+fn arguments_at<'a>(words: Words<'a>) -> Option<Words<'a>> {
     for fewer in 1usize..FRONT {
         let before = words.before(fewer);
         if is(before, "(") && is_one_of(words.before(fewer.saturating_add(1)), &PRINTS) {
@@ -66,29 +61,33 @@ pub(crate) fn arguments_at<'a>(words: Words<'a>) -> Option<Words<'a>> {
     None
 }
 
-// What is wrong with a format that the profile leaves out.
-fn left_out<'a>(format: Format<'a>) -> Wrong<'a> {
-    Wrong {
-        what: What::LeftOut(construct_of(format.word)),
-        format: format.word,
-    }
-}
-
-// What is wrong with the next format where nothing is left for it.
-fn at_end<'a>(letters: &'a [u8]) -> Option<Wrong<'a>> {
-    let format = next_format(letters)?;
-    if format.form.is_none() {
-        return Some(left_out(format));
-    }
-    Some(Wrong {
-        what: What::Mistake(Mistake::NoArgument),
-        format: format.word,
-    })
-}
-
 impl<'a> Printed<'a> {
+    // What is wrong with a format of the string.
+    fn told(&self, what: What, format: Format<'a>) -> Found<'a> {
+        Found {
+            what,
+            word: format.word,
+            place: self.string.place(),
+            more: 0,
+        }
+    }
+
+    // What is wrong with a format that the profile leaves out.
+    fn left_out(&self, format: Format<'a>) -> Found<'a> {
+        self.told(What::LeftOut(construct_of(format.word)), format)
+    }
+
+    // What is wrong with the next format where no argument is left.
+    fn at_end(&self) -> Option<Found<'a>> {
+        let format = next_format(self.format)?;
+        if format.form.is_none() {
+            return Some(self.left_out(format));
+        }
+        Some(self.told(What::Mistake(Mistake::NoArgument), format))
+    }
+
     // What is wrong so, from here on.
-    fn refused(&self, wrong: Wrong<'a>) -> Printed<'a> {
+    fn refused(&self, wrong: Found<'a>) -> Printed<'a> {
         let mut next = *self;
         next.wrong = Some(wrong);
         next
@@ -101,15 +100,19 @@ impl<'a> Printed<'a> {
         next
     }
 
+    // Behind a string that is a format.
+    fn begun(&self, words: Words<'a>) -> Printed<'a> {
+        let mut next = self.left(letters_of(words.word()));
+        next.string = words;
+        next
+    }
+
     // Behind a string, which the next format takes.
     fn shown(&self, format: Format<'a>) -> Printed<'a> {
         if format.form == Some(b's') {
             return self.left(format.behind);
         }
-        self.refused(Wrong {
-            what: What::Mistake(Mistake::FormatOfString),
-            format: format.word,
-        })
+        self.refused(self.told(What::Mistake(Mistake::FormatOfString), format))
     }
 
     // Behind an argument that begins with this word, or, where it is left out, ends before it; then it is shown as a string.
@@ -117,11 +120,11 @@ impl<'a> Printed<'a> {
         let is_left_out = is_one_of(words.word(), &[",", ")"]);
         let is_string = words.is(TokenKind::Text) || is_left_out;
         match next_format(self.format) {
-            Some(format) if format.form.is_none() => self.refused(left_out(format)),
+            Some(format) if format.form.is_none() => self.refused(self.left_out(format)),
             Some(format) if is_string => self.shown(format),
             Some(format) => self.left(format.behind),
             None if is_left_out => self.left(&[]),
-            None if is_string => self.left(letters_of(words.word())),
+            None if is_string => self.begun(words),
             None => self.left(&[]),
         }
     }
@@ -146,8 +149,9 @@ impl<'a> Printed<'a> {
 }
 
 // What is wrong with the arguments from this word on.
-fn wrong_in<'a>(words: Words<'a>) -> Option<Wrong<'a>> {
+fn wrong_in<'a>(words: Words<'a>) -> Option<Found<'a>> {
     let mut printed = Printed {
+        string: words,
         format: &[],
         open: 0,
         begins: true,
@@ -165,7 +169,7 @@ fn wrong_in<'a>(words: Words<'a>) -> Option<Wrong<'a>> {
                 printed
             };
             return match last.wrong {
-                None => at_end(last.format),
+                None => last.at_end(),
                 wrong => wrong,
             };
         }
@@ -174,13 +178,8 @@ fn wrong_in<'a>(words: Words<'a>) -> Option<Wrong<'a>> {
     None
 }
 
-/// What is wrong with the formats of a task, of whose arguments this word is the first name, number or string.
+/// What is wrong with the formats of a task, of whose arguments this word is the first name, number or string: told at the string that has
+/// the format.
 pub(crate) fn format_near<'a>(words: Words<'a>) -> Option<Found<'a>> {
-    let wrong = wrong_in(arguments_at(words)?)?;
-    Some(Found {
-        what: wrong.what,
-        word: wrong.format,
-        place: words.place(),
-        more: 0,
-    })
+    wrong_in(arguments_at(words)?)
 }
