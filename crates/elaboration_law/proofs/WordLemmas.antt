@@ -3,6 +3,7 @@ use Rattle.std.proofs.Common.{◌≡◌, Bool, true, false, not, ◌||◌, if◌
 use Rattle.std.specs.List.{Contains, flat_map}
 use Rattle.std.specs.Str.{bytes_eq}
 use Rattle.std.specs.Cmp.Lexicographic.{nat_list_eq_equiv}
+use Rattle.std.proofs.lemmas.Bool.{or_cases}
 use Rattle.std.proofs.lemmas.List.{map-append}
 use Rattle.std.proofs.lemmas.List.Folds.{list_any-append}
 use Rattle.std.proofs.lemmas.List.Elements.{filter-append}
@@ -13,10 +14,6 @@ use Rattle.vmodules.specs.Names.{is_declared, has_double, letters_of, again_behi
 use Rattle.vmodules.specs.Misdeclared.{outside, among}
 use Rattle.elaboration_law.specs.ItemPorts.{HasOneOf}
 use Rattle.elaboration_law.proofs.StepLemmas.{contains_first, contains_more, contains_cases, contains_none}
-
-or_either : (a b : Bool) → (a || b) ≡ true → (a ≡ true) ⊎ (b ≡ true)
-or_either true b e = inl refl
-or_either false b e = inr e
 
 has_one_more : (names : List Text) (x : Word) (words : List Word) → HasOneOf names words → HasOneOf names (x ∷ words)
 has_one_more names x words (word, inside, there) = (word, contains_more x word words inside, there)
@@ -30,7 +27,7 @@ declared_both xs ys text = ap (λ (l : List Text). is_declared l text) (map-appe
 pub double_parts : (xs ys : List Word) → has_double (letters_of (xs ++ ys)) ≡ true →
     (has_double (letters_of xs) ≡ true) ⊎ ((has_double (letters_of ys) ≡ true) ⊎ HasOneOf (letters_of ys) xs)
 double_parts [] ys e = inr (inl e)
-double_parts (x ∷ xs) ys e = by (or_either (is_declared (letters_of (xs ++ ys)) x.letters) (has_double (letters_of (xs ++ ys))) e) (double_parts xs ys)
+double_parts (x ∷ xs) ys e = by (or_cases (is_declared (letters_of (xs ++ ys)) x.letters) (has_double (letters_of (xs ++ ys))) e) (double_parts xs ys)
   where
     here : (is_declared (letters_of xs) x.letters ≡ true) ⊎ (is_declared (letters_of ys) x.letters ≡ true) →
         (has_double (letters_of (x ∷ xs)) ≡ true) ⊎ ((has_double (letters_of ys) ≡ true) ⊎ HasOneOf (letters_of ys) (x ∷ xs))
@@ -46,13 +43,13 @@ double_parts (x ∷ xs) ys e = by (or_either (is_declared (letters_of (xs ++ ys)
     by : (is_declared (letters_of (xs ++ ys)) x.letters ≡ true) ⊎ (has_double (letters_of (xs ++ ys)) ≡ true) →
         (has_double (letters_of (xs ++ ys)) ≡ true → (has_double (letters_of xs) ≡ true) ⊎ ((has_double (letters_of ys) ≡ true) ⊎ HasOneOf (letters_of ys) xs)) →
         (has_double (letters_of (x ∷ xs)) ≡ true) ⊎ ((has_double (letters_of ys) ≡ true) ⊎ HasOneOf (letters_of ys) (x ∷ xs))
-    by (inl e) rest = here (or_either (is_declared (letters_of xs) x.letters) (is_declared (letters_of ys) x.letters) (sym (declared_both xs ys x.letters) ∙ e))
+    by (inl e) rest = here (or_cases (is_declared (letters_of xs) x.letters) (is_declared (letters_of ys) x.letters) (sym (declared_both xs ys x.letters) ∙ e))
     by (inr e) rest = later (rest e)
 
 -- and two of them are, where two of the first are, two of the second, or one of each
 pub first_double : (xs ys : List Word) → has_double (letters_of xs) ≡ true → has_double (letters_of (xs ++ ys)) ≡ true
 first_double [] ys e = absurd (true≢false (sym e))
-first_double (x ∷ xs) ys e = by (or_either (is_declared (letters_of xs) x.letters) (has_double (letters_of xs)) e) (first_double xs ys)
+first_double (x ∷ xs) ys e = by (or_cases (is_declared (letters_of xs) x.letters) (has_double (letters_of xs)) e) (first_double xs ys)
   where
     by : (is_declared (letters_of xs) x.letters ≡ true) ⊎ (has_double (letters_of xs) ≡ true) → (has_double (letters_of xs) ≡ true → has_double (letters_of (xs ++ ys)) ≡ true) →
         has_double (letters_of (x ∷ (xs ++ ys))) ≡ true
@@ -127,7 +124,7 @@ behind_told names (x ∷ words) w is = by (is_declared names x.letters) refl is 
     later : (has_double (letters_of words) ≡ true) ⊎ HasOneOf (names ++ x.letters ∷ []) words → (has_double (letters_of (x ∷ words)) ≡ true) ⊎ HasOneOf names (x ∷ words)
     later (inl e) = inl (or_second (is_declared (letters_of words) x.letters) (has_double (letters_of words)) e)
     later (inr (v, inside, there)) =
-        split v inside (or_either (is_declared names v.letters) (is_declared (x.letters ∷ []) v.letters) (sym (list_any-append (bytes_eq v.letters) names (x.letters ∷ [])) ∙ there))
+        split v inside (or_cases (is_declared names v.letters) (is_declared (x.letters ∷ []) v.letters) (sym (list_any-append (bytes_eq v.letters) names (x.letters ∷ [])) ∙ there))
 
     by : (b : Bool) → is_declared names x.letters ≡ b → (if b then Some x else again_behind (names ++ x.letters ∷ []) words) ≡ Some w →
         (again_behind (names ++ x.letters ∷ []) words ≡ Some w → (has_double (letters_of words) ≡ true) ⊎ HasOneOf (names ++ x.letters ∷ []) words) →
@@ -138,7 +135,7 @@ behind_told names (x ∷ words) w is = by (is_declared names x.letters) refl is 
 -- a name that is declared is that of a word
 declared_of : (words : List Word) (text : Text) → is_declared (letters_of words) text ≡ true → (v : Word) × Contains words v × (bytes_eq text v.letters ≡ true)
 declared_of [] text e = absurd (true≢false (sym e))
-declared_of (x ∷ words) text e = by (or_either (bytes_eq text x.letters) (is_declared (letters_of words) text) e) (declared_of words text)
+declared_of (x ∷ words) text e = by (or_cases (bytes_eq text x.letters) (is_declared (letters_of words) text) e) (declared_of words text)
   where
     by : (bytes_eq text x.letters ≡ true) ⊎ (is_declared (letters_of words) text ≡ true) →
         (is_declared (letters_of words) text ≡ true → (v : Word) × Contains words v × (bytes_eq text v.letters ≡ true)) → (v : Word) × Contains (x ∷ words) v × (bytes_eq text v.letters ≡ true)
@@ -162,7 +159,7 @@ none_behind names (x ∷ words) is = by (is_declared names x.letters) refl is (n
         (again_behind (names ++ x.letters ∷ []) words ≡ None → (has_double (letters_of words) ≡ true → ⊥) × (HasOneOf (names ++ x.letters ∷ []) words → ⊥)) →
         (has_double (letters_of (x ∷ words)) ≡ true → ⊥) × (HasOneOf names (x ∷ words) → ⊥)
     by true e h rest = absurd cc
-    by false e h rest = (λ d. twice (or_either (is_declared (letters_of words) x.letters) (has_double (letters_of words)) d), λ one. taken one.0 one.2 (contains_cases x one.0 words one.1))
+    by false e h rest = (λ d. twice (or_cases (is_declared (letters_of words) x.letters) (has_double (letters_of words)) d), λ one. taken one.0 one.2 (contains_cases x one.0 words one.1))
       where
         twice : (is_declared (letters_of words) x.letters ≡ true) ⊎ (has_double (letters_of words) ≡ true) → ⊥
         twice (inl here) = let one = declared_of words x.letters here in (rest h).1 (one.0, one.1, at_last one.0 one.2)
@@ -186,7 +183,7 @@ module _ {A : Type 0} (F G : A → List Word) (fewer : (x : A) → (F x ≡ G x)
   fewer_declared : (xs : List A) (text : Text) → is_declared (letters_of (flat_map F xs)) text ≡ true → is_declared (letters_of (flat_map G xs)) text ≡ true
   fewer_declared [] text e = e
   fewer_declared (x ∷ xs) text e =
-      by (or_either (is_declared (letters_of (F x)) text) (is_declared (letters_of (flat_map F xs)) text) (sym (declared_both (F x) (flat_map F xs) text) ∙ e)) (fewer_declared xs text)
+      by (or_cases (is_declared (letters_of (F x)) text) (is_declared (letters_of (flat_map F xs)) text) (sym (declared_both (F x) (flat_map F xs) text) ∙ e)) (fewer_declared xs text)
     where
       by : (is_declared (letters_of (F x)) text ≡ true) ⊎ (is_declared (letters_of (flat_map F xs)) text ≡ true) →
           (is_declared (letters_of (flat_map F xs)) text ≡ true → is_declared (letters_of (flat_map G xs)) text ≡ true) → is_declared (letters_of (flat_map G (x ∷ xs))) text ≡ true
