@@ -47,7 +47,7 @@ by_tests false false false false false false false false false c blank letter ba
     record { letter = letter; digit = digit; backslash = eqb-false c 92 backslash; apostrophe = eqb-false c 39 apostrophe }
 
 pub says : (c : ℕ) (l : Lead) → lead_of c ≡ l → Says l c
-says c l e = subst (λ k. Says k c) e (by_tests _ _ _ _ _ _ _ (is_punctuation c) c refl refl refl refl refl refl refl refl)
+says c l e = subst (λ k. Says k c) e (by_tests _ _ _ _ _ _ _ _ (is_punctuation c) c refl refl refl refl refl refl refl refl)
 
 -- digits are no blanks
 pub blank_no_digit : (c : ℕ) → is_in Blanks c ≡ true → is_ascii_digit c ≡ false
