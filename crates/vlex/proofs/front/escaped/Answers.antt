@@ -17,7 +17,7 @@ returns-then-byte_at-eq46 c = (
   not_open c.args.first _ lead.Backslash c.requires (λ (e : lead.Quote ≡ lead.Backslash). cc) (λ (e : lead.Slash ≡ lead.Backslash). cc),
 )
 
-pub returns-else-byte_at-eq46 : goal.returns-else-byte_at-eq46
-returns-else-byte_at-eq46 c =
+pub returns : goal.returns
+returns c =
     escaped_name c.args.first c.args.rest.now c.run_len-len.result c.requires c.run_len-len.ensures.value c.if-len-eq0.false
     (λ dot. c.if-byte_at-eq46.false (c.byte_at.ensures ∙ dot))
