@@ -116,7 +116,7 @@ module _ (drivers : ScopeDrivers) where
 
   formed_small : (form : Form) (kind : DeclarationKind) (list : List DeclaredTree) → IsRanged form.bounds → All IsSmallVariable (variables_as drivers form kind list)
   formed_small form (variables word type) list ranged = declared_small form list ranged
-  formed_small form integers list ranged = declared_small form list ranged
+  formed_small form (integers long) list ranged = declared_small form list ranged
   formed_small form (directed direction) list ranged = All-nil IsSmallVariable
 
   none_small : (vs : List Variable) → (let none : Result (List Variable) ElabFault = Ok [] in none ≡ Ok vs) → All IsSmallVariable vs

@@ -65,7 +65,7 @@ directed_is (Some list) e = ap (λ b. if b then map (λ (port : PortTree). port.
 inputs_are_ports : (item : ItemTree) → (words_by how.Inputs item ≡ words_by how.Ports item) ⊎ (words_by how.Inputs item ≡ [])
 inputs_are_ports (parameters local type settings) = inl refl
 inputs_are_ports (declaration (variables net type) list) = inl refl
-inputs_are_ports (declaration integers list) = inl refl
+inputs_are_ports (declaration (integers long) list) = inl refl
 inputs_are_ports (declaration (directed (input wire type)) list) = inl refl
 inputs_are_ports (declaration (directed (output net type)) list) = inr refl
 inputs_are_ports (events names) = inl refl
@@ -79,7 +79,7 @@ registers_are_seconds : (names : List Word) (item : ItemTree) →
 registers_are_seconds names (parameters local type settings) = inl refl
 registers_are_seconds names (declaration (variables net.Wire type) list) = inr refl
 registers_are_seconds names (declaration (variables net.Reg type) list) = inl refl
-registers_are_seconds names (declaration integers list) = inl refl
+registers_are_seconds names (declaration (integers long) list) = inl refl
 registers_are_seconds names (declaration (directed direction) list) = inl refl
 registers_are_seconds names (events list) = inl refl
 registers_are_seconds names (assignments settings) = inl refl
