@@ -4,10 +4,10 @@ use crate::construct::Construct;
 use crate::walk::{Group, Level, NETS, Opening, Walk};
 use crate::words::{Words, is, is_one_of};
 
-// With these a declaration begins, beside those that a keyword tells.
 // Behind these `time` stands nowhere here.
 const TYPED: [&str; 4] = ["input", "output", "parameter", "localparam"];
 
+// With these a declaration begins, beside those that a keyword tells.
 const DECLARATIONS: [&str; 7] = [
     "reg",
     "wire",

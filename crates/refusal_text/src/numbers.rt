@@ -164,7 +164,7 @@ fn by_string(rest: &[u8]) -> Flaw {
 // An escaped name with a dot, or without letters.
 fn by_escape(rest: &[u8]) -> Flaw {
     let len = len_of(Letters::NoSpaces, rest);
-    let what = if len > 1 {
+    let what = if memchr(b'.', front(rest, len)).is_some() {
         What::LeftOut(Construct::EscapedName)
     } else {
         What::Broken(102)
