@@ -1,5 +1,5 @@
 -- *internal*: What stands at the front of a text, and how it is told from what follows.
-use Rattle.std.specs.Prelude.{◌≡◌, ℕ, ◌<◌, ◌^◌, ◌==◌, true, not, List, ◌∷◌, ◌++◌, Option, MatchOption, decimal}
+use Rattle.std.specs.Prelude.{◌≡◌, ℕ, ◌<◌, ◌^◌, ◌==◌, Bool, true, not, List, ◌∷◌, ◌++◌, Option, MatchOption, decimal}
 use Rattle.std.specs.Borrow.{Bor}
 use Rattle.std.specs.List.{list_all}
 
