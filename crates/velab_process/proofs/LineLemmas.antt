@@ -1,13 +1,18 @@
 -- Lines on their way: what is left of their arguments.
-use Rattle.std.proofs.Common.{◌≡◌, Bool, true, false, ◌&&◌, List, [], ◌∷◌, Option, None, Some, Result, Ok, Err, refl, sym, ap, ◌∙◌}
+use Rattle.std.proofs.Common.{◌≡◌, Bool, true, false, ◌&&◌, List, [], ◌∷◌, Option, None, Some, Result, Ok, Err, IsErrAnd, refl, sym, ap, subst, ◌∙◌}
+use Rattle.basis.specs.declared.memory.OrMemory.{OrMemory}
 use Rattle.vdesign.specs.declared.print.Form.{Form}
 use Rattle.vdesign.specs.declared.print.Piece.{Piece}
 use Rattle.vast.specs.NumberedWords.{Word}
 use Rattle.vast.specs.NumberedStatements.{ArgumentTree, quoted, printed, left_out}
-use Rattle.velab_process.specs.Prints.{given}
+use Rattle.vast.specs.declared.statement.Printing.{Printing}
+use Rattle.velab_process.specs.Prints.{default_form, ends_line, given, lower_arguments, lower_line}
 use Rattle.velab_expr.specs.declared.fault.Rule.TheVariants.{Kind}
 use Rattle.velab_expr.specs.declared.fault.ElabFault.{ElabFault}
-use Rattle.velab_expr.specs.Answers.{◌>>=◌, found}
+use Rattle.velab_expr.specs.Answers.{◌>>=◌, found, Refuses, Gives}
+use Rattle.velab_expr.specs.FirstWords.{first_argument}
+use Rattle.velab_expr.specs.Scopes.{Scope}
+use Rattle.velab_expr.proofs.AnswerLemmas.{still_refused}
 use Rattle.velab_process.specs.Inner.{Prints, HasOk, right_pieces}
 use Rattle.format_text.specs.Pieces.{Argument, PrintedText, TakesArgument, pieces_with, pieces_of, with_line_end}
 use Rattle.format_text.proofs.ArgumentLaws.{none_taken}
@@ -83,3 +88,13 @@ given_same f alike (left_out ∷ []) = alike
 given_same f alike (quoted letters ∷ []) = refl
 given_same f alike (printed tree ∷ []) = refl
 given_same f alike (one ∷ other ∷ more) = refl
+
+-- a fault of the arguments that are given is the line's
+pub line_refused : (scope : Scope) (kind : Printing) (arguments trees : List ArgumentTree) (result : Result (List Piece) (OrMemory ElabFault)) (e : OrMemory ElabFault) →
+    IsErrAnd result (λ y. y ≡ e) → trees ≡ given arguments → Refuses e (lower_arguments scope trees) → Gives result (lower_line scope kind arguments)
+line_refused scope kind arguments trees (Ok x) e h is refused = absurd h
+line_refused scope kind arguments trees (Err y) e h is refused =
+    subst (λ (o : OrMemory ElabFault). Refuses o (lower_line scope kind arguments)) (sym h)
+    (still_refused (lower_arguments scope trees) (lower_line scope kind arguments)
+    (λ fault same. ap (λ (a : Result (List Argument) ElabFault). a >>= λ all. found (pieces_of (default_form kind) (ends_line kind) all) Kind (first_argument arguments))
+    (ap (lower_arguments scope) (sym is) ∙ same)) e refused)

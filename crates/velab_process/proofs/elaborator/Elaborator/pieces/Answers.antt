@@ -8,7 +8,7 @@ use Rattle.velab_expr.specs.Answers.{Refuses, found}
 use Rattle.velab_expr.specs.FirstWords.{first_argument}
 use Rattle.velab_process.specs.Prints.{default_form, ends_line, given, lower_arguments, lower_line}
 use Rattle.velab_process.specs.Inner.{Prints, HasOk}
-use Rattle.velab_process.proofs.LineLemmas.{line_by}
+use Rattle.velab_process.proofs.LineLemmas.{line_by, line_refused}
 use Rattle.velab_process.proofs.elaborator.Elaborator.pieces.Goals as goal
 
 pub returns-in-Some : goal.returns-in-Some
@@ -32,3 +32,9 @@ returns-in-None c =
     (first_argument trees) c.default_form.ensures c.ends_line.ensures c.new-printer.ensures taken c.in_ok-pieces.ensures c.right_pieces.ensures
     ∙ ap (λ (ps : Option (List Piece)). found ps Kind (first_argument trees)) c.in-None.is
     ∙ ap (λ at. Err (record { rule = Kind; at = at })) (sym (c.first_argument.ensures words)))
+
+pub returns-in_err-is_right : goal.returns-in_err-is_right
+returns-in_err-is_right c =
+    let words = words_of c.args.self.now.tokens.now in
+    line_refused c.args.self.now.scope.now c.args.kind (map (argument_tree words) c.args.arguments.now) (map (argument_tree words) c.given.result.now)
+    c.from_residual.result c.in_err-is_right.field-0.0 c.from_residual.ensures.1 (c.given.ensures words) c.in_err-is_right.ensures
