@@ -6,7 +6,7 @@ use crate::formats::{bad_format, letters_of};
 use crate::mistakes::{Mistake, rule_for};
 use crate::modules::begins_instances;
 use crate::walk::{Level, Walk};
-use crate::words::{Words, is_one_of};
+use crate::words::{Words, is_one_of, plain};
 use crate::{bounds, declarations, expressions, formats, keywords, statements, system_verilog};
 use basis::NoMemory;
 use std::alloc::Global;
@@ -79,7 +79,7 @@ pub(crate) fn construct_of(words: Words<'_>, walk: Walk) -> Option<Construct> {
     }
 }
 
-/// Whether two that are found are told as one: of what is told with its word, where the words are the same.
+/// Whether two that are found are told as one: of what is told with its word, where the words are the same, or name the same.
 pub(crate) fn is_same(one: &Found<'_>, other: &Found<'_>) -> bool {
     let names_word = match one.what {
         What::LeftOut(construct) => match row_of(construct) {
@@ -92,7 +92,7 @@ pub(crate) fn is_same(one: &Found<'_>, other: &Found<'_>) -> bool {
             Some(rule) => rule.names_word,
         },
     };
-    one.what == other.what && (!names_word || one.word == other.word)
+    one.what == other.what && (!names_word || plain(one.word) == plain(other.word))
 }
 
 /// Keeps what was found, or counts it where it is there.

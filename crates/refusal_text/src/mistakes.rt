@@ -215,7 +215,8 @@ static ROWS: [Row; 22] = [
             number: 310,
             names_word: true,
             what: "is given a string, which `%s` alone shows",
-            instead: "write `%s`, or the text itself in place of the format; a letter as a number is `8'h41`",
+            instead: "write `%s`, or the text itself in place of the format; a letter as a number is `8'h41`. An argument that \
+                is left out counts as a string, too",
         },
     },
     Row {

@@ -7,10 +7,11 @@ use std::alloc::Global;
 use vlex::Tokens;
 use vsrc::Place;
 
-/// A module, or an instance of one, by the module's name.
+/// A module, or an instance of one, by the module's name, and the word that has the name.
 #[derive(Clone, Copy)]
 pub(crate) struct Named<'a> {
     pub(crate) name: &'a [u8],
+    pub(crate) word: &'a [u8],
     pub(crate) place: Place,
 }
 
@@ -51,6 +52,7 @@ pub(crate) fn modules_of<'a>(
         let words = Words::new(tokens, at);
         let named = Named {
             name: words.name(),
+            word: words.word(),
             place: words.place(),
         };
         if is(words.before(1), "module") {

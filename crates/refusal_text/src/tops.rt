@@ -108,7 +108,7 @@ pub(crate) fn missing_modules<'a>(
         if !are_named(&modules.modules, one.name) {
             let found = Found {
                 what: What::Broken(301),
-                word: one.name,
+                word: one.word,
                 place: one.place,
                 more: 0,
             };

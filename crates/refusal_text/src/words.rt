@@ -33,8 +33,8 @@ pub(crate) fn is_name(word: &[u8]) -> bool {
     vast::words::is_name(word)
 }
 
-// The letters of a name: without the backslash of an escaped one.
-fn plain(word: &[u8]) -> &[u8] {
+/// The letters of a name: without the backslash of an escaped one.
+pub(crate) fn plain(word: &[u8]) -> &[u8] {
     match word.strip_prefix(b"\\") {
         None => word,
         Some(letters) => letters,
