@@ -1,6 +1,7 @@
 -- Among a text's tokens, which a number is and which a name is, by their bytes and by their kinds.
 use Rattle.std.proofs.Common.{◌≡◌, ◌⊎◌, ℕ, Bool, true, false, ◌&&◌, ◌||◌, ◌==◌, not, nat_le, List, [], ◌∷◌, ◌++◌, None, Some, take, drop, refl, sym, ap, ◌∙◌, arith, inl, inr, subst, All}
 use Rattle.std.specs.List.{list_all, prefix_len}
+use Rattle.std.proofs.Math.Bool.{or-false}
 use Rattle.std.proofs.lemmas.Bool.{ne_eqb, cases_eq, and_parts, not-true}
 use Rattle.std.proofs.lemmas.Bool.Decides.{nat_tests}
 use Rattle.std.proofs.lemmas.List.Elements.{All-nil, All-cons, All-weaker}
@@ -56,15 +57,11 @@ words_in_name (c ∷ cs) = ap (λ b. b && list_all (is_in Words) cs) (word_in_na
 no_digit : (c : ℕ) → begins_name c ≡ true → (is_ascii_digit c || (c == 39)) ≡ false
 no_digit c e = grind (arith, nat_tests)
 
-letter_no_backslash : (c : ℕ) → begins_name c ≡ true → (c == 92) ≡ false
-letter_no_backslash c e = grind (arith, nat_tests)
+letter_no_escape : (c : ℕ) (b : Bool) → begins_name c ≡ true → ((c == 92) && b) ≡ false
+letter_no_escape c b e = grind (arith, nat_tests)
 
 digit_no_backslash : (c : ℕ) → is_ascii_digit c ≡ true → (c == 92) ≡ false
 digit_no_backslash c e = grind (arith, nat_tests)
-
-or_nothing : (b : Bool) → (b || false) ≡ b
-or_nothing true = refl
-or_nothing false = refl
 
 digit_no_letter : (c : ℕ) → is_ascii_digit c ≡ true → begins_name c ≡ false
 digit_no_letter c e = grind (arith, nat_tests)
@@ -73,8 +70,8 @@ name_tells : (c : ℕ) (cs : List ℕ) → begins_name c ≡ true → list_all i
 name_tells c cs first all = record {
   number = no_digit c first;
   name = ap (λ b. (b && not (is_reserved (c ∷ cs))) || (c == 92 && are_printable cs)) (and_both (begins_name c) (list_all is_in_name cs) first all)
-      ∙ ap (λ b. not (is_reserved (c ∷ cs)) || (b && are_printable cs)) (letter_no_backslash c first)
-      ∙ or_nothing (not (is_reserved (c ∷ cs)));
+      ∙ ap (λ b. not (is_reserved (c ∷ cs)) || b) (letter_no_escape c (are_printable cs) first)
+      ∙ or-false (not (is_reserved (c ∷ cs)));
 }
 
 -- the bytes of an escaped name are printable
