@@ -20,8 +20,9 @@ use Rattle.vast.specs.declared.statement.Event.{Event}
 use Rattle.vast.specs.declared.statement.Event.TheVariants.{Terms}
 use Rattle.vast.specs.declared.statement.Argument.{Argument}
 use Rattle.vast.specs.declared.statement.Printing.{Printing}
+use Rattle.vast.specs.declared.statement.Idle.{Idle}
 use Rattle.vast.specs.declared.statement.Task.{Task}
-use Rattle.vast.specs.declared.statement.Task.TheVariants.{Print}
+use Rattle.vast.specs.declared.statement.Task.TheVariants.{Print, Idle as IdleTask}
 use Rattle.vast.proofs.ToldTrees.{told_concatenation, told_replication, told_joined}
 use Rattle.action_origins.specs.Lengths.{length_if, word_where, length_of_each, length_of_end, list_length, expression_length, end_of_parts, parts_length, target_length, end_of_targets, targets_length, term_length, further_length, event_length, argument_length, arguments_length, task_length, overrides_length, instance_length, item_length}
 
@@ -144,6 +145,14 @@ module _ (words : List Text) (left result : ℕ) where
   pub print_past : (task : Task) (kind : Printing) (arguments : Vec Argument Global) (items : List Argument) (middle : ℕ) → task ≡ Print kind arguments → items ≡ arguments.items →
       middle ≡ left - 1 → result ≡ middle - arguments_length (map (argument_tree words) items) → result ≡ left - task_length (task_tree words task)
   print_past task kind arguments items middle is same one h =
+      let size : task_length (task_tree words task) ≡ 1 + arguments_length (map (argument_tree words) items) =
+      ap (λ (t : Task). task_length (task_tree words t)) is
+      ∙ ap (λ (xs : List Argument). 1 + arguments_length (map (argument_tree words) xs)) (sym same) in
+      omega (arith, one, h, size)
+
+  pub idle_past : (task : Task) (kind : Idle) (arguments : Vec Argument Global) (items : List Argument) (middle : ℕ) → task ≡ IdleTask kind arguments → items ≡ arguments.items →
+      middle ≡ left - 1 → result ≡ middle - arguments_length (map (argument_tree words) items) → result ≡ left - task_length (task_tree words task)
+  idle_past task kind arguments items middle is same one h =
       let size : task_length (task_tree words task) ≡ 1 + arguments_length (map (argument_tree words) items) =
       ap (λ (t : Task). task_length (task_tree words t)) is
       ∙ ap (λ (xs : List Argument). 1 + arguments_length (map (argument_tree words) xs)) (sym same) in
