@@ -8,15 +8,15 @@ use Rattle.vast.specs.NumberedExpressions.{ExpressionTree, ExpressionTrees}
 use Rattle.vast.specs.NumberedStatements as written
 use Rattle.vast.specs.NumberedStatements.{TargetTree, TargetTrees, DelayTree, by_number, by_name, by_value, TermTree, EventTree, by_event, by_any, by_any_enclosed, by_terms, ArgumentTree, quoted, printed, left_out, SelectionTree, TaskTree, print, idle, dump_file, dump_vars, dump, end_run, StatementTree, StatementTrees, empty, block, assign, nonblocking, trigger, if_true, if_else, case_of, while_true, repeat_times, forever, for_loop, wait_for, delay, event, task, no_statement, first_statement, BranchTree, BranchTrees, labelled, default, no_branch, first_branch}
 use Rattle.vast.specs.NumberedModules as modules
-use Rattle.vast.specs.NumberedModules.{RangeTree, TypeTree, ParameterType, integer, typed, SettingTree, DeclaredTree, DirectionTree, input, output, PortTree, HeadParameter, ConnectionTree, ConnectionsTree, InstanceTree, DeclarationKind, variables, integers, directed, ItemTree, parameters, declaration, events, assignments, initial, always, instances}
+use Rattle.vast.specs.NumberedModules.{RangeTree, TypeTree, ParameterType, integer, typed, SettingTree, NetAssignment, DeclaredTree, DirectionTree, input, output, PortTree, HeadParameter, ConnectionTree, ConnectionsTree, InstanceTree, DeclarationKind, variables, integers, directed, ItemTree, parameters, declaration, events, assignments, initial, always, instances}
 use Rattle.vast.specs.declared.statement.Edge.{Edge}
 use Rattle.vast.specs.declared.module.NetKind.{NetKind}
 use Rattle.vast.specs.Expressions.{spell_expression, spell_parts, spell_more_parts}
 use Rattle.vast.specs.Statements.{listed, spell_target, spell_targets, spell_more_targets, spell_delay, spell_optional_delay, spell_edge, spell_term, spell_further_term, spell_event, spell_argument, spell_arguments, spell_path, spell_selection, spell_number, spell_task, case_word, spell_condition, spell_statement, spell_statements, spell_branch, spell_branches}
 use Rattle.vast.specs.Modules as plain
 use Rattle.vast.specs.Modules.{spell_range, spell_signed, spell_type, spell_parameter_type, spell_value, spell_declared, spell_net, spell_wire, spell_direction, spell_port, spell_kind, spell_head_parameter, spell_optional, spell_connection, spell_connections, spell_overrides, spell_instance, spell_declaration_kind, spell_item, spell_head_parameters, spell_ports}
-use Rattle.vast.specs.TreeWords.{expression_with, expressions_with, target_with, targets_with, delay_with, term_with, further_with, event_with, argument_with, selection_with, task_with, statement_with, statements_with, branch_with, branches_with, range_with, type_with, parameter_type_with, setting_with, declared_with, direction_with, port_with, head_with, connection_with, connections_with, instance_with, declaration_kind_with, item_with}
-use Rattle.action_origins.specs.Lengths.{length_if, word_if, word_where, length_of_each, list_length, expression_length, each_part, parts_length, target_length, each_target, end_of_targets, delay_length, term_length, further_length, event_length, argument_length, arguments_length, path_length, paths_length, selection_length, task_length, assignment_length, pair_length, head_length, for_length, turn_length, default_length, statement_length, statements_length, branch_length, branches_length, range_length, type_length, parameter_type_length, setting_length, value_length, declared_length, direction_length, port_length, kind_length, head_parameter_length, connection_length, connections_length, overrides_length, instance_length, declaration_kind_length, item_length, head_parameters_length, ports_length}
+use Rattle.vast.specs.TreeWords.{expression_with, expressions_with, target_with, targets_with, delay_with, term_with, further_with, event_with, argument_with, selection_with, task_with, statement_with, statements_with, branch_with, branches_with, range_with, type_with, parameter_type_with, setting_with, net_assignment_with, declared_with, direction_with, port_with, head_with, connection_with, connections_with, instance_with, declaration_kind_with, item_with}
+use Rattle.action_origins.specs.Lengths.{length_if, word_if, word_where, length_of_each, list_length, expression_length, each_part, parts_length, target_length, each_target, end_of_targets, delay_length, term_length, further_length, event_length, argument_length, arguments_length, path_length, paths_length, selection_length, task_length, assignment_length, pair_length, head_length, for_length, turn_length, default_length, statement_length, statements_length, branch_length, branches_length, range_length, type_length, parameter_type_length, setting_length, net_assignment_length, value_length, declared_length, direction_length, port_length, kind_length, head_parameter_length, connection_length, connections_length, overrides_length, instance_length, declaration_kind_length, item_length, head_parameters_length, ports_length}
 use Rattle.action_origins.specs.Laws.{letters, spelled, spelled_pair, AreLengths}
 
 -- words behind others
@@ -424,6 +424,14 @@ declaration_kind_spelled (directed direction) = direction_spelled (Some directio
 settings_spelled : (settings : List SettingTree) → list_length setting_length settings ≡ length (listed plain.spell_setting (map (setting_with letters) settings) ++ codes ";" ∷ [])
 settings_spelled settings = list_spelled (setting_with letters) setting_length plain.spell_setting setting_spelled settings (codes ";")
 
+net_assignment_spelled : (one : NetAssignment) → net_assignment_length one ≡ length (plain.spell_net_assignment (net_assignment_with letters one))
+net_assignment_spelled one = pair_spelled one.target one.value
+
+net_assignments_spelled : (list : List NetAssignment) →
+    list_length net_assignment_length list ≡ length (listed plain.spell_net_assignment (map (net_assignment_with letters) list) ++ codes ";" ∷ [])
+net_assignments_spelled list =
+    list_spelled (net_assignment_with letters) net_assignment_length plain.spell_net_assignment net_assignment_spelled list (codes ";")
+
 pub item_spelled : (i : ItemTree) → item_length i ≡ length (spell_item (item_with letters i))
 item_spelled (parameters local type settings) =
     omega (
@@ -437,7 +445,7 @@ item_spelled (declaration kind list) =
     (declaration_kind_spelled kind) (list_spelled (declared_with letters) declared_length spell_declared declared_spelled list (codes ";"))
 item_spelled (events names) =
     omega (arith, list_spelled letters (λ name. 1) (λ word. word ∷ []) (λ name. refl) names (codes ";"))
-item_spelled (assignments settings) = omega (arith, settings_spelled settings)
+item_spelled (assignments list) = omega (arith, net_assignments_spelled list)
 item_spelled (initial statement) = omega (arith, statement_spelled statement)
 item_spelled (always statement) = omega (arith, statement_spelled statement)
 item_spelled (instances name overrides list) =

@@ -6,7 +6,7 @@ use Rattle.vast.specs.NumberedExpressions.{ExpressionTree, ExpressionTrees}
 use Rattle.vast.specs.NumberedStatements as written
 use Rattle.vast.specs.NumberedStatements.{TargetTree, TargetTrees, DelayTree, by_number, by_name, by_value, TermTree, EventTree, by_event, by_any, by_any_enclosed, by_terms, ArgumentTree, quoted, printed, left_out, SelectionTree, TaskTree, print, idle, dump_file, dump_vars, dump, end_run, StatementTree, StatementTrees, empty, block, assign, nonblocking, trigger, if_true, if_else, case_of, while_true, repeat_times, forever, for_loop, wait_for, delay, event, task, no_statement, first_statement, BranchTree, BranchTrees, labelled, default, no_branch, first_branch}
 use Rattle.vast.specs.NumberedModules as modules
-use Rattle.vast.specs.NumberedModules.{RangeTree, TypeTree, ParameterType, integer, typed, SettingTree, DeclaredTree, DirectionTree, input, output, PortTree, HeadParameter, ConnectionTree, ConnectionsTree, InstanceTree, DeclarationKind, variables, integers, directed, ItemTree, parameters, declaration, events, assignments, initial, always, instances}
+use Rattle.vast.specs.NumberedModules.{RangeTree, TypeTree, ParameterType, integer, typed, SettingTree, DeclaredTree, DirectionTree, input, output, PortTree, HeadParameter, ConnectionTree, ConnectionsTree, InstanceTree, DeclarationKind, variables, integers, directed, ItemTree, parameters, declaration, events, assignments, initial, always, instances, NetAssignment}
 
 -- of what may be left out
 abbrev pub length_if : {A : Type 0} → (A → ℕ) → Option A → ℕ
@@ -216,6 +216,9 @@ parameter_type_length (typed type) = type_length type
 abbrev pub setting_length : SettingTree → ℕ
 setting_length setting = 2 + expression_length setting.value
 
+abbrev pub net_assignment_length : NetAssignment → ℕ
+net_assignment_length one = pair_length one.target one.value
+
 -- = value
 abbrev pub value_length : ExpressionTree → ℕ
 value_length value = 1 + expression_length value
@@ -260,7 +263,7 @@ abbrev pub item_length : ItemTree → ℕ
 item_length (parameters local type settings) = 1 + (parameter_type_length type + list_length setting_length settings)
 item_length (declaration kind list) = declaration_kind_length kind + list_length declared_length list
 item_length (events names) = 1 + list_length (λ name. 1) names
-item_length (assignments settings) = 1 + list_length setting_length settings
+item_length (assignments list) = 1 + list_length net_assignment_length list
 item_length (initial statement) = 1 + statement_length statement
 item_length (always statement) = 1 + statement_length statement
 item_length (instances letters overrides list) = 1 + (length_if overrides_length overrides + list_length instance_length list)

@@ -6,19 +6,15 @@ use Rattle.std.specs.List.{filter_map, flat_map}
 use Rattle.vast.specs.Words.{Text}
 use Rattle.vast.specs.NumberedWords.{Word}
 use Rattle.vast.specs.NumberedStatements.{StatementTree, StatementTrees, empty, block, assign, nonblocking, trigger, if_true, if_else, case_of, while_true, repeat_times, forever, for_loop, wait_for, delay, event, task, no_statement, first_statement, BranchTree, BranchTrees, labelled, default, no_branch, first_branch}
-use Rattle.vast.specs.NumberedModules.{DeclaredTree, SettingTree, ConnectionsTree, by_order, by_name, InstanceTree, ItemTree, parameters, declaration, events, assignments, initial, always, instances, ModuleTree, SourceTree}
+use Rattle.vast.specs.NumberedModules.{DeclaredTree, NetAssignment, ConnectionsTree, by_order, by_name, InstanceTree, ItemTree, parameters, declaration, events, assignments, initial, always, instances, ModuleTree, SourceTree}
 use Rattle.vmodules.specs.Hierarchy.{module_of, top_of}
-use Rattle.action_origins.specs.Lengths.{length_if, parts_length, delay_length, event_length, head_length, for_length, turn_length, default_length, statement_length, item_length, branch_length, head_parameters_length, ports_length, begin_length}
+use Rattle.action_origins.specs.Lengths.{length_if, parts_length, delay_length, event_length, head_length, for_length, turn_length, default_length, statement_length, item_length, branch_length, head_parameters_length, ports_length, begin_length, net_assignment_length}
 
 -- ---- what begins at a name
 
 -- 6.2.1, 6.1.1: what is declared with a value begins at its name
 abbrev pub declared_origins : List DeclaredTree → List ℕ
 declared_origins list = filter_map (λ one. option_map (λ value. one.name.number) one.value) list
-
--- 6.1: and so does each part of an `assign`
-abbrev pub driven_origins : List SettingTree → List ℕ
-driven_origins list = map (λ one. one.name.number) list
 
 -- 12.3.9.2: a port that is connected begins at the name of the instance
 abbrev pub joined_origins : Word → ConnectionsTree → List ℕ
@@ -84,12 +80,17 @@ module _ (words : List Text) where
     branches_origins left no_branch = []
     branches_origins left (first_branch one more) = branch_origins left one ++ branches_origins (left - branch_length one) more
 
+  -- 6.1: each part of an `assign` begins at its target
+  abbrev pub driven_origins : ℕ → List NetAssignment → List ℕ
+  driven_origins left [] = []
+  driven_origins left (one ∷ more) = number_of left ∷ driven_origins (left - (net_assignment_length one + 1)) more
+
   -- 9.9: an `always` has its own action behind those of its statement
   abbrev pub item_origins : ℕ → ItemTree → List ℕ
   item_origins left (parameters local type settings) = []
   item_origins left (declaration kind list) = declared_origins list
   item_origins left (events names) = []
-  item_origins left (assignments settings) = driven_origins settings
+  item_origins left (assignments list) = driven_origins (left - 1) list
   item_origins left (initial statement) = statement_origins (left - 1) statement
   item_origins left (always statement) = statement_origins (left - 1) statement ++ number_of left ∷ []
   item_origins left (instances name overrides list) = []

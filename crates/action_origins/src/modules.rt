@@ -1,15 +1,16 @@
 // Parts of modules (IEEE 1364-2005, clauses 4 and 12).
 
 ghost use Rattle.std.specs.Prelude.{◌≡◌, ◌-◌, List, map, option_map};
-ghost use Rattle.vast.specs.NumberedTrees.{connection_tree, connections_tree, declaration_kind, declared_tree, direction_tree, head_parameter, instance_tree, parameter_type, port_tree, range_tree, setting_tree, tree_of, type_tree};
+ghost use Rattle.vast.specs.NumberedTrees.{connection_tree, connections_tree, declaration_kind, declared_tree, direction_tree, head_parameter, instance_tree, net_assignment, parameter_type, port_tree, range_tree, setting_tree, tree_of, type_tree};
 ghost use Rattle.vast.specs.Words.{Text};
-ghost use Rattle.action_origins.specs.Lengths.{connection_length, connections_length, declaration_kind_length, declared_length, direction_length, expression_length, head_parameter_length, head_parameters_length, instance_length, kind_length, length_if, length_of_each, list_length, overrides_length, parameter_type_length, port_length, ports_length, range_length, setting_length, type_length, value_length, word_if, word_where};
+ghost use Rattle.action_origins.specs.Lengths.{connection_length, connections_length, declaration_kind_length, declared_length, direction_length, expression_length, head_parameter_length, head_parameters_length, instance_length, kind_length, length_if, length_of_each, list_length, net_assignment_length, overrides_length, parameter_type_length, port_length, ports_length, range_length, setting_length, type_length, value_length, word_if, word_where};
 
 use crate::expressions::{past_end, past_expression};
+use crate::parts::past_pair;
 use vast::expression::Expression;
 use vast::module::{
     Bounds, Connection, Connections, DeclarationKind, Declared, Direction, HeadParameter, Instance,
-    NetKind, ParameterType, Port, Setting, SignAndRange,
+    NetAssignment, NetKind, ParameterType, Port, Setting, SignAndRange,
 };
 
 fn past_word(is_there: bool, left: usize) -> usize
@@ -75,6 +76,32 @@ pub fn past_settings(settings: &[Setting], left: usize) -> usize
         result ≡ left - list_length setting_length (map (setting_tree words) settings.now) }
 {
     past_each_setting(settings, past_end(settings.is_empty(), left))
+}
+
+/// What is left behind one part of an `assign`.
+pub fn past_net_assignment(one: &NetAssignment, left: usize) -> usize
+    ensures { (words : List Text) →
+        result ≡ left - net_assignment_length (net_assignment words one.now) }
+{
+    past_pair(&one.target, &one.value, left)
+}
+
+fn past_each_net_assignment(list: &[NetAssignment], mut left: usize) -> usize
+    ensures { (words : List Text) →
+        result ≡ left - length_of_each net_assignment_length (map (net_assignment words) list.now) }
+{
+    for one in list {
+        left = past_net_assignment(one, left).saturating_sub(1);
+    }
+    left
+}
+
+/// What is left behind the parts of an `assign` and the word that ends them.
+pub fn past_net_assignments(list: &[NetAssignment], left: usize) -> usize
+    ensures { (words : List Text) →
+        result ≡ left - list_length net_assignment_length (map (net_assignment words) list.now) }
+{
+    past_each_net_assignment(list, past_end(list.is_empty(), left))
 }
 
 fn past_value(value: &Option<Box<Expression>>, left: usize) -> usize

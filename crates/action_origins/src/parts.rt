@@ -84,7 +84,7 @@ pub fn past_assignment(
 }
 
 // What is left behind `target = value`.
-fn past_pair(target: &Target, value: &Expression, left: usize) -> usize
+pub fn past_pair(target: &Target, value: &Expression, left: usize) -> usize
     ensures { (words : List Text) → result ≡
         left - pair_length (target_tree words target.now) (tree_of words value.now) }
 {

@@ -2,7 +2,7 @@
 
 ghost use Rattle.std.specs.Prelude.{◌≡◌, ◌-◌, ◌++◌, List, None, Some, map, IfOk, OnOk};
 ghost use Rattle.std.specs.List.{flat_map};
-ghost use Rattle.vast.specs.NumberedTrees.{connection_tree, connections_tree, declared_tree, instance_tree, item_tree, module_tree, setting_tree, source_tree, tree_of};
+ghost use Rattle.vast.specs.NumberedTrees.{connection_tree, connections_tree, declared_tree, instance_tree, item_tree, module_tree, net_assignment, source_tree, tree_of};
 ghost use Rattle.vast.specs.NumberedModules.{by_name, by_order};
 ghost use Rattle.vast.specs.NumberedWords.{numbered};
 ghost use Rattle.vast.specs.Words.{Text};
@@ -15,16 +15,16 @@ ghost use Rattle.action_origins.specs.Origins.{declared_origins, design_origins,
 
 use crate::expressions::past_end;
 use crate::modules::{
-    past_declaration_kind, past_declarations, past_heads, past_instances, past_overrides,
-    past_parameter_type, past_ports, past_settings,
+    past_declaration_kind, past_declarations, past_heads, past_instances, past_net_assignment,
+    past_net_assignments, past_overrides, past_parameter_type, past_ports, past_settings,
 };
 use crate::statements::{put, put_statement};
 use basis::{NoMemory, OrMemory};
 use std::alloc::Global;
 use vast::expression::Expression;
 use vast::module::{
-    Connection, Connections, DeclarationKind, Declared, Instance, ModuleItem, ModuleTree, Setting,
-    TextTree,
+    Connection, Connections, DeclarationKind, Declared, Instance, ModuleItem, ModuleTree,
+    NetAssignment, TextTree,
 };
 use vast::token::Token;
 use vlex::Tokens;
@@ -47,13 +47,19 @@ fn put_declared(list: &[Declared], into: &mut Vec<usize>) -> Result<(), NoMemory
     Ok(())
 }
 
-// Puts where the parts of an `assign` begin.
-fn put_driven(list: &[Setting], into: &mut Vec<usize>) -> Result<(), NoMemory>
-    ensures { (words : List Text) → OnOk result (into.new.items ≡
-        into.old.items ++ driven_origins (map (setting_tree words) list.now)) }
+// Puts where the parts of an `assign` begin, from whose first target so many words are left.
+fn put_driven(
+    tokens: &Tokens<'_>,
+    list: &[NetAssignment],
+    mut left: usize,
+    into: &mut Vec<usize>,
+) -> Result<(), NoMemory>
+    ensures { OnOk result (into.new.items ≡ into.old.items ++ driven_origins (words_of tokens.now)
+        left (map (net_assignment (words_of tokens.now)) list.now)) }
 {
     for one in list {
-        into.push(one.name.number as usize)?;
+        put(tokens, left, into)?;
+        left = past_net_assignment(one, left).saturating_sub(1);
     }
     Ok(())
 }
@@ -91,9 +97,9 @@ fn put_item(
             Ok(past_declarations(declared, past_declaration_kind(kind, left)))
         }
         ModuleItem::Events { names, .. } => Ok(past_names(names, inner)),
-        ModuleItem::Assignments { settings, .. } => {
-            put_driven(settings, into)?;
-            Ok(past_settings(settings, inner))
+        ModuleItem::Assignments { list, .. } => {
+            put_driven(tokens, list, inner, into)?;
+            Ok(past_net_assignments(list, inner))
         }
         ModuleItem::Initial { statement, .. } => put_statement(tokens, statement, inner, into),
         ModuleItem::Always { statement, .. } => {

@@ -10,7 +10,7 @@ use Rattle.cause.specs.Footprints.{meet}
 
 -- 6.1: a port connection, or an `assign`
 abbrev pub is_connection : Option Action → Bool
-is_connection (Some (ContinuousAssign net value list)) = true
+is_connection (Some (ContinuousAssign targets value list)) = true
 is_connection _ = false
 
 abbrev pub writes_one : List Thing → Option Visit → Bool

@@ -86,10 +86,6 @@ footprint_of_suspended holds things targets = if holds then footprint_of_reads t
 abbrev pub footprint_of_trigger : ℕ → Footprint
 footprint_of_trigger event = record { reads = []; writes = Event event ∷ [] }
 
--- 6.1
-abbrev pub footprint_of_drive : ℕ → List Thing → Footprint
-footprint_of_drive net things = record { reads = things; writes = Variable net ∷ [] }
-
 -- clause 9: what a step of an action reads and writes; `holds`: the process holds a value after it. A nonblocking assignment writes what it
 -- posts to. Each turn of a `repeat` is a step of it
 abbrev pub footprint_of : Action → Bool → Footprint
@@ -106,7 +102,7 @@ footprint_of (Forever body) holds = nothing
 footprint_of (Delay amount body) holds = footprint_of_reads (named_in amount)
 footprint_of (EventControl list body) holds = footprint_of_reads (map thing_of_term list)
 footprint_of (Wait condition list body) holds = footprint_of_reads (named_in condition)
-footprint_of (ContinuousAssign net value list) holds = footprint_of_drive net (named_in value)
+footprint_of (ContinuousAssign targets value list) holds = footprint_of_writes (named_in value) targets
 footprint_of (Print when list) holds = footprint_of_reads (named_in_print when list)
 footprint_of (DumpVars selection) holds = nothing
 footprint_of (Dump asked) holds = nothing

@@ -209,7 +209,7 @@ fn footprint_of_writes(
     })
 }
 
-// An assignment, at once or posted (9.2).
+// An assignment, at once, posted or continuous (6.1, 9.2).
 fn footprint_of_assignment(
     alloc: Global,
     targets: &Targets,
@@ -302,19 +302,6 @@ fn footprint_of_trigger(alloc: Global, event: usize) -> Result<Footprint, NoMemo
     })
 }
 
-// `assign net = value` (6.1).
-fn footprint_of_drive(alloc: Global, net: u32, value: &Expression) -> Result<Footprint, NoMemory>
-    ensures { IfOk result (λ found. found ≡ spec.footprint_of_drive net (named_in value.now)) }
-{
-    let mut reads = Vec::new(alloc);
-    put_named(&mut reads, value)?;
-    let writes = Things::one(alloc, Thing::Variable(net))?;
-    Ok(Footprint {
-        reads: Things::new(reads),
-        writes,
-    })
-}
-
 /// What a step of an action reads and writes, after which its process holds a value, or none.
 pub(crate) fn footprint_of(
     alloc: Global,
@@ -349,7 +336,9 @@ pub(crate) fn footprint_of(
         Action::Delay { amount, .. } => footprint_of_expression(alloc, amount),
         Action::EventControl { terms, .. } => footprint_of_event_control(alloc, terms),
         Action::Wait { condition, .. } => footprint_of_expression(alloc, condition),
-        Action::ContinuousAssign { net, value, .. } => footprint_of_drive(alloc, *net, value),
+        Action::ContinuousAssign { targets, value, .. } => footprint_of_assignment(
+            alloc, targets, value,
+        ),
         Action::Print { when, pieces } => footprint_of_print(alloc, *when, pieces),
         Action::DumpVars(_) => Ok(Footprint::nothing(alloc)),
         Action::Dump(_) => Ok(Footprint::nothing(alloc)),

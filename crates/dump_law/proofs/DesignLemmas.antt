@@ -1,14 +1,16 @@
 -- A design that a text stands for is small.
-use Rattle.std.proofs.Common.{◌≡◌, ◌≤◌, ℕ, zero, suc, ◌+◌, List, [], ◌∷◌, All, length, Option, Result, Ok, subst, arith, length-append}
-use Rattle.std.proofs.lemmas.List.Elements.{All-nil, All-cons, All-append}
+use Rattle.std.proofs.Common.{◌≡◌, ◌≤◌, ℕ, zero, suc, ◌+◌, List, [], ◌∷◌, All, length, Option, Result, Ok, refl, sym, ap, subst, arith, length-append}
+use Rattle.std.proofs.lemmas.List.Elements.{All-nil, All-cons, All-head, All-tail, All-append}
 use Rattle.basis.specs.declared.timescale.Timescale.{Timescale}
 use Rattle.vast.specs.Words.{Text}
 use Rattle.vast.specs.NumberedModules.{ModuleTree, SourceTree}
-use Rattle.vdesign.specs.Design.{Scope, Design}
+use Rattle.module_size.specs.Sizes.{size_of}
+use Rattle.vdesign.specs.Design.{Variable, Scope, Design}
 use Rattle.vmodules.specs.Ports.{ports_of, own_items}
+use Rattle.velab_declaration.specs.Drives.{Place, start_of, started}
 use Rattle.velab_declaration.specs.Variables.{port_scope}
 use Rattle.velab_expr.specs.declared.fault.ElabFault.{ElabFault}
-use Rattle.vhierarchy.specs.Instances.{Instantiation, Part, Context, scope_of, scope_drivers_by, child_context, each, elaborate_instance, elaborate_top, nothing, top_context, Elaborates}
+use Rattle.vhierarchy.specs.Instances.{Instantiation, Part, Context, scope_of, child_context, each, elaborate_instance, elaborate_top, nothing, top_context, driven_in, Elaborates}
 use Rattle.elaboration_law.specs.Counts.{Variables, Instances, Letters}
 use Rattle.elaboration_law.proofs.StepLemmas.{same_value, then_ok}
 use Rattle.elaboration_law.proofs.HierarchyLemmas.{Own, opened_ok, all_elaborated}
@@ -16,6 +18,22 @@ use Rattle.elaboration_law.proofs.OwnLemmas.{own_steps}
 use Rattle.elaboration_law.proofs.CountLemmas.{few_top}
 use Rattle.dump_law.specs.Small.{IsSmallVariable, IsShallow, IsSmall}
 use Rattle.dump_law.proofs.RangeLemmas.{ports_small, variables_small}
+
+-- what the bits of variables are at first changes no size
+module _ (driven : List Place) where
+  started_long : (n : ℕ) (vs : List Variable) → length (started driven n vs) ≡ length vs
+  started_long n [] = refl
+  started_long n (v ∷ more) = ap suc (started_long (n + 1) more)
+
+  started_letters : (n : ℕ) (vs : List Variable) → size_of (λ v. length v.name) (started driven n vs) ≡ size_of (λ v. length v.name) vs
+  started_letters n [] = refl
+  started_letters n (v ∷ more) = ap (λ (long : ℕ). length v.name + long) (started_letters (n + 1) more)
+
+  started_small : (n : ℕ) (vs : List Variable) → All IsSmallVariable vs → All IsSmallVariable (started driven n vs)
+  started_small n [] all = All-nil IsSmallVariable
+  started_small n (v ∷ more) all =
+      All-cons IsSmallVariable (record v { start = start_of driven n v }) (started driven (n + 1) more) (All-head IsSmallVariable v more all)
+      (started_small (n + 1) more (All-tail IsSmallVariable v more all))
 
 -- what stands in a design so far
 record IsSmallPart (part : Part) : Type 0 where
@@ -31,10 +49,10 @@ module _ (modules : SourceTree) where
   own_small : (levels : ℕ) (part : Part) (context : Context) (own : Own modules part context) → IsPlaced (suc levels) context → IsSmallPart part → IsSmallPart own.whole
   own_small levels part context own placed small =
       let s = own_steps modules part context own in
-      let drivers = scope_drivers_by context (ports_of context.unit) own.children own.scope in
+      let path = context.path in
       let scope : Scope = scope_of context own.scope.variables in
-      let ports = ports_small drivers (port_scope context.unit own.scope) (ports_of context.unit) s.ports_are s.ports_made in
-      let others = variables_small drivers own.scope (own_items context.unit) s.others_are s.others_made in
+      let ports = ports_small path (port_scope context.unit own.scope) (ports_of context.unit) s.ports_are s.ports_made in
+      let others = variables_small path own.scope (own_items context.unit) s.others_are s.others_made in
       let made = subst (All IsSmallVariable) s.both_made (All-append IsSmallVariable s.ports_are s.others_are ports others) in
       let here : IsShallow scope = let depth = placed.depth in (omega (arith, depth), placed.path) in
       subst IsSmallPart s.whole_is (record {
@@ -74,10 +92,12 @@ pub designs_small : (tree : SourceTree) (top : Option Text) (scale : Timescale) 
 designs_small tree top scale design is =
     let all = all_elaborated tree top scale design is in
     let made = top_small tree all.unit all.part all.is_part in
+    let driven = driven_in all.part in
     subst IsSmall all.is_design (record {
-      variables = few_top tree Variables all.unit all.part all.is_part;
+      variables = subst (λ (long : ℕ). long ≤ 1024) (sym (started_long driven 0 all.part.variables)) (few_top tree Variables all.unit all.part all.is_part);
       scopes = few_top tree Instances all.unit all.part all.is_part;
-      letters = few_top tree Letters all.unit all.part all.is_part;
-      narrow = made.narrow;
+      letters = subst (λ (long : ℕ). long + size_of (λ s. length s.path) all.part.scopes ≤ 1048576) (sym (started_letters driven 0 all.part.variables))
+          (few_top tree Letters all.unit all.part all.is_part);
+      narrow = started_small driven 0 all.part.variables made.narrow;
       shallow = made.shallow;
     })

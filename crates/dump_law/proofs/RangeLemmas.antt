@@ -24,7 +24,7 @@ use Rattle.velab_expr.specs.Resolved.{lower_value}
 use Rattle.velab_expr.specs.Scopes.{Scope}
 use Rattle.velab_expr.specs.Symbols.{behind_item}
 use Rattle.velab_declaration.specs.declared.variable.Form.{Form}
-use Rattle.velab_declaration.specs.Variables.{ScopeDrivers, length_of, variable_in, form_of, lower_kind, variables_in, variables_as, lower_declaration, lower_variables, lower_again, lower_port, lower_ports, counted_kind}
+use Rattle.velab_declaration.specs.Variables.{length_of, variable_in, form_of, lower_kind, variables_in, variables_as, lower_declaration, lower_variables, lower_again, lower_port, lower_ports, counted_kind}
 use Rattle.elaboration_law.proofs.StepLemmas.{same_value, then_ok, required_ok, found_ok}
 use Rattle.elaboration_law.proofs.AgainLemmas.{again_keeps}
 use Rattle.dump_law.specs.Small.{AreSmallBounds, IsSmallVariable}
@@ -81,22 +81,22 @@ length_small Integer None ranged = (omega arith, tt)
 length_small Time None ranged = (omega arith, tt)
 length_small Wire None ranged = (omega arith, tt)
 
-variable_small : (drivers : ScopeDrivers) (form : Form) (name : Text) → IsRanged form.bounds → IsSmallVariable (variable_in drivers form name)
-variable_small drivers form name ranged = length_small form.kind form.bounds ranged
+variable_small : (path : Text) (form : Form) (name : Text) → IsRanged form.bounds → IsSmallVariable (variable_in path form name)
+variable_small path form name ranged = length_small form.kind form.bounds ranged
 
-module _ (drivers : ScopeDrivers) where
-  pub ports_small : (scope : Scope) (list : List Port) (vs : List Variable) → lower_ports drivers scope list ≡ Ok vs → All IsSmallVariable vs
+module _ (path : Text) where
+  pub ports_small : (scope : Scope) (list : List Port) (vs : List Variable) → lower_ports path scope list ≡ Ok vs → All IsSmallVariable vs
   ports_small scope [] vs is = subst (All IsSmallVariable) (same_value [] vs is) (All-nil IsSmallVariable)
   ports_small scope (p ∷ more) vs is =
-      let one = then_ok (lower_port drivers scope p) (λ one. lower_ports drivers scope more >>= λ others. Ok (one ∷ others)) vs is in
-      let others = then_ok (lower_ports drivers scope more) (λ others. Ok (one.0 ∷ others)) vs one.2 in
-      let bounds = then_ok (lower_bounds scope p.type.range) (λ bounds. lower_again scope p.again bounds >>= λ whole. Ok (variable_in drivers (form_of p.net p.type.signed whole) p.name.letters)) one.0 one.1 in
-      let whole = then_ok (lower_again scope p.again bounds.0) (λ whole. Ok (variable_in drivers (form_of p.net p.type.signed whole) p.name.letters)) one.0 bounds.2 in
+      let one = then_ok (lower_port path scope p) (λ one. lower_ports path scope more >>= λ others. Ok (one ∷ others)) vs is in
+      let others = then_ok (lower_ports path scope more) (λ others. Ok (one.0 ∷ others)) vs one.2 in
+      let bounds = then_ok (lower_bounds scope p.type.range) (λ bounds. lower_again scope p.again bounds >>= λ whole. Ok (variable_in path (form_of p.net p.type.signed whole) p.name.letters)) one.0 one.1 in
+      let whole = then_ok (lower_again scope p.again bounds.0) (λ whole. Ok (variable_in path (form_of p.net p.type.signed whole) p.name.letters)) one.0 bounds.2 in
       let form = form_of p.net p.type.signed whole.0 in
       let small = subst IsRanged (again_keeps scope p.again bounds.0 whole.0 whole.1) (bounds_small scope p.type.range bounds.0 bounds.1) in
-      let here = variable_small drivers form p.name.letters small in
+      let here = variable_small path form p.name.letters small in
       subst (All IsSmallVariable) (same_value (one.0 ∷ others.0) vs others.2)
-      (All-cons IsSmallVariable one.0 others.0 (subst IsSmallVariable (same_value (variable_in drivers form p.name.letters) one.0 whole.2) here)
+      (All-cons IsSmallVariable one.0 others.0 (subst IsSmallVariable (same_value (variable_in path form p.name.letters) one.0 whole.2) here)
       (ports_small scope more others.0 others.1))
 
   kind_small : (scope : Scope) (kind : DeclarationKind) (form : Form) → lower_kind scope kind ≡ Ok form → IsRanged form.bounds
@@ -110,11 +110,11 @@ module _ (drivers : ScopeDrivers) where
       let bounds = then_ok (lower_bounds scope range) (λ bounds. Ok (form_of net.Wire (type_in direction).signed bounds)) form is in
       subst (λ (f : Form). IsRanged f.bounds) (same_value (form_of net.Wire (type_in direction).signed bounds.0) form bounds.2) (bounds_small scope range bounds.0 bounds.1)
 
-  declared_small : (form : Form) (list : List DeclaredTree) → IsRanged form.bounds → All IsSmallVariable (variables_in drivers form list)
+  declared_small : (form : Form) (list : List DeclaredTree) → IsRanged form.bounds → All IsSmallVariable (variables_in path form list)
   declared_small form list ranged =
-      All-map IsSmallVariable (λ one. variable_in drivers form one.name.letters) list (λ k d lt. variable_small drivers form (slice_index_or list k d).name.letters ranged)
+      All-map IsSmallVariable (λ one. variable_in path form one.name.letters) list (λ k d lt. variable_small path form (slice_index_or list k d).name.letters ranged)
 
-  formed_small : (form : Form) (kind : DeclarationKind) (list : List DeclaredTree) → IsRanged form.bounds → All IsSmallVariable (variables_as drivers form kind list)
+  formed_small : (form : Form) (kind : DeclarationKind) (list : List DeclaredTree) → IsRanged form.bounds → All IsSmallVariable (variables_as path form kind list)
   formed_small form (variables word type) list ranged = declared_small form list ranged
   formed_small form (integers long) list ranged = declared_small form list ranged
   formed_small form (directed direction) list ranged = All-nil IsSmallVariable
@@ -122,21 +122,21 @@ module _ (drivers : ScopeDrivers) where
   none_small : (vs : List Variable) → (let none : Result (List Variable) ElabFault = Ok [] in none ≡ Ok vs) → All IsSmallVariable vs
   none_small vs is = subst (All IsSmallVariable) (same_value [] vs is) (All-nil IsSmallVariable)
 
-  item_small : (scope : Scope) (item : ItemTree) (vs : List Variable) → lower_declaration drivers scope item ≡ Ok vs → All IsSmallVariable vs
+  item_small : (scope : Scope) (item : ItemTree) (vs : List Variable) → lower_declaration path scope item ≡ Ok vs → All IsSmallVariable vs
   item_small scope (parameters local type settings) vs is = none_small vs is
   item_small scope (declaration kind list) vs is =
-      let form = then_ok (lower_kind scope kind) (λ form. Ok (variables_as drivers form kind list)) vs is in
-      subst (All IsSmallVariable) (same_value (variables_as drivers form.0 kind list) vs form.2) (formed_small form.0 kind list (kind_small scope kind form.0 form.1))
+      let form = then_ok (lower_kind scope kind) (λ form. Ok (variables_as path form kind list)) vs is in
+      subst (All IsSmallVariable) (same_value (variables_as path form.0 kind list) vs form.2) (formed_small form.0 kind list (kind_small scope kind form.0 form.1))
   item_small scope (events list) vs is = none_small vs is
   item_small scope (assignments settings) vs is = none_small vs is
   item_small scope (initial statement) vs is = none_small vs is
   item_small scope (always statement) vs is = none_small vs is
   item_small scope (instances letters overrides list) vs is = none_small vs is
 
-  pub variables_small : (scope : Scope) (items : List ItemTree) (vs : List Variable) → lower_variables drivers scope items ≡ Ok vs → All IsSmallVariable vs
+  pub variables_small : (scope : Scope) (items : List ItemTree) (vs : List Variable) → lower_variables path scope items ≡ Ok vs → All IsSmallVariable vs
   variables_small scope [] vs is = none_small vs is
   variables_small scope (item ∷ more) vs is =
-      let front = then_ok (lower_declaration drivers scope item) (λ front. lower_variables drivers (behind_item scope item) more >>= λ others. Ok (front ++ others)) vs is in
-      let others = then_ok (lower_variables drivers (behind_item scope item) more) (λ others. Ok (front.0 ++ others)) vs front.2 in
+      let front = then_ok (lower_declaration path scope item) (λ front. lower_variables path (behind_item scope item) more >>= λ others. Ok (front ++ others)) vs is in
+      let others = then_ok (lower_variables path (behind_item scope item) more) (λ others. Ok (front.0 ++ others)) vs front.2 in
       subst (All IsSmallVariable) (same_value (front.0 ++ others.0) vs others.2)
       (All-append IsSmallVariable front.0 others.0 (item_small scope item front.0 front.1) (variables_small (behind_item scope item) more others.0 others.1))

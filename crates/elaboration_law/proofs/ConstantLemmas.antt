@@ -18,7 +18,7 @@ constants_told modules top fault rule (in_ports m is other) = absurd (let no = s
 constants_told modules top fault rule (in_top missing other) = absurd cc
 constants_told modules top fault rule (in_hierarchy unit is_top err) = unfixed_told modules top fault unit rule is_top err
 constants_told modules top fault rule (in_design unit part is_top ok broken) =
-    absurd (untold_fault (λ r. not (is_constant r)) (broken_design unit.name part) fault Constant (design_tells (λ r. not (is_constant r)) refl refl refl unit.name part refl refl) refl broken rule)
+    absurd (untold_fault (λ r. not (is_constant r)) (broken_design unit.name part) fault Constant (design_tells (λ r. not (is_constant r)) refl refl refl refl unit.name part refl refl) refl broken rule)
 
 pub constants_meant : IsMeant Constant HasUnfixed
 constants_meant = record {

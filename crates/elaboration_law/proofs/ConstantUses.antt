@@ -105,6 +105,7 @@ constants = record {
   of_written = λ scope name. variable_fits name (meaning_of scope name);
   of_written_in = λ scope name. variable_fits name (meaning_of scope name);
   of_driven = λ scope name. variable_fits name (meaning_of scope name);
+  of_driven_in = λ scope name. variable_fits name (meaning_of scope name);
   of_event = λ scope name. event_fits name (meaning_of scope name);
   of_term = λ scope edge name. term_fits edge name (meaning_of scope name);
   of_formats = λ scope default ends arguments all is. found_judges is_constant (pieces_of default ends all) Kind (first_argument arguments) refl;

@@ -21,18 +21,19 @@ use Rattle.velab_expr.specs.Rules.{told, unless}
 use Rattle.velab_expr.specs.Scopes.{Scope}
 use Rattle.velab_declaration.specs.Right.{kind_rule}
 use Rattle.velab_declaration.specs.ActionFlaws.{blank_environment, flaw_rule, table_fault}
+use Rattle.velab_declaration.specs.Drives.{drivers_fault}
 use Rattle.velab_declaration.specs.Variables.{declared_names}
 use Rattle.velab_process.specs.Processes.{Processes as Made}
-use Rattle.vhierarchy.specs.Instances.{Instantiation, scope_of, lower_own_processes, with_own, child_context, each, elaborate_instance, elaborate_top, nothing, top_context, Part, Context, letters_held, broken_paths, broken_table, elaborated}
+use Rattle.vhierarchy.specs.Instances.{Instantiation, scope_of, lower_own_variables, lower_own_processes, with_own, child_context, each, elaborate_instance, elaborate_top, nothing, top_context, Part, Context, letters_held, broken_paths, broken_table, elaborated}
 use Rattle.elaboration_law.specs.Hierarchy.{Instance, instances_in, top_instance, listed}
 use Rattle.elaboration_law.specs.Laws.{IsMeant}
 use Rattle.elaboration_law.specs.Counts.{Counted, Variables, Processes, Instances, NamedEvents, Letters, Sizes, limit, count_in, HasTooMany}
 use Rattle.elaboration_law.proofs.ToldLemmas.{is_local, is_of_connections, untold, untold_fault}
-use Rattle.elaboration_law.proofs.ModuleRules.{is_of_paths, undriven_tell, own_processes_tell}
-use Rattle.elaboration_law.proofs.DesignRules.{table_tells, kind_broken, flaw_broken, broken_paths_tell}
+use Rattle.elaboration_law.proofs.ModuleRules.{is_of_paths, own_variables_tell, own_processes_tell}
+use Rattle.elaboration_law.proofs.DesignRules.{is_of_drivers, table_tells, drivers_tell, kind_broken, flaw_broken, broken_paths_tell}
 use Rattle.elaboration_law.proofs.StepLemmas.{same_value, then_ok, then_err, few_err}
 use Rattle.elaboration_law.proofs.HierarchyLemmas.{instance_of, instance_at, children_are, Own, OwnFault, in_names, in_instances, in_own, opened_ok, opened_err, below, Told, in_modules, in_ports, is_of_ports, of_ports, in_top, in_hierarchy, in_design, all_elaborated, fault_told}
-use Rattle.elaboration_law.proofs.OwnLemmas.{dotted, own_steps, own_named, undriven_variables, OwnTold, net_again, in_variables, in_processes, too_many, own_told}
+use Rattle.elaboration_law.proofs.OwnLemmas.{dotted, own_steps, own_named, OwnTold, in_variables, in_processes, too_many, own_told}
 use Rattle.elaboration_law.proofs.GatherLemmas.{Gathers, gathered, top_gathered}
 use Rattle.elaboration_law.proofs.CountRules.{gt_of, own_processes_counted, names_counted, ManyNames, many_names, many_instances}
 use Rattle.elaboration_law.proofs.NameLemmas.{or_some}
@@ -198,7 +199,7 @@ module _ (modules : SourceTree) (fault : ElabFault) (rule : fault.rule ≡ TooMa
         let rest = lists_each levels (instances_in modules (instance_at context)) in
         record { what = Instances; many = omega (arith, many, sum, rest) }
 
-    module _ (scope : Scope) (children : List Instantiation) (list : List Instance) where
+    module _ (scope : Scope) (list : List Instance) where
       more_of : (variables : List Variable) (processes : Made) → lower_own_processes context (ports_of context.unit) scope part.table ≡ Ok processes →
           ((nat_le (length (part.begins ++ processes.begins)) 256 ≡ false) ⊎ (nat_le (length (part.scopes ++ scope_of context scope.variables ∷ [])) 1025 ≡ false)) → Exceeds part (instance_at context ∷ list)
       more_of variables processes made (inl many) =
@@ -213,18 +214,18 @@ module _ (modules : SourceTree) (fault : ElabFault) (rule : fault.rule ≡ TooMa
           let more = gt_of (length (part.scopes ++ scope_of context scope.variables ∷ [])) 1025 many in
           record { what = Instances; many = omega (arith, sum, long, more) }
 
-      own_steps_exceed : OwnTold context children scope part fault → Exceeds part (instance_at context ∷ list)
-      own_steps_exceed (net_again w again other) = absurd cc
-      own_steps_exceed (in_variables err) = absurd (untold is_local (undriven_variables context children scope) fault TooMany (undriven_tell context (ports_of context.unit) children scope) refl err rule)
+      own_steps_exceed : OwnTold context scope part fault → Exceeds part (instance_at context ∷ list)
+      own_steps_exceed (in_variables err) =
+          absurd (untold is_local (lower_own_variables context (ports_of context.unit) scope) fault TooMany (own_variables_tell context (ports_of context.unit) scope) refl err rule)
       own_steps_exceed (in_processes err) =
-          absurd (untold is_of_connections (lower_own_processes context (ports_of context.unit) scope part.table) fault TooMany (own_processes_tell context (ports_of context.unit) children scope part) refl err rule)
+          absurd (untold is_of_connections (lower_own_processes context (ports_of context.unit) scope part.table) fault TooMany (own_processes_tell context (ports_of context.unit) scope part) refl err rule)
       own_steps_exceed (too_many variables processes ok err) = more_of variables processes ok (few_err context.name (with_own context scope part variables processes) fault err).0
 
     own_exceeds : (levels : ℕ) → OwnFault modules part context fault → Exceeds part (instance_at context ∷ flat_map (listed levels modules) (instances_in modules (instance_at context)))
     own_exceeds levels (in_names err) = more_names (many_names part context fault rule err) (flat_map (listed levels modules) (instances_in modules (instance_at context)))
     own_exceeds levels (in_instances scope names err) = more_instances levels (many_instances modules context.path fault rule 0 scope.known context.unit.items err)
     own_exceeds levels (in_own scope children names wanted err) =
-        own_steps_exceed scope children (flat_map (listed levels modules) (instances_in modules (instance_at context))) (own_told context children scope part fault err)
+        own_steps_exceed scope (flat_map (listed levels modules) (instances_in modules (instance_at context))) (own_told context scope part fault err)
 
   -- what stands before is held, and what stands behind only adds
   before_is : (levels : ℕ) (scope : Scope) (context : Context) (part next : Part) (one : Instantiation) (more : List Instance) → elaborate_instance levels modules part (child_context scope context one) ≡ Ok next →
@@ -306,29 +307,42 @@ module _ (modules : SourceTree) (top : Option Text) where
       omega (arith, same, none)
 
   module _ (fault : ElabFault) (rule : fault.rule ≡ TooMany) where
+    -- an action tells no count
+    abbrev kinds_in : Part → Option ElabFault
+    kinds_in part = table_fault (kind_rule part.variables) part.table.actions part.table.words
+
+    abbrev flaws_in : Part → Option ElabFault
+    flaws_in part = table_fault (flaw_rule (blank_environment part.variables)) part.table.actions part.table.words
+
+    abbrev again_in : Part → Option ElabFault
+    again_in part = drivers_fault (blank_environment part.variables) [] part.table.actions part.table.words
+
+    in_flaws : (part : Part) → (flaws_in part ≡ Some fault) ⊎ (again_in part ≡ Some fault) → ⊥
+    in_flaws part (inl is) = untold_fault is_local (flaws_in part) fault TooMany
+        (table_tells is_local (flaw_rule (blank_environment part.variables)) (flaw_broken is_local refl refl (blank_environment part.variables)) part.table.actions part.table.words) refl is rule
+    in_flaws part (inr is) = untold_fault is_of_drivers (again_in part) fault TooMany
+        (drivers_tell is_of_drivers refl (blank_environment part.variables) [] part.table.actions part.table.words) refl is rule
+
+    in_actions : (part : Part) → (kinds_in part ≡ Some fault) ⊎ (option_or (flaws_in part) (again_in part) ≡ Some fault) → ⊥
+    in_actions part (inl is) = untold_fault is_local (kinds_in part) fault TooMany
+        (table_tells is_local (kind_rule part.variables) (kind_broken is_local refl refl part.variables) part.table.actions part.table.words) refl is rule
+    in_actions part (inr is) = in_flaws part (or_some (flaws_in part) (again_in part) fault is)
+
     in_table : (unit : ModuleTree) (part : Part) → top_of modules top ≡ Some unit → elaborate_top modules unit ≡ Ok part →
-        (unless (nat_le (length part.begins) 256) TooMany (Some unit.name) ≡ Some fault)
-        ⊎ (option_or (table_fault (kind_rule part.variables) part.table.actions part.table.words) (table_fault (flaw_rule (blank_environment part.variables)) part.table.actions part.table.words) ≡ Some fault) →
+        (unless (nat_le (length part.begins) 256) TooMany (Some unit.name) ≡ Some fault) ⊎ (option_or (kinds_in part) (option_or (flaws_in part) (again_in part)) ≡ Some fault) →
         HasTooMany modules top
     in_table unit part is_top ok (inl is) =
         let more = gt_of (length part.begins) 256 (unless_some (nat_le (length part.begins) 256) TooMany (Some unit.name) fault is) in
         let same = total_is Processes unit part ok in
         record { what = Processes; unit = unit; is_top = is_top; many = omega (arith, more, same) }
-    in_table unit part is_top ok (inr is) =
-        absurd (by (or_some (table_fault (kind_rule part.variables) part.table.actions part.table.words) (table_fault (flaw_rule (blank_environment part.variables)) part.table.actions part.table.words) fault is))
-      where
-        by : (table_fault (kind_rule part.variables) part.table.actions part.table.words ≡ Some fault) ⊎ (table_fault (flaw_rule (blank_environment part.variables)) part.table.actions part.table.words ≡ Some fault) → ⊥
-        by (inl is) = untold_fault is_local (table_fault (kind_rule part.variables) part.table.actions part.table.words) fault TooMany
-            (table_tells is_local (kind_rule part.variables) (kind_broken is_local refl refl part.variables) part.table.actions part.table.words) refl is rule
-        by (inr is) = untold_fault is_local (table_fault (flaw_rule (blank_environment part.variables)) part.table.actions part.table.words) fault TooMany
-            (table_tells is_local (flaw_rule (blank_environment part.variables)) (flaw_broken is_local refl refl (blank_environment part.variables)) part.table.actions part.table.words) refl is rule
+    in_table unit part is_top ok (inr is) = absurd (in_actions part (or_some (kinds_in part) (option_or (flaws_in part) (again_in part)) fault is))
 
     in_whole : (unit : ModuleTree) (part : Part) → top_of modules top ≡ Some unit → elaborate_top modules unit ≡ Ok part →
         (broken_paths unit.name part ≡ Some fault) ⊎ (broken_table unit.name part ≡ Some fault) → HasTooMany modules top
     in_whole unit part is_top ok (inl is) = absurd (untold_fault is_of_paths (broken_paths unit.name part) fault TooMany (broken_paths_tell is_of_paths refl refl unit.name part refl) refl is rule)
     in_whole unit part is_top ok (inr is) =
-        in_table unit part is_top ok (or_some (unless (nat_le (length part.begins) 256) TooMany (Some unit.name))
-        (option_or (table_fault (kind_rule part.variables) part.table.actions part.table.words) (table_fault (flaw_rule (blank_environment part.variables)) part.table.actions part.table.words)) fault is)
+        in_table unit part is_top ok
+        (or_some (unless (nat_le (length part.begins) 256) TooMany (Some unit.name)) (option_or (kinds_in part) (option_or (flaws_in part) (again_in part))) fault is)
 
     counts_told : Told modules top fault → HasTooMany modules top
     counts_told (in_modules w again other) = absurd cc

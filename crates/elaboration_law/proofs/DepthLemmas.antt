@@ -14,7 +14,7 @@ use Rattle.elaboration_law.specs.Laws.{IsMeant}
 use Rattle.elaboration_law.specs.Depths.{IsTooDeep}
 use Rattle.elaboration_law.proofs.ToldLemmas.{untold, untold_fault}
 use Rattle.elaboration_law.proofs.ModuleRules.{is_of_names, is_of_instances, is_of_own, names_tell, instances_tell, own_tells}
-use Rattle.elaboration_law.proofs.DesignRules.{design_tells}
+use Rattle.elaboration_law.proofs.DesignRules.{is_of_design, design_tells}
 use Rattle.elaboration_law.proofs.HierarchyLemmas.{OwnFault, in_names, in_instances, in_own, ToldBelow, too_deep, by_own, Told, in_modules, in_ports, is_of_ports, of_ports, in_top, in_hierarchy, in_design, all_elaborated, fault_told, top_elaborated, top_told_below}
 
 -- the top of a text is one module
@@ -27,7 +27,7 @@ own_is_no_depth modules part context fault (in_names err) = untold is_of_names (
 own_is_no_depth modules part context fault (in_instances scope names err) =
     untold is_of_instances (lower_instances modules 0 scope.known context.unit.items) fault Depth (instances_tell modules 0 scope.known context.unit.items) refl err
 own_is_no_depth modules part context fault (in_own scope children names wanted err) =
-    untold is_of_own (lower_own context (ports_of context.unit) children scope part) fault Depth (own_tells context (ports_of context.unit) children scope part) refl err
+    untold is_of_own (lower_own context (ports_of context.unit) scope part) fault Depth (own_tells context (ports_of context.unit) scope part) refl err
 
 module _ (modules : SourceTree) (top : Option Text) where
   below_told : (fault : ElabFault) (unit : ModuleTree) → top_of modules top ≡ Some unit → fault.rule ≡ Depth → ToldBelow modules 16 (top_instance unit) fault → IsTooDeep modules top
@@ -40,7 +40,7 @@ module _ (modules : SourceTree) (top : Option Text) where
   depth_told fault rule (in_top missing other) = absurd cc
   depth_told fault rule (in_hierarchy unit is_top err) = below_told fault unit is_top rule (top_told_below modules unit fault err)
   depth_told fault rule (in_design unit part is_top ok broken) =
-      absurd (untold_fault is_of_names (broken_design unit.name part) fault Depth (design_tells is_of_names refl refl refl unit.name part refl refl) refl broken rule)
+      absurd (untold_fault is_of_design (broken_design unit.name part) fault Depth (design_tells is_of_design refl refl refl refl unit.name part refl refl) refl broken rule)
 
   depth_never : (scale : Timescale) (design : Design) → elaborated modules top scale ≡ Ok design → ¬ IsTooDeep modules top
   depth_never scale design is (one, (m, is_top, stands)) =

@@ -1,5 +1,5 @@
 -- The rules that a finished design tells.
-use Rattle.std.proofs.Common.{◌≡◌, ℕ, nat_le, Bool, true, false, if◌then◌else◌, List, [], ◌∷◌, drop, length, slice_get, Option, Some, None}
+use Rattle.std.proofs.Common.{◌≡◌, ℕ, nat_le, Bool, true, false, if◌then◌else◌, List, [], ◌∷◌, ◌++◌, drop, length, slice_get, Option, Some, None}
 use Rattle.std.specs.Prelude.{option_map, unwrap_or}
 use Rattle.std.specs.Option.{option_or}
 use Rattle.vast.specs.Words.{Text}
@@ -13,13 +13,53 @@ use Rattle.vvalue.specs.Value.{Environment}
 use Rattle.vvalue.specs.declared.flaw.Flaw.{Flaw}
 use Rattle.vvalue.specs.declared.flaw.Flaw.TheVariants.{NoBits, Size}
 use Rattle.velab_expr.specs.declared.fault.Rule.{Rule}
-use Rattle.velab_expr.specs.declared.fault.Rule.TheVariants.{Doubled, Unknown, TooMany, Kind, Width}
+use Rattle.velab_expr.specs.declared.fault.Rule.TheVariants.{Top, Doubled, Unknown, Drivers, Ports, Width, Constant, Depth, TooMany, Kind}
 use Rattle.velab_expr.specs.declared.fault.ElabFault.{ElabFault}
 use Rattle.velab_expr.specs.Rules.{rule_of, unless, broken_if}
 use Rattle.velab_declaration.specs.Right.{writes_rightly, kind_rule}
 use Rattle.velab_declaration.specs.ActionFlaws.{action_flaw, blank_environment, flaw_rule, table_fault}
+use Rattle.velab_declaration.specs.Drives.{Place, driven_by, drives_again, drivers_fault}
 use Rattle.vhierarchy.specs.Instances.{Part, variable_paths, scope_paths, broken_chosen, broken_selection, broken_paths, broken_table, broken_design}
 use Rattle.elaboration_law.proofs.ToldLemmas.{TellsFault, TellsRule}
+
+-- the rules that a finished design can break
+abbrev pub is_of_design : Rule → Bool
+is_of_design Top = false
+is_of_design Doubled = true
+is_of_design Unknown = true
+is_of_design Drivers = true
+is_of_design Ports = false
+is_of_design Width = true
+is_of_design Constant = false
+is_of_design Depth = false
+is_of_design TooMany = true
+is_of_design Kind = true
+
+-- and those that its table can
+abbrev pub is_of_table : Rule → Bool
+is_of_table Top = false
+is_of_table Doubled = false
+is_of_table Unknown = false
+is_of_table Drivers = true
+is_of_table Ports = false
+is_of_table Width = true
+is_of_table Constant = false
+is_of_table Depth = false
+is_of_table TooMany = true
+is_of_table Kind = true
+
+-- and the one of drivers alone
+abbrev pub is_of_drivers : Rule → Bool
+is_of_drivers Top = false
+is_of_drivers Doubled = false
+is_of_drivers Unknown = false
+is_of_drivers Drivers = true
+is_of_drivers Ports = false
+is_of_drivers Width = false
+is_of_drivers Constant = false
+is_of_drivers Depth = false
+is_of_drivers TooMany = false
+is_of_drivers Kind = false
 
 module _ (rules : Rule → Bool) where
   or_tells : (a b : Option ElabFault) → TellsFault rules a → TellsFault rules b → TellsFault rules (option_or a b)
@@ -36,6 +76,16 @@ module _ (rules : Rule → Bool) where
       by : (r : Option Rule) → TellsRule rules r → TellsFault rules (option_map (λ r. record { rule = r; at = unwrap_or (slice_get words 0) None }) r)
       by None h = tt
       by (Some r) h = h
+
+  -- one more driver than there may be
+  pub drivers_tell : rules Drivers ≡ true → (now : Environment) (before : List Place) (actions : List Action) (words : List (Option ℕ)) → TellsFault rules (drivers_fault now before actions words)
+  drivers_tell e now before [] words = tt
+  drivers_tell e now before (action ∷ more) words = by (drives_again before (driven_by now action)) (drivers_tell e now (before ++ driven_by now action) more (drop 1 words))
+    where
+      by : (again : Bool) → TellsFault rules (drivers_fault now (before ++ driven_by now action) more (drop 1 words)) →
+          TellsFault rules (if again then Some (record { rule = Drivers; at = unwrap_or (slice_get words 0) None }) else drivers_fault now (before ++ driven_by now action) more (drop 1 words))
+      by true rest = e
+      by false rest = rest
 
   pub broken_tells : (holds : Bool) (rule : Rule) (word : Option Word) → rules rule ≡ true → TellsFault rules (broken_if holds rule word)
   broken_tells true rule word e = e
@@ -73,7 +123,7 @@ module _ (rules : Rule → Bool) (unknown : rules Unknown ≡ true) (kind : rule
   selection_broken scopes variables (Delay amount body) = tt
   selection_broken scopes variables (EventControl terms body) = tt
   selection_broken scopes variables (Wait condition terms body) = tt
-  selection_broken scopes variables (ContinuousAssign net value terms) = tt
+  selection_broken scopes variables (ContinuousAssign targets value terms) = tt
   selection_broken scopes variables (Print when pieces) = tt
   selection_broken scopes variables (Dump command) = tt
   selection_broken scopes variables NoOperation = tt
@@ -109,17 +159,21 @@ module _ (rules : Rule → Bool) (width : rules Width ≡ true) (kind : rules Ki
 
   -- ---- of the whole
 
-  pub broken_table_tells : (top : Word) (part : Part) → rules TooMany ≡ true → TellsFault rules (broken_table top part)
-  broken_table_tells top part many =
+  pub broken_table_tells : rules Drivers ≡ true → (top : Word) (part : Part) → rules TooMany ≡ true → TellsFault rules (broken_table top part)
+  broken_table_tells drivers top part many =
+      let now = blank_environment part.variables in
       let kinds = table_fault (kind_rule part.variables) part.table.actions part.table.words in
-      let flaws = table_fault (flaw_rule (blank_environment part.variables)) part.table.actions part.table.words in
+      let flaws = table_fault (flaw_rule now) part.table.actions part.table.words in
+      let driven = drivers_fault now [] part.table.actions part.table.words in
       let few = unless (nat_le (length part.begins) 256) TooMany (Some top) in
-      or_tells rules few (option_or kinds flaws) (unless_tells rules (nat_le (length part.begins) 256) TooMany (Some top) many)
-      (or_tells rules kinds flaws
+      or_tells rules few (option_or kinds (option_or flaws driven)) (unless_tells rules (nat_le (length part.begins) 256) TooMany (Some top) many)
+      (or_tells rules kinds (option_or flaws driven)
       (table_tells rules (kind_rule part.variables) (kind_broken part.variables) part.table.actions part.table.words)
-      (table_tells rules (flaw_rule (blank_environment part.variables)) (flaw_broken (blank_environment part.variables)) part.table.actions part.table.words))
+      (or_tells rules flaws driven
+      (table_tells rules (flaw_rule now) (flaw_broken now) part.table.actions part.table.words)
+      (drivers_tell rules drivers now [] part.table.actions part.table.words)))
 
-module _ (rules : Rule → Bool) (unknown : rules Unknown ≡ true) (width : rules Width ≡ true) (kind : rules Kind ≡ true) where
+module _ (rules : Rule → Bool) (unknown : rules Unknown ≡ true) (width : rules Width ≡ true) (kind : rules Kind ≡ true) (drivers : rules Drivers ≡ true) where
   pub design_tells : (top : Word) (part : Part) → rules Doubled ≡ true → rules TooMany ≡ true → TellsFault rules (broken_design top part)
   design_tells top part doubled many =
-      or_tells rules (broken_paths top part) (broken_table top part) (broken_paths_tell rules unknown kind top part doubled) (broken_table_tells rules width kind top part many)
+      or_tells rules (broken_paths top part) (broken_table top part) (broken_paths_tell rules unknown kind top part doubled) (broken_table_tells rules width kind drivers top part many)

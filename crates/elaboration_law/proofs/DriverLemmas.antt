@@ -1,99 +1,261 @@
--- E304: no net of a text that has a design is driven twice, and one of a text that is refused under the rule is.
-use Rattle.std.proofs.Common.{◌≡◌, ℕ, true, false, List, [], ◌∷◌, ◌++◌, map, filter, Option, Some, Result, Ok, Err, refl, sym, ap, subst, ◌∙◌, true≢false}
-use Rattle.std.specs.List.{flat_map}
+-- E304: in a text that has a design no bit has two drivers, and in one that is refused under the rule one has.
+use Rattle.std.proofs.Common.{◌≡◌, ◌<◌, ◌≤◌, ◌==◌, ℕ, zero, suc, ◌+◌, ◌-◌, arith, nat_le, Bool, true, false, true≢false, ◌||◌, if◌then◌else◌, List, [], ◌∷◌, ◌++◌, drop, length, slice_get, unwrap_or, Option, Some, None, Ok, refl, sym, ap, subst, ◌∙◌, ◌⊎◌, inl, inr, append_assoc, append-nil, length-append}
+use Rattle.std.specs.Option.{option_or}
+use Rattle.std.proofs.lemmas.Bool.Decides.{nat_tests}
+use Rattle.basis.proofs.Bools.{and_left, and_right, and_both, or_left, or_right, or_first, or_second}
 use Rattle.basis.specs.declared.timescale.Timescale.{Timescale}
 use Rattle.vast.specs.Words.{Text}
-use Rattle.vast.specs.NumberedWords.{Word}
 use Rattle.vast.specs.NumberedModules.{ModuleTree, SourceTree}
-use Rattle.vdesign.specs.Design.{Design, Variable}
-use Rattle.vmodules.specs.Names.{is_declared, has_double, letters_of, first_again}
-use Rattle.vmodules.specs.Hierarchy.{top_of}
-use Rattle.vmodules.specs.Ports.{ports_of, own_items}
-use Rattle.velab_expr.specs.declared.fault.Rule.TheVariants.{Drivers}
+use Rattle.vdesign.specs.Design.{Design}
+use Rattle.vdesign.specs.declared.action.Action.{Action}
+use Rattle.vvalue.specs.Value.{Environment}
+use Rattle.vmodules.specs.Ports.{ports_of}
+use Rattle.velab_expr.specs.declared.fault.Rule.TheVariants.{Drivers, TooMany}
 use Rattle.velab_expr.specs.declared.fault.ElabFault.{ElabFault}
-use Rattle.velab_expr.specs.Answers.{◌>>=◌}
-use Rattle.velab_expr.specs.Scopes.{Scope}
-use Rattle.velab_declaration.specs.Variables.{drivers_by, nets_of, port_scope, lower_ports, lower_variables}
-use Rattle.vhierarchy.specs.Instances.{Instantiation, driven_inside, driven_outside, driven_by, scope_drivers_by, lower_own_variables, lower_own_processes, with_own, few_enough, lower_own, lower_names, lower_instances, Part, Context, broken_design, elaborated}
-use Rattle.elaboration_law.specs.Hierarchy.{Instance, StandsBelow, top_instance}
+use Rattle.velab_expr.specs.Rules.{unless}
+use Rattle.velab_declaration.specs.Right.{kind_rule}
+use Rattle.velab_declaration.specs.ActionFlaws.{blank_environment, flaw_rule, table_fault}
+use Rattle.velab_declaration.specs.Drives.{Place, same_place, is_driven, drives_again, drivers_fault, driven_by, driven_by_all}
+use Rattle.vhierarchy.specs.Instances.{lower_own, lower_names, lower_instances, Part, Context, elaborate_top, driven_in, broken_paths, broken_table, broken_design, elaborated}
+use Rattle.elaboration_law.specs.Hierarchy.{top_instance}
 use Rattle.elaboration_law.specs.Laws.{IsMeant}
-use Rattle.elaboration_law.specs.Drivers.{driven_by_outputs, driven_nets, HasTwoDrivers}
-use Rattle.elaboration_law.proofs.ToldLemmas.{is_local, is_of_connections, untold, untold_fault}
-use Rattle.elaboration_law.proofs.ModuleRules.{is_of_names, is_of_instances, names_tell, instances_tell, undriven_tell, own_processes_tell}
-use Rattle.elaboration_law.proofs.DesignRules.{design_tells}
-use Rattle.elaboration_law.proofs.StepLemmas.{then_ok, barring_ok, few_err}
-use Rattle.elaboration_law.proofs.DoubleLemmas.{none_twice, one_twice}
-use Rattle.elaboration_law.proofs.HierarchyLemmas.{instance_of, instance_at, children_are, OwnFault, in_names, in_instances, in_own, ToldBelow, too_deep, by_own, Told, in_modules, in_ports, is_of_ports, of_ports, in_top, in_hierarchy, in_design, all_elaborated, fault_told, top_elaborated, top_told_below}
-use Rattle.elaboration_law.proofs.OwnLemmas.{undriven_variables, OwnTold, net_again, in_variables, in_processes, too_many, own_told}
+use Rattle.elaboration_law.specs.Drivers.{HasTwoDrivers}
+use Rattle.elaboration_law.proofs.ToldLemmas.{is_local, untold, untold_fault}
+use Rattle.elaboration_law.proofs.StepLemmas.{same_value}
+use Rattle.elaboration_law.proofs.ModuleRules.{is_of_names, is_of_instances, is_of_own, is_of_paths, names_tell, instances_tell, own_tells}
+use Rattle.elaboration_law.proofs.DesignRules.{table_tells, unless_tells, kind_broken, flaw_broken, broken_paths_tell}
+use Rattle.elaboration_law.proofs.PlaceLemmas.{got_in_front, got_behind}
+use Rattle.elaboration_law.proofs.HierarchyLemmas.{OwnFault, in_names, in_instances, in_own, ToldBelow, too_deep, by_own, Told, in_modules, in_ports, is_of_ports, of_ports, in_top, in_hierarchy, in_design, all_elaborated, fault_told, top_told_below}
+use Rattle.elaboration_law.proofs.NameLemmas.{or_none, or_some}
 use Rattle.elaboration_law.proofs.DepthLemmas.{one_top}
 
-outputs_are : (path : Text) (children : List Instantiation) → flat_map driven_outside children ≡ flat_map driven_by_outputs (map (instance_of path) children)
-outputs_are path [] = refl
-outputs_are path (one ∷ more) = ap (λ (l : List Word). driven_outside one ++ l) (outputs_are path more)
+-- ---- a bit among others
 
-module _ (modules : SourceTree) (context : Context) (scope : Scope) (children : List Instantiation) (wanted : lower_instances modules 0 scope.known context.unit.items ≡ Ok children) where
-  driven_are : driven_by context (ports_of context.unit) children scope ≡ driven_nets modules (instance_at context)
-  driven_are = ap
-      (λ (l : List Word). filter (λ (word : Word). is_declared (nets_of (ports_of context.unit) context.unit.items) word.letters) ((driven_inside context.connections (ports_of context.unit) ++ flat_map drivers_by context.unit.items) ++ l))
-      (outputs_are context.path children ∙ ap (λ (l : List Instance). flat_map driven_by_outputs l) (children_are modules context.path 0 scope.known context.unit.items children wanted))
+same_number : (a b : ℕ) → (a == b) ≡ true → a ≡ b
+same_number a b e = grind (arith, nat_tests)
 
-  abbrev undriven : Result (List Variable) ElabFault
-  undriven =
-      lower_ports (scope_drivers_by context (ports_of context.unit) children scope) (port_scope context.unit scope) (ports_of context.unit) >>= λ front.
-      lower_variables (scope_drivers_by context (ports_of context.unit) children scope) scope (own_items context.unit) >>= λ others. Ok (front ++ others)
+is_itself : (a : ℕ) → (a == a) ≡ true
+is_itself a = grind (arith, nat_tests)
 
-  driven_once : (part whole : Part) → lower_own context (ports_of context.unit) children scope part ≡ Ok whole → has_double (letters_of (driven_nets modules (instance_at context))) ≡ false
-  driven_once part whole is =
-      let variables = then_ok (lower_own_variables context (ports_of context.unit) children scope)
-      (λ variables. lower_own_processes context (ports_of context.unit) scope part.table >>= λ processes. few_enough context.name (with_own context scope part variables processes)) whole is in
-      let once = barring_ok (first_again (driven_by context (ports_of context.unit) children scope)) Drivers undriven variables.0 variables.1 in
-      sym (ap (λ (l : List Word). has_double (letters_of l)) driven_are) ∙ none_twice (driven_by context (ports_of context.unit) children scope) once.0
+same_bit : (one other : Place) → same_place one other ≡ true → other ≡ one
+same_bit (n, a) (m, b) e = λ i. (sym (same_number n m (and_left (n == m) (a == b) e)) i, sym (same_number a b (and_right (n == m) (a == b) e)) i)
 
-  module _ (part : Part) (fault : ElabFault) (rule : fault.rule ≡ Drivers) where
-    driven_again : OwnTold context children scope part fault → has_double (letters_of (driven_nets modules (instance_at context))) ≡ true
-    driven_again (net_again w is same) = sym (ap (λ (l : List Word). has_double (letters_of l)) driven_are) ∙ one_twice (driven_by context (ports_of context.unit) children scope) w is
-    driven_again (in_variables err) = absurd (untold is_local (undriven_variables context children scope) fault Drivers (undriven_tell context (ports_of context.unit) children scope) refl err rule)
-    driven_again (in_processes err) =
-        absurd (untold is_of_connections (lower_own_processes context (ports_of context.unit) scope part.table) fault Drivers (own_processes_tell context (ports_of context.unit) children scope part) refl err rule)
-    driven_again (too_many variables processes ok err) = absurd (let other = (few_err context.name (with_own context scope part variables processes) fault err).1 in cc)
+bit_itself : (place : Place) → same_place place place ≡ true
+bit_itself (n, a) = and_both (n == n) (a == a) (is_itself n) (is_itself a)
 
-    driven_twice : lower_own context (ports_of context.unit) children scope part ≡ Err fault → has_double (letters_of (driven_nets modules (instance_at context))) ≡ true
-    driven_twice is = driven_again (own_told context children scope part fault is)
+stands_in : (place : Place) (list : List Place) → is_driven list place ≡ true → (k : ℕ) × (k < length list) × (slice_get list k ≡ Some place)
+stands_in place [] e = absurd cc
+stands_in place (one ∷ more) e = by (same_place place one) refl e (stands_in place more)
+  where
+    by : (b : Bool) → same_place place one ≡ b → (b || is_driven more place) ≡ true → (is_driven more place ≡ true → (k : ℕ) × (k < length more) × (slice_get more k ≡ Some place)) →
+        (k : ℕ) × (k < length (one ∷ more)) × (slice_get (one ∷ more) k ≡ Some place)
+    by true same h rest = (0, omega arith, ap Some (same_bit place one same))
+    by false same h rest = let there = rest h in let lt = there.1 in (suc there.0, omega (arith, lt), there.2)
+
+is_among : (place : Place) (list : List Place) (k : ℕ) → slice_get list k ≡ Some place → is_driven list place ≡ true
+is_among place [] k is = absurd cc
+is_among place (one ∷ more) zero is =
+    let same : one ≡ place = cc in
+    or_first (same_place place one) (is_driven more place) (subst (λ (p : Place). same_place place p ≡ true) (sym same) (bit_itself place))
+is_among place (one ∷ more) (suc k) is = or_second (same_place place one) (is_driven more place) (is_among place more k is)
+
+stands_within : {A : Type 0} (list : List A) (k : ℕ) (x : A) → slice_get list k ≡ Some x → k < length list
+stands_within [] k x is = absurd cc
+stands_within (one ∷ more) zero x is = omega arith
+stands_within (one ∷ more) (suc k) x is = let rest = stands_within more k x is in omega (arith, rest)
+
+got_before : {A : Type 0} (xs ys : List A) (k : ℕ) → k < length xs → slice_get (xs ++ ys) k ≡ slice_get xs k
+got_before [] ys k lt = absurd (omega (arith, lt))
+got_before (one ∷ more) ys zero lt = refl
+got_before (one ∷ more) ys (suc k) lt = got_before more ys k (omega (arith, lt))
+
+-- ---- bits that stand twice
+
+pub record StandsTwice (list : List Place) : Type 0 where
+  pub place : Place
+  pub one : ℕ
+  pub other : ℕ
+  pub before : one < other
+  pub first : slice_get list one ≡ Some place
+  pub again : slice_get list other ≡ Some place
+
+twice_driven : (before list : List Place) → drives_again before list ≡ true → StandsTwice (before ++ list)
+twice_driven before [] e = absurd cc
+twice_driven before (place ∷ more) e = by (is_driven before place) refl e (twice_driven (before ++ place ∷ []) more)
+  where
+    by : (b : Bool) → is_driven before place ≡ b → (b || drives_again (before ++ place ∷ []) more) ≡ true →
+        (drives_again (before ++ place ∷ []) more ≡ true → StandsTwice ((before ++ place ∷ []) ++ more)) → StandsTwice (before ++ place ∷ more)
+    by true is h rest =
+        let there = stands_in place before is in
+        let lt = there.1 in
+        record {
+          place = place;
+          one = there.0;
+          other = length before;
+          before = omega (arith, lt);
+          first = got_in_front before (place ∷ more) there.0 place there.2;
+          again = got_behind before (place ∷ more) 0 (length before) (omega arith);
+        }
+    by false is h rest = subst StandsTwice (append_assoc before (place ∷ []) more) (rest h)
+
+not_before : (a b : ℕ) → b ≤ a → (a ≡ b) ⊎ (b < a)
+not_before zero zero h = inl refl
+not_before zero (suc b) h = absurd (omega (arith, h))
+not_before (suc a) zero h = inr (omega arith)
+not_before (suc a) (suc b) h = by (not_before a b (omega (arith, h)))
+  where
+    by : (a ≡ b) ⊎ (b < a) → (suc a ≡ suc b) ⊎ (suc b < suc a)
+    by (inl e) = inl (ap suc e)
+    by (inr lt) = inr (omega (arith, lt))
+
+once_driven : (before list : List Place) → drives_again before list ≡ false → (place : Place) (one other : ℕ) → one < other → length before ≤ other →
+    slice_get (before ++ list) one ≡ Some place → slice_get (before ++ list) other ≡ Some place → ⊥
+once_driven before [] e place one other lt behind first again =
+    let within = stands_within [] (other - length before) place (sym (got_behind before [] (other - length before) other (omega (arith, behind))) ∙ again) in
+    omega (arith, within)
+once_driven before (next ∷ more) e place one other lt behind first again =
+    by (not_before other (length before) behind) (once_driven (before ++ next ∷ []) more (or_right (is_driven before next) (drives_again (before ++ next ∷ []) more) e) place one other lt)
+  where
+    free : is_driven before next ≡ false
+    free = or_left (is_driven before next) (drives_again (before ++ next ∷ []) more) e
+
+    by : (other ≡ length before) ⊎ (length before < other) →
+        (length (before ++ next ∷ []) ≤ other → slice_get ((before ++ next ∷ []) ++ more) one ≡ Some place → slice_get ((before ++ next ∷ []) ++ more) other ≡ Some place → ⊥) → ⊥
+    by (inl same) rest =
+        let here : Some next ≡ Some place = sym (got_behind before (next ∷ more) 0 other (omega (arith, same))) ∙ again in
+        let is : next ≡ place = cc in
+        let early = sym (got_before before (next ∷ more) one (omega (arith, same, lt))) ∙ first in
+        true≢false (sym (is_among place before one early) ∙ ap (is_driven before) (sym is) ∙ free)
+    by (inr further) rest =
+        let long = length-append before (next ∷ []) in
+        rest (omega (arith, further, long))
+        (ap (λ (l : List Place). slice_get l one) (append_assoc before (next ∷ []) more) ∙ first)
+        (ap (λ (l : List Place). slice_get l other) (append_assoc before (next ∷ []) more) ∙ again)
+
+-- ---- what the table tells of them
+
+again_both : (before xs ys : List Place) → drives_again before (xs ++ ys) ≡ (drives_again before xs || drives_again (before ++ xs) ys)
+again_both before [] ys = ap (λ (l : List Place). drives_again l ys) (sym (append-nil before))
+again_both before (x ∷ xs) ys =
+    (λ i. is_driven before x || again_both (before ++ x ∷ []) xs ys i)
+    ∙ (λ i. is_driven before x || (drives_again (before ++ x ∷ []) xs || drives_again (append_assoc before (x ∷ []) xs i) ys))
+    ∙ or_joined (is_driven before x) (drives_again (before ++ x ∷ []) xs) (drives_again (before ++ x ∷ xs) ys)
+  where
+    or_joined : (a b c : Bool) → (a || (b || c)) ≡ ((a || b) || c)
+    or_joined true b c = refl
+    or_joined false b c = refl
+
+-- nothing is told only where no bit is driven twice, and something only where one is
+abbrev TellsAgain : Bool → Option ElabFault → Type 0
+TellsAgain again None = again ≡ false
+TellsAgain again (Some fault) = again ≡ true
+
+again_told : (now : Environment) (before : List Place) (actions : List Action) (words : List (Option ℕ)) →
+    TellsAgain (drives_again before (driven_by_all now actions)) (drivers_fault now before actions words)
+again_told now before [] words = refl
+again_told now before (action ∷ more) words =
+    subst (λ (b : Bool). TellsAgain b (drivers_fault now before (action ∷ more) words)) (sym (again_both before (driven_by now action) (driven_by_all now more)))
+    (by (drives_again before (driven_by now action)) (again_told now (before ++ driven_by now action) more (drop 1 words)))
+  where
+    rest : Bool
+    rest = drives_again (before ++ driven_by now action) (driven_by_all now more)
+
+    by : (b : Bool) → TellsAgain rest (drivers_fault now (before ++ driven_by now action) more (drop 1 words)) →
+        TellsAgain (b || rest) (if b then Some (record { rule = Drivers; at = unwrap_or (slice_get words 0) None }) else drivers_fault now (before ++ driven_by now action) more (drop 1 words))
+    by true h = refl
+    by false h = h
+
+-- ---- the law
+
+module _ (modules : SourceTree) (part : Part) (context : Context) (fault : ElabFault) (rule : fault.rule ≡ Drivers) where
+  own_is_no_driver : OwnFault modules part context fault → ⊥
+  own_is_no_driver (in_names err) = untold is_of_names (lower_names part context) fault Drivers (names_tell part context) refl err rule
+  own_is_no_driver (in_instances scope names err) =
+      untold is_of_instances (lower_instances modules 0 scope.known context.unit.items) fault Drivers (instances_tell modules 0 scope.known context.unit.items) refl err rule
+  own_is_no_driver (in_own scope children names wanted err) =
+      untold is_of_own (lower_own context (ports_of context.unit) scope part) fault Drivers (own_tells context (ports_of context.unit) scope part) refl err rule
 
 module _ (modules : SourceTree) (top : Option Text) where
-  step_told : (fault : ElabFault) (unit : ModuleTree) (depth : ℕ) (part : Part) (context : Context) → top_of modules top ≡ Some unit → fault.rule ≡ Drivers → StandsBelow modules depth (top_instance unit) (instance_at context) →
-      OwnFault modules part context fault → HasTwoDrivers modules top
-  step_told fault unit depth part context is_top rule stands (in_names err) = absurd (untold is_of_names (lower_names part context) fault Drivers (names_tell part context) refl err rule)
-  step_told fault unit depth part context is_top rule stands (in_instances scope names err) =
-      absurd (untold is_of_instances (lower_instances modules 0 scope.known context.unit.items) fault Drivers (instances_tell modules 0 scope.known context.unit.items) refl err rule)
-  step_told fault unit depth part context is_top rule stands (in_own scope children names wanted err) = record {
-    levels = depth;
-    one = instance_at context;
-    stands = (unit, is_top, stands);
-    twice = driven_twice modules context scope children wanted part fault rule err;
-  }
+  below_untold : (fault : ElabFault) (unit : ModuleTree) → fault.rule ≡ Drivers → ToldBelow modules 16 (top_instance unit) fault → ⊥
+  below_untold fault unit rule (too_deep one other stands) = absurd cc
+  below_untold fault unit rule (by_own depth part context stands own) = own_is_no_driver modules part context fault rule own
 
-  below_told : (fault : ElabFault) (unit : ModuleTree) → top_of modules top ≡ Some unit → fault.rule ≡ Drivers → ToldBelow modules 16 (top_instance unit) fault → HasTwoDrivers modules top
-  below_told fault unit is_top rule (too_deep one other stands) = absurd cc
-  below_told fault unit is_top rule (by_own depth part context stands own) = step_told fault unit depth part context is_top rule stands own
+  module _ (unit : ModuleTree) (part : Part) where
+    abbrev now : Environment
+    now = blank_environment part.variables
+
+    abbrev few : Option ElabFault
+    few = unless (nat_le (length part.begins) 256) TooMany (Some unit.name)
+
+    abbrev kinds : Option ElabFault
+    kinds = table_fault (kind_rule part.variables) part.table.actions part.table.words
+
+    abbrev flaws : Option ElabFault
+    flaws = table_fault (flaw_rule now) part.table.actions part.table.words
+
+    abbrev driven : Option ElabFault
+    driven = drivers_fault now [] part.table.actions part.table.words
+
+    all_told : TellsAgain (drives_again [] (driven_in part)) driven
+    all_told = again_told now [] part.table.actions part.table.words
+
+    -- where the design isn't refused
+    design_once : broken_design unit.name part ≡ None → drives_again [] (driven_in part) ≡ false
+    design_once right =
+        let table = or_none (broken_paths unit.name part) (broken_table unit.name part) right in
+        let inner = or_none few (option_or kinds (option_or flaws driven)) table.1 in
+        let last = or_none kinds (option_or flaws driven) inner.1 in
+        subst (TellsAgain (drives_again [] (driven_in part))) (or_none flaws driven last.1).1 all_told
+
+    -- and where it is under the rule
+    module _ (fault : ElabFault) (rule : fault.rule ≡ Drivers) where
+      of_flaws : (flaws ≡ Some fault) ⊎ (driven ≡ Some fault) → drives_again [] (driven_in part) ≡ true
+      of_flaws (inl is) =
+          absurd (untold_fault is_local flaws fault Drivers (table_tells is_local (flaw_rule now) (flaw_broken is_local refl refl now) part.table.actions part.table.words) refl is rule)
+      of_flaws (inr is) = subst (TellsAgain (drives_again [] (driven_in part))) is all_told
+
+      of_kinds : (kinds ≡ Some fault) ⊎ (option_or flaws driven ≡ Some fault) → drives_again [] (driven_in part) ≡ true
+      of_kinds (inl is) =
+          absurd (untold_fault is_local kinds fault Drivers (table_tells is_local (kind_rule part.variables) (kind_broken is_local refl refl part.variables) part.table.actions part.table.words) refl is rule)
+      of_kinds (inr is) = of_flaws (or_some flaws driven fault is)
+
+      of_table : (few ≡ Some fault) ⊎ (option_or kinds (option_or flaws driven) ≡ Some fault) → drives_again [] (driven_in part) ≡ true
+      of_table (inl is) =
+          absurd (untold_fault is_of_names few fault Drivers (unless_tells is_of_names (nat_le (length part.begins) 256) TooMany (Some unit.name) refl) refl is rule)
+      of_table (inr is) = of_kinds (or_some kinds (option_or flaws driven) fault is)
+
+      design_twice : (broken_paths unit.name part ≡ Some fault) ⊎ (broken_table unit.name part ≡ Some fault) → drives_again [] (driven_in part) ≡ true
+      design_twice (inl is) = absurd (untold_fault is_of_paths (broken_paths unit.name part) fault Drivers (broken_paths_tell is_of_paths refl refl unit.name part refl) refl is rule)
+      design_twice (inr is) = of_table (or_some few (option_or kinds (option_or flaws driven)) fault is)
 
   drivers_told : (fault : ElabFault) → fault.rule ≡ Drivers → Told modules top fault → HasTwoDrivers modules top
   drivers_told fault rule (in_modules w again other) = absurd cc
   drivers_told fault rule (in_ports m is other) = absurd (let no = sym (of_ports m fault.rule other) ∙ ap is_of_ports rule in cc)
   drivers_told fault rule (in_top missing other) = absurd cc
-  drivers_told fault rule (in_hierarchy unit is_top err) = below_told fault unit is_top rule (top_told_below modules unit fault err)
+  drivers_told fault rule (in_hierarchy unit is_top err) = absurd (below_untold fault unit rule (top_told_below modules unit fault err))
   drivers_told fault rule (in_design unit part is_top ok broken) =
-      absurd (untold_fault is_of_names (broken_design unit.name part) fault Drivers (design_tells is_of_names refl refl refl unit.name part refl refl) refl broken rule)
+      let it = twice_driven [] (driven_in part) (design_twice unit part fault rule (or_some (broken_paths unit.name part) (broken_table unit.name part) fault broken)) in
+      record {
+        unit = unit;
+        part = part;
+        is_top = is_top;
+        lowered = ok;
+        place = it.place;
+        one = it.one;
+        other = it.other;
+        before = it.before;
+        driven = it.first;
+        again = it.again;
+      }
 
   drivers_never : (scale : Timescale) (design : Design) → elaborated modules top scale ≡ Ok design → ¬ HasTwoDrivers modules top
   drivers_never scale design is two =
       let all = all_elaborated modules top scale design is in
-      let same = one_top modules top two.stands.0 all.unit two.stands.1 all.is_top in
-      let found = top_elaborated modules all.unit all.part two.levels two.one all.is_part (subst (λ (u : ModuleTree). StandsBelow modules two.levels (top_instance u) two.one) same two.stands.2) in
-      let own = found.2.own in
-      true≢false (sym two.twice
-      ∙ sym (ap (λ (i : Instance). has_double (letters_of (driven_nets modules i))) found.2.at)
-      ∙ driven_once modules found.2.context own.scope own.children own.instances_are found.2.part own.whole own.own_is)
+      let same = one_top modules top two.unit all.unit two.is_top all.is_top in
+      let made = ap (elaborate_top modules) same ∙ all.is_part in
+      let part = same_value two.part all.part (sym two.lowered ∙ made) in
+      let once = ap (λ (p : Part). drives_again [] (driven_in p)) part ∙ design_once all.unit all.part all.is_right in
+      once_driven [] (driven_in two.part) once two.place two.one two.other two.before (omega arith) two.driven two.again
 
 pub drivers_meant : IsMeant Drivers HasTwoDrivers
 drivers_meant = record {

@@ -6,7 +6,7 @@ use Rattle.std.proofs.lemmas.List.Concat.{flat_map-append}
 use Rattle.vast.specs.Words.{Text}
 use Rattle.vast.specs.NumberedWords.{Word}
 use Rattle.vast.specs.NumberedExpressions as text
-use Rattle.vast.specs.NumberedStatements.{TargetTree, SelectionTree, TaskTree, print, idle, dump_file, dump_vars, dump, end_run, DelayTree, StatementTree, StatementTrees, empty, block, assign, nonblocking, trigger, if_true, if_else, case_of, while_true, repeat_times, forever, for_loop, wait_for, delay, event, task, no_statement, first_statement, BranchTree, BranchTrees, labelled, default, no_branch, first_branch}
+use Rattle.vast.specs.NumberedStatements.{TargetTree, whole, SelectionTree, TaskTree, print, idle, dump_file, dump_vars, dump, end_run, DelayTree, StatementTree, StatementTrees, empty, block, assign, nonblocking, trigger, if_true, if_else, case_of, while_true, repeat_times, forever, for_loop, wait_for, delay, event, task, no_statement, first_statement, BranchTree, BranchTrees, labelled, default, no_branch, first_branch}
 use Rattle.vast.specs.declared.statement.Dumping.TheVariants as dumps
 use Rattle.vdesign.specs.declared.action.Action.{Action}
 use Rattle.vdesign.specs.declared.action.Action.TheVariants.{Assign, Nonblocking, AssignDelayed, NonblockingDelayed, Trigger, Test, Case, While, Repeat, Forever, Delay, EventControl, Wait, ContinuousAssign, Print, DumpVars, Dump, NoOperation, Finish, Stop}
@@ -16,17 +16,17 @@ use Rattle.vdesign.specs.declared.dump.Chosen.{Chosen}
 use Rattle.velab_expr.specs.declared.fault.Rule.TheVariants.{Kind}
 use Rattle.velab_expr.specs.declared.fault.ElabFault.{ElabFault}
 use Rattle.velab_expr.specs.Answers.{◌>>=◌, found}
-use Rattle.velab_expr.specs.Scopes.{Scope, lower_event, lower_variable}
+use Rattle.velab_expr.specs.Scopes.{Scope, lower_event}
 use Rattle.velab_expr.specs.Symbols.{behind_item}
 use Rattle.vast.specs.NumberedModules.{ItemTree}
 use Rattle.velab_process.specs.Processes.{ProcessTree, procedural, continuous, Processes, with_begins_before, lower_process, lower_processes, process_trees_by, lower_items}
 use Rattle.elaboration_law.specs.Selected.{paths_of, paths_in, paths_in_task, paths_by, paths_by_all, paths_by_branch, paths_by_branches, paths_by_process, paths_by_item}
 use Rattle.velab_expr.specs.Resolved.{lower_expression}
-use Rattle.velab_expr.specs.Written.{lower_target}
+use Rattle.velab_expr.specs.Written.{lower_target, lower_net_target, target_of}
 use Rattle.velab_expr.specs.Selections.{levels_in, dotted_path, chosen_by, chosen_of, lower_selection}
 use Rattle.vmodules.specs.Ports.{Port}
 use Rattle.vmodules.specs.Connected.{NamedConnection, value_for}
-use Rattle.velab_process.specs.Connections.{only_name, lower_input, lower_output, lower_connection, one_process, lower_join, lower_joins}
+use Rattle.velab_process.specs.Connections.{lower_input, lower_output, lower_connection, one_process, lower_join, lower_joins}
 use Rattle.vhierarchy.specs.Instances.{lower_own_processes, Context}
 use Rattle.velab_process.specs.Waits.{lower_control}
 use Rattle.velab_process.specs.Prints.{lower_line}
@@ -49,7 +49,7 @@ dumped_by (Forever body) = []
 dumped_by (Delay amount body) = []
 dumped_by (EventControl terms body) = []
 dumped_by (Wait condition terms body) = []
-dumped_by (ContinuousAssign net value terms) = []
+dumped_by (ContinuousAssign targets value terms) = []
 dumped_by (Print when pieces) = []
 dumped_by (Dump command) = []
 dumped_by NoOperation = []
@@ -220,8 +220,8 @@ begun_adds table ps before a h = last_adds of_processes of_processes table ps a 
 
 process_adds : (scope : Scope) (table : Table) (process : ProcessTree) → Adds of_lowered table (paths_by_process scope.top process) (lower_process scope table process)
 process_adds scope table (procedural statement) = statement_adds scope table statement
-process_adds scope table (continuous name value) =
-    silent_adds of_lowered table [] (lower_variable scope name) _ (λ net. silent_adds of_lowered table [] (lower_expression scope value) _ (λ e. acted table _))
+process_adds scope table (continuous target value) =
+    silent_adds of_lowered table [] (lower_net_target scope target) _ (λ targets. silent_adds of_lowered table [] (lower_expression scope value) _ (λ e. acted table _))
 
 processes_add : (scope : Scope) (table : Table) (list : List ProcessTree) → Adds of_processes table (flat_map (paths_by_process scope.top) list) (lower_processes scope table list)
 processes_add scope table [] = nothing_more table
@@ -252,17 +252,17 @@ quiet_adds table word (Err fault) q = tt
 
 module _ (whose : Word) (outer inner : Scope) where
   input_quiet : (port : Word) (value : text.ExpressionTree) → Quiet (lower_input outer inner port value)
-  input_quiet port value = quiet_then (lower_variable inner port) _ (λ net. quiet_then (lower_expression outer value) _ (λ e. refl))
+  input_quiet port value = quiet_then (lower_net_target inner (whole port)) _ (λ targets. quiet_then (lower_expression outer value) _ (λ e. refl))
 
-  output_quiet : (port : Word) (name : Option Word) → Quiet (lower_output whose outer inner port name)
+  output_quiet : (port : Word) (target : Option TargetTree) → Quiet (lower_output whose outer inner port target)
   output_quiet port None = tt
-  output_quiet port (Some name) = quiet_then (lower_variable outer name) _ (λ net. quiet_then (lower_expression inner (text.name port)) _ (λ e. refl))
+  output_quiet port (Some target) = quiet_then (lower_net_target outer target) _ (λ targets. quiet_then (lower_expression inner (text.name port)) _ (λ e. refl))
 
   connection_quiet : (p : Port) (value : text.ExpressionTree) → Quiet (lower_connection whose outer inner p value)
   connection_quiet p value = by p.output
     where
-      by : (out : Bool) → Quiet (if out then lower_output whose outer inner p.name (only_name value) else lower_input outer inner p.name value)
-      by true = output_quiet p.name (only_name value)
+      by : (out : Bool) → Quiet (if out then lower_output whose outer inner p.name (target_of value) else lower_input outer inner p.name value)
+      by true = output_quiet p.name (target_of value)
       by false = input_quiet p.name value
 
   join_adds : (table : Table) (p : Port) (value : Option text.ExpressionTree) → Adds of_processes table [] (lower_join whose outer inner table p value)

@@ -23,7 +23,7 @@ use Rattle.velab_expr.specs.Constants.{nothing, worth, measured, bound_in, part_
 use Rattle.velab_expr.specs.Resolved.{plain, part_in, count_of, few, lower, lower_parts, lower_expression, lower_constant, lower_value}
 use Rattle.velab_expr.specs.Ranges.{span, lower_bound, lower_range, lower_bounds}
 use Rattle.velab_expr.specs.Written as written
-use Rattle.velab_expr.specs.Written.{lower_target, lower_targets}
+use Rattle.velab_expr.specs.Written.{lower_index, lower_target_by, lower_targets_by}
 use Rattle.velab_expr.specs.Selections.{levels_in, lower_selection}
 use Rattle.elaboration_law.proofs.ToldLemmas.{Tells, is_local, then_tells, required_tells, provided_tells, found_tells}
 
@@ -140,24 +140,28 @@ bounds_tell scope (Some range) =
 
 -- ---- targets and selections
 
+index_tells : (fixed : Bool) (scope : Scope) (index : text.ExpressionTree) → Tells is_local (lower_index fixed scope index)
+index_tells false scope index = expression_tells scope index
+index_tells true scope index = constant_tells scope index
+
 mutual
-  pub target_tells : (scope : Scope) (target : TargetTree) → Tells is_local (lower_target scope target)
-  target_tells scope (whole letters) = then_tells is_local (lower_variable scope letters) _ (variable_tells scope letters) (λ number. tt)
-  target_tells scope (bit letters index) =
+  pub target_tells : (fixed : Bool) (scope : Scope) (target : TargetTree) → Tells is_local (lower_target_by fixed scope target)
+  target_tells fixed scope (whole letters) = then_tells is_local (lower_variable scope letters) _ (variable_tells scope letters) (λ number. tt)
+  target_tells fixed scope (bit letters index) =
       then_tells is_local (lower_variable scope letters) _ (variable_tells scope letters) (λ number.
-      then_tells is_local (lower_expression scope index) _ (expression_tells scope index) (λ place. tt))
-  target_tells scope (part letters left right) =
+      then_tells is_local (lower_index fixed scope index) _ (index_tells fixed scope index) (λ place. tt))
+  target_tells fixed scope (part letters left right) =
       then_tells is_local (lower_variable scope letters) _ (variable_tells scope letters) (λ number.
       then_tells is_local (written.lower_bounds scope left right) _
       (then_tells is_local (lower_value scope left) _ (value_tells scope left) (λ high.
       then_tells is_local (lower_value scope right) _ (value_tells scope right) (λ low. tt))) (λ bounds. tt))
-  target_tells scope (joined targets) = targets_tell scope targets
+  target_tells fixed scope (joined targets) = targets_tell fixed scope targets
 
-  targets_tell : (scope : Scope) (targets : TargetTrees) → Tells is_local (lower_targets scope targets)
-  targets_tell scope none = tt
-  targets_tell scope (first one more) =
-      then_tells is_local (lower_target scope one) _ (target_tells scope one) (λ front.
-      then_tells is_local (lower_targets scope more) _ (targets_tell scope more) (λ others. tt))
+  targets_tell : (fixed : Bool) (scope : Scope) (targets : TargetTrees) → Tells is_local (lower_targets_by fixed scope targets)
+  targets_tell fixed scope none = tt
+  targets_tell fixed scope (first one more) =
+      then_tells is_local (lower_target_by fixed scope one) _ (target_tells fixed scope one) (λ front.
+      then_tells is_local (lower_targets_by fixed scope more) _ (targets_tell fixed scope more) (λ others. tt))
 
 pub selection_tells : (scope : Scope) (selection : Option SelectionTree) → Tells is_local (lower_selection scope selection)
 selection_tells scope None = tt

@@ -25,9 +25,9 @@ use Rattle.velab_expr.specs.Constants.{nothing, worth, measured, bound_in, part_
 use Rattle.velab_expr.specs.Resolved.{plain, part_in, count_of, few, lower, lower_parts, lower_expression, lower_constant, lower_value}
 use Rattle.velab_expr.specs.Ranges.{span, lower_bound, lower_range, lower_bounds}
 use Rattle.velab_expr.specs.Written as written
-use Rattle.velab_expr.specs.Written.{lower_target, lower_targets}
+use Rattle.velab_expr.specs.Written.{lower_index, lower_target_by, lower_targets_by}
 use Rattle.velab_expr.specs.Selections.{levels_in, lower_selection}
-use Rattle.elaboration_law.specs.Uses.{Use, Read, ReadIn, Written, WrittenIn, Driven, Triggered, use_of, use_of_time, use_of_levels, used_in_selection, used_in, used_in_parts, used_in_range, used_in_target, used_in_targets}
+use Rattle.elaboration_law.specs.Uses.{Use, Read, ReadIn, Written, WrittenIn, Driven, DrivenIn, Triggered, use_of, use_of_time, use_of_levels, way_of_whole, way_of_part, used_in_selection, used_in, used_in_parts, used_in_range, used_in_target_by, used_in_targets_by}
 use Rattle.elaboration_law.proofs.UseLemmas.{Judges, required_judges, provided_judges, found_judges, Question, Fits, both, last, single}
 
 -- a constant reads no variable, so that no bits are asked for that there aren't
@@ -74,14 +74,14 @@ module _ (q : Question) (scope : Scope) where
   bits_know : (constant : Bool) (name : Word) → Fits q scope (use_of ReadIn constant name ∷ []) (lower_name constant scope name)
   bits_know constant name = single q scope (use_of ReadIn constant name) (lower_name constant scope name) (q.of_bits constant scope name)
 
-  written_knows : (name : Word) → Fits q scope (use_of Written false name ∷ []) (lower_variable scope name)
-  written_knows name = single q scope (use_of Written false name) (lower_variable scope name) (q.of_written scope name)
+  -- written by a process, or driven: the whole of it, and a bit or a part of it
+  whole_knows : (drives : Bool) (name : Word) → Fits q scope (use_of (way_of_whole drives) false name ∷ []) (lower_variable scope name)
+  whole_knows false name = single q scope (use_of Written false name) (lower_variable scope name) (q.of_written scope name)
+  whole_knows true name = single q scope (use_of Driven false name) (lower_variable scope name) (q.of_driven scope name)
 
-  written_in_knows : (name : Word) → Fits q scope (use_of WrittenIn false name ∷ []) (lower_variable scope name)
-  written_in_knows name = single q scope (use_of WrittenIn false name) (lower_variable scope name) (q.of_written_in scope name)
-
-  pub driven_knows : (name : Word) → Fits q scope (use_of Driven false name ∷ []) (lower_variable scope name)
-  driven_knows name = single q scope (use_of Driven false name) (lower_variable scope name) (q.of_driven scope name)
+  part_of_knows : (drives : Bool) (name : Word) → Fits q scope (use_of (way_of_part drives) false name ∷ []) (lower_variable scope name)
+  part_of_knows false name = single q scope (use_of WrittenIn false name) (lower_variable scope name) (q.of_written_in scope name)
+  part_of_knows true name = single q scope (use_of DrivenIn false name) (lower_variable scope name) (q.of_driven_in scope name)
 
   pub event_knows : (name : Word) → Fits q scope (use_of Triggered false name ∷ []) (lower_event scope name)
   event_knows name = single q scope (use_of Triggered false name) (lower_event scope name) (q.of_event scope name)
@@ -166,24 +166,28 @@ module _ (q : Question) (scope : Scope) where
 
   -- ---- targets and selections
 
+  index_knows : (fixed : Bool) (index : text.ExpressionTree) → Fits q scope (used_in fixed index) (lower_index fixed scope index)
+  index_knows false index = expression_knows index
+  index_knows true index = constant_knows index
+
   mutual
-    pub target_knows : (target : TargetTree) → Fits q scope (used_in_target target) (lower_target scope target)
-    target_knows (whole letters) = last q scope (use_of Written false letters ∷ []) (lower_variable scope letters) _ (written_knows letters) (λ number. refl)
-    target_knows (bit letters index) =
-        both q scope (use_of WrittenIn false letters ∷ []) (used_in false index) (lower_variable scope letters) _ (written_in_knows letters) (λ number.
-        last q scope (used_in false index) (lower_expression scope index) _ (expression_knows index) (λ place. refl))
-    target_knows (part letters left right) =
-        both q scope (use_of WrittenIn false letters ∷ []) (used_in true left ++ used_in true right) (lower_variable scope letters) _ (written_in_knows letters) (λ number.
+    pub target_knows : (drives : Bool) (target : TargetTree) → Fits q scope (used_in_target_by drives target) (lower_target_by drives scope target)
+    target_knows drives (whole letters) = last q scope (use_of (way_of_whole drives) false letters ∷ []) (lower_variable scope letters) _ (whole_knows drives letters) (λ number. refl)
+    target_knows drives (bit letters index) =
+        both q scope (use_of (way_of_part drives) false letters ∷ []) (used_in drives index) (lower_variable scope letters) _ (part_of_knows drives letters) (λ number.
+        last q scope (used_in drives index) (lower_index drives scope index) _ (index_knows drives index) (λ place. refl))
+    target_knows drives (part letters left right) =
+        both q scope (use_of (way_of_part drives) false letters ∷ []) (used_in true left ++ used_in true right) (lower_variable scope letters) _ (part_of_knows drives letters) (λ number.
         last q scope (used_in true left ++ used_in true right) (written.lower_bounds scope left right) _
         (both q scope (used_in true left) (used_in true right) (lower_value scope left) _ (value_knows left) (λ high.
         last q scope (used_in true right) (lower_value scope right) _ (value_knows right) (λ low. refl))) (λ bounds. refl))
-    target_knows (joined targets) = targets_know targets
+    target_knows drives (joined targets) = targets_know drives targets
 
-    targets_know : (targets : TargetTrees) → Fits q scope (used_in_targets targets) (lower_targets scope targets)
-    targets_know none = refl
-    targets_know (first one more) =
-        both q scope (used_in_target one) (used_in_targets more) (lower_target scope one) _ (target_knows one) (λ front.
-        last q scope (used_in_targets more) (lower_targets scope more) _ (targets_know more) (λ others. refl))
+    targets_know : (drives : Bool) (targets : TargetTrees) → Fits q scope (used_in_targets_by drives targets) (lower_targets_by drives scope targets)
+    targets_know drives none = refl
+    targets_know drives (first one more) =
+        both q scope (used_in_target_by drives one) (used_in_targets_by drives more) (lower_target_by drives scope one) _ (target_knows drives one) (λ front.
+        last q scope (used_in_targets_by drives more) (lower_targets_by drives scope more) _ (targets_know drives more) (λ others. refl))
 
   pub selection_knows : (selection : Option SelectionTree) → Fits q scope (used_in_selection selection) (lower_selection scope selection)
   selection_knows None = refl

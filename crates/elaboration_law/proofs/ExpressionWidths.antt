@@ -31,7 +31,7 @@ use Rattle.velab_expr.specs.Answers.{◌>>=◌, required, provided, found, unfla
 use Rattle.velab_expr.specs.FirstWords.{first_in, first_among}
 use Rattle.velab_expr.specs.Scopes.{Scope, meaning_of, bounds_for, operand_by, lower_name}
 use Rattle.velab_expr.specs.Constants.{nothing, worth, measured, bound_in, part_bounds, count_in}
-use Rattle.velab_expr.specs.Resolved.{plain, no_parts, in_front, operand_tree, bit_in, count_of, few, times, lower, lower_parts, lower_expression, lower_constant, lower_value}
+use Rattle.velab_expr.specs.Resolved.{plain, operand_tree, bit_in, count_of, few, times, lower, lower_parts, lower_constant, lower_value}
 use Rattle.velab_expr.specs.Resolved as resolved
 use Rattle.velab_expr.specs.Ranges.{span, lower_bound, narrow, lower_bounds}
 use Rattle.elaboration_law.specs.Widths.{Worth, meant, meant_parts, constant_in, selected_by, size_in, joined_size, part_in, can_repeat, is_sized, are_sized, is_bound, is_range}

@@ -111,14 +111,14 @@ pub record Own (modules : SourceTree) (part : Part) (context : Context) : Type 0
   pub whole : Part
   pub names_are : lower_names part context ≡ Ok scope
   pub instances_are : lower_instances modules 0 scope.known context.unit.items ≡ Ok children
-  pub own_is : lower_own context (ports_of context.unit) children scope part ≡ Ok whole
+  pub own_is : lower_own context (ports_of context.unit) scope part ≡ Ok whole
 
 -- or the first of them that tells the fault
 pub data OwnFault (modules : SourceTree) (part : Part) (context : Context) (fault : ElabFault) : Type 0 where
   in_names : lower_names part context ≡ Err fault → OwnFault modules part context fault
   in_instances : (scope : Scope) → lower_names part context ≡ Ok scope → lower_instances modules 0 scope.known context.unit.items ≡ Err fault → OwnFault modules part context fault
   in_own : (scope : Scope) (children : List Instantiation) → lower_names part context ≡ Ok scope → lower_instances modules 0 scope.known context.unit.items ≡ Ok children →
-      lower_own context (ports_of context.unit) children scope part ≡ Err fault → OwnFault modules part context fault
+      lower_own context (ports_of context.unit) scope part ≡ Err fault → OwnFault modules part context fault
 
 module _ (modules : SourceTree) (levels : ℕ) (part : Part) (context : Context) where
   -- the instances in it, behind its own
@@ -126,7 +126,7 @@ module _ (modules : SourceTree) (levels : ℕ) (part : Part) (context : Context)
   below scope children own = each (λ so_far child. elaborate_instance levels modules so_far (child_context scope context child)) own children
 
   abbrev after_instances : Scope → List Instantiation → Result Part ElabFault
-  after_instances scope children = lower_own context (ports_of context.unit) children scope part >>= λ own. below scope children own
+  after_instances scope children = lower_own context (ports_of context.unit) scope part >>= λ own. below scope children own
 
   abbrev after_names : Scope → Result Part ElabFault
   after_names scope = lower_instances modules 0 scope.known context.unit.items >>= λ children. after_instances scope children
@@ -135,7 +135,7 @@ module _ (modules : SourceTree) (levels : ℕ) (part : Part) (context : Context)
   opened_ok all is =
       let names = then_ok (lower_names part context) after_names all is in
       let wanted = then_ok (lower_instances modules 0 names.0.known context.unit.items) (after_instances names.0) all names.2 in
-      let own = then_ok (lower_own context (ports_of context.unit) wanted.0 names.0 part) (below names.0 wanted.0) all wanted.2 in
+      let own = then_ok (lower_own context (ports_of context.unit) names.0 part) (below names.0 wanted.0) all wanted.2 in
       (record { scope = names.0; children = wanted.0; whole = own.0; names_are = names.1; instances_are = wanted.1; own_is = own.1 }, own.2)
 
   pub opened_err : (fault : ElabFault) → elaborate_instance (suc levels) modules part context ≡ Err fault →
@@ -143,7 +143,7 @@ module _ (modules : SourceTree) (levels : ℕ) (part : Part) (context : Context)
   opened_err fault is = by (then_err (lower_names part context) after_names fault is)
     where
       last : (scope : Scope) (children : List Instantiation) → lower_names part context ≡ Ok scope → lower_instances modules 0 scope.known context.unit.items ≡ Ok children →
-          (lower_own context (ports_of context.unit) children scope part ≡ Err fault) ⊎ ((own : Part) × (lower_own context (ports_of context.unit) children scope part ≡ Ok own) × (below scope children own ≡ Err fault)) →
+          (lower_own context (ports_of context.unit) scope part ≡ Err fault) ⊎ ((own : Part) × (lower_own context (ports_of context.unit) scope part ≡ Ok own) × (below scope children own ≡ Err fault)) →
           OwnFault modules part context fault ⊎ ((own : Own modules part context) × (below own.scope own.children own.whole ≡ Err fault))
       last scope children names wanted (inl err) = inl (in_own scope children names wanted err)
       last scope children names wanted (inr (own, ok, err)) =
@@ -154,7 +154,7 @@ module _ (modules : SourceTree) (levels : ℕ) (part : Part) (context : Context)
           OwnFault modules part context fault ⊎ ((own : Own modules part context) × (below own.scope own.children own.whole ≡ Err fault))
       second scope names (inl err) = inl (in_instances scope names err)
       second scope names (inr (children, wanted, err)) =
-          last scope children names wanted (then_err (lower_own context (ports_of context.unit) children scope part) (below scope children) fault err)
+          last scope children names wanted (then_err (lower_own context (ports_of context.unit) scope part) (below scope children) fault err)
 
       by : (lower_names part context ≡ Err fault) ⊎ ((scope : Scope) × (lower_names part context ≡ Ok scope) × (after_names scope ≡ Err fault)) →
           OwnFault modules part context fault ⊎ ((own : Own modules part context) × (below own.scope own.children own.whole ≡ Err fault))

@@ -5,6 +5,8 @@ use Rattle.std.proofs.lemmas.List.{append-nil}
 use Rattle.vast.specs.Words.{Text}
 use Rattle.vast.specs.NumberedWords.{Word}
 use Rattle.vast.specs.NumberedExpressions as text
+use Rattle.vast.specs.NumberedStatements.{TargetTree}
+use Rattle.vast.specs.NumberedStatements as written
 use Rattle.vast.specs.NumberedModules.{ConnectionsTree, InstanceTree, ParameterType, integer, typed, DeclarationKind, variables, integers, directed, ItemTree, parameters, declaration, events, assignments, initial, always, instances, ModuleTree, SourceTree}
 use Rattle.vmodules.specs.Names.{is_declared, letters_of, first_again}
 use Rattle.vmodules.specs.Hierarchy.{module_of}
@@ -16,21 +18,22 @@ use Rattle.velab_expr.specs.declared.fault.ElabFault.{ElabFault}
 use Rattle.velab_expr.specs.declared.scope.Meaning.TheVariants.{Event}
 use Rattle.velab_expr.specs.Answers.{◌>>=◌, required, provided}
 use Rattle.vdesign.specs.declared.expression.Bounds.{Bounds}
-use Rattle.velab_expr.specs.Scopes.{Scope, at, lower_variable}
+use Rattle.velab_expr.specs.Scopes.{Scope, at}
 use Rattle.velab_expr.specs.Ranges.{lower_bounds}
 use Rattle.velab_expr.specs.Resolved.{lower_constant, lower_expression}
 use Rattle.velab_expr.specs.Symbols.{Symbol, parameter_symbol, event_symbol, instance_symbol, name_in, valueless_by, symbols_in_head, symbols_by, behind_item}
 use Rattle.velab_declaration.specs.Parameters.{Overrides, Base, lower_type, lower_parameter_value, lower_setting, lower_meaning, with_meaning, add_symbol, add_symbols, first_scope, item_scope}
-use Rattle.velab_declaration.specs.Variables.{port_names, declared_names, ScopeDrivers, lower_kind, lower_declaration, lower_variables, same_bounds, lower_again, lower_port, port_scope, lower_ports}
+use Rattle.velab_declaration.specs.Variables.{port_names, declared_names, lower_kind, lower_declaration, lower_variables, same_bounds, lower_again, lower_port, port_scope, lower_ports}
+use Rattle.velab_expr.specs.Written.{lower_net_target, target_of}
 use Rattle.velab_process.specs.Statements.{Table}
 use Rattle.velab_process.specs.Processes.{Processes, process_trees_by, lower_processes, lower_items, with_begins_before}
-use Rattle.velab_process.specs.Connections.{only_name, lower_input, lower_output, lower_connection, lower_join, lower_joins}
-use Rattle.vhierarchy.specs.Instances.{barring, Instantiation, instantiation_by, lower_instance, lower_list, named_again, lower_instances_of, lower_instances_by, lower_instances, driven_by, scope_drivers_by, lower_own_variables, lower_own_processes, with_own, few_enough, lower_own, base_of, lower_names, Part, Context, has_room}
-use Rattle.elaboration_law.specs.Uses.{Use, Read, Driven, use_of, used_in, used_in_range}
+use Rattle.velab_process.specs.Connections.{lower_input, lower_output, lower_connection, lower_join, lower_joins}
+use Rattle.vhierarchy.specs.Instances.{barring, Instantiation, instantiation_by, lower_instance, lower_list, named_again, lower_instances_of, lower_instances_by, lower_instances, lower_own_variables, lower_own_processes, with_own, few_enough, lower_own, base_of, lower_names, Part, Context, has_room}
+use Rattle.elaboration_law.specs.Uses.{Use, Read, Driven, use_of, used_in, used_in_range, used_in_target_by}
 use Rattle.elaboration_law.specs.Places.{Place, UseAt, at_place, all_fit, variables_of, place_behind, place_after, used_in_type, used_outside, used_by_output, used_at_port, used_if_connected, used_in_kind, used_in_declaration, used_in_processes, used_in_symbol, used_in_symbols, used_again, port_place, used_in_port, used_in_connection, used_by_items, used_in_instance}
 use Rattle.elaboration_law.proofs.HierarchyLemmas.{Own, OwnFault, in_names, in_instances, in_own}
 use Rattle.elaboration_law.proofs.UseLemmas.{Judges, Question, Fits, then_judges, known_judges, nothing_more, last_judges, required_judges, provided_judges, barring_judges}
-use Rattle.elaboration_law.proofs.ExpressionUses.{constant_knows, bounds_know, driven_knows, expression_knows}
+use Rattle.elaboration_law.proofs.ExpressionUses.{constant_knows, bounds_know, expression_knows, target_knows}
 use Rattle.elaboration_law.proofs.StatementUses.{processes_know}
 use Rattle.elaboration_law.proofs.NameRules.{names_added}
 use Rattle.elaboration_law.proofs.PlaceLemmas.{IsAt, Grown, grown_at, firm_by, firm_behind, first_grown, symbol_makes, symbol_grown, symbols_grown, Stands, stands_at, stands_on, stands_last, names_stand}
@@ -138,14 +141,14 @@ module _ (r : UseRule) where
       let range = (type_in direction).range in
       last (at_place place (used_in_range range)) (lower_bounds scope range) _ (judged_by place scope (used_in_range range) (lower_bounds scope range) h (bounds_know r.question scope range)) (λ bounds. refl)
 
-  declaration_judged : (drivers : ScopeDrivers) (place : Place) (scope : Scope) (item : ItemTree) → IsAt place scope → Judged r (at_place place (used_in_declaration item)) (lower_declaration drivers scope item)
-  declaration_judged drivers place scope (parameters local type settings) h = refl
-  declaration_judged drivers place scope (declaration kind list) h = last (at_place place (used_in_kind kind)) (lower_kind scope kind) _ (kind_judged place scope kind h) (λ form. refl)
-  declaration_judged drivers place scope (events names) h = refl
-  declaration_judged drivers place scope (assignments settings) h = refl
-  declaration_judged drivers place scope (initial statement) h = refl
-  declaration_judged drivers place scope (always statement) h = refl
-  declaration_judged drivers place scope (instances letters overrides list) h = refl
+  declaration_judged : (path : Text) (place : Place) (scope : Scope) (item : ItemTree) → IsAt place scope → Judged r (at_place place (used_in_declaration item)) (lower_declaration path scope item)
+  declaration_judged path place scope (parameters local type settings) h = refl
+  declaration_judged path place scope (declaration kind list) h = last (at_place place (used_in_kind kind)) (lower_kind scope kind) _ (kind_judged place scope kind h) (λ form. refl)
+  declaration_judged path place scope (events names) h = refl
+  declaration_judged path place scope (assignments settings) h = refl
+  declaration_judged path place scope (initial statement) h = refl
+  declaration_judged path place scope (always statement) h = refl
+  declaration_judged path place scope (instances letters overrides list) h = refl
 
   begun_judged : (uses : List UseAt) (before : List (List ℕ)) (a : Result Processes ElabFault) → Judged r uses a → Judged r uses (with_begins_before before a)
   begun_judged uses before a h = last uses a _ h (λ processes. refl)
@@ -161,18 +164,18 @@ module _ (r : UseRule) where
     same_uses is_port (always statement) = refl
     same_uses is_port (instances letters overrides list) = refl
 
-    variables_judged : (is_port : Text → Bool) (drivers : ScopeDrivers) (scope : Scope) (before items : List ItemTree) → Stands m before items scope →
-        Judged r (used_by_items m used_in_declaration before items) (lower_variables drivers scope (map (own_item is_port) items))
-    variables_judged is_port drivers scope before [] s = refl
-    variables_judged is_port drivers scope before (item ∷ more) s =
+    variables_judged : (is_port : Text → Bool) (path : Text) (scope : Scope) (before items : List ItemTree) → Stands m before items scope →
+        Judged r (used_by_items m used_in_declaration before items) (lower_variables path scope (map (own_item is_port) items))
+    variables_judged is_port path scope before [] s = refl
+    variables_judged is_port path scope before (item ∷ more) s =
         let own = own_item is_port item in
         let others = map (own_item is_port) more in
-        both (at_place (place_behind m before) (used_in_declaration item)) (used_by_items m used_in_declaration (before ++ item ∷ []) more) (lower_declaration drivers scope own) _
-        (subst (λ (l : List Use). Judged r (at_place (place_behind m before) l) (lower_declaration drivers scope own)) (same_uses is_port item)
-        (declaration_judged drivers (place_behind m before) scope own (stands_at m before (item ∷ more) scope s))) (λ front.
-        last (used_by_items m used_in_declaration (before ++ item ∷ []) more) (lower_variables drivers (behind_item scope own) others) _
-        (subst (λ (x : Scope). Judged r (used_by_items m used_in_declaration (before ++ item ∷ []) more) (lower_variables drivers x others)) (sym (same_behind is_port scope item))
-        (variables_judged is_port drivers (behind_item scope item) (before ++ item ∷ []) more (stands_on m before more item scope s))) (λ vs. refl))
+        both (at_place (place_behind m before) (used_in_declaration item)) (used_by_items m used_in_declaration (before ++ item ∷ []) more) (lower_declaration path scope own) _
+        (subst (λ (l : List Use). Judged r (at_place (place_behind m before) l) (lower_declaration path scope own)) (same_uses is_port item)
+        (declaration_judged path (place_behind m before) scope own (stands_at m before (item ∷ more) scope s))) (λ front.
+        last (used_by_items m used_in_declaration (before ++ item ∷ []) more) (lower_variables path (behind_item scope own) others) _
+        (subst (λ (x : Scope). Judged r (used_by_items m used_in_declaration (before ++ item ∷ []) more) (lower_variables path x others)) (sym (same_behind is_port scope item))
+        (variables_judged is_port path (behind_item scope item) (before ++ item ∷ []) more (stands_on m before more item scope s))) (λ vs. refl))
 
     items_judged : (scope : Scope) (table : Table) (before items : List ItemTree) → Stands m before items scope → Judged r (used_by_items m used_in_processes before items) (lower_items scope table items)
     items_judged scope table before [] s = refl
@@ -191,43 +194,43 @@ module _ (r : UseRule) where
         (judged_by (port_place m) scope (used_in_range range) (lower_bounds scope range) h (bounds_know r.question scope range)) (λ other.
         required_judges asked (same_bounds bounds other) Width (Some second.name) bounds r.no_width)
 
-    port_judged : (drivers : ScopeDrivers) (scope : Scope) (p : Port) → IsAt (port_place m) scope → Judged r (used_in_port m p) (lower_port drivers scope p)
-    port_judged drivers scope p h =
+    port_judged : (path : Text) (scope : Scope) (p : Port) → IsAt (port_place m) scope → Judged r (used_in_port m p) (lower_port path scope p)
+    port_judged path scope p h =
         let range = p.type.range in
         both (at_place (port_place m) (used_in_range range)) (at_place (port_place m) (used_again p.again)) (lower_bounds scope range) _
         (judged_by (port_place m) scope (used_in_range range) (lower_bounds scope range) h (bounds_know r.question scope range)) (λ bounds.
         last (at_place (port_place m) (used_again p.again)) (lower_again scope p.again bounds) _ (again_judged scope p.again bounds h) (λ whole. refl))
 
-    ports_judged : (drivers : ScopeDrivers) (scope : Scope) (ports : List Port) → IsAt (port_place m) scope → Judged r (flat_map (used_in_port m) ports) (lower_ports drivers scope ports)
-    ports_judged drivers scope [] h = refl
-    ports_judged drivers scope (p ∷ more) h =
-        both (used_in_port m p) (flat_map (used_in_port m) more) (lower_port drivers scope p) _
-        (port_judged drivers scope p h) (λ one.
-        last (flat_map (used_in_port m) more) (lower_ports drivers scope more) _ (ports_judged drivers scope more h) (λ others. refl))
+    ports_judged : (path : Text) (scope : Scope) (ports : List Port) → IsAt (port_place m) scope → Judged r (flat_map (used_in_port m) ports) (lower_ports path scope ports)
+    ports_judged path scope [] h = refl
+    ports_judged path scope (p ∷ more) h =
+        both (used_in_port m p) (flat_map (used_in_port m) more) (lower_port path scope p) _
+        (port_judged path scope p h) (λ one.
+        last (flat_map (used_in_port m) more) (lower_ports path scope more) _ (ports_judged path scope more h) (λ others. refl))
 
   -- ---- connections
 
   module _ (m : ModuleTree) (outside : Place) (values connections : List NamedConnection) (here there : Scope) (at_here : IsAt (place_behind m []) here) (at_there : IsAt outside there) where
     input_judged : (port : Word) (value : text.ExpressionTree) → Judged r (at_place (place_behind m []) (use_of Driven false port ∷ []) ++ at_place outside (used_in false value)) (lower_input there here port value)
     input_judged port value =
-        both (at_place (place_behind m []) (use_of Driven false port ∷ [])) (at_place outside (used_in false value)) (lower_variable here port) _
-        (judged_by (place_behind m []) here (use_of Driven false port ∷ []) (lower_variable here port) at_here (driven_knows r.question here port)) (λ net.
+        both (at_place (place_behind m []) (use_of Driven false port ∷ [])) (at_place outside (used_in false value)) (lower_net_target here (written.whole port)) _
+        (judged_by (place_behind m []) here (use_of Driven false port ∷ []) (lower_net_target here (written.whole port)) at_here (target_knows r.question here true (written.whole port))) (λ targets.
         last (at_place outside (used_in false value)) (lower_expression there value) _
         (judged_by outside there (used_in false value) (lower_expression there value) at_there (expression_knows r.question there value)) (λ e. refl))
 
-    output_judged : (whose port : Word) (name : Option Word) → Judged r (used_by_output m outside values connections port name) (lower_output whose there here port name)
+    output_judged : (whose port : Word) (target : Option TargetTree) → Judged r (used_by_output m outside values connections port target) (lower_output whose there here port target)
     output_judged whose port None = λ e. absurd (let no = r.no_ports in cc)
-    output_judged whose port (Some name) =
-        both (at_place outside (use_of Driven false name ∷ [])) (at_place (place_behind m []) (use_of Read false port ∷ [])) (lower_variable there name) _
-        (judged_by outside there (use_of Driven false name ∷ []) (lower_variable there name) at_there (driven_knows r.question there name)) (λ net.
+    output_judged whose port (Some target) =
+        both (at_place outside (used_in_target_by true target)) (at_place (place_behind m []) (use_of Read false port ∷ [])) (lower_net_target there target) _
+        (judged_by outside there (used_in_target_by true target) (lower_net_target there target) at_there (target_knows r.question there true target)) (λ targets.
         last (at_place (place_behind m []) (use_of Read false port ∷ [])) (lower_expression here (text.name port)) _
         (judged_by (place_behind m []) here (use_of Read false port ∷ []) (lower_expression here (text.name port)) at_here (expression_knows r.question here (text.name port))) (λ e. refl))
 
     connection_judged : (whose : Word) (p : Port) (value : text.ExpressionTree) → Judged r (used_at_port m outside values connections p.output p.name value) (lower_connection whose there here p value)
     connection_judged whose p value = by p.output
       where
-        by : (out : Bool) → Judged r (used_at_port m outside values connections out p.name value) (if out then lower_output whose there here p.name (only_name value) else lower_input there here p.name value)
-        by true = output_judged whose p.name (only_name value)
+        by : (out : Bool) → Judged r (used_at_port m outside values connections out p.name value) (if out then lower_output whose there here p.name (target_of value) else lower_input there here p.name value)
+        by true = output_judged whose p.name (target_of value)
         by false = input_judged p.name value
 
     join_judged : (whose : Word) (table : Table) (p : Port) (value : Option text.ExpressionTree) → Judged r (used_if_connected m outside values connections p value) (lower_join whose there here table p value)
@@ -356,9 +359,9 @@ module _ (r : UseRule) where
         provided_judges asked true (nat_le (length made.begins) 256) TooMany (Some context.name) (required (nat_le (length made.scopes) 1025) TooMany (Some context.name) made) r.no_many
         (required_judges asked (nat_le (length made.scopes) 1025) TooMany (Some context.name) made r.no_many)
 
-    module _ (scope : Scope) (children : List Instantiation) (s : Stands context.unit [] context.unit.items scope) where
-      abbrev drivers : ScopeDrivers
-      drivers = scope_drivers_by context ports children scope
+    module _ (scope : Scope) (s : Stands context.unit [] context.unit.items scope) where
+      abbrev path : Text
+      path = context.path
 
       at_first : IsAt (place_behind context.unit []) scope
       at_first = stands_at context.unit [] context.unit.items scope s
@@ -371,14 +374,13 @@ module _ (r : UseRule) where
           by true = stands_last context.unit scope s
           by false = at_first
 
-      own_variables_judged : Judged r in_variables (lower_own_variables context ports children scope)
+      own_variables_judged : Judged r in_variables (lower_own_variables context ports scope)
       own_variables_judged =
           let in_ports = flat_map (used_in_port context.unit) ports in
           let in_declarations = used_by_items context.unit used_in_declaration [] context.unit.items in
-          barring_judges asked (all_fit r.fits in_variables) (first_again (driven_by context ports children scope)) Drivers _ r.no_drivers
-          (both in_ports in_declarations (lower_ports drivers (port_scope context.unit scope) ports) _ (ports_judged context.unit drivers (port_scope context.unit scope) ports at_ports) (λ front.
-          last in_declarations (lower_variables drivers scope (own_items context.unit)) _
-          (variables_judged context.unit (is_declared (letters_of (plain_names context.unit.ports))) drivers scope [] context.unit.items s) (λ others. refl)))
+          both in_ports in_declarations (lower_ports path (port_scope context.unit scope) ports) _ (ports_judged context.unit path (port_scope context.unit scope) ports at_ports) (λ front.
+          last in_declarations (lower_variables path scope (own_items context.unit)) _
+          (variables_judged context.unit (is_declared (letters_of (plain_names context.unit.ports))) path scope [] context.unit.items s) (λ others. refl))
 
       own_processes_judged : Judged r (in_connections ++ in_items) (lower_own_processes context ports scope part.table)
       own_processes_judged =
@@ -386,9 +388,9 @@ module _ (r : UseRule) where
           (joins_judged context.unit outside context.overrides.values context.connections scope context.overrides.scope at_first around context.name part.table ports) (λ joins.
           begun_judged in_items joins.begins (lower_items scope joins.table context.unit.items) (items_judged context.unit scope joins.table [] context.unit.items s))
 
-      own_judged : Judged r (in_variables ++ (in_connections ++ in_items)) (lower_own context ports children scope part)
+      own_judged : Judged r (in_variables ++ (in_connections ++ in_items)) (lower_own context ports scope part)
       own_judged =
-          both in_variables (in_connections ++ in_items) (lower_own_variables context ports children scope) _ own_variables_judged (λ vs.
+          both in_variables (in_connections ++ in_items) (lower_own_variables context ports scope) _ own_variables_judged (λ vs.
           last (in_connections ++ in_items) (lower_own_processes context ports scope part.table) _ own_processes_judged (λ ps. few_silent (with_own context scope part vs ps)))
 
     abbrev in_instance : List UseAt
@@ -396,28 +398,28 @@ module _ (r : UseRule) where
 
     module _ (modules : SourceTree) where
       abbrev after_names : Scope → Result Part ElabFault
-      after_names scope = lower_instances modules 0 scope.known context.unit.items >>= λ children. lower_own context ports children scope part
+      after_names scope = lower_instances modules 0 scope.known context.unit.items >>= λ children. lower_own context ports scope part
 
       instance_judged : Judged r in_instance (lower_names part context >>= after_names)
       instance_judged =
           known by_all (in_variables ++ (in_connections ++ in_items)) (lower_names part context) after_names names_judged (λ scope is.
           both [] (in_variables ++ (in_connections ++ in_items)) (lower_instances modules 0 scope.known context.unit.items) _ (instances_silent modules 0 scope.known context.unit.items) (λ children.
-          own_judged scope children (names_stand part context scope is)))
+          own_judged scope (names_stand part context scope is)))
 
       -- all that it uses fits, where its own steps are answered
       pub own_fits : Own modules part context → all_fit r.fits in_instance ≡ true
       own_fits own =
           subst (Judged r in_instance)
-          (ap (λ (a : Result Scope ElabFault). a >>= after_names) own.names_are ∙ ap (λ (a : Result (List Instantiation) ElabFault). a >>= λ children. lower_own context ports children own.scope part) own.instances_are ∙ own.own_is)
+          (ap (λ (a : Result Scope ElabFault). a >>= after_names) own.names_are ∙ ap (λ (a : Result (List Instantiation) ElabFault). a >>= λ children. lower_own context ports own.scope part) own.instances_are ∙ own.own_is)
           instance_judged
 
       -- or something doesn't, where they tell so
       answer_is : (fault : ElabFault) → OwnFault modules part context fault → (lower_names part context >>= after_names) ≡ Err fault
       answer_is fault (in_names err) = ap (λ (a : Result Scope ElabFault). a >>= after_names) err
       answer_is fault (in_instances scope names err) =
-          ap (λ (a : Result Scope ElabFault). a >>= after_names) names ∙ ap (λ (a : Result (List Instantiation) ElabFault). a >>= λ children. lower_own context ports children scope part) err
+          ap (λ (a : Result Scope ElabFault). a >>= after_names) names ∙ ap (λ (a : Result (List Instantiation) ElabFault). a >>= λ children. lower_own context ports scope part) err
       answer_is fault (in_own scope children names wanted err) =
-          ap (λ (a : Result Scope ElabFault). a >>= after_names) names ∙ ap (λ (a : Result (List Instantiation) ElabFault). a >>= λ children. lower_own context ports children scope part) wanted ∙ err
+          ap (λ (a : Result Scope ElabFault). a >>= after_names) names ∙ ap (λ (a : Result (List Instantiation) ElabFault). a >>= λ children. lower_own context ports scope part) wanted ∙ err
 
       pub own_misuses : (fault : ElabFault) → fault.rule ≡ r.rule → OwnFault modules part context fault → all_fit r.fits in_instance ≡ false
       own_misuses fault rule own = subst (Judged r in_instance) (answer_is fault own) instance_judged (ap asked rule ∙ r.is_asked)

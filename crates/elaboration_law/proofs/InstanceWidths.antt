@@ -18,7 +18,7 @@ use Rattle.velab_expr.specs.Constants.{nothing}
 use Rattle.velab_expr.specs.Ranges.{lower_bounds}
 use Rattle.velab_expr.specs.Symbols.{Symbol, symbols_in_head, symbols_by, valueless_by, behind_item}
 use Rattle.velab_declaration.specs.Parameters.{Overrides, Base, add_symbol, add_symbols, first_scope, item_scope}
-use Rattle.velab_declaration.specs.Variables.{declared_names, ScopeDrivers, form_of, variable_in, same_bounds, lower_again, lower_port, lower_ports, lower_kind, lower_declaration, lower_variables}
+use Rattle.velab_declaration.specs.Variables.{declared_names, form_of, variable_in, same_bounds, lower_again, lower_port, lower_ports, lower_kind, lower_declaration, lower_variables}
 use Rattle.elaboration_law.specs.Places.{symbols_of}
 use Rattle.elaboration_law.specs.Widths.{Worth, is_range}
 use Rattle.elaboration_law.specs.Worths.{nothing_known, worths_in, are_set_in, bounds_by, range_of_kind, is_again, is_port_ranged, is_item_ranged}
@@ -120,7 +120,7 @@ module _ (base : Base) (m : ModuleTree) (outside : Text → Worth) (outer_vector
 
 -- ---- ranges of what it declares
 
-module _ (named : Text → Worth) (vectors : AreVectors named) (drivers : ScopeDrivers) where
+module _ (named : Text → Worth) (vectors : AreVectors named) (path : Text) where
   range_judged : (scope : Scope) → AreWorth true nothing scope named → (range : Option RangeTree) → Judges is_width (is_range named range) (lower_bounds scope range)
   range_judged scope h range = by (lower_bounds scope range) (bounds_sizes scope named vectors h range)
     where
@@ -153,23 +153,23 @@ module _ (named : Text → Worth) (vectors : AreVectors named) (drivers : ScopeD
           (same_judged (same_bounds bounds other) (Some second.name) bounds))
       by (Err fault) k = λ width. ap (λ (b : Bool). b && same) (k width)
 
-  port_judged : (scope : Scope) → AreWorth true nothing scope named → (p : Port) → Judges is_width (is_port_ranged named p) (lower_port drivers scope p)
+  port_judged : (scope : Scope) → AreWorth true nothing scope named → (p : Port) → Judges is_width (is_port_ranged named p) (lower_port path scope p)
   port_judged scope h p = by (lower_bounds scope p.type.range) (bounds_sizes scope named vectors h p.type.range)
     where
       by : (a : Result (Option Bounds) ElabFault) → IsRange named p.type.range (is_range named p.type.range) a →
           Judges is_width (is_port_ranged named p)
-          (a >>= λ bounds. lower_again scope p.again bounds >>= λ whole. Ok (variable_in drivers (form_of p.net p.type.signed whole) p.name.letters))
+          (a >>= λ bounds. lower_again scope p.again bounds >>= λ whole. Ok (variable_in path (form_of p.net p.type.signed whole) p.name.letters))
       by (Ok bounds) k =
           ranged_first (is_range named p.type.range) (is_again named p.type.range p.again) _ k.1
           (last_judges is_width (is_again named p.type.range p.again) (lower_again scope p.again bounds) _ (again_judged scope h p.type.range p.again bounds k.0) (λ whole. refl))
       by (Err fault) k = λ width. ap (λ (b : Bool). b && is_again named p.type.range p.again) (k width)
 
-  pub ports_judged : (scope : Scope) → AreWorth true nothing scope named → (list : List Port) → Judges is_width (list_all (is_port_ranged named) list) (lower_ports drivers scope list)
+  pub ports_judged : (scope : Scope) → AreWorth true nothing scope named → (list : List Port) → Judges is_width (list_all (is_port_ranged named) list) (lower_ports path scope list)
   ports_judged scope h [] = refl
   ports_judged scope h (p ∷ more) =
-      then_judges is_width (is_port_ranged named) (p ∷ []) more (lower_port drivers scope p) _
-      (one_judges is_width (is_port_ranged named) p (lower_port drivers scope p) (port_judged scope h p)) (λ one.
-      last_judges is_width (list_all (is_port_ranged named) more) (lower_ports drivers scope more) _ (ports_judged scope h more) (λ others. refl))
+      then_judges is_width (is_port_ranged named) (p ∷ []) more (lower_port path scope p) _
+      (one_judges is_width (is_port_ranged named) p (lower_port path scope p) (port_judged scope h p)) (λ one.
+      last_judges is_width (list_all (is_port_ranged named) more) (lower_ports path scope more) _ (ports_judged scope h more) (λ others. refl))
 
   kind_judged : (scope : Scope) → AreWorth true nothing scope named → (kind : DeclarationKind) → Judges is_width (is_range named (range_of_kind kind)) (lower_kind scope kind)
   kind_judged scope h (variables word type) = last_judges is_width (is_range named type.range) (lower_bounds scope type.range) _ (range_judged scope h type.range) (λ bounds. refl)
@@ -177,7 +177,7 @@ module _ (named : Text → Worth) (vectors : AreVectors named) (drivers : ScopeD
   kind_judged scope h (directed direction) =
       last_judges is_width (is_range named (type_in direction).range) (lower_bounds scope (type_in direction).range) _ (range_judged scope h (type_in direction).range) (λ bounds. refl)
 
-  item_judged : (scope : Scope) → AreWorth true nothing scope named → (item : ItemTree) → Judges is_width (is_item_ranged named item) (lower_declaration drivers scope item)
+  item_judged : (scope : Scope) → AreWorth true nothing scope named → (item : ItemTree) → Judges is_width (is_item_ranged named item) (lower_declaration path scope item)
   item_judged scope h (parameters local type settings) = refl
   item_judged scope h (declaration kind list) = last_judges is_width (is_range named (range_of_kind kind)) (lower_kind scope kind) _ (kind_judged scope h kind) (λ form. refl)
   item_judged scope h (events names) = refl
@@ -187,13 +187,13 @@ module _ (named : Text → Worth) (vectors : AreVectors named) (drivers : ScopeD
   item_judged scope h (instances name overrides list) = refl
 
   pub items_judged : (is_port : Text → Bool) (scope : Scope) → AreWorth true nothing scope named → (items : List ItemTree) →
-      Judges is_width (list_all (is_item_ranged named) items) (lower_variables drivers scope (map (own_item is_port) items))
+      Judges is_width (list_all (is_item_ranged named) items) (lower_variables path scope (map (own_item is_port) items))
   items_judged is_port scope h [] = refl
   items_judged is_port scope h (item ∷ more) =
       let own = own_item is_port item in
       let others = map (own_item is_port) more in
-      then_judges is_width (is_item_ranged named) (item ∷ []) more (lower_declaration drivers scope own) _
-      (one_judges is_width (is_item_ranged named) item (lower_declaration drivers scope own)
-      (subst (λ (b : Bool). Judges is_width b (lower_declaration drivers scope own)) (same_range named is_port item) (item_judged scope h own))) (λ front.
-      last_judges is_width (list_all (is_item_ranged named) more) (lower_variables drivers (behind_item scope own) others) _
+      then_judges is_width (is_item_ranged named) (item ∷ []) more (lower_declaration path scope own) _
+      (one_judges is_width (is_item_ranged named) item (lower_declaration path scope own)
+      (subst (λ (b : Bool). Judges is_width b (lower_declaration path scope own)) (same_range named is_port item) (item_judged scope h own))) (λ front.
+      last_judges is_width (list_all (is_item_ranged named) more) (lower_variables path (behind_item scope own) others) _
       (items_judged is_port (behind_item scope own) (record { of_parameter = h.of_parameter; of_variable = h.of_variable }) more) (λ vs. refl))

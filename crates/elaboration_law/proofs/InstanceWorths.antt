@@ -23,7 +23,7 @@ use Rattle.velab_expr.specs.Scopes.{Scope, meaning_of, bounds_for}
 use Rattle.velab_expr.specs.Constants.{nothing}
 use Rattle.velab_expr.specs.Ranges.{span}
 use Rattle.velab_declaration.specs.ActionFlaws.{blank_environment}
-use Rattle.velab_declaration.specs.Variables.{Declaration, all_declared, kind_of, declarations_of, declarations, port_declaration, port_names, length_of, ScopeDrivers, counted_kind}
+use Rattle.velab_declaration.specs.Variables.{Declaration, all_declared, kind_of, declarations_of, declarations, port_declaration, port_names, length_of, counted_kind}
 use Rattle.elaboration_law.specs.Places.{variables_of}
 use Rattle.elaboration_law.specs.Doubles.{other_names}
 use Rattle.vmodules.specs.Names.{is_declared, letters_of}
@@ -171,8 +171,8 @@ module _ (constants : Text → Worth) where
 
 -- ---- where a design has these variables
 
-module _ (constants : Text → Worth) (drivers : ScopeDrivers) (m : ModuleTree) (scope : Scope) (agrees : AreWorth true nothing scope constants) (of : IsOf m scope)
-    (all : List design.Variable) (made : (k : ℕ) (d : Declaration) → slice_get (all_in m) k ≡ Some d → slice_get all (scope.first + k) ≡ Some (variable_by constants drivers d)) where
+module _ (constants : Text → Worth) (path : Text) (m : ModuleTree) (scope : Scope) (agrees : AreWorth true nothing scope constants) (of : IsOf m scope)
+    (all : List design.Variable) (made : (k : ℕ) (d : Declaration) → slice_get (all_in m) k ≡ Some d → slice_get all (scope.first + k) ≡ Some (variable_by constants path d)) where
   abbrev named : Text → Worth
   named = with_variables constants (all_in m)
 
@@ -228,8 +228,8 @@ module _ (constants : Text → Worth) (drivers : ScopeDrivers) (m : ModuleTree) 
             let it : Some (Variable (scope.first + place)) ≡ Some (Variable number) = sym (is_variable any) ∙ is in
             let same : scope.first + place ≡ number = cc in
             let found = ap (slice_get all) (sym same) ∙ made place first.d there in (
-              ap (λ (v : Vector). length v.letters) (value_declared constants drivers all number first.d found ∙ sym (ap (λ (w : Worth). w.value) first.worth)),
-              bounds_declared constants drivers all number first.d found ∙ sym (ap (λ (w : Worth). w.bounds) first.worth),
+              ap (λ (v : Vector). length v.letters) (value_declared constants path all number first.d found ∙ sym (ap (λ (w : Worth). w.value) first.worth)),
+              bounds_declared constants path all number first.d found ∙ sym (ap (λ (w : Worth). w.bounds) first.worth),
             )
         by false none = absurd (is_another none number is)
 

@@ -16,9 +16,10 @@ use Rattle.velab_expr.specs.declared.fault.ElabFault.{ElabFault}
 use Rattle.velab_expr.specs.Rules.{unless, broken_if}
 use Rattle.velab_declaration.specs.Right.{writes_rightly, kind_rule}
 use Rattle.velab_declaration.specs.ActionFlaws.{blank_environment, flaw_rule, table_fault}
+use Rattle.velab_declaration.specs.Drives.{drivers_fault}
 use Rattle.vhierarchy.specs.Instances.{Part, variable_paths, scope_paths, broken_path, broken_selection, broken_paths, broken_table, broken_design, elaborate_top, elaborated}
 use Rattle.elaboration_law.specs.Laws.{IsMeant}
-use Rattle.elaboration_law.specs.Uses.{Way, Read, ReadIn, Written, WrittenIn, Driven, Triggered, Awaited, Use, use_of, use_of_time, use_of_formats, use_of_levels}
+use Rattle.elaboration_law.specs.Uses.{Way, Read, ReadIn, Written, WrittenIn, Driven, DrivenIn, Triggered, Awaited, Use, use_of, use_of_time, use_of_formats, use_of_levels}
 use Rattle.elaboration_law.specs.Places.{Thing, a_variable, a_parameter, an_event, an_instance, Place, no_place, thing_of, UseAt, all_fit, used_in_instance, HasMisuse, of_top, of_instance}
 use Rattle.elaboration_law.specs.Kinds.{variable_suits, parameter_suits, event_suits, suits, is_suited, formats_fit, selects_no_variable, HasMiskind, of_use, of_input, of_variable_path}
 use Rattle.elaboration_law.specs.Unknowns.{all_below}
@@ -27,7 +28,7 @@ use Rattle.velab_expr.specs.Selections.{levels_in}
 use Rattle.elaboration_law.proofs.UseLemmas.{first_false, second_false}
 use Rattle.elaboration_law.proofs.MisuseLemmas.{used_by_listed}
 use Rattle.elaboration_law.proofs.ToldLemmas.{untold_fault}
-use Rattle.elaboration_law.proofs.DesignRules.{broken_tells, unless_tells}
+use Rattle.elaboration_law.proofs.DesignRules.{broken_tells, drivers_tell, unless_tells}
 use Rattle.vmodules.specs.declared.misdeclared.PortFlaw.{PortFlaw}
 use Rattle.vmodules.specs.declared.misdeclared.PortFlaw.TheVariants as flaw
 use Rattle.elaboration_law.proofs.PortLemmas.{IsWrong, port_doubled, block_doubled, port_alone, variable_input, one_wrong, all_untold, no_variable_input}
@@ -51,6 +52,7 @@ ways_both ReadIn d = refl
 ways_both Written d = refl
 ways_both WrittenIn d = refl
 ways_both Driven d = refl
+ways_both DrivenIn d = refl
 ways_both Triggered d = refl
 ways_both (Awaited edge) d = refl
 
@@ -156,6 +158,9 @@ module _ (modules : SourceTree) (top : Option Text) (unit : ModuleTree) (part : 
   abbrev bits : Option ElabFault
   bits = table_fault (flaw_rule (blank_environment part.variables)) part.table.actions part.table.words
 
+  abbrev driven : Option ElabFault
+  driven = drivers_fault (blank_environment part.variables) [] part.table.actions part.table.words
+
   abbrev few : Option ElabFault
   few = unless (nat_le (length part.begins) 256) TooMany (Some unit.name)
 
@@ -164,13 +169,13 @@ module _ (modules : SourceTree) (top : Option Text) (unit : ModuleTree) (part : 
   design_is_right right =
       let whole = or_none (broken_paths unit.name part) (broken_table unit.name part) right in
       let outer = or_none named (option_or scoped selections) whole.0 in
-      let table = or_none few (option_or writes bits) whole.1 in
-      let both = or_none writes bits table.1 in (
+      let table = or_none few (option_or writes (option_or bits driven)) whole.1 in
+      let both = or_none writes (option_or bits driven) table.1 in (
         subst (JudgesIf of_kind (selects_no_variable unit.name.letters (all_below modules unit))) (or_none scoped selections outer.1).1 selections_judged,
         both_all part.variables part.table.actions
             ∙ and_both (list_all (writes_rightly part.variables) part.table.actions) (list_all (action_bits part.variables) part.table.actions)
             (subst (JudgesIf of_kind (list_all (writes_rightly part.variables) part.table.actions)) both.0 (writes_told part.variables part.table.actions part.table.words))
-            (subst (JudgesIf of_kind (list_all (action_bits part.variables) part.table.actions)) both.1 (bits_told part.variables part.table.actions part.table.words)),
+            (subst (JudgesIf of_kind (list_all (action_bits part.variables) part.table.actions)) (or_none bits driven both.1).0 (bits_told part.variables part.table.actions part.table.words)),
       )
 
   -- and where the rule is told of it
@@ -189,23 +194,28 @@ module _ (modules : SourceTree) (top : Option Text) (unit : ModuleTree) (part : 
       paths (inl is) = absurd (not_doubled (has_double (variable_paths part)) is)
       paths (inr is) = scopes (or_some scoped selections fault is)
 
-      both : (writes ≡ Some fault) ⊎ (bits ≡ Some fault) → all_right part.variables part.table ≡ false
+      sized : (bits ≡ Some fault) ⊎ (driven ≡ Some fault) → all_right part.variables part.table ≡ false
+      sized (inl is) =
+          both_all part.variables part.table.actions
+          ∙ second_false (list_all (writes_rightly part.variables) part.table.actions) (list_all (action_bits part.variables) part.table.actions) (subst (JudgesIf of_kind (list_all (action_bits part.variables) part.table.actions)) is (bits_told part.variables part.table.actions part.table.words) (ap is_kind rule))
+      sized (inr is) =
+          absurd (untold_fault (λ r. not (is_kind r)) driven fault Kind (drivers_tell (λ r. not (is_kind r)) refl (blank_environment part.variables) [] part.table.actions part.table.words) refl is rule)
+
+      both : (writes ≡ Some fault) ⊎ (option_or bits driven ≡ Some fault) → all_right part.variables part.table ≡ false
       both (inl is) =
           both_all part.variables part.table.actions
           ∙ first_false (list_all (writes_rightly part.variables) part.table.actions) (list_all (action_bits part.variables) part.table.actions) (subst (JudgesIf of_kind (list_all (writes_rightly part.variables) part.table.actions)) is (writes_told part.variables part.table.actions part.table.words) (ap is_kind rule))
-      both (inr is) =
-          both_all part.variables part.table.actions
-          ∙ second_false (list_all (writes_rightly part.variables) part.table.actions) (list_all (action_bits part.variables) part.table.actions) (subst (JudgesIf of_kind (list_all (action_bits part.variables) part.table.actions)) is (bits_told part.variables part.table.actions part.table.words) (ap is_kind rule))
+      both (inr is) = sized (or_some bits driven fault is)
 
-      table : (few ≡ Some fault) ⊎ (option_or writes bits ≡ Some fault) → all_right part.variables part.table ≡ false
+      table : (few ≡ Some fault) ⊎ (option_or writes (option_or bits driven) ≡ Some fault) → all_right part.variables part.table ≡ false
       table (inl is) =
           absurd (untold_fault (λ r. not (is_kind r)) few fault Kind (unless_tells (λ r. not (is_kind r)) (nat_le (length part.begins) 256) TooMany (Some unit.name) refl) refl is rule)
-      table (inr is) = both (or_some writes bits fault is)
+      table (inr is) = both (or_some writes (option_or bits driven) fault is)
 
       whole : (broken_paths unit.name part ≡ Some fault) ⊎ (broken_table unit.name part ≡ Some fault) →
           (selects_no_variable unit.name.letters (all_below modules unit) ≡ false) ⊎ (all_right part.variables part.table ≡ false)
       whole (inl is) = inl (paths (or_some named (option_or scoped selections) fault is))
-      whole (inr is) = inr (table (or_some few (option_or writes bits) fault is))
+      whole (inr is) = inr (table (or_some few (option_or writes (option_or bits driven)) fault is))
 
 -- ---- the law
 

@@ -36,7 +36,7 @@ use Rattle.velab_process.specs.Prints.{between_quotes, given, is_watched, lower_
 use Rattle.velab_process.proofs.LineLemmas.{given_same}
 use Rattle.velab_process.specs.Waits.{term_by}
 use Rattle.vhierarchy.specs.Instances.{elaborate_top, elaborated}
-use Rattle.elaboration_law.specs.Uses.{Way, Read, ReadIn, Written, WrittenIn, Driven, Triggered, Awaited, Use, use_of, use_of_time, use_of_formats, use_of_levels}
+use Rattle.elaboration_law.specs.Uses.{Way, Read, ReadIn, Written, WrittenIn, Driven, DrivenIn, Triggered, Awaited, Use, use_of, use_of_time, use_of_formats, use_of_levels}
 use Rattle.elaboration_law.specs.Places.{Thing, a_variable, a_parameter, an_event, an_instance, Place, thing_of, HasMisuse}
 use Rattle.elaboration_law.specs.Kinds.{parameter_suits, event_suits, is_ended, shows_letters, string_fits, takes_string, left_by, left_by_string, left_by_value, formats_fit}
 use Rattle.elaboration_law.proofs.StepLemmas.{same_value, then_ok}
@@ -66,6 +66,7 @@ any_variable_suits ReadIn = true
 any_variable_suits Written = true
 any_variable_suits WrittenIn = true
 any_variable_suits Driven = true
+any_variable_suits DrivenIn = true
 any_variable_suits Triggered = false
 any_variable_suits (Awaited edge) = true
 
@@ -137,6 +138,13 @@ driven_kind name (Some (Variable number)) = refl
 driven_kind name (Some (Parameter worth bounds before)) = λ e. refl
 driven_kind name (Some (Event number)) = λ e. refl
 driven_kind name (Some Instance) = λ e. refl
+
+driven_in_kind : (name : Word) (meaning : Option Meaning) → Judges is_kind (kind_by false DrivenIn meaning) (variable_by name meaning)
+driven_in_kind name None = λ e. absurd cc
+driven_in_kind name (Some (Variable number)) = refl
+driven_in_kind name (Some (Parameter worth bounds before)) = λ e. refl
+driven_in_kind name (Some (Event number)) = λ e. refl
+driven_in_kind name (Some Instance) = λ e. refl
 
 event_kind : (name : Word) (meaning : Option Meaning) → Judges is_kind (kind_by false Triggered meaning) (event_by name meaning)
 event_kind name None = λ e. absurd cc
@@ -270,6 +278,7 @@ kinds = record {
   of_written = λ scope name. written_kind name (meaning_of scope name);
   of_written_in = λ scope name. written_in_kind name (meaning_of scope name);
   of_driven = λ scope name. driven_kind name (meaning_of scope name);
+  of_driven_in = λ scope name. driven_in_kind name (meaning_of scope name);
   of_event = λ scope name. event_kind name (meaning_of scope name);
   of_term = λ scope edge name. term_kind edge name (meaning_of scope name);
   of_time = λ constant scope word x. required_judges is_kind (not constant) Constant word x refl;

@@ -107,6 +107,7 @@ names = record {
   of_written = λ scope name. variable_known scope.known name (meaning_of scope name);
   of_written_in = λ scope name. variable_known scope.known name (meaning_of scope name);
   of_driven = λ scope name. variable_known scope.known name (meaning_of scope name);
+  of_driven_in = λ scope name. variable_known scope.known name (meaning_of scope name);
   of_event = λ scope name. event_known scope.known name (meaning_of scope name);
   of_term = λ scope edge name. term_known scope.known edge name (meaning_of scope name);
   of_formats = λ scope default ends arguments all is. found_judges is_unknown (pieces_of default ends all) Kind (first_argument arguments) refl;

@@ -5,6 +5,7 @@ use Rattle.basis.specs.declared.timescale.Timescale.{Timescale}
 use Rattle.vast.specs.Words.{Text}
 use Rattle.vast.specs.NumberedWords.{Word}
 use Rattle.vast.specs.NumberedExpressions as text
+use Rattle.vast.specs.NumberedStatements.{TargetTree}
 use Rattle.vast.specs.NumberedModules.{ConnectionsTree, InstanceTree, ItemTree, instances, ModuleTree, SourceTree}
 use Rattle.vdesign.specs.Design.{Design}
 use Rattle.vdesign.specs.declared.action.Action.{Action}
@@ -16,25 +17,26 @@ use Rattle.velab_expr.specs.declared.fault.Rule.TheVariants.{Top, Doubled, Ports
 use Rattle.velab_expr.specs.declared.fault.ElabFault.{ElabFault}
 use Rattle.velab_expr.specs.Rules.{told}
 use Rattle.velab_expr.specs.Answers.{◌>>=◌}
-use Rattle.velab_expr.specs.Scopes.{Scope, lower_variable}
+use Rattle.velab_expr.specs.Scopes.{Scope}
 use Rattle.velab_expr.specs.Resolved.{lower_expression}
+use Rattle.velab_expr.specs.Written.{lower_net_target, target_of}
 use Rattle.velab_declaration.specs.Variables.{port_names}
 use Rattle.velab_process.specs.Statements.{Table}
 use Rattle.velab_process.specs.Processes.{Processes as Made, with_begins_before, lower_items}
-use Rattle.velab_process.specs.Connections.{only_name, lower_input, lower_output, lower_connection, lower_join, lower_joins, one_process}
-use Rattle.vhierarchy.specs.Instances.{barring, Instantiation, instantiation_by, lower_instance, lower_list, named_again, lower_instances_of, lower_instances, with_own, lower_names, Part, Context, broken_design, elaborated}
+use Rattle.velab_process.specs.Connections.{lower_input, lower_output, lower_connection, lower_join, lower_joins, one_process}
+use Rattle.vhierarchy.specs.Instances.{barring, Instantiation, instantiation_by, lower_instance, lower_list, named_again, lower_instances_of, lower_instances, lower_own_variables, with_own, lower_names, Part, Context, broken_design, elaborated}
 use Rattle.elaboration_law.specs.Hierarchy.{Instance, StandsBelow, top_instance}
 use Rattle.elaboration_law.specs.Laws.{IsMeant}
 use Rattle.elaboration_law.specs.Misfits.{Misfits, HasMisfit, of_instance, of_output}
 use Rattle.elaboration_law.proofs.ToldLemmas.{is_local, then_tells, untold, untold_fault}
-use Rattle.elaboration_law.proofs.ExpressionRules.{variable_tells, expression_tells}
+use Rattle.elaboration_law.proofs.ExpressionRules.{expression_tells, target_tells}
 use Rattle.elaboration_law.proofs.StatementRules.{items_tell, input_tells}
-use Rattle.elaboration_law.proofs.ModuleRules.{is_of_names, names_tell, undriven_tell}
-use Rattle.elaboration_law.proofs.DesignRules.{design_tells}
+use Rattle.elaboration_law.proofs.ModuleRules.{is_of_names, names_tell, own_variables_tell}
+use Rattle.elaboration_law.proofs.DesignRules.{is_of_design, design_tells}
 use Rattle.elaboration_law.proofs.StepLemmas.{then_ok, then_err, provided_ok, provided_err, barring_ok, barring_err, few_err, contains_first, contains_more, contains_none}
 use Rattle.elaboration_law.proofs.ItemLemmas.{item_answered, item_told}
 use Rattle.elaboration_law.proofs.HierarchyLemmas.{instance_at, OwnFault, in_names, in_instances, in_own, ToldBelow, too_deep, by_own, Told, in_modules, in_ports, is_of_ports, of_ports, in_top, in_hierarchy, in_design, fault_told, top_told_below}
-use Rattle.elaboration_law.proofs.OwnLemmas.{own_steps, undriven_variables, OwnTold, net_again, in_variables, in_processes, too_many, own_told}
+use Rattle.elaboration_law.proofs.OwnLemmas.{own_steps, OwnTold, in_variables, in_processes, too_many, own_told}
 use Rattle.elaboration_law.proofs.NameLemmas.{was_elaborated}
 
 not_both : {A : Type 0} (o : Option A) (x : A) → o ≡ None → o ≡ Some x → ⊥
@@ -145,7 +147,7 @@ abbrev with_front : Made → Made → Made
 with_front front made = record { table = made.table; begins = front.begins ++ made.begins }
 
 module _ (whose : Word) (outer inner : Scope) where
-  named_output : (p : Port) (value : text.ExpressionTree) (action : Action) → lower_connection whose outer inner p value ≡ Ok action → p.output ≡ true → only_name value ≡ None → ⊥
+  named_output : (p : Port) (value : text.ExpressionTree) (action : Action) → lower_connection whose outer inner p value ≡ Ok action → p.output ≡ true → target_of value ≡ None → ⊥
   named_output p value action is out none =
       refused_is (sym (λ i. if out i then lower_output whose outer inner p.name (none i) else lower_input outer inner p.name value) ∙ is)
     where
@@ -153,15 +155,15 @@ module _ (whose : Word) (outer inner : Scope) where
       refused_is is = cc
 
   join_named : (table : Table) (p : Port) (wanted : Option text.ExpressionTree) (value : text.ExpressionTree) (made : Made) → lower_join whose outer inner table p wanted ≡ Ok made → wanted ≡ Some value →
-      p.output ≡ true → only_name value ≡ None → ⊥
+      p.output ≡ true → target_of value ≡ None → ⊥
   join_named table p None value made is there out none = cc
   join_named table p (Some v) value made is there out none =
       let same : v ≡ value = cc in
       let action = then_ok (lower_connection whose outer inner p v) (λ action. Ok (one_process table (Some whose) action)) made is in
-      named_output p v action.0 action.1 out (ap only_name same ∙ none)
+      named_output p v action.0 action.1 out (ap target_of same ∙ none)
 
   outputs_named : (connections : List NamedConnection) (table : Table) (ports : List Port) (made : Made) (p : Port) (value : text.ExpressionTree) → lower_joins whose outer inner connections table ports ≡ Ok made →
-      Contains ports p → p.output ≡ true → value_for connections p.name.letters ≡ Some value → only_name value ≡ None → ⊥
+      Contains ports p → p.output ≡ true → value_for connections p.name.letters ≡ Some value → target_of value ≡ None → ⊥
   outputs_named connections table [] made p value is inside out there none = contains_none p inside
   outputs_named connections table (first ∷ more) made p value is (zero, lt, same) out there none =
       let front = then_ok (lower_join whose outer inner table first (value_for connections first.name.letters))
@@ -174,37 +176,37 @@ module _ (whose : Word) (outer inner : Scope) where
       let others = then_ok (lower_joins whose outer inner connections front.0.table more) (λ ps. Ok (with_front front.0 ps)) made front.2 in
       outputs_named connections front.0.table more others.0 p value others.1 (k, omega (arith, lt), same) out there none
 
-  -- an output that isn't connected to a name
+  -- an output that is connected to what can't be driven
   record Unnamed (connections : List NamedConnection) (ports : List Port) : Type 0 where
     pub p : Port
     pub value : text.ExpressionTree
     pub inside : Contains ports p
     pub out : p.output ≡ true
     pub there : value_for connections p.name.letters ≡ Some value
-    pub none : only_name value ≡ None
+    pub none : target_of value ≡ None
 
   module _ (fault : ElabFault) (rule : fault.rule ≡ Ports) where
-    output_unnamed : (port : Word) (name : Option Word) → lower_output whose outer inner port name ≡ Err fault → name ≡ None
+    output_unnamed : (port : Word) (target : Option TargetTree) → lower_output whose outer inner port target ≡ Err fault → target ≡ None
     output_unnamed port None is = refl
-    output_unnamed port (Some name) is =
-        absurd (untold is_local (lower_output whose outer inner port (Some name)) fault Ports
-        (then_tells is_local (lower_variable outer name) _ (variable_tells outer name) (λ net.
+    output_unnamed port (Some target) is =
+        absurd (untold is_local (lower_output whose outer inner port (Some target)) fault Ports
+        (then_tells is_local (lower_net_target outer target) _ (target_tells true outer target) (λ targets.
         then_tells is_local (lower_expression inner (text.name port)) _ (expression_tells inner (text.name port)) (λ e. tt))) refl is rule)
 
-    connection_unnamed : (p : Port) (value : text.ExpressionTree) → lower_connection whose outer inner p value ≡ Err fault → (p.output ≡ true) × (only_name value ≡ None)
+    connection_unnamed : (p : Port) (value : text.ExpressionTree) → lower_connection whose outer inner p value ≡ Err fault → (p.output ≡ true) × (target_of value ≡ None)
     connection_unnamed p value is = by p.output refl is
       where
-        by : (b : Bool) → p.output ≡ b → (if b then lower_output whose outer inner p.name (only_name value) else lower_input outer inner p.name value) ≡ Err fault → (p.output ≡ true) × (only_name value ≡ None)
-        by true e err = (e, output_unnamed p.name (only_name value) err)
+        by : (b : Bool) → p.output ≡ b → (if b then lower_output whose outer inner p.name (target_of value) else lower_input outer inner p.name value) ≡ Err fault → (p.output ≡ true) × (target_of value ≡ None)
+        by true e err = (e, output_unnamed p.name (target_of value) err)
         by false e err = absurd (untold is_local (lower_input outer inner p.name value) fault Ports (input_tells outer inner p.name value) refl err rule)
 
     join_unnamed : (table : Table) (p : Port) (wanted : Option text.ExpressionTree) → lower_join whose outer inner table p wanted ≡ Err fault →
-        (value : text.ExpressionTree) × (wanted ≡ Some value) × (p.output ≡ true) × (only_name value ≡ None)
+        (value : text.ExpressionTree) × (wanted ≡ Some value) × (p.output ≡ true) × (target_of value ≡ None)
     join_unnamed table p None is = absurd cc
     join_unnamed table p (Some value) is = by (then_err (lower_connection whose outer inner p value) (λ action. Ok (one_process table (Some whose) action)) fault is)
       where
         by : (lower_connection whose outer inner p value ≡ Err fault) ⊎ ((action : Action) × (lower_connection whose outer inner p value ≡ Ok action) × (Ok (one_process table (Some whose) action) ≡ Err fault)) →
-            (other : text.ExpressionTree) × (Some value ≡ Some other) × (p.output ≡ true) × (only_name other ≡ None)
+            (other : text.ExpressionTree) × (Some value ≡ Some other) × (p.output ≡ true) × (target_of other ≡ None)
         by (inl err) = let h = connection_unnamed p value err in (value, refl, h.0, h.1)
         by (inr (action, ok, err)) = absurd cc
 
@@ -235,7 +237,7 @@ module _ (whose : Word) (outer inner : Scope) where
 
 -- ---- an instance's own
 
-module _ (context : Context) (children : List Instantiation) (scope : Scope) (part : Part) (fault : ElabFault) (rule : fault.rule ≡ Ports) where
+module _ (context : Context) (scope : Scope) (part : Part) (fault : ElabFault) (rule : fault.rule ≡ Ports) where
   abbrev ports : List Port
   ports = ports_of context.unit
 
@@ -253,9 +255,8 @@ module _ (context : Context) (children : List Instantiation) (scope : Scope) (pa
       by (inl err) = untold is_local (lower_items scope joins.table context.unit.items) fault Ports (items_tell scope joins.table context.unit.items) refl err rule
       by (inr (ps, ok, err)) = cc
 
-  own_unnamed : OwnTold context children scope part fault → Found
-  own_unnamed (net_again w again other) = absurd cc
-  own_unnamed (in_variables err) = absurd (untold is_local (undriven_variables context children scope) fault Ports (undriven_tell context ports children scope) refl err rule)
+  own_unnamed : OwnTold context scope part fault → Found
+  own_unnamed (in_variables err) = absurd (untold is_local (lower_own_variables context ports scope) fault Ports (own_variables_tell context ports scope) refl err rule)
   own_unnamed (in_processes err) =
       in_joins (then_err (lower_joins context.name context.overrides.scope scope context.connections part.table ports) (λ joins. with_begins_before joins.begins (lower_items scope joins.table context.unit.items)) fault err)
   own_unnamed (too_many variables processes ok err) = absurd (let other = (few_err context.name (with_own context scope part variables processes) fault err).1 in cc)
@@ -272,7 +273,7 @@ module _ (modules : SourceTree) (top : Option Text) where
       let m = found.2 in
       of_instance depth (instance_at context) it.name it.overrides it.list found.0 m.made m.word (unit, is_top, stands) it.inside found.1 m.inside m.misfits
   step_told fault unit depth part context is_top rule stands (in_own scope children names wanted err) =
-      let u = own_unnamed context children scope part fault rule (own_told context children scope part fault err) in
+      let u = own_unnamed context scope part fault rule (own_told context scope part fault err) in
       of_output depth (instance_at context) u.p u.value (unit, is_top, stands) u.inside u.out u.there u.none
 
   below_told : (fault : ElabFault) (unit : ModuleTree) → top_of modules top ≡ Some unit → fault.rule ≡ Ports → ToldBelow modules 16 (top_instance unit) fault → HasMisfit modules top
@@ -285,7 +286,7 @@ module _ (modules : SourceTree) (top : Option Text) where
   misfits_told fault rule (in_top missing other) = absurd cc
   misfits_told fault rule (in_hierarchy unit is_top err) = below_told fault unit is_top rule (top_told_below modules unit fault err)
   misfits_told fault rule (in_design unit part is_top ok broken) =
-      absurd (untold_fault is_of_names (broken_design unit.name part) fault Ports (design_tells is_of_names refl refl refl unit.name part refl refl) refl broken rule)
+      absurd (untold_fault is_of_design (broken_design unit.name part) fault Ports (design_tells is_of_design refl refl refl refl unit.name part refl refl) refl broken rule)
 
   misfits_never : (scale : Timescale) (design : Design) → elaborated modules top scale ≡ Ok design → ¬ HasMisfit modules top
   misfits_never scale design is (of_instance levels one name overrides list child made word stands inside there listed m) =

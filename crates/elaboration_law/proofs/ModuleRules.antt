@@ -1,7 +1,8 @@
 -- The rules that an instance's own names, parameters, variables and counts tell, and a finished design.
-use Rattle.std.proofs.Common.{◌≡◌, ℕ, ◌+◌, nat_le, nat_lt, Bool, true, false, not, List, [], ◌∷◌, ◌++◌, length, Option, Some, None, Result, Ok, refl}
+use Rattle.std.proofs.Common.{◌≡◌, ℕ, ◌+◌, nat_le, nat_lt, Bool, true, false, not, List, [], ◌∷◌, length, Option, Some, None, Result, Ok, refl}
 use Rattle.std.specs.List.{flat_map}
 use Rattle.vast.specs.NumberedExpressions as text
+use Rattle.vast.specs.Words.{Text}
 use Rattle.vast.specs.NumberedWords.{Word}
 use Rattle.vast.specs.NumberedModules.{ParameterType, integer, typed, SettingTree, DeclarationKind, variables, integers, directed, ConnectionsTree, InstanceTree, ItemTree, parameters, declaration, events, assignments, initial, always, instances, ModuleTree, SourceTree}
 use Rattle.vmodules.specs.Names.{is_declared, letters_of, first_again}
@@ -13,16 +14,16 @@ use Rattle.velab_expr.specs.declared.fault.Rule.{Rule}
 use Rattle.velab_expr.specs.declared.fault.Rule.TheVariants.{Top, Doubled, Unknown, Drivers, Ports, Width, Constant, Depth, TooMany, Kind}
 use Rattle.velab_expr.specs.declared.fault.ElabFault.{ElabFault}
 use Rattle.velab_expr.specs.declared.scope.Meaning.TheVariants.{Event}
-use Rattle.velab_expr.specs.Answers.{◌>>=◌, provided, required}
+use Rattle.velab_expr.specs.Answers.{provided, required}
 use Rattle.velab_expr.specs.Scopes.{Scope}
 use Rattle.velab_expr.specs.Resolved.{lower_constant}
 use Rattle.velab_expr.specs.Ranges.{lower_bounds}
 use Rattle.velab_expr.specs.Symbols.{Symbol, parameter_symbol, event_symbol, instance_symbol, name_in, symbols_in_head, symbols_by, valueless_by, behind_item}
 use Rattle.velab_declaration.specs.Parameters.{Overrides, Base, lower_type, lower_parameter_value, lower_setting, lower_meaning, with_meaning, add_symbol, add_symbols, first_scope, item_scope}
-use Rattle.velab_declaration.specs.Variables.{port_names, declared_names, ScopeDrivers, lower_kind, lower_declaration, lower_variables, same_bounds, lower_again, lower_port, lower_ports, port_scope}
+use Rattle.velab_declaration.specs.Variables.{port_names, declared_names, lower_kind, lower_declaration, lower_variables, same_bounds, lower_again, lower_port, lower_ports, port_scope}
 use Rattle.velab_process.specs.Connections.{lower_joins}
 use Rattle.velab_process.specs.Processes.{lower_items}
-use Rattle.vhierarchy.specs.Instances.{barring, Instantiation, instantiation_by, lower_instance, lower_list, named_again, lower_instances_of, lower_instances_by, lower_instances, Part, Context, base_of, lower_names, lower_own_processes, with_own, few_enough, driven_by, scope_drivers_by, lower_own_variables, lower_own, has_room}
+use Rattle.vhierarchy.specs.Instances.{barring, Instantiation, instantiation_by, lower_instance, lower_list, named_again, lower_instances_of, lower_instances_by, lower_instances, Part, Context, base_of, lower_names, lower_own_processes, with_own, few_enough, lower_own_variables, lower_own, has_room}
 use Rattle.elaboration_law.proofs.ToldLemmas.{Tells, is_local, is_of_connections, local_connections, wider, then_tells, required_tells, provided_tells, barring_tells}
 use Rattle.elaboration_law.proofs.ExpressionRules.{constant_tells, bounds_tell}
 use Rattle.elaboration_law.proofs.StatementRules.{items_tell, joins_tell}
@@ -71,7 +72,7 @@ abbrev pub is_of_own : Rule → Bool
 is_of_own Top = false
 is_of_own Doubled = false
 is_of_own Unknown = true
-is_of_own Drivers = true
+is_of_own Drivers = false
 is_of_own Ports = true
 is_of_own Width = true
 is_of_own Constant = true
@@ -83,7 +84,7 @@ pub local_own : (rule : Rule) → is_local rule ≡ true → is_of_own rule ≡ 
 local_own Top e = absurd cc
 local_own Doubled e = absurd cc
 local_own Unknown e = refl
-local_own Drivers e = refl
+local_own Drivers e = absurd cc
 local_own Ports e = absurd cc
 local_own Width e = refl
 local_own Constant e = refl
@@ -156,7 +157,7 @@ connections_own : (rule : Rule) → is_of_connections rule ≡ true → is_of_ow
 connections_own Top e = absurd cc
 connections_own Doubled e = absurd cc
 connections_own Unknown e = refl
-connections_own Drivers e = refl
+connections_own Drivers e = absurd cc
 connections_own Ports e = refl
 connections_own Width e = refl
 connections_own Constant e = refl
@@ -253,20 +254,20 @@ kind_tells scope (variables word type) = then_tells is_local (lower_bounds scope
 kind_tells scope (integers long) = tt
 kind_tells scope (directed direction) = then_tells is_local (lower_bounds scope (type_in direction).range) _ (bounds_tell scope (type_in direction).range) (λ bounds. tt)
 
-declaration_tells : (drivers : ScopeDrivers) (scope : Scope) (item : ItemTree) → Tells is_local (lower_declaration drivers scope item)
-declaration_tells drivers scope (parameters local type settings) = tt
-declaration_tells drivers scope (declaration kind list) = then_tells is_local (lower_kind scope kind) _ (kind_tells scope kind) (λ form. tt)
-declaration_tells drivers scope (events names) = tt
-declaration_tells drivers scope (assignments settings) = tt
-declaration_tells drivers scope (initial statement) = tt
-declaration_tells drivers scope (always statement) = tt
-declaration_tells drivers scope (instances letters overrides list) = tt
+declaration_tells : (path : Text) (scope : Scope) (item : ItemTree) → Tells is_local (lower_declaration path scope item)
+declaration_tells path scope (parameters local type settings) = tt
+declaration_tells path scope (declaration kind list) = then_tells is_local (lower_kind scope kind) _ (kind_tells scope kind) (λ form. tt)
+declaration_tells path scope (events names) = tt
+declaration_tells path scope (assignments settings) = tt
+declaration_tells path scope (initial statement) = tt
+declaration_tells path scope (always statement) = tt
+declaration_tells path scope (instances letters overrides list) = tt
 
-variables_tell : (drivers : ScopeDrivers) (scope : Scope) (items : List ItemTree) → Tells is_local (lower_variables drivers scope items)
-variables_tell drivers scope [] = tt
-variables_tell drivers scope (item ∷ more) =
-    then_tells is_local (lower_declaration drivers scope item) _ (declaration_tells drivers scope item) (λ front.
-    then_tells is_local (lower_variables drivers (behind_item scope item) more) _ (variables_tell drivers (behind_item scope item) more) (λ others. tt))
+variables_tell : (path : Text) (scope : Scope) (items : List ItemTree) → Tells is_local (lower_variables path scope items)
+variables_tell path scope [] = tt
+variables_tell path scope (item ∷ more) =
+    then_tells is_local (lower_declaration path scope item) _ (declaration_tells path scope item) (λ front.
+    then_tells is_local (lower_variables path (behind_item scope item) more) _ (variables_tell path (behind_item scope item) more) (λ others. tt))
 
 again_tells : (scope : Scope) (again : Option Second) (bounds : Option Bounds) → Tells is_local (lower_again scope again bounds)
 again_tells scope None bounds = tt
@@ -274,22 +275,21 @@ again_tells scope (Some second) bounds =
     then_tells is_local (lower_bounds scope second.type.range) _ (bounds_tell scope second.type.range) (λ other.
     required_tells is_local (same_bounds bounds other) Width (Some second.name) bounds refl)
 
-ports_tell : (drivers : ScopeDrivers) (scope : Scope) (ports : List Port) → Tells is_local (lower_ports drivers scope ports)
-ports_tell drivers scope [] = tt
-ports_tell drivers scope (p ∷ more) =
-    then_tells is_local (lower_port drivers scope p) _ (then_tells is_local (lower_bounds scope p.type.range) _ (bounds_tell scope p.type.range) (λ bounds.
+ports_tell : (path : Text) (scope : Scope) (ports : List Port) → Tells is_local (lower_ports path scope ports)
+ports_tell path scope [] = tt
+ports_tell path scope (p ∷ more) =
+    then_tells is_local (lower_port path scope p) _ (then_tells is_local (lower_bounds scope p.type.range) _ (bounds_tell scope p.type.range) (λ bounds.
     then_tells is_local (lower_again scope p.again bounds) _ (again_tells scope p.again bounds) (λ whole. tt))) (λ one.
-    then_tells is_local (lower_ports drivers scope more) _ (ports_tell drivers scope more) (λ others. tt))
+    then_tells is_local (lower_ports path scope more) _ (ports_tell path scope more) (λ others. tt))
 
-module _ (context : Context) (ports : List Port) (children : List Instantiation) (scope : Scope) where
-  abbrev drivers : ScopeDrivers
-  drivers = scope_drivers_by context ports children scope
+module _ (context : Context) (ports : List Port) (scope : Scope) where
+  abbrev path : Text
+  path = context.path
 
-  -- the variables, where no net has two drivers
-  pub undriven_tell : Tells is_local (lower_ports drivers (port_scope context.unit scope) ports >>= λ front. lower_variables drivers scope (own_items context.unit) >>= λ others. Ok (front ++ others))
-  undriven_tell =
-      then_tells is_local (lower_ports drivers (port_scope context.unit scope) ports) _ (ports_tell drivers (port_scope context.unit scope) ports) (λ front.
-      then_tells is_local (lower_variables drivers scope (own_items context.unit)) _ (variables_tell drivers scope (own_items context.unit)) (λ others. tt))
+  pub own_variables_tell : Tells is_local (lower_own_variables context ports scope)
+  own_variables_tell =
+      then_tells is_local (lower_ports path (port_scope context.unit scope) ports) _ (ports_tell path (port_scope context.unit scope) ports) (λ front.
+      then_tells is_local (lower_variables path scope (own_items context.unit)) _ (variables_tell path scope (own_items context.unit)) (λ others. tt))
 
   pub own_processes_tell : (part : Part) → Tells is_of_connections (lower_own_processes context ports scope part.table)
   own_processes_tell part =
@@ -302,10 +302,10 @@ module _ (context : Context) (ports : List Port) (children : List Instantiation)
       provided_tells is_of_own (nat_le (length part.begins) 256) TooMany (Some context.name) (required (nat_le (length part.scopes) 1025) TooMany (Some context.name) part) refl
       (required_tells is_of_own (nat_le (length part.scopes) 1025) TooMany (Some context.name) part refl)
 
-  pub own_tells : (part : Part) → Tells is_of_own (lower_own context ports children scope part)
+  pub own_tells : (part : Part) → Tells is_of_own (lower_own context ports scope part)
   own_tells part =
-      then_tells is_of_own (lower_own_variables context ports children scope) _
-      (barring_tells is_of_own (first_again (driven_by context ports children scope)) Drivers _ refl (wider is_local is_of_own local_own _ undriven_tell)) (λ variables.
+      then_tells is_of_own (lower_own_variables context ports scope) _
+      (wider is_local is_of_own local_own (lower_own_variables context ports scope) own_variables_tell) (λ variables.
       then_tells is_of_own (lower_own_processes context ports scope part.table) _
       (wider is_of_connections is_of_own connections_own (lower_own_processes context ports scope part.table) (own_processes_tell part)) (λ processes.
       few_tells (with_own context scope part variables processes)))

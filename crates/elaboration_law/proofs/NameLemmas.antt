@@ -22,8 +22,8 @@ use Rattle.elaboration_law.specs.Hierarchy.{Instance, StandsBelow, StandsAt, top
 use Rattle.elaboration_law.specs.Laws.{IsMeant}
 use Rattle.elaboration_law.specs.Doubles.{names_in_module, variable_paths_in, path_in, IsDeclaredTwice, module_twice, port_twice, block_twice, name_twice, head_twice, variable_twice, path_twice}
 use Rattle.elaboration_law.proofs.ToldLemmas.{is_local, untold, untold_fault}
-use Rattle.elaboration_law.proofs.ModuleRules.{is_of_meaning, is_of_own, own_tells}
-use Rattle.elaboration_law.proofs.DesignRules.{table_tells, selection_broken, broken_table_tells}
+use Rattle.elaboration_law.proofs.ModuleRules.{is_of_own, own_tells}
+use Rattle.elaboration_law.proofs.DesignRules.{is_of_table, table_tells, selection_broken, broken_table_tells}
 use Rattle.elaboration_law.proofs.DoubleLemmas.{none_twice, one_twice}
 use Rattle.vmodules.specs.declared.misdeclared.PortFlaw.{PortFlaw}
 use Rattle.vmodules.specs.declared.misdeclared.PortFlaw.TheVariants as flaw
@@ -106,7 +106,7 @@ module _ (modules : SourceTree) (top : Option Text) where
         whole : (broken_paths unit.name part ≡ Some fault) ⊎ (broken_table unit.name part ≡ Some fault) → IsDeclaredTwice modules top
         whole (inl is) = paths (or_some (broken_if (has_double (variable_paths part)) Doubled (Some unit.name))
             (option_or (broken_if (has_double (scope_paths part)) Doubled (Some unit.name)) (table_fault (broken_selection (scope_paths part) (variable_paths part)) part.table.actions part.table.words)) fault is)
-        whole (inr is) = absurd (untold_fault is_of_meaning (broken_table unit.name part) fault Doubled (broken_table_tells is_of_meaning refl refl unit.name part refl) refl is rule)
+        whole (inr is) = absurd (untold_fault is_of_table (broken_table unit.name part) fault Doubled (broken_table_tells is_of_table refl refl refl unit.name part refl) refl is rule)
 
     design_once : broken_design unit.name part ≡ None →
         (has_double (flat_map variable_paths_in (listed 16 modules (top_instance unit))) ≡ false) × (has_double (flat_map path_in (listed 16 modules (top_instance unit))) ≡ false)
@@ -129,7 +129,7 @@ module _ (modules : SourceTree) (top : Option Text) where
       let h = heads_twice modules fault rule 0 scope.known context.unit.items err in
       head_twice depth (instance_at context) h.name h.overrides h.list h.child (unit, is_top, stands) h.inside h.there h.twice
   own_told fault unit depth part context is_top rule stands (in_own scope children names wanted err) =
-      absurd (untold is_of_own (lower_own context (ports_of context.unit) children scope part) fault Doubled (own_tells context (ports_of context.unit) children scope part) refl err rule)
+      absurd (untold is_of_own (lower_own context (ports_of context.unit) scope part) fault Doubled (own_tells context (ports_of context.unit) scope part) refl err rule)
 
   below_told : (fault : ElabFault) (unit : ModuleTree) → top_of modules top ≡ Some unit → fault.rule ≡ Doubled → ToldBelow modules 16 (top_instance unit) fault → IsDeclaredTwice modules top
   below_told fault unit is_top rule (too_deep one other stands) = absurd cc

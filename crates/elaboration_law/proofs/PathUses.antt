@@ -52,7 +52,7 @@ module _ (asked : Rule → Bool) (scopes variables : List Text) (test : Text →
   selection_judged (Delay amount body) = refl
   selection_judged (EventControl terms body) = refl
   selection_judged (Wait condition terms body) = refl
-  selection_judged (ContinuousAssign net value terms) = refl
+  selection_judged (ContinuousAssign targets value terms) = refl
   selection_judged (Print when pieces) = refl
   selection_judged (Dump command) = refl
   selection_judged NoOperation = refl

@@ -8,6 +8,8 @@ use Rattle.basis.proofs.Bools.{and_assoc}
 use Rattle.vast.specs.Words.{Text}
 use Rattle.vast.specs.NumberedWords.{Word}
 use Rattle.vast.specs.NumberedExpressions as text
+use Rattle.vast.specs.NumberedStatements.{TargetTree}
+use Rattle.vast.specs.NumberedStatements as written
 use Rattle.vast.specs.NumberedModules.{RangeTree, ParameterType, integer, typed, DeclarationKind, variables, integers, directed, DeclaredTree, ItemTree, parameters, declaration, events, assignments, initial, always, instances, ModuleTree, SourceTree}
 use Rattle.vmodules.specs.Ports.{Second, Port, type_in, own_items, ports_of}
 use Rattle.vmodules.specs.Connected.{NamedConnection, value_for}
@@ -18,18 +20,19 @@ use Rattle.vdesign.specs.declared.expression.Bounds.{Bounds}
 use Rattle.vvalue.specs.Flaws.{kind_has_bits, has_bits}
 use Rattle.velab_expr.specs.declared.fault.ElabFault.{ElabFault}
 use Rattle.velab_expr.specs.Answers.{◌>>=◌}
-use Rattle.velab_expr.specs.Scopes.{Scope, lower_variable}
+use Rattle.velab_expr.specs.Scopes.{Scope}
 use Rattle.velab_expr.specs.Ranges.{lower_range, lower_bounds}
 use Rattle.velab_expr.specs.Resolved.{lower_expression}
 use Rattle.velab_expr.specs.Symbols.{Symbol, parameter_symbol, event_symbol, instance_symbol, name_in, behind_item}
 use Rattle.velab_declaration.specs.declared.variable.Form.{Form}
 use Rattle.velab_declaration.specs.Right.{is_net, is_some_net}
-use Rattle.velab_declaration.specs.Variables.{Declaration, all_declared, declared_as, declarations_of, declarations, port_declaration, ScopeDrivers, variable_in, variables_in, variables_as, form_of, kind_of, lower_kind, lower_again, port_scope, lower_declaration, lower_variables, lower_port, lower_ports, counted_kind}
+use Rattle.velab_declaration.specs.Variables.{Declaration, all_declared, declared_as, declarations_of, declarations, port_declaration, variable_in, variables_in, variables_as, form_of, kind_of, lower_kind, lower_again, port_scope, lower_declaration, lower_variables, lower_port, lower_ports, counted_kind}
+use Rattle.velab_expr.specs.Written.{lower_net_target, target_of}
 use Rattle.velab_process.specs.Statements.{Table}
 use Rattle.velab_process.specs.Processes.{Processes, process_trees_by, lower_processes, lower_items, with_begins_before}
-use Rattle.velab_process.specs.Connections.{only_name, lower_input, lower_output, lower_connection, lower_join, lower_joins}
-use Rattle.vhierarchy.specs.Instances.{lower_own_processes, scope_drivers_by, Part, Context}
-use Rattle.elaboration_law.specs.Uses.{Use, Read, Driven, use_of, used_in, used_in_range}
+use Rattle.velab_process.specs.Connections.{lower_input, lower_output, lower_connection, lower_join, lower_joins}
+use Rattle.vhierarchy.specs.Instances.{lower_own_processes, Part, Context}
+use Rattle.elaboration_law.specs.Uses.{Use, Read, Driven, use_of, used_in, used_in_range, used_in_target_by}
 use Rattle.elaboration_law.specs.Places.{Place, a_variable, UseAt, at_place, all_fit, variables_of, symbols_of, thing_by, place_behind, place_after, used_in_type, used_again, port_place, used_outside, used_by_output, used_at_port, used_if_connected, used_in_declaration, used_in_processes, used_in_symbol, used_in_symbols, used_in_port, used_in_connection, used_by_items, used_in_instance}
 use Rattle.elaboration_law.specs.Kinds.{is_ranged}
 use Rattle.elaboration_law.proofs.StepLemmas.{same_value, then_ok}
@@ -38,7 +41,7 @@ use Rattle.elaboration_law.proofs.AgainLemmas.{again_keeps}
 use Rattle.elaboration_law.proofs.OwnLemmas.{own_steps}
 use Rattle.elaboration_law.proofs.PlaceLemmas.{there_is, got_in_front, got_behind, got_mapped, count_declared, IsAt, Stands, stands_at, stands_on}
 use Rattle.elaboration_law.proofs.RightLemmas.{bits_in, is_right}
-use Rattle.elaboration_law.proofs.RightUses.{Says, through, last_says, and_true, Real, is_suited_later, suit, constants_hold, driven_says, lower_says}
+use Rattle.elaboration_law.proofs.RightUses.{Says, through, last_says, and_true, Real, is_suited_later, suit, constants_hold, lower_says, row_right, driven_right, target_says}
 use Rattle.elaboration_law.proofs.RightStatements.{processes_grow}
 
 -- ---- uses at their places
@@ -173,28 +176,30 @@ module _ (vs : List Variable) where
     input_right : (port : Word) (value : text.ExpressionTree) →
         Says (is_right vs) (all_suit (at_place inside (use_of Driven false port ∷ []) ++ at_place outside (used_in false value))) (lower_input there here port value)
     input_right port value =
-        let one = is_suited_later inside (use_of Driven false port) in
+        let one = suit inside (use_of Driven false port ∷ []) in
         let other = suit outside (used_in false value) in
         subst (λ (x : Bool). Says (is_right vs) x (lower_input there here port value))
-        ((λ i. and_true one i && sym (all_at_place outside (used_in false value)) i) ∙ sym (all_joined (at_place inside (use_of Driven false port ∷ [])) (at_place outside (used_in false value))))
-        (through (λ n. is_some_net (slice_get vs n)) (is_right vs) (λ d. d && other) one (lower_variable here port) _ (driven_says vs inside here at_here real_here port) (λ n.
-        through (bits_in vs) (is_right vs) (λ d. is_some_net (slice_get vs n) && d) other (lower_expression there value) _ (lower_says vs outside there at_there real_there false value) (λ e. refl)))
+        ((λ i. sym (all_at_place inside (use_of Driven false port ∷ [])) i && sym (all_at_place outside (used_in false value)) i) ∙ sym (all_joined (at_place inside (use_of Driven false port ∷ [])) (at_place outside (used_in false value))))
+        (through (row_right vs true) (is_right vs) (λ d. d && other) one (lower_net_target here (written.whole port)) _ (target_says vs inside here at_here real_here true (written.whole port)) (λ targets.
+        through (bits_in vs) (is_right vs) (λ d. row_right vs true targets && d) other (lower_expression there value) _ (lower_says vs outside there at_there real_there false value) (λ e. driven_right vs targets e)))
 
-    output_right : (whose port : Word) (name : Option Word) → Says (is_right vs) (all_suit (used_by_output m outside values connections port name)) (lower_output whose there here port name)
+    output_right : (whose port : Word) (target : Option TargetTree) →
+        Says (is_right vs) (all_suit (used_by_output m outside values connections port target)) (lower_output whose there here port target)
     output_right whose port None = tt
-    output_right whose port (Some name) =
-        let one = is_suited_later outside (use_of Driven false name) in
+    output_right whose port (Some target) =
+        let one = suit outside (used_in_target_by true target) in
         let other = suit inside (use_of Read false port ∷ []) in
-        subst (λ (x : Bool). Says (is_right vs) x (lower_output whose there here port (Some name)))
-        ((λ i. and_true one i && sym (all_at_place inside (use_of Read false port ∷ [])) i) ∙ sym (all_joined (at_place outside (use_of Driven false name ∷ [])) (at_place inside (use_of Read false port ∷ []))))
-        (through (λ n. is_some_net (slice_get vs n)) (is_right vs) (λ d. d && other) one (lower_variable there name) _ (driven_says vs outside there at_there real_there name) (λ n.
-        through (bits_in vs) (is_right vs) (λ d. is_some_net (slice_get vs n) && d) other (lower_expression here (text.name port)) _ (lower_says vs inside here at_here real_here false (text.name port)) (λ e. refl)))
+        subst (λ (x : Bool). Says (is_right vs) x (lower_output whose there here port (Some target)))
+        ((λ i. sym (all_at_place outside (used_in_target_by true target)) i && sym (all_at_place inside (use_of Read false port ∷ [])) i)
+        ∙ sym (all_joined (at_place outside (used_in_target_by true target)) (at_place inside (use_of Read false port ∷ []))))
+        (through (row_right vs true) (is_right vs) (λ d. d && other) one (lower_net_target there target) _ (target_says vs outside there at_there real_there true target) (λ targets.
+        through (bits_in vs) (is_right vs) (λ d. row_right vs true targets && d) other (lower_expression here (text.name port)) _ (lower_says vs inside here at_here real_here false (text.name port)) (λ e. driven_right vs targets e)))
 
     connection_right : (whose : Word) (p : Port) (value : text.ExpressionTree) → Says (is_right vs) (all_suit (used_at_port m outside values connections p.output p.name value)) (lower_connection whose there here p value)
     connection_right whose p value = by p.output
       where
-        by : (out : Bool) → Says (is_right vs) (all_suit (used_at_port m outside values connections out p.name value)) (if out then lower_output whose there here p.name (only_name value) else lower_input there here p.name value)
-        by true = output_right whose p.name (only_name value)
+        by : (out : Bool) → Says (is_right vs) (all_suit (used_at_port m outside values connections out p.name value)) (if out then lower_output whose there here p.name (target_of value) else lower_input there here p.name value)
+        by true = output_right whose p.name (target_of value)
         by false = input_right p.name value
 
     join_grows : (whose : Word) (table : Table) (p : Port) (value : Option text.ExpressionTree) →
@@ -253,25 +258,25 @@ bounds_alike scope (Some range) bounds is =
     let one = then_ok (lower_range scope range) (λ b. Ok (Some b)) bounds is in
     sym (ap is_some (same_value (Some one.0) bounds one.2))
 
-module _ (drivers : ScopeDrivers) where
-  ports_shaped : (scope : Scope) (list : List Port) (made : List Variable) → lower_ports drivers scope list ≡ Ok made → map shape made ≡ map declared_shape (map port_declaration list)
+module _ (path : Text) where
+  ports_shaped : (scope : Scope) (list : List Port) (made : List Variable) → lower_ports path scope list ≡ Ok made → map shape made ≡ map declared_shape (map port_declaration list)
   ports_shaped scope [] made is = sym (ap (map shape) (same_value [] made is))
   ports_shaped scope (p ∷ more) made is =
-      let one = then_ok (lower_port drivers scope p) (λ one. lower_ports drivers scope more >>= λ others. Ok (one ∷ others)) made is in
-      let others = then_ok (lower_ports drivers scope more) (λ others. Ok (one.0 ∷ others)) made one.2 in
-      let bounds = then_ok (lower_bounds scope p.type.range) (λ bounds. lower_again scope p.again bounds >>= λ whole. Ok (variable_in drivers (form_of p.net p.type.signed whole) p.name.letters)) one.0 one.1 in
-      let whole = then_ok (lower_again scope p.again bounds.0) (λ whole. Ok (variable_in drivers (form_of p.net p.type.signed whole) p.name.letters)) one.0 bounds.2 in
+      let one = then_ok (lower_port path scope p) (λ one. lower_ports path scope more >>= λ others. Ok (one ∷ others)) made is in
+      let others = then_ok (lower_ports path scope more) (λ others. Ok (one.0 ∷ others)) made one.2 in
+      let bounds = then_ok (lower_bounds scope p.type.range) (λ bounds. lower_again scope p.again bounds >>= λ whole. Ok (variable_in path (form_of p.net p.type.signed whole) p.name.letters)) one.0 one.1 in
+      let whole = then_ok (lower_again scope p.again bounds.0) (λ whole. Ok (variable_in path (form_of p.net p.type.signed whole) p.name.letters)) one.0 bounds.2 in
       let some = ap is_some (sym (again_keeps scope p.again bounds.0 whole.0 whole.1)) ∙ bounds_alike scope p.type.range bounds.0 bounds.1 in
       sym (ap (map shape) (same_value (one.0 ∷ others.0) made others.2))
-      ∙ ap (λ (v : Variable). shape v ∷ map shape others.0) (sym (same_value (variable_in drivers (form_of p.net p.type.signed whole.0) p.name.letters) one.0 whole.2))
+      ∙ ap (λ (v : Variable). shape v ∷ map shape others.0) (sym (same_value (variable_in path (form_of p.net p.type.signed whole.0) p.name.letters) one.0 whole.2))
       ∙ (λ i. record { ranged = kind_has_bits (kind_of p.net) (some i); net = is_net (kind_of p.net) } ∷ ports_shaped scope more others.0 others.1 i)
 
   all_shaped : (form : Form) (kind : Kind) (signed : Bool) (range : Option RangeTree) (list : List DeclaredTree) → kind_has_bits form.kind (is_some form.bounds) ≡ kind_has_bits kind (is_some range) → is_net form.kind ≡ is_net kind →
-      map shape (variables_in drivers form list) ≡ map declared_shape (all_declared kind signed range list)
+      map shape (variables_in path form list) ≡ map declared_shape (all_declared kind signed range list)
   all_shaped form kind signed range [] e f = refl
   all_shaped form kind signed range (one ∷ more) e f = λ i. record { ranged = e i; net = f i } ∷ all_shaped form kind signed range more e f i
 
-  kind_shaped : (scope : Scope) (form : Form) (kind : DeclarationKind) (list : List DeclaredTree) → lower_kind scope kind ≡ Ok form → map shape (variables_as drivers form kind list) ≡ map declared_shape (declared_as kind list)
+  kind_shaped : (scope : Scope) (form : Form) (kind : DeclarationKind) (list : List DeclaredTree) → lower_kind scope kind ≡ Ok form → map shape (variables_as path form kind list) ≡ map declared_shape (declared_as kind list)
   kind_shaped scope form (variables word type) list is =
       let bounds = then_ok (lower_bounds scope type.range) (λ bounds. Ok (form_of word type.signed bounds)) form is in
       let same = same_value (form_of word type.signed bounds.0) form bounds.2 in
@@ -282,22 +287,22 @@ module _ (drivers : ScopeDrivers) where
       all_shaped form (counted_kind long) (not long) None list (ap (λ (f : Form). kind_has_bits f.kind (is_some f.bounds)) (sym same)) (ap (λ (f : Form). is_net f.kind) (sym same))
   kind_shaped scope form (directed direction) list is = refl
 
-  item_shaped : (scope : Scope) (item : ItemTree) (made : List Variable) → lower_declaration drivers scope item ≡ Ok made → map shape made ≡ map declared_shape (declarations_of item)
+  item_shaped : (scope : Scope) (item : ItemTree) (made : List Variable) → lower_declaration path scope item ≡ Ok made → map shape made ≡ map declared_shape (declarations_of item)
   item_shaped scope (parameters local type settings) made is = sym (ap (map shape) (same_value [] made is))
   item_shaped scope (declaration kind list) made is =
-      let form = then_ok (lower_kind scope kind) (λ form. Ok (variables_as drivers form kind list)) made is in
-      sym (ap (map shape) (same_value (variables_as drivers form.0 kind list) made form.2)) ∙ kind_shaped scope form.0 kind list form.1
+      let form = then_ok (lower_kind scope kind) (λ form. Ok (variables_as path form kind list)) made is in
+      sym (ap (map shape) (same_value (variables_as path form.0 kind list) made form.2)) ∙ kind_shaped scope form.0 kind list form.1
   item_shaped scope (events names) made is = sym (ap (map shape) (same_value [] made is))
   item_shaped scope (assignments settings) made is = sym (ap (map shape) (same_value [] made is))
   item_shaped scope (initial statement) made is = sym (ap (map shape) (same_value [] made is))
   item_shaped scope (always statement) made is = sym (ap (map shape) (same_value [] made is))
   item_shaped scope (instances letters overrides list) made is = sym (ap (map shape) (same_value [] made is))
 
-  variables_shaped : (scope : Scope) (items : List ItemTree) (made : List Variable) → lower_variables drivers scope items ≡ Ok made → map shape made ≡ map declared_shape (flat_map declarations_of items)
+  variables_shaped : (scope : Scope) (items : List ItemTree) (made : List Variable) → lower_variables path scope items ≡ Ok made → map shape made ≡ map declared_shape (flat_map declarations_of items)
   variables_shaped scope [] made is = sym (ap (map shape) (same_value [] made is))
   variables_shaped scope (item ∷ more) made is =
-      let front = then_ok (lower_declaration drivers scope item) (λ front. lower_variables drivers (behind_item scope item) more >>= λ others. Ok (front ++ others)) made is in
-      let others = then_ok (lower_variables drivers (behind_item scope item) more) (λ others. Ok (front.0 ++ others)) made front.2 in
+      let front = then_ok (lower_declaration path scope item) (λ front. lower_variables path (behind_item scope item) more >>= λ others. Ok (front ++ others)) made is in
+      let others = then_ok (lower_variables path (behind_item scope item) more) (λ others. Ok (front.0 ++ others)) made front.2 in
       sym (ap (map shape) (same_value (front.0 ++ others.0) made others.2))
       ∙ map-append shape front.0 others.0
       ∙ (λ i. item_shaped scope item front.0 front.1 i ++ variables_shaped (behind_item scope item) more others.0 others.1 i)
@@ -313,7 +318,7 @@ module _ (modules : SourceTree) (part : Part) (context : Context) (own : Own mod
   own_shaped : map shape made ≡ map declared_shape declared
   own_shaped =
       let s = own_steps modules part context own in
-      let d = scope_drivers_by context (ports_of context.unit) own.children own.scope in
+      let d = context.path in
       sym (ap (map shape) s.both_made)
       ∙ map-append shape s.ports_are s.others_are
       ∙ (λ i. ports_shaped d (port_scope context.unit own.scope) (ports_of context.unit) s.ports_are s.ports_made i ++ variables_shaped d own.scope (own_items context.unit) s.others_are s.others_made i)

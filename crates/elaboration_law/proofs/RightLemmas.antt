@@ -84,7 +84,7 @@ module _ (vs : List Variable) where
   action_bits (Delay amount body) = bits_in amount
   action_bits (EventControl terms body) = true
   action_bits (Wait condition terms body) = bits_in condition
-  action_bits (ContinuousAssign net value terms) = bits_in value
+  action_bits (ContinuousAssign targets value terms) = assignment_bits targets value
   action_bits (Print when pieces) = list_all piece_bits pieces
   action_bits (DumpVars selection) = true
   action_bits (Dump switch) = true
@@ -190,7 +190,7 @@ module _ (vs : List Variable) where
   action_judged (Delay amount body) = bits_judged amount
   action_judged (EventControl terms body) = refl
   action_judged (Wait condition terms body) = bits_judged condition
-  action_judged (ContinuousAssign net value terms) = bits_judged value
+  action_judged (ContinuousAssign targets value terms) = assignment_judged targets value
   action_judged (Print when pieces) = first_judged (piece_bits vs) (piece_flaw now) piece_judged pieces
   action_judged (DumpVars selection) = refl
   action_judged (Dump switch) = refl

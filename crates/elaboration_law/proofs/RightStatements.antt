@@ -1,5 +1,5 @@
 -- What statements use, and the actions that they are lowered to: the actions are right where the uses suit what names stand for.
-use Rattle.std.proofs.Common.{◌≡◌, ℕ, Bool, true, false, not, ◌&&◌, List, [], ◌∷◌, ◌++◌, slice_get, Option, None, Some, Result, refl, sym, ap, subst, ◌∙◌}
+use Rattle.std.proofs.Common.{◌≡◌, ℕ, Bool, true, false, not, ◌&&◌, List, [], ◌∷◌, ◌++◌, Option, None, Some, Result, refl, sym, ap, subst, ◌∙◌}
 use Rattle.std.specs.List.{list_all}
 use Rattle.std.proofs.lemmas.List.Folds.{list_all-append}
 use Rattle.std.proofs.Math.Bool.{and-false}
@@ -28,21 +28,21 @@ use Rattle.velab_expr.specs.declared.fault.Rule.TheVariants.{Kind}
 use Rattle.velab_expr.specs.declared.fault.ElabFault.{ElabFault}
 use Rattle.velab_expr.specs.Answers.{◌>>=◌, found}
 use Rattle.velab_expr.specs.FirstWords.{first_argument}
-use Rattle.velab_expr.specs.Scopes.{Scope, lower_event, lower_variable}
+use Rattle.velab_expr.specs.Scopes.{Scope, lower_event}
 use Rattle.velab_expr.specs.Resolved.{lower_expression}
-use Rattle.velab_expr.specs.Written.{lower_target}
+use Rattle.velab_expr.specs.Written.{lower_target, lower_net_target}
 use Rattle.velab_expr.specs.Selections.{lower_selection}
-use Rattle.velab_declaration.specs.Right.{is_some_net, writes_net, writes_variables}
+use Rattle.velab_declaration.specs.Right.{writes_net, writes_variables}
 use Rattle.velab_process.specs.Waits.{edge_of, lower_control}
 use Rattle.velab_process.specs.Prints.{default_form, ends_line, given, lower_argument, lower_arguments, lower_line}
 use Rattle.velab_process.proofs.LineLemmas.{given_same}
 use Rattle.velab_process.specs.Statements.{Table, Lowered, LoweredBranches, with_places_before, assignment_action, lower_amount, lower_own_amount, lower_assignment, lower_task, lower_label, lower_labels, lower_statement, lower_all, lower_branch, lower_branches}
 use Rattle.velab_process.specs.Processes.{ProcessTree, procedural, continuous, Processes, with_begins_before, lower_process, lower_processes}
-use Rattle.elaboration_law.specs.Uses.{Use, Driven, Triggered, use_of, use_of_formats, used_in, used_in_parts, used_in_target, used_in_delay, used_in_own, used_in_assignment, used_in_further, used_in_control, used_in_argument, used_in_arguments, used_in_selection, used_in_task, used_by, used_by_all, used_by_branch, used_by_branches, used_by_process, used_by_processes}
+use Rattle.elaboration_law.specs.Uses.{Use, Triggered, use_of, use_of_formats, used_in, used_in_parts, used_in_target, used_in_target_by, used_in_delay, used_in_own, used_in_assignment, used_in_further, used_in_control, used_in_argument, used_in_arguments, used_in_selection, used_in_task, used_by, used_by_all, used_by_branch, used_by_branches, used_by_process, used_by_processes}
 use Rattle.elaboration_law.specs.Places.{Place, thing_of}
 use Rattle.elaboration_law.proofs.PlaceLemmas.{IsAt}
 use Rattle.elaboration_law.proofs.RightLemmas.{all_of_both, bits_in, target_bits, branch_bits, piece_bits, is_right}
-use Rattle.elaboration_law.proofs.RightUses.{Says, reorder, silent_says, through, then_says, last_says, front_says, and_true, Real, is_suited_later, awaited_holds, triggered_holds, driven_says, lower_says, target_says}
+use Rattle.elaboration_law.proofs.RightUses.{Says, reorder, silent_says, through, then_says, last_says, front_says, and_true, Real, is_suited_later, awaited_holds, triggered_holds, lower_says, row_right, driven_right, target_says}
 
 -- ---- truths in another order
 
@@ -252,7 +252,7 @@ module _ (vs : List Variable) (place : Place) (scope : Scope) (h : IsAt place sc
   assignment_grows blocking table target amount v =
       split table (used_in_target target) (used_in_own amount ++ used_in false v) _
       (subst (λ (b : Bool). Grows table (hold (used_in_target target) && b) (lower_assignment blocking scope table target amount v)) (sym (list_all-append (is_suited_later place) (used_in_own amount) (used_in false v)))
-      (through row of_lowered (λ d. all table && (d && (hold (used_in_own amount) && hold (used_in false v)))) (hold (used_in_target target)) (lower_target scope target) _ (target_says vs place scope h real target) (λ targets.
+      (through row of_lowered (λ d. all table && (d && (hold (used_in_own amount) && hold (used_in false v)))) (hold (used_in_target target)) (lower_target scope target) _ (target_says vs place scope h real false target) (λ targets.
       through own_bits of_lowered (λ d. all table && (row targets && (d && hold (used_in false v)))) (hold (used_in_own amount)) (lower_own_amount scope amount) _ (own_says amount) (λ own.
       through (bits_in vs) of_lowered (λ d. all table && (row targets && (own_bits own && d))) (hold (used_in false v)) (lower_expression scope v) _ (lower_says vs place scope h real false v) (λ e.
       acted table (assignment_action blocking own targets e) ∙ ap (λ (b : Bool). all table && b) (assignment_right blocking own targets e))))))
@@ -395,9 +395,11 @@ module _ (vs : List Variable) (place : Place) (scope : Scope) (h : IsAt place sc
 
   process_grows : (table : Table) (process : ProcessTree) → Grows table (hold (used_by_process process)) (lower_process scope table process)
   process_grows table (procedural statement) = statement_grows table statement
-  process_grows table (continuous name v) =
-      through (λ n. is_some_net (slice_get vs n)) of_lowered (λ d. all table && (d && hold (used_in false v))) (is_suited_later place (use_of Driven false name)) (lower_variable scope name) _ (driven_says vs place scope h real name) (λ n.
-      through (bits_in vs) of_lowered (λ d. all table && (is_some_net (slice_get vs n) && d)) (hold (used_in false v)) (lower_expression scope v) _ (lower_says vs place scope h real false v) (λ e. acted table _))
+  process_grows table (continuous target v) =
+      split table (used_in_target_by true target) (used_in false v) _
+      (through (row_right vs true) of_lowered (λ d. all table && (d && hold (used_in false v))) (hold (used_in_target_by true target)) (lower_net_target scope target) _ (target_says vs place scope h real true target) (λ targets.
+      through (bits_in vs) of_lowered (λ d. all table && (row_right vs true targets && d)) (hold (used_in false v)) (lower_expression scope v) _ (lower_says vs place scope h real false v) (λ e.
+      acted table _ ∙ ap (λ (b : Bool). all table && b) (driven_right vs targets e))))
 
   begun : (b : Bool) (before : List (List ℕ)) (a : Result Processes ElabFault) → Says of_processes b a → Says of_processes b (with_begins_before before a)
   begun b before a s = last_says of_processes of_processes b a _ s (λ processes. refl)

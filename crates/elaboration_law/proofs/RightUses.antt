@@ -1,8 +1,9 @@
 -- What is used, and what it is lowered to: the bits that are asked for, and what is written, are those of the variables that names stand for.
-use Rattle.std.proofs.Common.{◌≡◌, ◌<◌, ℕ, ◌+◌, nat_le, nat_lt, Bool, true, false, not, ◌&&◌, ◌||◌, List, [], ◌∷◌, ◌++◌, slice_get, Option, None, Some, Result, Ok, Err, refl, sym, ap, subst, ◌∙◌}
+use Rattle.std.proofs.Common.{◌≡◌, ◌<◌, ℕ, ◌+◌, nat_le, nat_lt, Bool, true, false, not, if◌then◌else◌, ◌&&◌, ◌||◌, List, [], ◌∷◌, ◌++◌, slice_get, Option, None, Some, Result, Ok, Err, refl, sym, ap, subst, ◌∙◌}
 use Rattle.std.specs.List.{list_all}
 use Rattle.std.proofs.Math.Bool.{or-true}
 use Rattle.std.proofs.lemmas.List.Folds.{list_all-append}
+use Rattle.basis.proofs.Bools.{and_assoc}
 use Rattle.vast.specs.NumberedWords.{Word}
 use Rattle.vast.specs.NumberedExpressions as text
 use Rattle.vast.specs.NumberedStatements.{TargetTree, TargetTrees, whole, bit, part, joined, none, first}
@@ -12,8 +13,9 @@ use Rattle.vdesign.specs.Expressions as design
 use Rattle.vdesign.specs.declared.action.Edge.{Edge}
 use Rattle.vdesign.specs.declared.action.Target.{Target}
 use Rattle.vdesign.specs.declared.expression.Bounds.{Bounds}
-use Rattle.vvalue.specs.Flaws.{has_bits, is_part}
+use Rattle.vvalue.specs.Flaws.{flaw_of, has_bits, is_part}
 use Rattle.vvalue.specs.Value.{part_of, part_size}
+use Rattle.vvalue.specs.declared.flaw.Flaw.{Flaw}
 use Rattle.velab_expr.specs.declared.fault.Rule.{Rule}
 use Rattle.velab_expr.specs.declared.fault.Rule.TheVariants.{Unknown, Constant, Width}
 use Rattle.velab_expr.specs.declared.fault.ElabFault.{ElabFault}
@@ -21,21 +23,21 @@ use Rattle.velab_expr.specs.declared.scope.Meaning.{Meaning}
 use Rattle.velab_expr.specs.declared.scope.Meaning.TheVariants as means
 use Rattle.velab_expr.specs.declared.scope.Operand.{Operand}
 use Rattle.velab_expr.specs.declared.scope.Operand.TheVariants as operand
-use Rattle.velab_expr.specs.Answers.{◌>>=◌, required, provided}
+use Rattle.velab_expr.specs.Answers.{◌>>=◌, required, provided, unflawed}
 use Rattle.velab_expr.specs.FirstWords.{first_in, first_among}
 use Rattle.velab_expr.specs.Scopes.{Scope, meaning_of, bounds_for, operand_by, variable_by, lower_name, lower_variable}
-use Rattle.velab_expr.specs.Constants.{measured, part_bounds}
-use Rattle.velab_expr.specs.Resolved.{plain, operand_tree, bit_in, part_in, in_front, count_of, few, lower, lower_parts, lower_expression}
+use Rattle.velab_expr.specs.Constants.{nothing, measured, part_bounds}
+use Rattle.velab_expr.specs.Resolved.{plain, operand_tree, bit_in, part_in, in_front, count_of, few, lower, lower_parts}
 use Rattle.velab_expr.specs.Written as written
-use Rattle.velab_expr.specs.Written.{lower_target, lower_targets}
-use Rattle.velab_declaration.specs.Right.{is_net, is_some_net, writes_net}
+use Rattle.velab_expr.specs.Written.{lower_index, lower_target_by, lower_targets_by}
+use Rattle.velab_declaration.specs.Right.{is_net, is_some_net, writes_net, writes_nets}
 use Rattle.velab_declaration.specs.Variables.{Declaration}
-use Rattle.elaboration_law.specs.Uses.{Way, Read, ReadIn, Written, WrittenIn, Driven, Triggered, Awaited, Use, use_of, use_of_time, use_of_formats, use_of_levels, used_in, used_in_parts, used_in_target, used_in_targets}
+use Rattle.elaboration_law.specs.Uses.{Way, Read, ReadIn, Written, WrittenIn, Driven, DrivenIn, Triggered, Awaited, Use, use_of, use_of_time, use_of_formats, use_of_levels, way_of_whole, way_of_part, used_in, used_in_parts, used_in_target_by, used_in_targets_by}
 use Rattle.elaboration_law.specs.Places.{Thing, a_variable, a_parameter, an_event, an_instance, Place, thing_of}
 use Rattle.elaboration_law.specs.Kinds.{is_ranged}
 use Rattle.elaboration_law.proofs.PlaceLemmas.{IsAt}
 use Rattle.elaboration_law.proofs.KindUses.{Alike, stands_alike}
-use Rattle.elaboration_law.proofs.RightLemmas.{bits_in, target_bits}
+use Rattle.elaboration_law.proofs.RightLemmas.{all_of_both, bits_in, target_bits, assignment_bits}
 
 -- ---- what a finished design is told for
 
@@ -45,6 +47,7 @@ variable_suits_later ReadIn d = is_ranged d
 variable_suits_later Written d = not (is_net d.kind)
 variable_suits_later WrittenIn d = not (is_net d.kind) && is_ranged d
 variable_suits_later Driven d = is_net d.kind
+variable_suits_later DrivenIn d = is_net d.kind && is_ranged d
 variable_suits_later Triggered d = true
 variable_suits_later (Awaited edge) d = true
 
@@ -177,6 +180,24 @@ abbrev pub Real : List Variable → Place → Scope → Type 0
 Real vs place scope = (k : ℕ) (d : Declaration) → k < scope.variables → slice_get place.things k ≡ Some (a_variable d) →
     (has_bits (slice_get vs (scope.first + k)) ≡ is_ranged d) × (is_some_net (slice_get vs (scope.first + k)) ≡ is_net d.kind)
 
+-- what a process writes is no net, and what is driven is one
+abbrev pub may_write : Bool → Bool → Bool
+may_write drives net = if drives then net else not net
+
+-- and it has the bits
+abbrev pub target_right : List Variable → Bool → Target → Bool
+target_right vs drives target = may_write drives (writes_net vs target) && target_bits vs target
+
+abbrev pub row_right : List Variable → Bool → List Target → Bool
+row_right vs drives targets = list_all (target_right vs drives) targets
+
+-- what drives is right where its targets are, and what it reads
+pub driven_right : (vs : List Variable) (targets : List Target) (e : ExpressionTree) →
+    (writes_nets vs targets && assignment_bits vs targets e) ≡ (row_right vs true targets && bits_in vs e)
+driven_right vs targets e =
+    sym (and_assoc (writes_nets vs targets) (list_all (target_bits vs) targets) (bits_in vs e))
+    ∙ ap (λ (b : Bool). b && bits_in vs e) (sym (all_of_both (writes_net vs) (target_bits vs) targets))
+
 module _ (vs : List Variable) (place : Place) (scope : Scope) (h : IsAt place scope) (real : Real vs place scope) where
   abbrev pub holds : List Use → Bool
   holds uses = list_all (is_suited_later place) uses
@@ -225,7 +246,14 @@ module _ (vs : List Variable) (place : Place) (scope : Scope) (h : IsAt place sc
       by c (Some (means.Event number)) thing a = tt
       by c (Some means.Instance) thing a = tt
 
-  -- what a process writes, a part of it or a bit, and what a continuous assignment drives
+  -- a variable that may be written so, and one whose bits may
+  abbrev may : Bool → ℕ → Bool
+  may drives n = may_write drives (is_some_net (slice_get vs n))
+
+  abbrev may_in : Bool → ℕ → Bool
+  may_in drives n = may drives n && has_bits (slice_get vs n)
+
+  -- what a process writes and what a continuous assignment drives, the whole of it, and a part of it or a bit
   module _ (name : Word) where
     abbrev ByVariable : (way : Way) → (ℕ → Bool) → Type 0
     ByVariable way view = Says view (is_suited_later place (use_of way false name)) (lower_variable scope name)
@@ -244,14 +272,13 @@ module _ (vs : List Variable) (place : Place) (scope : Scope) (h : IsAt place sc
         by (Some (means.Event number)) thing a = tt
         by (Some means.Instance) thing a = tt
 
-    written_says : ByVariable Written (λ n. not (is_some_net (slice_get vs n)))
-    written_says = by_variable Written (λ n. not (is_some_net (slice_get vs n))) (λ n d bits net. ap not net)
+    whole_says : (drives : Bool) → ByVariable (way_of_whole drives) (λ n. may_write drives (is_some_net (slice_get vs n)))
+    whole_says false = by_variable Written (λ n. not (is_some_net (slice_get vs n))) (λ n d bits net. ap not net)
+    whole_says true = by_variable Driven (λ n. is_some_net (slice_get vs n)) (λ n d bits net. net)
 
-    written_in_says : ByVariable WrittenIn (λ n. not (is_some_net (slice_get vs n)) && has_bits (slice_get vs n))
-    written_in_says = by_variable WrittenIn (λ n. not (is_some_net (slice_get vs n)) && has_bits (slice_get vs n)) (λ n d bits net. λ i. not (net i) && bits i)
-
-    pub driven_says : ByVariable Driven (λ n. is_some_net (slice_get vs n))
-    driven_says = by_variable Driven (λ n. is_some_net (slice_get vs n)) (λ n d bits net. net)
+    part_of_says : (drives : Bool) → ByVariable (way_of_part drives) (λ n. may_write drives (is_some_net (slice_get vs n)) && has_bits (slice_get vs n))
+    part_of_says false = by_variable WrittenIn (λ n. not (is_some_net (slice_get vs n)) && has_bits (slice_get vs n)) (λ n d bits net. λ i. not (net i) && bits i)
+    part_of_says true = by_variable DrivenIn (λ n. is_some_net (slice_get vs n) && has_bits (slice_get vs n)) (λ n d bits net. λ i. net i && bits i)
 
   -- ---- expressions
 
@@ -342,33 +369,32 @@ module _ (vs : List Variable) (place : Place) (scope : Scope) (h : IsAt place sc
 
   -- ---- targets
 
-  -- what is written is no net, and has the bits
-  abbrev pub target_right : Target → Bool
-  target_right target = not (writes_net vs target) && target_bits vs target
+  unflawed_says : (flaw : Option Flaw) (word : Option Word) (e : ExpressionTree) → Says (bits_in vs) (bits_in vs e) (unflawed flaw word e)
+  unflawed_says None word e = refl
+  unflawed_says (Some flaw) word e = tt
 
-  targets_joined : (xs ys : List Target) → list_all target_right (xs ++ ys) ≡ (list_all target_right xs && list_all target_right ys)
-  targets_joined xs ys = list_all-append target_right xs ys
-
-  abbrev pub row_right : List Target → Bool
-  row_right targets = list_all target_right targets
+  index_says : (fixed : Bool) (index : text.ExpressionTree) → Says (bits_in vs) (holds (used_in fixed index)) (lower_index fixed scope index)
+  index_says false index = lower_says false index
+  index_says true index =
+      last_says (bits_in vs) (bits_in vs) (holds (used_in true index)) (lower true scope index) _ (lower_says true index) (λ e. unflawed_says (flaw_of nothing e) (first_in index) e)
 
   mutual
-    pub target_says : (target : TargetTree) → Says row_right (holds (used_in_target target)) (lower_target scope target)
-    target_says (whole letters) =
-        subst (λ (b : Bool). Says row_right b (lower_target scope (whole letters))) (and_true (is_suited_later place (use_of Written false letters)))
-        (last_says (λ n. not (is_some_net (slice_get vs n))) row_right (is_suited_later place (use_of Written false letters)) (lower_variable scope letters) _ (written_says letters) (λ n. one_right (not (is_some_net (slice_get vs n)))))
-    target_says (bit letters index) =
-        then_says (λ n. not (is_some_net (slice_get vs n)) && has_bits (slice_get vs n)) row_right (is_suited_later place (use_of WrittenIn false letters)) (holds (used_in false index)) (lower_variable scope letters) _ (written_in_says letters) (λ n.
-        front_says (bits_in vs) row_right (not (is_some_net (slice_get vs n)) && has_bits (slice_get vs n)) (holds (used_in false index)) (lower_expression scope index) _ (lower_says false index) (λ e.
-        bit_right (not (is_some_net (slice_get vs n))) (has_bits (slice_get vs n)) (bits_in vs e)))
-    target_says (part letters left right) =
-        with_constants row_right (use_of WrittenIn false letters) (used_in true left ++ used_in true right) _ (both_hold place (used_in true left) (used_in true right) (constants_hold place left) (constants_hold place right))
-        (last_says (λ n. not (is_some_net (slice_get vs n)) && has_bits (slice_get vs n)) row_right (is_suited_later place (use_of WrittenIn false letters)) (lower_variable scope letters) _ (written_in_says letters) (λ n.
-        silent_says row_right (not (is_some_net (slice_get vs n)) && has_bits (slice_get vs n)) (written.lower_bounds scope left right) _ (λ bounds. sym (and_true (not (is_some_net (slice_get vs n)) && has_bits (slice_get vs n))))))
-    target_says (joined targets) = targets_say targets
+    pub target_says : (drives : Bool) (target : TargetTree) → Says (row_right vs drives) (holds (used_in_target_by drives target)) (lower_target_by drives scope target)
+    target_says drives (whole letters) =
+        subst (λ (b : Bool). Says (row_right vs drives) b (lower_target_by drives scope (whole letters))) (and_true (is_suited_later place (use_of (way_of_whole drives) false letters)))
+        (last_says (may drives) (row_right vs drives) (is_suited_later place (use_of (way_of_whole drives) false letters)) (lower_variable scope letters) _ (whole_says letters drives) (λ n. one_right (may drives n)))
+    target_says drives (bit letters index) =
+        then_says (may_in drives) (row_right vs drives) (is_suited_later place (use_of (way_of_part drives) false letters)) (holds (used_in drives index)) (lower_variable scope letters) _ (part_of_says letters drives) (λ n.
+        front_says (bits_in vs) (row_right vs drives) (may_in drives n) (holds (used_in drives index)) (lower_index drives scope index) _ (index_says drives index) (λ e.
+        bit_right (may drives n) (has_bits (slice_get vs n)) (bits_in vs e)))
+    target_says drives (part letters left right) =
+        with_constants (row_right vs drives) (use_of (way_of_part drives) false letters) (used_in true left ++ used_in true right) _ (both_hold place (used_in true left) (used_in true right) (constants_hold place left) (constants_hold place right))
+        (last_says (may_in drives) (row_right vs drives) (is_suited_later place (use_of (way_of_part drives) false letters)) (lower_variable scope letters) _ (part_of_says letters drives) (λ n.
+        silent_says (row_right vs drives) (may_in drives n) (written.lower_bounds scope left right) _ (λ bounds. sym (and_true (may_in drives n)))))
+    target_says drives (joined targets) = targets_say drives targets
 
-    targets_say : (targets : TargetTrees) → Says row_right (holds (used_in_targets targets)) (lower_targets scope targets)
-    targets_say none = refl
-    targets_say (first one more) =
-        both_say row_right row_right (used_in_target one) (used_in_targets more) (lower_target scope one) _ (target_says one) (λ front.
-        front_says row_right row_right (row_right front) (holds (used_in_targets more)) (lower_targets scope more) _ (targets_say more) (λ others. targets_joined front others))
+    targets_say : (drives : Bool) (targets : TargetTrees) → Says (row_right vs drives) (holds (used_in_targets_by drives targets)) (lower_targets_by drives scope targets)
+    targets_say drives none = refl
+    targets_say drives (first one more) =
+        both_say (row_right vs drives) (row_right vs drives) (used_in_target_by drives one) (used_in_targets_by drives more) (lower_target_by drives scope one) _ (target_says drives one) (λ front.
+        front_says (row_right vs drives) (row_right vs drives) (row_right vs drives front) (holds (used_in_targets_by drives more)) (lower_targets_by drives scope more) _ (targets_say drives more) (λ others. list_all-append (target_right vs drives) front others))

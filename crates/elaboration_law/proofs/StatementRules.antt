@@ -2,7 +2,7 @@
 use Rattle.std.proofs.Common.{ℕ, Bool, true, false, if◌then◌else◌, List, [], ◌∷◌, Option, Some, None, Result, refl}
 use Rattle.vast.specs.NumberedWords.{Word}
 use Rattle.vast.specs.NumberedExpressions as text
-use Rattle.vast.specs.NumberedStatements.{TargetTree, ArgumentTree, quoted, printed, left_out, TaskTree, print, idle, dump_file, dump_vars, dump, end_run, DelayTree, by_number, by_name, by_value, FurtherTerm, EventTree, by_event, by_any, by_any_enclosed, by_terms, StatementTree, StatementTrees, empty, block, assign, nonblocking, trigger, if_true, if_else, case_of, while_true, repeat_times, forever, for_loop, wait_for, delay, event, task, no_statement, first_statement, BranchTree, BranchTrees, labelled, default, no_branch, first_branch}
+use Rattle.vast.specs.NumberedStatements.{TargetTree, whole, ArgumentTree, quoted, printed, left_out, TaskTree, print, idle, dump_file, dump_vars, dump, end_run, DelayTree, by_number, by_name, by_value, FurtherTerm, EventTree, by_event, by_any, by_any_enclosed, by_terms, StatementTree, StatementTrees, empty, block, assign, nonblocking, trigger, if_true, if_else, case_of, while_true, repeat_times, forever, for_loop, wait_for, delay, event, task, no_statement, first_statement, BranchTree, BranchTrees, labelled, default, no_branch, first_branch}
 use Rattle.vast.specs.NumberedModules.{ItemTree}
 use Rattle.vmodules.specs.Ports.{Port}
 use Rattle.vmodules.specs.Connected.{NamedConnection, value_for}
@@ -15,19 +15,19 @@ use Rattle.velab_expr.specs.declared.fault.ElabFault.{ElabFault}
 use Rattle.velab_expr.specs.declared.scope.Meaning.{Meaning}
 use Rattle.velab_expr.specs.declared.scope.Meaning.TheVariants.{Variable, Parameter, Event, Instance}
 use Rattle.velab_expr.specs.FirstWords.{first_argument}
-use Rattle.velab_expr.specs.Scopes.{Scope, meaning_of, lower_variable, lower_event}
+use Rattle.velab_expr.specs.Scopes.{Scope, meaning_of, lower_event}
 use Rattle.velab_expr.specs.Symbols.{behind_item}
 use Rattle.velab_expr.specs.Resolved.{lower_expression}
-use Rattle.velab_expr.specs.Written.{lower_target}
+use Rattle.velab_expr.specs.Written.{lower_target, lower_net_target, target_of}
 use Rattle.velab_expr.specs.Selections.{lower_selection}
 use Rattle.velab_process.specs.Waits.{edge_of, term_by, lower_term, lower_further, lower_control}
 use Rattle.velab_process.specs.Prints.{default_form, ends_line, given, lower_argument, lower_arguments, lower_line}
 use Rattle.vast.specs.declared.statement.Printing.{Printing}
 use Rattle.velab_process.specs.Statements.{Table, Lowered, with_places_before, lower_amount, lower_own_amount, lower_assignment, lower_task, lower_label, lower_labels, lower_statement, lower_all, lower_branch, lower_branches}
 use Rattle.velab_process.specs.Processes.{ProcessTree, procedural, continuous, Processes, with_begins_before, lower_process, lower_processes, process_trees_by, lower_items}
-use Rattle.velab_process.specs.Connections.{only_name, lower_input, lower_output, lower_connection, lower_join, lower_joins}
+use Rattle.velab_process.specs.Connections.{lower_input, lower_output, lower_connection, lower_join, lower_joins}
 use Rattle.elaboration_law.proofs.ToldLemmas.{Tells, is_local, is_of_connections, local_connections, wider, then_tells, found_tells}
-use Rattle.elaboration_law.proofs.ExpressionRules.{variable_tells, event_tells, expression_tells, target_tells, selection_tells}
+use Rattle.elaboration_law.proofs.ExpressionRules.{event_tells, expression_tells, target_tells, selection_tells}
 
 -- ---- waits
 
@@ -96,7 +96,7 @@ own_amount_tells scope (Some amount) = then_tells is_local (lower_amount scope a
 assignment_tells : (blocking : Bool) (scope : Scope) (table : Table) (target : TargetTree) (amount : Option DelayTree) (value : text.ExpressionTree) →
     Tells is_local (lower_assignment blocking scope table target amount value)
 assignment_tells blocking scope table target amount value =
-    then_tells is_local (lower_target scope target) _ (target_tells scope target) (λ targets.
+    then_tells is_local (lower_target scope target) _ (target_tells false scope target) (λ targets.
     then_tells is_local (lower_own_amount scope amount) _ (own_amount_tells scope amount) (λ delay.
     then_tells is_local (lower_expression scope value) _ (expression_tells scope value) (λ e. tt)))
 
@@ -174,8 +174,8 @@ mutual
 
 process_tells : (scope : Scope) (table : Table) (process : ProcessTree) → Tells is_local (lower_process scope table process)
 process_tells scope table (procedural statement) = statement_tells scope table statement
-process_tells scope table (continuous name value) =
-    then_tells is_local (lower_variable scope name) _ (variable_tells scope name) (λ net.
+process_tells scope table (continuous target value) =
+    then_tells is_local (lower_net_target scope target) _ (target_tells true scope target) (λ targets.
     then_tells is_local (lower_expression scope value) _ (expression_tells scope value) (λ e. tt))
 
 begun_tells : (rules : Rule → Bool) (before : List (List ℕ)) (a : Result Processes ElabFault) → Tells rules a → Tells rules (with_begins_before before a)
@@ -195,23 +195,23 @@ items_tell scope table (item ∷ more) =
 
 -- ---- connections
 
-output_tells : (whose : Word) (outer inner : Scope) (port : Word) (name : Option Word) → Tells is_of_connections (lower_output whose outer inner port name)
+output_tells : (whose : Word) (outer inner : Scope) (port : Word) (target : Option TargetTree) → Tells is_of_connections (lower_output whose outer inner port target)
 output_tells whose outer inner port None = refl
-output_tells whose outer inner port (Some name) =
-    then_tells is_of_connections (lower_variable outer name) _ (wider is_local is_of_connections local_connections (lower_variable outer name) (variable_tells outer name)) (λ net.
+output_tells whose outer inner port (Some target) =
+    then_tells is_of_connections (lower_net_target outer target) _ (wider is_local is_of_connections local_connections (lower_net_target outer target) (target_tells true outer target)) (λ targets.
     then_tells is_of_connections (lower_expression inner (text.name port)) _
     (wider is_local is_of_connections local_connections (lower_expression inner (text.name port)) (expression_tells inner (text.name port))) (λ e. tt))
 
 pub input_tells : (outer inner : Scope) (port : Word) (value : text.ExpressionTree) → Tells is_local (lower_input outer inner port value)
 input_tells outer inner port value =
-    then_tells is_local (lower_variable inner port) _ (variable_tells inner port) (λ net.
+    then_tells is_local (lower_net_target inner (whole port)) _ (target_tells true inner (whole port)) (λ targets.
     then_tells is_local (lower_expression outer value) _ (expression_tells outer value) (λ e. tt))
 
 connection_tells : (whose : Word) (outer inner : Scope) (p : Port) (value : text.ExpressionTree) → Tells is_of_connections (lower_connection whose outer inner p value)
 connection_tells whose outer inner p value = by p.output
   where
-    by : (out : Bool) → Tells is_of_connections (if out then lower_output whose outer inner p.name (only_name value) else lower_input outer inner p.name value)
-    by true = output_tells whose outer inner p.name (only_name value)
+    by : (out : Bool) → Tells is_of_connections (if out then lower_output whose outer inner p.name (target_of value) else lower_input outer inner p.name value)
+    by true = output_tells whose outer inner p.name (target_of value)
     by false = wider is_local is_of_connections local_connections (lower_input outer inner p.name value) (input_tells outer inner p.name value)
 
 join_tells : (whose : Word) (outer inner : Scope) (table : Table) (p : Port) (value : Option text.ExpressionTree) → Tells is_of_connections (lower_join whose outer inner table p value)

@@ -10,9 +10,9 @@ use Rattle.velab_expr.specs.declared.fault.Rule.TheVariants.{Kind}
 use Rattle.velab_expr.specs.declared.fault.ElabFault.{ElabFault}
 use Rattle.velab_expr.specs.Answers.{found}
 use Rattle.velab_expr.specs.FirstWords.{first_argument}
-use Rattle.velab_expr.specs.Scopes.{Scope, lower_variable, lower_event}
+use Rattle.velab_expr.specs.Scopes.{Scope, lower_event}
 use Rattle.velab_expr.specs.Resolved.{lower_expression}
-use Rattle.velab_expr.specs.Written.{lower_target}
+use Rattle.velab_expr.specs.Written.{lower_target, lower_net_target}
 use Rattle.velab_expr.specs.Selections.{lower_selection}
 use Rattle.velab_process.specs.Waits.{edge_of, lower_term, lower_further, lower_control}
 use Rattle.velab_process.specs.Prints.{default_form, ends_line, given, lower_argument, lower_arguments, lower_line}
@@ -20,9 +20,9 @@ use Rattle.velab_process.proofs.LineLemmas.{given_same}
 use Rattle.vast.specs.declared.statement.Printing.{Printing}
 use Rattle.velab_process.specs.Statements.{Table, Lowered, with_places_before, lower_amount, lower_own_amount, lower_assignment, lower_task, lower_label, lower_labels, lower_statement, lower_all, lower_branch, lower_branches}
 use Rattle.velab_process.specs.Processes.{ProcessTree, procedural, continuous, Processes, with_begins_before, lower_process, lower_processes}
-use Rattle.elaboration_law.specs.Uses.{Use, Driven, Triggered, Awaited, use_of, use_of_formats, used_in_selection, used_in, used_in_parts, used_in_target, used_in_delay, used_in_own, used_in_assignment, used_in_further, used_in_control, used_in_argument, used_in_arguments, used_in_task, used_by, used_by_all, used_by_branch, used_by_branches, used_by_process, used_by_processes}
+use Rattle.elaboration_law.specs.Uses.{Use, Triggered, Awaited, use_of, use_of_formats, used_in_selection, used_in, used_in_parts, used_in_target, used_in_target_by, used_in_delay, used_in_own, used_in_assignment, used_in_further, used_in_control, used_in_argument, used_in_arguments, used_in_task, used_by, used_by_all, used_by_branch, used_by_branches, used_by_process, used_by_processes}
 use Rattle.elaboration_law.proofs.UseLemmas.{known_judges, Question, Fits, both, last, single}
-use Rattle.elaboration_law.proofs.ExpressionUses.{driven_knows, event_knows, expression_knows, target_knows, selection_knows}
+use Rattle.elaboration_law.proofs.ExpressionUses.{event_knows, expression_knows, target_knows, selection_knows}
 
 module _ (q : Question) (scope : Scope) where
   -- ---- waits
@@ -86,7 +86,7 @@ module _ (q : Question) (scope : Scope) where
   assignment_knows : (blocking : Bool) (table : Table) (target : TargetTree) (amount : Option DelayTree) (value : text.ExpressionTree) →
       Fits q scope (used_in_assignment target amount value) (lower_assignment blocking scope table target amount value)
   assignment_knows blocking table target amount value =
-      both q scope (used_in_target target) (used_in_own amount ++ used_in false value) (lower_target scope target) _ (target_knows q scope target) (λ targets.
+      both q scope (used_in_target target) (used_in_own amount ++ used_in false value) (lower_target scope target) _ (target_knows q scope false target) (λ targets.
       both q scope (used_in_own amount) (used_in false value) (lower_own_amount scope amount) _ (own_amount_knows amount) (λ delay.
       last q scope (used_in false value) (lower_expression scope value) _ (expression_knows q scope value) (λ e. refl)))
 
@@ -165,8 +165,8 @@ module _ (q : Question) (scope : Scope) where
 
   process_knows : (table : Table) (process : ProcessTree) → Fits q scope (used_by_process process) (lower_process scope table process)
   process_knows table (procedural statement) = statement_knows table statement
-  process_knows table (continuous name value) =
-      both q scope (use_of Driven false name ∷ []) (used_in false value) (lower_variable scope name) _ (driven_knows q scope name) (λ net.
+  process_knows table (continuous target value) =
+      both q scope (used_in_target_by true target) (used_in false value) (lower_net_target scope target) _ (target_knows q scope true target) (λ targets.
       last q scope (used_in false value) (lower_expression scope value) _ (expression_knows q scope value) (λ e. refl))
 
   begun_knows : (uses : List Use) (before : List (List ℕ)) (a : Result Processes ElabFault) → Fits q scope uses a → Fits q scope uses (with_begins_before before a)

@@ -37,10 +37,10 @@ use Rattle.velab_expr.specs.declared.scope.Meaning.{Meaning}
 use Rattle.velab_expr.specs.declared.scope.Meaning.TheVariants.{Variable, Parameter, Event, Instance}
 use Rattle.velab_expr.specs.Answers.{◌>>=◌, found}
 use Rattle.velab_expr.specs.FirstWords.{first_in, first_argument}
-use Rattle.velab_expr.specs.Scopes.{Scope, meaning_of, variable_by, event_by, lower_variable, lower_event}
+use Rattle.velab_expr.specs.Scopes.{Scope, meaning_of, event_by, lower_event}
 use Rattle.velab_expr.specs.Symbols.{behind_item}
 use Rattle.velab_expr.specs.Resolved.{lower_expression}
-use Rattle.velab_expr.specs.Written.{lower_target}
+use Rattle.velab_expr.specs.Written.{lower_target, lower_net_target, lower_target_by}
 use Rattle.velab_expr.specs.Selections.{levels_in, lower_selection}
 use Rattle.velab_declaration.specs.ActionFlaws.{first_flaw, branch_flaw, piece_flaw, assignment_flaw, action_flaw}
 use Rattle.velab_process.specs.Waits.{edge_of, term_by, lower_term, lower_further, lower_control}
@@ -118,16 +118,6 @@ quietly g all (Err fault) next h more = λ e. absurd cc
 pub quiet_then : {A B : Type 0} (a : Result A ElabFault) (next : A → Result B ElabFault) → Quiet a → ((x : A) → Quiet (next x)) → Quiet (a >>= next)
 quiet_then (Ok x) next h more = more x
 quiet_then (Err fault) next h more = h
-
-pub variable_quiet : (scope : Scope) (name : Word) → Quiet (lower_variable scope name)
-variable_quiet scope name = by (meaning_of scope name)
-  where
-    by : (meaning : Option Meaning) → Quiet (variable_by name meaning)
-    by None = refl
-    by (Some (Variable number)) = tt
-    by (Some (Parameter content bounds before)) = refl
-    by (Some (Event number)) = refl
-    by (Some Instance) = refl
 
 event_quiet : (scope : Scope) (name : Word) → Quiet (lower_event scope name)
 event_quiet scope name = by (meaning_of scope name)
@@ -349,8 +339,8 @@ module _ (scope : Scope) (named : Text → Worth) (vectors : AreVectors named) (
       by (Ok e) h = h.says
       by (Err fault) h = h
 
-  target_told : (target : TargetTree) → Told (targets_flaw now) (is_target named target) (lower_target scope target)
-  target_told target = by (lower_target scope target) (target_sizes scope named vectors now agrees target)
+  pub target_told : (fixed : Bool) (target : TargetTree) → Told (targets_flaw now) (is_target named target) (lower_target_by fixed scope target)
+  target_told fixed target = by (lower_target_by fixed scope target) (target_sizes scope named vectors now agrees fixed target)
     where
       by : (a : Result (List Target) ElabFault) → IsWritten now (is_target named target) a → Told (targets_flaw now) (is_target named target) a
       by (Ok row) h = h
@@ -435,7 +425,7 @@ module _ (scope : Scope) (named : Text → Worth) (vectors : AreVectors named) (
       let d = is_sized_own_delay named amount in
       let x = is_sized named v in
       let all = b && (t && (d && x)) in
-      goes_on (targets_flaw now) (of_lowered now) t all (lower_target scope target) _ (λ e. middle_false b t (d && x) e) (target_told target) (λ targets h.
+      goes_on (targets_flaw now) (of_lowered now) t all (lower_target scope target) _ (λ e. middle_false b t (d && x) e) (target_told false target) (λ targets h.
       goes_on own_flaw (of_lowered now) d all (lower_own_amount scope amount) _ (λ e. second_false b (t && (d && x)) (middle_false t d x e)) (own_told amount) (λ delay k.
       goes_on (flaw_of now) (of_lowered now) x all (lower_expression scope v) _ (λ e. second_false b (t && (d && x)) (second_false t (d && x) (second_false d x e))) (expression_told v) (λ e l.
       acted now table b (t && (d && x)) _ s (assignment_says blocking delay targets e t d x h k l))))
@@ -606,10 +596,12 @@ module _ (scope : Scope) (named : Text → Worth) (vectors : AreVectors named) (
 
   process_told : (table : Table) (t : Bool) → Says (table_flaw now table) t → (process : ProcessTree) → Told (of_lowered now) (t && is_sized_process named process) (lower_process scope table process)
   process_told table t s (procedural statement) = statement_told table t s statement
-  process_told table t s (continuous name v) =
-      let c = is_sized named v in
-      quietly (of_lowered now) (t && c) (lower_variable scope name) _ (variable_quiet scope name) (λ net.
-      goes_on (flaw_of now) (of_lowered now) c (t && c) (lower_expression scope v) _ (second_false t c) (expression_told v) (λ e h. acted now table t c _ s h))
+  process_told table t s (continuous target v) =
+      let g = is_target named target in
+      let x = is_sized named v in
+      goes_on (targets_flaw now) (of_lowered now) g (t && (g && x)) (lower_net_target scope target) _ (λ e. middle_false t g x e) (target_told true target) (λ targets h.
+      goes_on (flaw_of now) (of_lowered now) x (t && (g && x)) (lower_expression scope v) _ (λ e. second_false t (g && x) (second_false g x e)) (expression_told v) (λ e k.
+      acted now table t (g && x) _ s (both_say (targets_flaw now targets) (flaw_of now e) g x h k)))
 
   pub processes_told : (table : Table) (t : Bool) → Says (table_flaw now table) t → (list : List ProcessTree) →
       Told (of_processes now) (t && list_all (is_sized_process named) list) (lower_processes scope table list)

@@ -4,6 +4,7 @@ use Rattle.std.specs.Option.{option_or}
 use Rattle.vbits.specs.Vectors.{Vector}
 use Rattle.vast.specs.Words.{Text}
 use Rattle.vast.specs.NumberedWords.{Word}
+use Rattle.vast.specs.NumberedExpressions as text
 use Rattle.vast.specs.NumberedStatements.{TargetTree, TargetTrees, whole, bit, part, joined, none, first}
 use Rattle.vdesign.specs.Expressions.{ExpressionTree}
 use Rattle.vdesign.specs.declared.action.Target.{Target}
@@ -18,16 +19,17 @@ use Rattle.vvalue.specs.declared.flaw.Flaw.TheVariants.{NoBits, Size}
 use Rattle.velab_expr.specs.declared.fault.ElabFault.{ElabFault}
 use Rattle.velab_expr.specs.declared.scope.Meaning.{Meaning}
 use Rattle.velab_expr.specs.declared.scope.Meaning.TheVariants.{Variable, Parameter, Event, Instance}
-use Rattle.velab_expr.specs.Answers.{◌>>=◌}
+use Rattle.velab_expr.specs.Answers.{◌>>=◌, unflawed}
+use Rattle.velab_expr.specs.FirstWords.{first_in}
 use Rattle.velab_expr.specs.Scopes.{Scope, meaning_of, variable_by, lower_variable}
 use Rattle.velab_expr.specs.Constants.{nothing, worth, part_bounds}
-use Rattle.velab_expr.specs.Resolved.{lower_expression, lower_value}
-use Rattle.velab_expr.specs.Written.{lower_target, lower_targets}
-use Rattle.elaboration_law.specs.Widths.{Worth, meant, selected_by, is_sized, has_sized_parts, have_sized_parts, is_target}
+use Rattle.velab_expr.specs.Resolved.{lower, lower_value}
+use Rattle.velab_expr.specs.Written.{lower_index, lower_target_by, lower_targets_by}
+use Rattle.elaboration_law.specs.Widths.{Worth, meant, is_sized, has_sized_parts, have_sized_parts, is_target}
 use Rattle.elaboration_law.specs.Widths as widths
 use Rattle.elaboration_law.proofs.UseLemmas.{first_false, second_false}
 use Rattle.elaboration_law.proofs.SizeLemmas.{AreVectors}
-use Rattle.elaboration_law.proofs.ExpressionWidths.{is_width, Says, both_say, unless_says, bits_say, behind_both, AreWorth, worth_of_constants, IsRead, Sizes, IsMeasured, lower_sizes, value_sizes}
+use Rattle.elaboration_law.proofs.ExpressionWidths.{is_width, Says, both_say, unless_says, bits_say, behind_both, AreWorth, worth_of_constants, IsRead, IsLike, Sizes, IsMeasured, lower_sizes, value_sizes}
 
 -- ---- rows of targets
 
@@ -140,23 +142,41 @@ module _ (scope : Scope) (named : Text → Worth) (vectors : AreVectors named) (
   abbrev constants : AreWorth true nothing scope named
   constants = worth_of_constants false now scope named agrees
 
+  -- the place of a bit, a constant or not
+  index_sizes : (fixed : Bool) (index : text.ExpressionTree) → Sizes false now (meant named index) (is_sized named index) (lower_index fixed scope index)
+  index_sizes false index = lower_sizes scope named vectors false now agrees index
+  index_sizes true index =
+      by (lower true scope index) (lower_sizes scope named vectors true now (record { of_parameter = agrees.of_parameter; of_variable = λ name number no is. absurd cc }) index)
+      (lower_sizes scope named vectors true nothing constants index)
+    where
+      kept : (e : ExpressionTree) → IsLike true now e (meant named index) (is_sized named index) → (flaw : Option Flaw) → Says flaw (is_sized named index) →
+          Sizes false now (meant named index) (is_sized named index) (unflawed flaw (first_in index) e)
+      kept e s None h = record { same = λ no. absurd cc; size = s.size; says = s.says }
+      kept e s (Some NoBits) h = λ no. absurd cc
+      kept e s (Some Size) h = λ is. h
+
+      by : (a : Result ExpressionTree ElabFault) → Sizes true now (meant named index) (is_sized named index) a → Sizes true nothing (meant named index) (is_sized named index) a →
+          Sizes false now (meant named index) (is_sized named index) (a >>= λ e. unflawed (flaw_of nothing e) (first_in index) e)
+      by (Ok e) s h = kept e s (flaw_of nothing e) h.says
+      by (Err fault) s h = h
+
   mutual
-    target_rows : (one : TargetTree) → Rows now (widths.target_size named one) (has_sized_parts named one) (lower_target scope one)
-    target_rows (whole letters) = whole_rows now (named letters.letters) (lower_variable scope letters) (variable_stands letters)
-    target_rows (bit letters index) =
-        bit_rows now (named letters.letters) (meant named index) (is_sized named index) (lower_variable scope letters) (lower_expression scope index)
-        (variable_stands letters) (lower_sizes scope named vectors false now agrees index)
-    target_rows (part letters left right) =
+    target_rows : (fixed : Bool) (one : TargetTree) → Rows now (widths.target_size named one) (has_sized_parts named one) (lower_target_by fixed scope one)
+    target_rows fixed (whole letters) = whole_rows now (named letters.letters) (lower_variable scope letters) (variable_stands letters)
+    target_rows fixed (bit letters index) =
+        bit_rows now (named letters.letters) (meant named index) (is_sized named index) (lower_variable scope letters) (lower_index fixed scope index)
+        (variable_stands letters) (index_sizes fixed index)
+    target_rows fixed (part letters left right) =
         part_rows now (named letters.letters) (meant named left) (meant named right) (is_sized named left) (is_sized named right)
         (lower_variable scope letters) (lower_value scope left) (lower_value scope right)
         (variable_stands letters) (value_sizes scope named vectors constants left) (value_sizes scope named vectors constants right)
-    target_rows (joined targets) = targets_rows targets
+    target_rows fixed (joined targets) = targets_rows fixed targets
 
-    targets_rows : (targets : TargetTrees) → Rows now (widths.targets_size named targets) (have_sized_parts named targets) (lower_targets scope targets)
-    targets_rows none = record { size = refl; says = refl }
-    targets_rows (first one more) =
+    targets_rows : (fixed : Bool) (targets : TargetTrees) → Rows now (widths.targets_size named targets) (have_sized_parts named targets) (lower_targets_by fixed scope targets)
+    targets_rows fixed none = record { size = refl; says = refl }
+    targets_rows fixed (first one more) =
         further_rows now (widths.target_size named one) (widths.targets_size named more) (has_sized_parts named one) (have_sized_parts named more)
-        (lower_target scope one) (lower_targets scope more) (target_rows one) (targets_rows more)
+        (lower_target_by fixed scope one) (lower_targets_by fixed scope more) (target_rows fixed one) (targets_rows fixed more)
 
-  pub target_sizes : (one : TargetTree) → IsWritten now (is_target named one) (lower_target scope one)
-  target_sizes one = written_rows now (widths.target_size named one) (has_sized_parts named one) (lower_target scope one) (target_rows one)
+  pub target_sizes : (fixed : Bool) (one : TargetTree) → IsWritten now (is_target named one) (lower_target_by fixed scope one)
+  target_sizes fixed one = written_rows now (widths.target_size named one) (has_sized_parts named one) (lower_target_by fixed scope one) (target_rows fixed one)

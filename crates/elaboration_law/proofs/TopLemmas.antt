@@ -16,7 +16,7 @@ use Rattle.elaboration_law.specs.Laws.{IsMeant}
 use Rattle.elaboration_law.specs.Tops.{LacksModule, no_top, no_module}
 use Rattle.elaboration_law.proofs.ToldLemmas.{is_of_connections, untold, untold_fault}
 use Rattle.elaboration_law.proofs.ModuleRules.{is_of_names, is_of_own, names_tell, list_tells, own_tells}
-use Rattle.elaboration_law.proofs.DesignRules.{design_tells}
+use Rattle.elaboration_law.proofs.DesignRules.{is_of_design, design_tells}
 use Rattle.elaboration_law.proofs.StepLemmas.{provided_err, barring_err}
 use Rattle.elaboration_law.proofs.ItemLemmas.{item_answered, item_told}
 use Rattle.elaboration_law.proofs.HierarchyLemmas.{instance_at, OwnFault, in_names, in_instances, in_own, ToldBelow, too_deep, by_own, Told, in_modules, in_ports, is_of_ports, of_ports, in_top, in_hierarchy, in_design, all_elaborated, fault_told, top_told_below}
@@ -58,7 +58,7 @@ module _ (modules : SourceTree) (top : Option Text) where
       no_module depth (instance_at context) it.name it.overrides it.list (unit, is_top, stands) it.inside
       (of_missing modules fault rule it.name it.before it.known (module_of modules it.name.letters) it.overrides it.list it.is)
   own_told fault unit depth part context is_top rule stands (in_own scope children names wanted err) =
-      absurd (untold is_of_own (lower_own context (ports_of context.unit) children scope part) fault Top (own_tells context (ports_of context.unit) children scope part) refl err rule)
+      absurd (untold is_of_own (lower_own context (ports_of context.unit) scope part) fault Top (own_tells context (ports_of context.unit) scope part) refl err rule)
 
   below_told : (fault : ElabFault) (unit : ModuleTree) → top_of modules top ≡ Some unit → fault.rule ≡ Top → ToldBelow modules 16 (top_instance unit) fault → LacksModule modules top
   below_told fault unit is_top rule (too_deep one other stands) = absurd cc
@@ -70,7 +70,7 @@ module _ (modules : SourceTree) (top : Option Text) where
   tops_told fault rule (in_top missing other) = no_top missing
   tops_told fault rule (in_hierarchy unit is_top err) = below_told fault unit is_top rule (top_told_below modules unit fault err)
   tops_told fault rule (in_design unit part is_top ok broken) =
-      absurd (untold_fault is_of_names (broken_design unit.name part) fault Top (design_tells is_of_names refl refl refl unit.name part refl refl) refl broken rule)
+      absurd (untold_fault is_of_design (broken_design unit.name part) fault Top (design_tells is_of_design refl refl refl refl unit.name part refl refl) refl broken rule)
 
   tops_never : (scale : Timescale) (design : Design) → elaborated modules top scale ≡ Ok design → ¬ LacksModule modules top
   tops_never scale design is (no_top none) = let there = (all_elaborated modules top scale design is).is_top in cc

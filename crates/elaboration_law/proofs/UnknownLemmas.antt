@@ -99,7 +99,7 @@ module _ (modules : SourceTree) (top : Option Text) where
         whole : (broken_paths unit.name part ≡ Some fault) ⊎ (broken_table unit.name part ≡ Some fault) → is_all_there unit.name.letters (all_below modules unit) ≡ false
         whole (inl is) = paths (or_some named (option_or scoped selections) fault is)
         whole (inr is) =
-            absurd (untold_fault (λ r. not (is_unknown r)) (broken_table unit.name part) fault Unknown (broken_table_tells (λ r. not (is_unknown r)) refl refl unit.name part refl) refl is rule)
+            absurd (untold_fault (λ r. not (is_unknown r)) (broken_table unit.name part) fault Unknown (broken_table_tells (λ r. not (is_unknown r)) refl refl refl unit.name part refl) refl is rule)
 
   -- ---- the law
 

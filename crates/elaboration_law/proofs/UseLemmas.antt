@@ -19,7 +19,7 @@ use Rattle.velab_process.specs.Prints.{lower_arguments, given}
 use Rattle.velab_process.specs.Waits.{lower_term}
 use Rattle.vdesign.specs.declared.action.Edge.{Edge}
 use Rattle.vhierarchy.specs.Instances.{barring}
-use Rattle.elaboration_law.specs.Uses.{Use, Read, ReadIn, Written, WrittenIn, Driven, Triggered, Awaited, use_of, use_of_time, use_of_formats, use_of_levels}
+use Rattle.elaboration_law.specs.Uses.{Use, Read, ReadIn, Written, WrittenIn, Driven, DrivenIn, Triggered, Awaited, use_of, use_of_time, use_of_formats, use_of_levels}
 
 abbrev pub Judges : {A : Type 0} → (Rule → Bool) → Bool → Result A ElabFault → Type 0
 Judges asked holds (Ok x) = holds ≡ true
@@ -101,6 +101,7 @@ pub record Question : Type 1 where
   pub of_written : (scope : Scope) (name : Word) → Judges asked (fits scope (use_of Written false name)) (lower_variable scope name)
   pub of_written_in : (scope : Scope) (name : Word) → Judges asked (fits scope (use_of WrittenIn false name)) (lower_variable scope name)
   pub of_driven : (scope : Scope) (name : Word) → Judges asked (fits scope (use_of Driven false name)) (lower_variable scope name)
+  pub of_driven_in : (scope : Scope) (name : Word) → Judges asked (fits scope (use_of DrivenIn false name)) (lower_variable scope name)
   pub of_event : (scope : Scope) (name : Word) → Judges asked (fits scope (use_of Triggered false name)) (lower_event scope name)
   pub of_term : (scope : Scope) (edge : Edge) (name : Word) → Judges asked (fits scope (use_of (Awaited edge) false name)) (lower_term scope edge name)
   pub of_time : {A : Type 0} (constant : Bool) (scope : Scope) (word : Option Word) (x : A) → Judges asked (fits scope (use_of_time constant)) (required (not constant) Constant word x)

@@ -29,6 +29,7 @@ use Rattle.velab_expr.specs.Symbols.{symbols_by}
 use Rattle.velab_declaration.specs.Right.{writes_rightly, kind_rule}
 use Rattle.velab_declaration.specs.ActionFlaws.{blank_environment, first_flaw, action_flaw, flaw_rule, table_fault}
 use Rattle.velab_declaration.specs.Variables.{port_names}
+use Rattle.velab_declaration.specs.Drives.{drivers_fault}
 use Rattle.vhierarchy.specs.Instances.{Instantiation, instantiation_by, lower_instance, lower_list, named_again, lower_instances_of, lower_instances_by, lower_instances, Part, Context, lower_own_variables, lower_own_processes, with_own, few_enough, child_context, each, elaborate_instance, nothing, no_scope, top_context, elaborate_top, broken_paths, broken_table, broken_design, elaborated}
 use Rattle.elaboration_law.specs.Laws.{IsMeant}
 use Rattle.elaboration_law.specs.Widths.{Worth}
@@ -37,12 +38,13 @@ use Rattle.elaboration_law.specs.WrongWidths.{Instantiated, constants_in, worth_
 use Rattle.elaboration_law.proofs.StepLemmas.{same_value, then_ok, barring_ok, provided_ok, required_ok}
 use Rattle.elaboration_law.proofs.UseLemmas.{Judges, first_false, second_false}
 use Rattle.elaboration_law.proofs.ToldLemmas.{TellsFault, TellsRule}
-use Rattle.elaboration_law.proofs.DesignRules.{table_tells, unless_tells, broken_paths_tell}
+use Rattle.elaboration_law.proofs.DesignRules.{table_tells, drivers_tell, unless_tells, broken_paths_tell}
 use Rattle.elaboration_law.proofs.HierarchyLemmas.{Told, in_modules, in_ports, is_of_ports, of_ports, in_top, in_hierarchy, in_design, Own, OwnFault, in_names, in_instances, in_own, below, opened_ok, opened_err, all_elaborated, fault_told}
 use Rattle.velab_process.specs.Processes.{Processes}
 use Rattle.elaboration_law.proofs.DepthLemmas.{one_top}
 use Rattle.elaboration_law.proofs.PathUses.{JudgesIf, or_judged}
 use Rattle.elaboration_law.proofs.SizeLemmas.{none_sized}
+use Rattle.elaboration_law.proofs.RightUses.{and_true}
 use Rattle.elaboration_law.proofs.ExpressionWidths.{is_width, Says}
 use Rattle.elaboration_law.proofs.StatementWidths as widths
 use Rattle.elaboration_law.proofs.StatementWidths.{table_flaw, of_processes}
@@ -166,11 +168,11 @@ module _ (modules : SourceTree) where
         subst (λ (p : Part). Grows part all (below modules levels part context own.scope own.children p)) enough.1
         (subst (λ (b : Bool). Grows part b (below modules levels part context own.scope own.children whole)) same
         (further levels rest own.scope context (worth_in one) part whole ((t && has_right_widths one) && all_below levels rest own.scope context (worth_in one) own.children) (below modules levels part context own.scope own.children whole) made.0 refl
-        (each_grow levels rest own.scope context (worth_in one) own.children whole (t && has_right_widths one) (round_here part context outside round own.scope own.names_are own.children made.0 made.1) carries)))
+        (each_grow levels rest own.scope context (worth_in one) own.children whole (t && has_right_widths one) (round_here part context outside round own.scope own.names_are made.0 made.1) carries)))
       where
-        made : (vs : List Variable) × (lower_own_variables context (ports_of context.unit) own.children own.scope ≡ Ok vs)
+        made : (vs : List Variable) × (lower_own_variables context (ports_of context.unit) own.scope ≡ Ok vs)
             × ((lower_own_processes context (ports_of context.unit) own.scope part.table >>= λ ps. few_enough context.name (with_own context own.scope part vs ps)) ≡ Ok own.whole)
-        made = then_ok (lower_own_variables context (ports_of context.unit) own.children own.scope)
+        made = then_ok (lower_own_variables context (ports_of context.unit) own.scope)
             (λ vs. lower_own_processes context (ports_of context.unit) own.scope part.table >>= λ ps. few_enough context.name (with_own context own.scope part vs ps)) own.whole own.own_is
 
         processes : (ps : Processes) × (lower_own_processes context (ports_of context.unit) own.scope part.table ≡ Ok ps) × (few_enough context.name (with_own context own.scope part made.0 ps) ≡ Ok own.whole)
@@ -186,9 +188,9 @@ module _ (modules : SourceTree) where
 
         carries : Carries whole (t && has_right_widths one)
         carries others =
-            subst (λ (b : Bool). Says (table_flaw (blank_environment (whole.variables ++ others)) whole.table) (t && b)) (sym (right_is part context outside round own.scope own.names_are own.children made.0 made.1))
+            subst (λ (b : Bool). Says (table_flaw (blank_environment (whole.variables ++ others)) whole.table) (t && b)) (sym (right_is part context outside round own.scope own.names_are made.0 made.1))
             (subst (widths.Told (of_processes (blank_environment (whole.variables ++ others))) (t && (connected part context outside round && processed part context outside round))) processes.1
-            (processes_told part context outside round own.scope own.names_are own.children made.0 made.1 others part.table t (carried part made.0 t h others)))
+            (processes_told part context outside round own.scope own.names_are made.0 made.1 others part.table t (carried part made.0 t h others)))
 
         same : ((t && has_right_widths one) && all_below levels rest own.scope context (worth_in one) own.children) ≡ all
         same =
@@ -203,7 +205,7 @@ module _ (modules : SourceTree) where
         own_false (second_false t (has_right_widths one) (first_false set others (subst (Judges is_width set) err (names_judged part context outside round) width)))
     of_own fault width (in_instances scope names err) =
         absurd (true≢false (sym width ∙ subst widths.Quiet err (instances_quiet modules 0 scope.known context.unit.items)))
-    of_own fault width (in_own scope children names wanted err) = own_false (own_wrong part context outside round scope names t h children fault width err)
+    of_own fault width (in_own scope children names wanted err) = own_false (own_wrong part context outside round scope names t h fault width err)
 
     grows : (a : Result Part ElabFault) → elaborate_instance (suc levels) modules part context ≡ a → Grows part all a
     grows (Ok p) is = let opened = opened_ok modules levels part context p is in subst (Grows part all) opened.1 (behind opened.0)
@@ -250,10 +252,13 @@ module _ (top : Word) (part : Part) (holds : Bool) (carries : Carries part holds
   design_judged : JudgesIf of_width holds (broken_design top part)
   design_judged =
       or_judged of_width true holds (broken_paths top part) (broken_table top part) (not_of_width (broken_paths top part) (broken_paths_tell none_of_width refl refl top part refl))
-      (or_judged of_width true holds few (option_or writes flaws) (not_of_width few (unless_tells none_of_width (nat_le (length part.begins) 256) TooMany (Some top) refl))
-      (or_judged of_width true holds writes flaws (not_of_width writes (table_tells none_of_width (kind_rule part.variables) kind_tells part.table.actions part.table.words))
+      (or_judged of_width true holds few (option_or writes (option_or flaws driven)) (not_of_width few (unless_tells none_of_width (nat_le (length part.begins) 256) TooMany (Some top) refl))
+      (or_judged of_width true holds writes (option_or flaws driven) (not_of_width writes (table_tells none_of_width (kind_rule part.variables) kind_tells part.table.actions part.table.words))
+      (subst (λ (b : Bool). JudgesIf of_width b (option_or flaws driven)) (sym (and_true holds))
+      (or_judged of_width holds true flaws driven
       (table_judged (blank_environment part.variables) part.table.actions part.table.words holds
-      (subst (λ (l : List Variable). Says (table_flaw (blank_environment l) part.table) holds) (append-nil part.variables) (carries [])))))
+      (subst (λ (l : List Variable). Says (table_flaw (blank_environment l) part.table) holds) (append-nil part.variables) (carries [])))
+      (not_of_width driven (drivers_tell none_of_width refl (blank_environment part.variables) [] part.table.actions part.table.words))))))
     where
       few : Option ElabFault
       few = unless (nat_le (length part.begins) 256) TooMany (Some top)
@@ -263,6 +268,9 @@ module _ (top : Word) (part : Part) (holds : Bool) (carries : Carries part holds
 
       flaws : Option ElabFault
       flaws = table_fault (flaw_rule (blank_environment part.variables)) part.table.actions part.table.words
+
+      driven : Option ElabFault
+      driven = drivers_fault (blank_environment part.variables) [] part.table.actions part.table.words
 
       kind_tells : (action : Action) → TellsRule none_of_width (kind_rule part.variables action)
       kind_tells action = by (writes_rightly part.variables action)

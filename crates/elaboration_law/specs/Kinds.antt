@@ -22,7 +22,7 @@ use Rattle.velab_process.specs.Prints.{between_quotes}
 use Rattle.elaboration_law.specs.Doubles.{variable_paths_in, path_in}
 use Rattle.elaboration_law.specs.Hierarchy.{Instance}
 use Rattle.elaboration_law.specs.ItemPorts.{HasVariableInput}
-use Rattle.elaboration_law.specs.Uses.{Way, Read, ReadIn, Written, WrittenIn, Driven, Triggered, Awaited, Use, use_of, use_of_time, use_of_formats, use_of_levels}
+use Rattle.elaboration_law.specs.Uses.{Way, Read, ReadIn, Written, WrittenIn, Driven, DrivenIn, Triggered, Awaited, Use, use_of, use_of_time, use_of_formats, use_of_levels}
 use Rattle.elaboration_law.specs.Places.{Thing, a_variable, a_parameter, an_event, an_instance, Place, thing_of, HasMisuse}
 use Rattle.elaboration_law.specs.Selected.{paths_in_instance}
 use Rattle.elaboration_law.specs.Unknowns.{all_below}
@@ -40,6 +40,7 @@ variable_suits ReadIn d = is_ranged d
 variable_suits Written d = not (is_net d.kind)
 variable_suits WrittenIn d = not (is_net d.kind) && is_ranged d
 variable_suits Driven d = is_net d.kind
+variable_suits DrivenIn d = is_net d.kind && is_ranged d
 variable_suits Triggered d = false
 variable_suits (Awaited edge) d = true
 
@@ -50,6 +51,7 @@ parameter_suits ReadIn = true
 parameter_suits Written = false
 parameter_suits WrittenIn = false
 parameter_suits Driven = false
+parameter_suits DrivenIn = false
 parameter_suits Triggered = false
 parameter_suits (Awaited edge) = false
 
@@ -65,6 +67,7 @@ event_suits ReadIn = false
 event_suits Written = false
 event_suits WrittenIn = false
 event_suits Driven = false
+event_suits DrivenIn = false
 event_suits Triggered = true
 event_suits (Awaited edge) = is_any edge
 

@@ -12,11 +12,12 @@ use Rattle.vmodules.specs.Ports.{Second, Port, type_in, is_plain_list, ports_of}
 use Rattle.vmodules.specs.Connected.{NamedConnection, open_names, named_connections, named_connections_if, value_for}
 use Rattle.velab_expr.specs.Symbols.{Symbol, parameter_symbol, event_symbol, instance_symbol, name_in, valueless_by, symbols_in_head, symbols_by}
 use Rattle.velab_declaration.specs.Variables.{Declaration, port_declaration, declarations, port_names, declared_names}
-use Rattle.velab_process.specs.Connections.{only_name}
+use Rattle.velab_expr.specs.Written.{target_of}
+use Rattle.vast.specs.NumberedStatements.{TargetTree}
 use Rattle.velab_process.specs.Processes.{process_trees_by}
 use Rattle.elaboration_law.specs.Doubles.{names_in_module}
 use Rattle.elaboration_law.specs.Hierarchy.{Instance, StandsAt}
-use Rattle.elaboration_law.specs.Uses.{Use, Read, Driven, use_of, used_in, used_in_range, used_by_processes}
+use Rattle.elaboration_law.specs.Uses.{Use, Read, Driven, use_of, used_in, used_in_range, used_by_processes, used_in_target_by}
 
 -- ---- places
 
@@ -141,13 +142,13 @@ module _ (m : ModuleTree) (outside : Place) (values connections : List NamedConn
   used_in_symbols names [] = []
   used_in_symbols names (one ∷ more) = used_in_symbol names one ++ used_in_symbols (names ++ (name_in one).letters ∷ []) more
 
-  -- 12.3.9.2: an output drives what it is connected to, which is a name alone, or E305; an input is driven
-  abbrev pub used_by_output : Word → Option Word → List UseAt
+  -- 12.3.9.2: an output drives what it is connected to, a name, a bit, a part or a concatenation of such, or E305; an input is driven
+  abbrev pub used_by_output : Word → Option TargetTree → List UseAt
   used_by_output port None = []
-  used_by_output port (Some name) = at_place outside (use_of Driven false name ∷ []) ++ at_place (place_behind m []) (use_of Read false port ∷ [])
+  used_by_output port (Some target) = at_place outside (used_in_target_by true target) ++ at_place (place_behind m []) (use_of Read false port ∷ [])
 
   abbrev pub used_at_port : Bool → Word → ExpressionTree → List UseAt
-  used_at_port true port value = used_by_output port (only_name value)
+  used_at_port true port value = used_by_output port (target_of value)
   used_at_port false port value = at_place (place_behind m []) (use_of Driven false port ∷ []) ++ at_place outside (used_in false value)
 
   abbrev pub used_if_connected : Port → Option ExpressionTree → List UseAt

@@ -1,5 +1,5 @@
 -- *trusted*: Names that are used, in the order in which they are looked up (IEEE 1364-2005, 4.10, 5.1, 9.7, 12.7).
-use Rattle.std.specs.Prelude.{Bool, true, false, List, [], ◌∷◌, ◌++◌, Option, None, Some}
+use Rattle.std.specs.Prelude.{Bool, true, false, if◌then◌else◌, List, [], ◌∷◌, ◌++◌, Option, None, Some}
 use Rattle.std.specs.List.{flat_map}
 use Rattle.vast.specs.NumberedWords.{Word}
 use Rattle.vast.specs.NumberedExpressions as text
@@ -11,13 +11,14 @@ use Rattle.velab_process.specs.Waits.{edge_of}
 use Rattle.velab_process.specs.Processes.{ProcessTree, procedural, continuous}
 
 -- how a name is used: its value is read, or a bit or a part of it; a process writes it, or a bit or a part of it; a continuous assignment
--- drives it (6.1); it is triggered (9.7.3); it is waited for, any change or one edge (9.7.2)
+-- drives it, or a bit or a part of it (6.1); it is triggered (9.7.3); it is waited for, any change or one edge (9.7.2)
 pub data Way : Type 0 where
   Read : Way
   ReadIn : Way
   Written : Way
   WrittenIn : Way
   Driven : Way
+  DrivenIn : Way
   Triggered : Way
   Awaited : Edge → Way
 
@@ -58,16 +59,27 @@ used_in_range (Some range) = used_in true range.left ++ used_in true range.right
 
 -- ---- what is written
 
-abbrev mutual
-  pub used_in_target : TargetTree → List Use
-  used_in_target (whole letters) = use_of Written false letters ∷ []
-  used_in_target (bit letters index) = use_of WrittenIn false letters ∷ used_in false index
-  used_in_target (part letters left right) = use_of WrittenIn false letters ∷ (used_in true left ++ used_in true right)
-  used_in_target (joined targets) = used_in_targets targets
+-- by a continuous assignment, which drives, or by a process
+abbrev pub way_of_whole : Bool → Way
+way_of_whole drives = if drives then Driven else Written
 
-  pub used_in_targets : TargetTrees → List Use
-  used_in_targets none = []
-  used_in_targets (first one more) = used_in_target one ++ used_in_targets more
+abbrev pub way_of_part : Bool → Way
+way_of_part drives = if drives then DrivenIn else WrittenIn
+
+-- 6.1: a bit that is driven goes by a constant
+abbrev mutual
+  pub used_in_target_by : Bool → TargetTree → List Use
+  used_in_target_by drives (whole letters) = use_of (way_of_whole drives) false letters ∷ []
+  used_in_target_by drives (bit letters index) = use_of (way_of_part drives) false letters ∷ used_in drives index
+  used_in_target_by drives (part letters left right) = use_of (way_of_part drives) false letters ∷ (used_in true left ++ used_in true right)
+  used_in_target_by drives (joined targets) = used_in_targets_by drives targets
+
+  pub used_in_targets_by : Bool → TargetTrees → List Use
+  used_in_targets_by drives none = []
+  used_in_targets_by drives (first one more) = used_in_target_by drives one ++ used_in_targets_by drives more
+
+abbrev pub used_in_target : TargetTree → List Use
+used_in_target target = used_in_target_by false target
 
 -- ---- delays, event controls and tasks: what `@*` listens to is used in its body
 
@@ -153,7 +165,7 @@ abbrev mutual
 
 abbrev pub used_by_process : ProcessTree → List Use
 used_by_process (procedural statement) = used_by statement
-used_by_process (continuous name value) = use_of Driven false name ∷ used_in false value
+used_by_process (continuous target value) = used_in_target_by true target ++ used_in false value
 
 abbrev pub used_by_processes : List ProcessTree → List Use
 used_by_processes list = flat_map used_by_process list

@@ -10,8 +10,9 @@ use Rattle.vmodules.specs.Hierarchy.{module_of, top_of}
 use Rattle.vmodules.specs.Ports.{Port, ports_of}
 use Rattle.vmodules.specs.Connected.{NamedConnection, open_names, named_connections, named_connections_if, value_for}
 use Rattle.velab_declaration.specs.Variables.{Declaration, port_declaration, declarations, port_names}
+use Rattle.velab_expr.specs.Written.{target_of}
 use Rattle.velab_process.specs.Processes.{ProcessTree, procedural, continuous, process_trees_by}
-use Rattle.elaboration_law.specs.Widths.{Worth, is_sized, are_sized, is_sized_if, is_target}
+use Rattle.elaboration_law.specs.Widths.{Worth, is_sized, are_sized, is_target}
 use Rattle.elaboration_law.specs.Worths.{with_name, nothing_known, worths_in, are_set_in, are_ranged, declared_worth}
 
 -- ---- statements, by what names are worth
@@ -77,10 +78,23 @@ module _ (named : Text → Worth) where
 
   abbrev pub is_sized_process : ProcessTree → Bool
   is_sized_process (procedural statement) = is_sized_statement statement
-  is_sized_process (continuous name value) = is_sized named value
+  is_sized_process (continuous target value) = is_target named target && is_sized named value
 
   abbrev pub is_sized_item : ItemTree → Bool
   is_sized_item item = list_all is_sized_process (process_trees_by item)
+
+  -- 12.3.9.2: an output drives what it is connected to, if it can be driven (or E305), and an input is driven by it
+  abbrev pub is_sized_output : Option TargetTree → Bool
+  is_sized_output None = true
+  is_sized_output (Some target) = is_target named target
+
+  abbrev pub is_sized_at : Bool → text.ExpressionTree → Bool
+  is_sized_at true value = is_sized_output (target_of value)
+  is_sized_at false value = is_sized named value
+
+  abbrev pub is_sized_connection : Port → Option text.ExpressionTree → Bool
+  is_sized_connection p None = true
+  is_sized_connection p (Some value) = is_sized_at p.output value
 
 -- ---- an instance (12.1)
 
@@ -107,7 +121,7 @@ module _ (one : Instantiated) where
 
   -- what the port is connected to
   abbrev pub is_connected : Port → Bool
-  is_connected p = is_sized_if one.outside (value_for one.connections p.name.letters)
+  is_connected p = is_sized_connection one.outside p (value_for one.connections p.name.letters)
 
   -- its parameters, its declarations, its connections and its processes
   abbrev pub has_right_widths : Bool

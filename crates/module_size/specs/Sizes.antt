@@ -7,7 +7,7 @@ use Rattle.vast.specs.NumberedExpressions.{ExpressionTree, ExpressionTrees}
 use Rattle.vast.specs.NumberedStatements as written
 use Rattle.vast.specs.NumberedStatements.{TargetTree, TargetTrees, DelayTree, by_number, by_name, by_value, EventTree, by_event, by_any, by_any_enclosed, by_terms, ArgumentTree, quoted, printed, left_out, SelectionTree, TaskTree, print, idle, dump_file, dump_vars, dump, end_run, StatementTree, StatementTrees, empty, block, assign, nonblocking, trigger, if_true, if_else, case_of, while_true, repeat_times, forever, for_loop, wait_for, delay, event, task, no_statement, first_statement, BranchTree, BranchTrees, labelled, default, no_branch, first_branch}
 use Rattle.vast.specs.NumberedModules as modules
-use Rattle.vast.specs.NumberedModules.{RangeTree, TypeTree, ParameterType, integer, typed, SettingTree, DeclaredTree, DirectionTree, input, output, PortTree, HeadParameter, ConnectionTree, ConnectionsTree, InstanceTree, DeclarationKind, variables, integers, directed, ItemTree, parameters, declaration, events, assignments, initial, always, instances, ModuleTree}
+use Rattle.vast.specs.NumberedModules.{RangeTree, TypeTree, ParameterType, integer, typed, SettingTree, DeclaredTree, DirectionTree, input, output, PortTree, HeadParameter, ConnectionTree, ConnectionsTree, InstanceTree, DeclarationKind, variables, integers, directed, ItemTree, parameters, declaration, events, assignments, initial, always, instances, ModuleTree, NetAssignment}
 
 -- of what may be left out
 abbrev pub size_if : {A : Type 0} → (A → ℕ) → Option A → ℕ
@@ -151,6 +151,9 @@ parameter_type_size (typed type) = type_size type
 abbrev pub setting_size : SettingTree → ℕ
 setting_size setting = 1 + expression_size setting.value
 
+abbrev pub net_assignment_size : NetAssignment → ℕ
+net_assignment_size one = target_size one.target + expression_size one.value
+
 abbrev pub declared_size : DeclaredTree → ℕ
 declared_size declared = 1 + size_if expression_size declared.value
 
@@ -184,7 +187,7 @@ abbrev pub item_size : ItemTree → ℕ
 item_size (parameters local type settings) = parameter_type_size type + size_of setting_size settings
 item_size (declaration kind list) = declaration_kind_size kind + size_of declared_size list
 item_size (events names) = length names
-item_size (assignments settings) = size_of setting_size settings
+item_size (assignments list) = size_of net_assignment_size list
 item_size (initial statement) = statement_size statement
 item_size (always statement) = statement_size statement
 item_size (instances letters overrides list) = size_of (instance_size (size_if connections_size overrides)) list

@@ -1,17 +1,18 @@
 // Modules (IEEE 1364-2005, clauses 4 and 12).
 
 ghost use Rattle.std.specs.Prelude.{◌≡◌, ◌-◌, List, map, option_map};
-ghost use Rattle.vast.specs.NumberedTrees.{connection_tree, connections_tree, declaration_kind, declared_tree, direction_tree, head_parameter, instance_tree, item_tree, module_tree, parameter_type, port_tree, range_tree, setting_tree, tree_of, type_tree};
+ghost use Rattle.vast.specs.NumberedTrees.{connection_tree, connections_tree, declaration_kind, declared_tree, direction_tree, head_parameter, instance_tree, item_tree, module_tree, net_assignment, parameter_type, port_tree, range_tree, setting_tree, tree_of, type_tree};
 ghost use Rattle.vast.specs.Words.{Text};
 ghost use Rattle.vexpr_parse.specs.Texts.{words_of};
-ghost use Rattle.module_size.specs.Sizes.{connection_size, connections_size, declaration_kind_size, declared_size, direction_size, expression_size, head_size, instance_size, item_size, module_size, parameter_type_size, port_size, range_size, setting_size, size_if, size_of, type_size};
+ghost use Rattle.module_size.specs.Sizes.{connection_size, connections_size, declaration_kind_size, declared_size, direction_size, expression_size, head_size, instance_size, item_size, module_size, net_assignment_size, parameter_type_size, port_size, range_size, setting_size, size_if, size_of, type_size};
 
 use crate::expressions::take_expression;
+use crate::parts::take_target;
 use crate::statements::take_statement;
 use vast::expression::Expression;
 use vast::module::{
     Bounds, Connection, Connections, DeclarationKind, Declared, Direction, HeadParameter, Instance,
-    ModuleItem, ModuleTree, ParameterType, Port, Setting, SignAndRange,
+    ModuleItem, ModuleTree, NetAssignment, ParameterType, Port, Setting, SignAndRange,
 };
 use vlex::Tokens;
 
@@ -52,6 +53,22 @@ fn take_settings(settings: &[Setting], mut left: usize) -> usize
 {
     for one in settings {
         left = take_setting(one, left);
+    }
+    left
+}
+
+fn take_net_assignment(one: &NetAssignment, left: usize) -> usize
+    ensures { (words : List Text) → result ≡ left - net_assignment_size (net_assignment words one.now) }
+{
+    take_expression(&one.value, take_target(&one.target, left))
+}
+
+fn take_net_assignments(list: &[NetAssignment], mut left: usize) -> usize
+    ensures { (words : List Text) →
+        result ≡ left - size_of net_assignment_size (map (net_assignment words) list.now) }
+{
+    for one in list {
+        left = take_net_assignment(one, left);
     }
     left
 }
@@ -222,7 +239,7 @@ fn take_item(tokens: &Tokens<'_>, item: &ModuleItem, left: usize) -> usize
             take_declarations(declared, take_kind(kind, left))
         }
         ModuleItem::Events { names, .. } => left.saturating_sub(names.len()),
-        ModuleItem::Assignments { settings, .. } => take_settings(settings, left),
+        ModuleItem::Assignments { list, .. } => take_net_assignments(list, left),
         ModuleItem::Initial { statement, .. } => take_statement(tokens, statement, left),
         ModuleItem::Always { statement, .. } => take_statement(tokens, statement, left),
         ModuleItem::Instances {

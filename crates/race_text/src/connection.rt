@@ -3,7 +3,7 @@
 use crate::pieces::{Piece, put_all};
 use crate::place::Sources;
 use basis::{NoMemory, begins_name, is_in_name};
-use vdesign::action::Action;
+use vdesign::action::{Action, Target, Targets};
 use vdesign::design::Design;
 use vdesign::expression::{Expression, Node};
 
@@ -111,12 +111,37 @@ fn only_variable<'a>(design: &'a Design, value: &Expression) -> Option<&'a [u8]>
     }
 }
 
-// The port of this instance that drives this net outside.
-fn output_by<'a>(instance: &'a [u8], net: &'a [u8], within: &'a [u8]) -> Option<Port<'a>> {
+// The variable that the target is of.
+pub fn variable_of(target: &Target) -> u32 {
+    match target {
+        Target::Whole(number) => *number,
+        Target::Bit { variable, .. } => *variable,
+        Target::Part { variable, .. } => *variable,
+    }
+}
+
+// Whether it is one net, as a whole.
+fn is_net(targets: &Targets) -> bool {
+    match targets.as_slice().split_first() {
+        None => false,
+        Some((first, rest)) => match first {
+            Target::Whole(_) => rest.is_empty(),
+            _ => false,
+        },
+    }
+}
+
+// The port of this instance that drives this net outside, or parts of it.
+fn output_by<'a>(
+    instance: &'a [u8],
+    net: &'a [u8],
+    is_whole: bool,
+    within: &'a [u8],
+) -> Option<Port<'a>> {
     Some(Port {
         instance,
         name: name_in(within, instance)?,
-        other: Some(own_name(net)),
+        other: if is_whole { Some(own_name(net)) } else { None },
     })
 }
 
@@ -133,21 +158,28 @@ fn input_by<'a>(instance: &'a [u8], net: &'a [u8], value: Option<&'a [u8]>) -> O
 }
 
 // The port of this instance that is connected so.
-fn port_by<'a>(instance: &'a [u8], net: &'a [u8], value: Option<&'a [u8]>) -> Option<Port<'a>> {
+fn port_by<'a>(
+    instance: &'a [u8],
+    net: &'a [u8],
+    is_whole: bool,
+    value: Option<&'a [u8]>,
+) -> Option<Port<'a>> {
     match value {
-        Some(within) if path_len(within) > path_len(net) => output_by(instance, net, within),
+        Some(within) if path_len(within) > path_len(net) => {
+            output_by(instance, net, is_whole, within)
+        }
         _ => input_by(instance, net, value),
     }
 }
 
 /// The port that the action connects, if it is a port connection.
 pub fn port_of<'a>(design: &'a Design, sources: &Sources<'a>, action: usize) -> Option<Port<'a>> {
-    let Action::ContinuousAssign { net, value, .. } = design.actions.get(action)? else {
+    let Action::ContinuousAssign { targets, value, .. } = design.actions.get(action)? else {
         return None;
     };
     let instance = instance_in(sources.source(sources.place(action)?))?;
-    let net = variable_name(design, *net)?;
-    port_by(instance, net, only_variable(design, value))
+    let net = variable_name(design, variable_of(targets.as_slice().first()?))?;
+    port_by(instance, net, is_net(targets), only_variable(design, value))
 }
 
 /// `.d(q) of u1`

@@ -1,26 +1,17 @@
 // The two statements that race: where they stand, what they say, and what they do to what both touch.
 
-use crate::connection::{port_of, put_port};
+use crate::connection::{port_of, put_port, variable_of};
 use crate::pieces::{Piece, put, put_all, put_cut};
 use crate::place::Sources;
 use basis::NoMemory;
 use cause::{Actor, Blamed, Cause, Thing};
 use std::alloc::Global;
-use vdesign::action::{Action, Target, Targets};
+use vdesign::action::{Action, Targets};
 use vdesign::design::Design;
 use vsrc::Place;
 
 /// How many bytes of a statement are shown.
 pub const SOURCE: usize = 40;
-
-// The variable that the target is of.
-fn variable_of(target: &Target) -> u32 {
-    match target {
-        Target::Whole(number) => *number,
-        Target::Bit { variable, .. } => *variable,
-        Target::Part { variable, .. } => *variable,
-    }
-}
 
 // Whether one of the targets is of it.
 fn is_target(targets: &Targets, thing: Thing) -> bool {
@@ -48,13 +39,7 @@ fn verb_of(action: &Action, thing: Thing) -> &'static [u8] {
         Action::AssignDelayed { targets, .. } => verb_of_targets(targets, thing, b"writes"),
         Action::Nonblocking { targets, .. } => verb_of_targets(targets, thing, b"posts to"),
         Action::NonblockingDelayed { targets, .. } => verb_of_targets(targets, thing, b"posts to"),
-        Action::ContinuousAssign { net, .. } => {
-            if thing == Thing::Variable(*net) {
-                b"writes"
-            } else {
-                b"reads"
-            }
-        }
+        Action::ContinuousAssign { targets, .. } => verb_of_targets(targets, thing, b"writes"),
         Action::Trigger(_) => b"triggers",
         Action::EventControl { .. } => b"waits for",
         Action::Wait { .. } => b"waits for",

@@ -62,9 +62,8 @@ pub(crate) enum Construct {
     NetTypeDirective,
     NewType,
     NumberGap,
-    OutputPart,
+    OutputExpression,
     Package,
-    PartialAssign,
     Pattern,
     Plusargs,
     PortExpression,
@@ -111,7 +110,7 @@ pub(crate) struct Row {
     pub(crate) instead: &'static str,
 }
 
-const ROWS: [Row; 63] = [
+const ROWS: [Row; 62] = [
     Row {
         construct: Construct::Attribute,
         names_word: false,
@@ -361,18 +360,11 @@ const ROWS: [Row; 63] = [
         instead: "write it in one word, of 1 to 64 bits: `8'hff`",
     },
     Row {
-        construct: Construct::OutputPart,
+        construct: Construct::OutputExpression,
         names_word: false,
-        what: "an output on anything but a name",
-        instead: "connect it to a net of its own, `.p(t)`, and put that into the whole, `assign v = {t, u};`, which follows a \
-            step later",
-    },
-    Row {
-        construct: Construct::PartialAssign,
-        names_word: false,
-        what: "an `assign` to anything but a name",
-        instead: "assign the whole net: `assign v = {p, q};`. For `assign {c, s} = a + b;` assign one net, `wire [8:0] t = a + \
-            b;`, and read `t[8]` and `t[7:0]`",
+        what: "an output on an expression",
+        instead: "connect it to a net, to a bit or a part of one, or to a concatenation of these, `.p({c, s[3:0]})`, and write \
+            the expression where that is read",
     },
     Row {
         construct: Construct::Plusargs,

@@ -120,8 +120,7 @@ fn is_before_value(walk: Walk, opening: Opening) -> bool {
 
 /// The construct of a symbol in the head of a module, or in an item.
 pub(crate) fn by_symbol(words: Words<'_>, walk: Walk) -> Option<Construct> {
-    let assigns = is_before_value(walk, Opening::Assign);
-    let is_driven = assigns || is_before_value(walk, Opening::Net);
+    let is_driven = is_before_value(walk, Opening::Assign) || is_before_value(walk, Opening::Net);
     let is_port = is_in_list(walk);
     match words.word() {
         word if is(word, "=") && (is_port || is_in_port_item(walk)) => Some(Construct::PortValue),
@@ -131,7 +130,6 @@ pub(crate) fn by_symbol(words: Words<'_>, walk: Walk) -> Option<Construct> {
         word if is(word, "{") && is_port => Some(Construct::PortExpression),
         word if is(word, "#") && is_driven => Some(Construct::NetDelay),
         word if is(word, "(") && is_driven => Some(Construct::Strength),
-        word if is_one_of(word, &["{", "["]) && assigns => Some(Construct::PartialAssign),
         _ => None,
     }
 }

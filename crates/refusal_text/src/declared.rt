@@ -11,6 +11,9 @@ use vlex::Tokens;
 // How many outputs are kept: a design has no more ports.
 const MOST: usize = 1_024;
 
+// How far the words of a connection are looked at.
+const FAR: usize = 256;
+
 // An output of a module, by both names.
 #[derive(Clone, Copy)]
 struct Output<'a> {
@@ -110,16 +113,41 @@ fn is_path(words: Words<'_>, walk: Walk) -> bool {
         && words.is_name_after(0)
 }
 
-// Whether the word begins what a port is connected to by name, and that is more than a name.
-fn is_part(words: Words<'_>, walk: Walk) -> bool {
-    let is_bare = words.is_name_after(0) && is(words.after(1), ")");
+// Whether the word so many places later may stand in what is driven, outside of square brackets.
+fn is_of_target(words: Words<'_>, more: usize) -> bool {
+    words.is_name_after(more) || is_one_of(words.after(more), &["{", "}", ",", "[", "]"])
+}
+
+// Whether what this word begins, up to the parenthesis that closes it, is nets, bits and parts of nets, and concatenations of these; or it is
+// nothing, or longer.
+fn is_target(words: Words<'_>) -> bool {
+    let mut open = 0usize;
+    for more in 0..FAR {
+        let word = words.after(more);
+        if open == 0 && is(word, ")") {
+            return true;
+        }
+        if open == 0 && !is_of_target(words, more) {
+            return false;
+        }
+        if is(word, "[") {
+            open = open.saturating_add(1);
+        }
+        if is(word, "]") {
+            open = open.saturating_sub(1);
+        }
+    }
+    true
+}
+
+// Whether the word begins an expression to which a port is connected by name, and which can't be driven.
+fn is_expression(words: Words<'_>, walk: Walk) -> bool {
     let is_first = is(words.before(1), "(") && is(words.before(3), ".");
     walk.level == Level::Items
         && walk.opening == Opening::Instance
         && walk.open == 2
         && is_first
-        && !is_bare
-        && !is(words.word(), ")")
+        && !is_target(words)
 }
 
 impl<'a> Declared<'a> {
@@ -143,8 +171,8 @@ impl<'a> Declared<'a> {
         if is_path(words, walk) && !are_named(&self.modules, words.name()) {
             return Some(Construct::DumpPath);
         }
-        if is_part(words, walk) && self.has_output(module, words.name_before(2)) {
-            return Some(Construct::OutputPart);
+        if is_expression(words, walk) && self.has_output(module, words.name_before(2)) {
+            return Some(Construct::OutputExpression);
         }
         None
     }

@@ -6,10 +6,11 @@ use crate::formats::{bad_format, letters_of};
 use crate::mistakes::{Mistake, rule_for};
 use crate::modules::begins_instances;
 use crate::walk::{Level, Walk};
-use crate::words::{Words, is_one_of, plain};
+use crate::words::{Words, is_one_of};
 use crate::{bounds, declarations, expressions, formats, keywords, statements, system_verilog};
 use basis::NoMemory;
 use std::alloc::Global;
+use vast::words::unescaped;
 use vlex::{TokenKind, Tokens};
 use vsrc::Place;
 
@@ -92,7 +93,7 @@ pub(crate) fn is_same(one: &Found<'_>, other: &Found<'_>) -> bool {
             Some(rule) => rule.names_word,
         },
     };
-    one.what == other.what && (!names_word || plain(one.word) == plain(other.word))
+    one.what == other.what && (!names_word || unescaped(one.word) == unescaped(other.word))
 }
 
 /// Keeps what was found, or counts it where it is there.

@@ -92,15 +92,16 @@ const RULES: [Rule; 20] = [
     },
     Rule {
         number: 304,
-        names_word: true,
-        what: "has a second driver",
-        instead: "give each driver a net of its own, and join them in one `assign`: `assign w = en1 ? a : en2 ? b : 1'bz;`",
+        names_word: false,
+        what: "a net, or a bit of one, is driven a second time here",
+        instead: "give each driver a net of its own, and join them in one `assign`: `assign w = en1 ? a : en2 ? b : 1'bz;`. Of a \
+            vector each bit may have one driver",
     },
     Rule {
         number: 305,
         names_word: true,
         what: "doesn't fit what it is connected to",
-        instead: "connect each port at most once, and an output to a net of its own by its bare name",
+        instead: "connect each port at most once, and an output to a net, to a bit or a part of one, or to a concatenation of these",
     },
     Rule {
         number: 306,

@@ -59,7 +59,7 @@ fn range_at<'a>(tokens: &'a Tokens<'a>, at: usize) -> Option<Found<'a>> {
     None
 }
 
-// Whether the word names an instance that is connected by names: what is told at it is an output on anything but a name.
+// Whether the word names an instance that is connected by names: what is told at it is an output on an expression.
 fn is_connected_by_names(words: Words<'_>) -> bool {
     is(words.after(1), "(") && is(words.after(2), ".")
 }
@@ -101,7 +101,7 @@ fn cause_of<'a>(tokens: &'a Tokens<'a>, at: usize, number: u16) -> Option<Found<
         201 | 202 => construct_near(tokens, at),
         301 => only_instance(construct_at(tokens, at)),
         305 if is_connected_by_names(words) => {
-            Some(found_at(words, Construct::OutputPart, words.word()))
+            Some(found_at(words, Construct::OutputExpression, words.word()))
         }
         305 if is(words.before(1), ".") => Some(mistaken(words, Mistake::NoPort)),
         303 | 310 if is_dump_path(tokens, at) => { Some(found_at(words, Construct::DumpPath, &[])) }

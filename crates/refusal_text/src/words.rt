@@ -1,5 +1,6 @@
 // The words of a text, looked at from one of them.
 
+use vast::words::unescaped;
 use vlex::{TokenKind, Tokens};
 use vsrc::Place;
 
@@ -31,14 +32,6 @@ pub(crate) fn is_one_of(word: &[u8], words: &[&'static str]) -> bool {
 /// Whether the word is a name, and no keyword.
 pub(crate) fn is_name(word: &[u8]) -> bool {
     vast::words::is_name(word)
-}
-
-/// The letters of a name: without the backslash of an escaped one.
-pub(crate) fn plain(word: &[u8]) -> &[u8] {
-    match word.strip_prefix(b"\\") {
-        None => word,
-        Some(letters) => letters,
-    }
 }
 
 // The word at the place, empty beyond the end.
@@ -101,12 +94,12 @@ impl<'a> Words<'a> {
 
     /// The letters of the name that the word is.
     pub(crate) fn name(&self) -> &'a [u8] {
-        plain(self.word())
+        unescaped(self.word())
     }
 
     /// The letters of the name so many places earlier.
     pub(crate) fn name_before(&self, fewer: usize) -> &'a [u8] {
-        plain(self.before(fewer))
+        unescaped(self.before(fewer))
     }
 
     /// Whether the word so many places later is a name, and no keyword.

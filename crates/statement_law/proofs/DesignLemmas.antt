@@ -5,6 +5,8 @@ use Rattle.basis.specs.declared.timescale.Timescale.{Timescale}
 use Rattle.vast.specs.Words.{Text}
 use Rattle.vast.specs.NumberedWords.{Word}
 use Rattle.vast.specs.NumberedExpressions as text
+use Rattle.vast.specs.NumberedStatements.{TargetTree}
+use Rattle.vast.specs.NumberedStatements as written
 use Rattle.vast.specs.NumberedModules.{ModuleTree, SourceTree}
 use Rattle.vmodules.specs.Names.{first_again}
 use Rattle.vmodules.specs.Hierarchy.{module_names, top_of}
@@ -18,9 +20,10 @@ use Rattle.velab_expr.specs.declared.fault.Rule.{Rule}
 use Rattle.velab_expr.specs.declared.fault.Rule.TheVariants as rules
 use Rattle.velab_expr.specs.declared.fault.ElabFault.{ElabFault}
 use Rattle.velab_expr.specs.Answers.{◌>>=◌, provided, required, found, value_or}
-use Rattle.velab_expr.specs.Scopes.{Scope, lower_variable}
+use Rattle.velab_expr.specs.Scopes.{Scope}
+use Rattle.velab_expr.specs.Written.{lower_net_target, target_of}
 use Rattle.velab_expr.specs.Resolved.{lower_expression}
-use Rattle.velab_process.specs.Connections.{only_name, lower_input, lower_output, one_process, lower_join, lower_joins}
+use Rattle.velab_process.specs.Connections.{lower_input, lower_output, one_process, lower_join, lower_joins}
 use Rattle.velab_process.specs.Processes.{Processes, lower_items}
 use Rattle.velab_process.specs.Statements.{Table}
 use Rattle.vhierarchy.specs.Instances.{barring, broken_ports, unbroken, top_whole, faultless, Part, Context, Instantiation, lower_names, lower_instances, lower_own_processes, with_own, few_enough, lower_own_variables, lower_own, child_context, each, elaborate_instance, nothing, no_scope, top_context, elaborate_top, Whole, design_by, broken_design, whole_of, elaborated_whole, elaborated, Elaborates}
@@ -88,31 +91,31 @@ module _ (actions : List Action) where
     stand = (λ front. both_stand actions ones others one.begins all.begins (first.stand (front_of_front one.table.actions all.table.actions actions second.grows front)) (second.stand front));
   }
 
-  drives_stand : (table : Table) (outside : Scope) (name : Word) (inside : Scope) (value : text.ExpressionTree) (word : Option Word) →
-      Told (Joined table (drives outside name inside value))
-      ((lower_variable outside name >>= λ net. lower_expression inside value >>= λ e. Ok (ContinuousAssign net e (any_of inside (names_in value))))
+  drives_stand : (table : Table) (outside : Scope) (target : TargetTree) (inside : Scope) (value : text.ExpressionTree) (word : Option Word) →
+      Told (Joined table (drives outside target inside value))
+      ((lower_net_target outside target >>= λ targets. lower_expression inside value >>= λ e. Ok (ContinuousAssign targets e (any_of inside (names_in value))))
       >>= λ action. Ok (one_process table word action))
-  drives_stand table outside name inside value word =
-      let P : Processes → Type 0 = Joined table (drives outside name inside value) in
-      told_joined P (lower_variable outside name) _ _
-      (told_next P (lower_variable outside name) _ (λ net is.
+  drives_stand table outside target inside value word =
+      let P : Processes → Type 0 = Joined table (drives outside target inside value) in
+      told_joined P (lower_net_target outside target) _ _
+      (told_next P (lower_net_target outside target) _ (λ targets is.
       told_joined P (lower_expression inside value) _ _
       (told_next P (lower_expression inside value) _ (λ e same. record {
         grows = front_of_more table.actions _;
-        stand = (λ front. ((record { net = net; e = e; named = is; lowered = same; there = last_stands table.actions actions _ front }, tt), tt));
+        stand = (λ front. ((record { targets = targets; e = e; driven = is; lowered = same; there = last_stands table.actions actions _ front }, tt), tt));
       }))))
 
   join_stands : (whose : Word) (outer inner : Scope) (table : Table) (p : Port) (value : Option text.ExpressionTree) →
       Told (Joined table (join_begins outer inner p value)) (lower_join whose outer inner table p value)
   join_stands whose outer inner table p None = record { grows = front_of_itself table.actions; stand = (λ front. tt) }
-  join_stands whose outer inner table p (Some value) = by p.output (only_name value)
+  join_stands whose outer inner table p (Some value) = by p.output (target_of value)
     where
-      by : (output : Bool) (only : Option Word) →
-          Told (Joined table (if output then output_begins outer inner p.name only else drives inner p.name outer value))
+      by : (output : Bool) (only : Option TargetTree) →
+          Told (Joined table (if output then output_begins outer inner p.name only else drives inner (written.whole p.name) outer value))
           ((if output then lower_output whose outer inner p.name only else lower_input outer inner p.name value) >>= λ action. Ok (one_process table (Some whose) action))
       by true None = tt
-      by true (Some name) = drives_stand table outer name inner (text.name p.name) (Some whose)
-      by false only = drives_stand table inner p.name outer value (Some whose)
+      by true (Some target) = drives_stand table outer target inner (text.name p.name) (Some whose)
+      by false only = drives_stand table inner (written.whole p.name) outer value (Some whose)
 
   joins_stand : (whose : Word) (outer inner : Scope) (connections : List NamedConnection) (table : Table) (ports : List Port) →
       Told (Joined table (joins_begin outer inner connections ports)) (lower_joins whose outer inner connections table ports)
@@ -155,11 +158,11 @@ module _ (actions : List Action) where
     stand = (λ front. both_stand actions ones others first.places second.places (first.stand (front_of_front middle.table.actions last.table.actions actions second.grows front)) (second.stand front));
   }
 
-  own_adds : (context : Context) (children : List Instantiation) (scope : Scope) (part : Part) →
-      Told (Adds part (own_begins context scope)) (lower_own context (ports_of context.unit) children scope part)
-  own_adds context children scope part =
+  own_adds : (context : Context) (scope : Scope) (part : Part) →
+      Told (Adds part (own_begins context scope)) (lower_own context (ports_of context.unit) scope part)
+  own_adds context scope part =
       let P : Part → Type 0 = Adds part (own_begins context scope) in
-      told_next P (lower_own_variables context (ports_of context.unit) children scope) _ (λ variables is.
+      told_next P (lower_own_variables context (ports_of context.unit) scope) _ (λ variables is.
       told_then (Joined part.table (own_begins context scope)) P (lower_own_processes context (ports_of context.unit) scope part.table) _ (own_stands context scope part.table) (λ processes joined.
       told_few P context.name (with_own context scope part variables processes)
       (record { grows = joined.grows; places = processes.begins; whole = refl; stand = joined.stand })))
@@ -181,17 +184,17 @@ module _ (actions : List Action) where
   instance_adds (suc levels) modules part context =
       let scope : Scope = value_or no_scope (lower_names part context) in
       let children : List Instantiation = value_or [] (lower_instances modules 0 scope.known context.unit.items) in
-      let own : Part = value_or part (lower_own context (ports_of context.unit) children scope part) in
+      let own : Part = value_or part (lower_own context (ports_of context.unit) scope part) in
       let step : Part → Instantiation → Result Part ElabFault = λ so_far child. elaborate_instance levels modules so_far (child_context scope context child) in
       let begins : Part → Instantiation → List Begin = λ so_far child. begins_below levels modules so_far (child_context scope context child) in
       let others : List Begin = begins_each step begins own children in
       let P : Part → Type 0 = Adds part (own_begins context scope ++ others) in
       told_known P no_scope (lower_names part context) _ (λ named.
       told_known P [] (lower_instances modules 0 scope.known context.unit.items) _ (λ listed.
-      told_known P part (lower_own context (ports_of context.unit) children scope part) _ (λ is.
+      told_known P part (lower_own context (ports_of context.unit) scope part) _ (λ is.
       told_by (Adds own others) P (each step own children) (each_adds step begins (λ so_far child. instance_adds levels modules so_far (child_context scope context child)) own children) (λ last same second.
       adds_both part own last (own_begins context scope) others
-      (told_of (Adds part (own_begins context scope)) (lower_own context (ports_of context.unit) children scope part) own is (own_adds context children scope part)) second))))
+      (told_of (Adds part (own_begins context scope)) (lower_own context (ports_of context.unit) scope part) own is (own_adds context scope part)) second))))
 
 -- ---- the design
 

@@ -4,7 +4,8 @@ use Rattle.vast.specs.NumberedModules.{ItemTree}
 use Rattle.vdesign.specs.declared.action.Action.{Action}
 use Rattle.velab_expr.specs.declared.fault.ElabFault.{ElabFault}
 use Rattle.velab_expr.specs.Symbols.{behind_item}
-use Rattle.velab_expr.specs.Scopes.{Scope, lower_variable}
+use Rattle.velab_expr.specs.Scopes.{Scope}
+use Rattle.velab_expr.specs.Written.{lower_net_target}
 use Rattle.velab_expr.specs.Resolved.{lower_expression}
 use Rattle.velab_process.specs.Statements.{Table, Lowered}
 use Rattle.velab_process.specs.Processes.{Processes, ProcessTree, procedural, continuous, with_begins_before, process_trees_by, lower_process, lower_processes, lower_items}
@@ -28,8 +29,8 @@ told_begins P begins (Err fault) told = tt
 
 grown_process : (scope : Scope) (table : Table) (process : ProcessTree) → Told (Grown table) (lower_process scope table process)
 grown_process scope table (procedural statement) = grown scope table statement
-grown_process scope table (continuous name value) =
-    told_next (Grown table) (lower_variable scope name) _ (λ net is.
+grown_process scope table (continuous target value) =
+    told_next (Grown table) (lower_net_target scope target) _ (λ targets is.
     told_next (Grown table) (lower_expression scope value) _ (λ e same. front_of_more table.actions _))
 
 further : (table inner : Table) (answer : Result Processes ElabFault) → IsFront table.actions inner.actions → Told (GrownProcesses inner) answer → Told (GrownProcesses table) answer
@@ -65,11 +66,11 @@ module _ (actions : List Action) where
   process_begins : (scope : Scope) (table : Table) (process : ProcessTree) →
       Told (λ l. IsFront l.table.actions actions → StandAt scope actions (begin_of scope process) (frames l.places [])) (lower_process scope table process)
   process_begins scope table (procedural statement) = stands_before scope actions table statement [] [] tt
-  process_begins scope table (continuous name value) =
-      let P : Lowered → Type 0 = λ l. IsFront l.table.actions actions → StandAt scope actions (driving scope name scope value ∷ []) (frames l.places []) in
-      told_next P (lower_variable scope name) _ (λ net is.
+  process_begins scope table (continuous target value) =
+      let P : Lowered → Type 0 = λ l. IsFront l.table.actions actions → StandAt scope actions (driving scope target scope value ∷ []) (frames l.places []) in
+      told_next P (lower_net_target scope target) _ (λ targets is.
       told_next P (lower_expression scope value) _ (λ e same front.
-      (record { net = net; e = e; named = is; lowered = same; there = last_stands table.actions actions _ front }, tt)))
+      (record { targets = targets; e = e; driven = is; lowered = same; there = last_stands table.actions actions _ front }, tt)))
 
   processes_begin : (scope : Scope) (table : Table) (list : List ProcessTree) → Told (Begun (begins_of scope list)) (lower_processes scope table list)
   processes_begin scope table [] = λ front. tt

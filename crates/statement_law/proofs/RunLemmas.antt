@@ -93,7 +93,7 @@ module _ (old new : List Vector) (triggered : Option ℕ) where
   come_is (Some (Delay amount body)) = refl
   come_is (Some (EventControl terms body)) = refl
   come_is (Some (Wait condition terms body)) = refl
-  come_is (Some (ContinuousAssign net value terms)) = refl
+  come_is (Some (ContinuousAssign targets value terms)) = refl
   come_is (Some (Print when pieces)) = refl
   come_is (Some (DumpVars selection)) = refl
   come_is (Some (Dump asked)) = refl

@@ -9,7 +9,6 @@ use Rattle.vast.specs.declared.statement.Printing.{Printing}
 use Rattle.vast.specs.declared.statement.Printing.TheVariants as printing
 use Rattle.vdesign.specs.declared.action.Action.{Action}
 use Rattle.vdesign.specs.declared.action.Action.TheVariants.{ContinuousAssign, Assign, Nonblocking, AssignDelayed, NonblockingDelayed, Trigger, Test, Case, While, Repeat, Forever, Delay, EventControl, Wait, Print}
-use Rattle.vdesign.specs.declared.action.Target.TheVariants.{Whole as WholeTarget}
 use Rattle.vdesign.specs.declared.print.Piece.{Piece}
 use Rattle.vvalue.specs.Value.{Environment, holds}
 use Rattle.vvalue.specs.Cases.{turns_of}
@@ -202,7 +201,7 @@ module _ (scope : Scope) (now : Environment) (held : Option Vector) (actions : L
     is_step (executing statement) (Writing place) here = absurd here
     is_step (repeating n count body) frame here = tt
     is_step (writing target amount value) frame here = tt
-    is_step (driving outside name inside value) frame here = tt
+    is_step (driving outside target inside value) frame here = tt
 
     does_first : (first : Pending) (frame : Frame) → StandsAt scope actions first frame → Does first rest frame after
     does_first (executing statement) (Executing place) here = does_statement place statement here.0 here.1 (laid_there scope actions statement place here.0 here.1)
@@ -220,19 +219,19 @@ module _ (scope : Scope) (now : Environment) (held : Option Vector) (actions : L
       there = laid_there scope actions (assign target (Some amount) value) place refl here;
       tells = record { effect = refl; stands = stand };
     }
-    does_first (driving outside name inside value) (Executing place) here = record {
-      action = ContinuousAssign here.net here.e (any_of inside (names_in value));
+    does_first (driving outside target inside value) (Executing place) here = record {
+      action = ContinuousAssign here.targets here.e (any_of inside (names_in value));
       there = here.there;
       tells = record {
         effect = λ i. record nothing {
-          wrote = assigned_parts now (WholeTarget (sym (ap (value_or 0) here.named) i) ∷ []) (sym (ap (value_or no_parts) here.lowered) i);
+          wrote = assigned_parts now (sym (ap (value_or []) here.driven) i) (sym (ap (value_or no_parts) here.lowered) i);
           suspension = waits (terms_in (here.there i));
         };
         stands = (here, stand);
       };
     }
-    does_first (driving outside name inside value) (Repeating place m) here = absurd here
-    does_first (driving outside name inside value) (Writing place) here = absurd here
+    does_first (driving outside target inside value) (Repeating place m) here = absurd here
+    does_first (driving outside target inside value) (Writing place) here = absurd here
 
   -- ---- the laws
 

@@ -4,6 +4,7 @@ use Rattle.basis.specs.declared.timescale.Timescale.{Timescale}
 use Rattle.vast.specs.Words.{Text}
 use Rattle.vast.specs.NumberedWords.{Word}
 use Rattle.vast.specs.NumberedExpressions as text
+use Rattle.vast.specs.NumberedStatements.{TargetTree, whole}
 use Rattle.vast.specs.NumberedModules.{ModuleTree, SourceTree}
 use Rattle.vmodules.specs.Hierarchy.{top_of}
 use Rattle.vmodules.specs.Ports.{Port, ports_of}
@@ -12,7 +13,7 @@ use Rattle.vdesign.specs.Design.{Design}
 use Rattle.velab_expr.specs.declared.fault.ElabFault.{ElabFault}
 use Rattle.velab_expr.specs.Answers.{value_or}
 use Rattle.velab_expr.specs.Scopes.{Scope}
-use Rattle.velab_process.specs.Connections.{only_name}
+use Rattle.velab_expr.specs.Written.{target_of}
 use Rattle.vmodel.specs.Run.{Setting, state_after}
 use Rattle.vhierarchy.specs.Instances.{Part, Context, Instantiation, lower_names, lower_instances, lower_own, child_context, elaborate_instance, nothing, no_scope, top_context, Elaborates}
 use Rattle.statement_law.specs.TreeSteps.{driving}
@@ -21,18 +22,18 @@ use Rattle.statement_law.specs.Laws.{Begin, begins_in, AllStand}
 
 -- ---- port connections (12.3.9.2)
 
-abbrev pub drives : Scope → Word → Scope → text.ExpressionTree → List Begin
-drives outside name inside value = record { scope = inside; pending = driving outside name inside value ∷ [] } ∷ []
+abbrev pub drives : Scope → TargetTree → Scope → text.ExpressionTree → List Begin
+drives outside target inside value = record { scope = inside; pending = driving outside target inside value ∷ [] } ∷ []
 
--- an output drives the net outside that it is connected to
-abbrev pub output_begins : Scope → Scope → Word → Option Word → List Begin
+-- an output drives what it is connected to outside
+abbrev pub output_begins : Scope → Scope → Word → Option TargetTree → List Begin
 output_begins outer inner port None = []
-output_begins outer inner port (Some name) = drives outer name inner (text.name port)
+output_begins outer inner port (Some target) = drives outer target inner (text.name port)
 
 -- an input is driven by the value outside; what nothing is connected to makes no process
 abbrev pub join_begins : Scope → Scope → Port → Option text.ExpressionTree → List Begin
 join_begins outer inner p None = []
-join_begins outer inner p (Some value) = if p.output then output_begins outer inner p.name (only_name value) else drives inner p.name outer value
+join_begins outer inner p (Some value) = if p.output then output_begins outer inner p.name (target_of value) else drives inner (whole p.name) outer value
 
 abbrev pub joins_begin : Scope → Scope → List NamedConnection → List Port → List Begin
 joins_begin outer inner connections [] = []
@@ -57,7 +58,7 @@ begins_below zero modules part context = []
 begins_below (suc levels) modules part context =
     let scope = value_or no_scope (lower_names part context) in
     let children = value_or [] (lower_instances modules 0 scope.known context.unit.items) in
-    let own = value_or part (lower_own context (ports_of context.unit) children scope part) in
+    let own = value_or part (lower_own context (ports_of context.unit) scope part) in
     own_begins context scope
     ++ begins_each (λ so_far child. elaborate_instance levels modules so_far (child_context scope context child))
     (λ so_far child. begins_below levels modules so_far (child_context scope context child)) own children

@@ -1,18 +1,19 @@
 -- *internal*: Where statements stand in a table of actions, and what a step that speaks of places tells.
 use Rattle.std.specs.Prelude.{◌≡◌, ℕ, true, List, [], ◌∷◌, ◌++◌, Option, Some, option_map, slice_get, Ok}
-use Rattle.vast.specs.NumberedWords.{Word}
 use Rattle.vast.specs.NumberedExpressions as text
-use Rattle.vast.specs.NumberedStatements.{StatementTree, assign, repeat_times}
+use Rattle.vast.specs.NumberedStatements.{TargetTree, StatementTree, assign, repeat_times}
 use Rattle.vdesign.specs.Expressions.{ExpressionTree}
 use Rattle.vdesign.specs.declared.action.Action.{Action}
 use Rattle.vdesign.specs.declared.action.Action.TheVariants.{EventControl, Wait, ContinuousAssign, DumpVars}
+use Rattle.vdesign.specs.declared.action.Target.{Target}
 use Rattle.vdesign.specs.declared.action.Term.{Term}
 use Rattle.vdesign.specs.declared.dump.Chosen.{Chosen}
 use Rattle.vdesign.specs.declared.dump.DumpCommand.{DumpCommand}
 use Rattle.vdesign.specs.declared.dump.DumpCommand.TheVariants as commands
 use Rattle.vdesign.specs.declared.dump.DumpSwitch.TheVariants as switches
-use Rattle.velab_expr.specs.Scopes.{Scope, lower_variable}
+use Rattle.velab_expr.specs.Scopes.{Scope}
 use Rattle.velab_expr.specs.Resolved.{lower_expression}
+use Rattle.velab_expr.specs.Written.{lower_net_target}
 use Rattle.velab_process.specs.Waits.{any_of, names_in}
 use Rattle.velab_process.specs.Statements.{Table, lower_statement}
 use Rattle.vmodel.specs.declared.process.Frame.{Frame}
@@ -39,20 +40,20 @@ pub record Stands (scope : Scope) (actions : List Action) (statement : Statement
   pub lowered : lower_statement scope start statement ≡ Ok (record { table = table; places = places })
   pub front : IsFront table.actions actions
 
--- at this place a name of one scope is driven by a value of one
-pub record Drives (outside : Scope) (name : Word) (inside : Scope) (value : text.ExpressionTree) (actions : List Action) (place : ℕ) : Type 0 where
-  pub net : ℕ
+-- at this place targets of one scope are driven by a value of one
+pub record Drives (outside : Scope) (target : TargetTree) (inside : Scope) (value : text.ExpressionTree) (actions : List Action) (place : ℕ) : Type 0 where
+  pub targets : List Target
   pub e : ExpressionTree
-  pub named : lower_variable outside name ≡ Ok net
+  pub driven : lower_net_target outside target ≡ Ok targets
   pub lowered : lower_expression inside value ≡ Ok e
-  pub there : slice_get actions place ≡ Some (ContinuousAssign net e (any_of inside (names_in value)))
+  pub there : slice_get actions place ≡ Some (ContinuousAssign targets e (any_of inside (names_in value)))
 
 -- what is left stands at a frame
 abbrev pub StandsAt : Scope → List Action → Pending → Frame → Type 0
 StandsAt scope actions (executing statement) (Executing place) = (takes_step statement ≡ true) × Stands scope actions statement (place ∷ [])
 StandsAt scope actions (repeating n count body) (Repeating place turns) = (n ≡ turns) × Stands scope actions (repeat_times count body) (place ∷ [])
 StandsAt scope actions (writing target amount value) (Writing place) = Stands scope actions (assign target (Some amount) value) (place ∷ [])
-StandsAt scope actions (driving outside name inside value) (Executing place) = Drives outside name inside value actions place
+StandsAt scope actions (driving outside target inside value) (Executing place) = Drives outside target inside value actions place
 StandsAt scope actions _ _ = ⊥
 
 -- one behind another
@@ -66,7 +67,7 @@ StandAt scope actions _ _ = ⊥
 abbrev pub terms_in : Option Action → List Term
 terms_in (Some (EventControl terms body)) = terms
 terms_in (Some (Wait condition terms body)) = terms
-terms_in (Some (ContinuousAssign net value terms)) = terms
+terms_in (Some (ContinuousAssign targets value terms)) = terms
 terms_in _ = []
 
 abbrev pub selection_in : Option Action → List Chosen

@@ -1,7 +1,6 @@
 -- *trusted*: What a process does that stands before statements (IEEE 1364-2005, clause 9), told by their trees and the values of their expressions.
 use Rattle.std.specs.Prelude.{Bool, true, false, ◌≡◌, ℕ, zero, suc, ◌-◌, if◌then◌else◌, List, [], ◌∷◌, ◌++◌, Option, None, Some}
 use Rattle.vbits.specs.Vectors.{Vector}
-use Rattle.vast.specs.NumberedWords.{Word}
 use Rattle.vast.specs.NumberedExpressions as text
 use Rattle.vast.specs.NumberedStatements.{TargetTree, DelayTree, EventTree, ArgumentTree, TaskTree, print, idle, dump_file, dump_vars, dump, end_run, StatementTree, StatementTrees, empty, block, assign, nonblocking, trigger, if_true, if_else, case_of, while_true, repeat_times, forever, for_loop, wait_for, delay, event, task, no_statement, first_statement, BranchTree, BranchTrees, labelled, default, no_branch, first_branch}
 use Rattle.vast.specs.declared.statement.CaseKind.{CaseKind}
@@ -10,7 +9,6 @@ use Rattle.vast.specs.declared.statement.Dumping.TheVariants as dumps
 use Rattle.vast.specs.declared.statement.Printing.{Printing}
 use Rattle.vast.specs.declared.statement.Printing.TheVariants as printing
 use Rattle.vdesign.specs.Expressions.{ExpressionTree}
-use Rattle.vdesign.specs.declared.action.Target.TheVariants.{Whole}
 use Rattle.vdesign.specs.declared.action.Term.{Term}
 use Rattle.vdesign.specs.declared.dump.Chosen.{Chosen}
 use Rattle.vdesign.specs.declared.dump.DumpSwitch.{DumpSwitch}
@@ -20,9 +18,9 @@ use Rattle.vvalue.specs.declared.size_and_sign.SizeAndSign.{SizeAndSign}
 use Rattle.vvalue.specs.Value.{Environment, holds, delay_of, own, common, value_of}
 use Rattle.vvalue.specs.Cases.{matches, turns_of}
 use Rattle.velab_expr.specs.Answers.{value_or}
-use Rattle.velab_expr.specs.Scopes.{Scope, number_of, event_of}
+use Rattle.velab_expr.specs.Scopes.{Scope, event_of}
 use Rattle.velab_expr.specs.Resolved.{no_parts, resolved}
-use Rattle.velab_expr.specs.Written.{row_of}
+use Rattle.velab_expr.specs.Written.{row_of, net_row_of}
 use Rattle.velab_expr.specs.Selections.{selection_of}
 use Rattle.velab_process.specs.Waits.{any_of, names_in, lower_control}
 use Rattle.velab_process.specs.Prints.{lower_line}
@@ -41,7 +39,7 @@ pub data Pending : Type 0 where
   executing : StatementTree → Pending  -- this statement
   repeating : ℕ → text.ExpressionTree → StatementTree → Pending  -- so many turns of this `repeat` (9.6)
   writing : TargetTree → DelayTree → text.ExpressionTree → Pending  -- what `target = #amount value` does after its delay (9.7.7)
-  driving : Scope → Word → Scope → text.ExpressionTree → Pending  -- a net of one scope is driven by a value of one (6.1, 12.3.9.2)
+  driving : Scope → TargetTree → Scope → text.ExpressionTree → Pending  -- nets of one scope are driven by a value of one (6.1, 12.3.9.2)
 
 -- 9.8.1: two statements in order
 abbrev pub in_order : StatementTree → StatementTree → StatementTree
@@ -64,7 +62,7 @@ abbrev mutual
 -- what a process begins before (9.9, 6.1)
 abbrev pub begin_of : Scope → ProcessTree → List Pending
 begin_of scope (procedural statement) = before statement []
-begin_of scope (continuous name value) = driving scope name scope value ∷ []
+begin_of scope (continuous target value) = driving scope target scope value ∷ []
 
 -- `before` leaves none but these
 abbrev pub takes_step : StatementTree → Bool
@@ -253,12 +251,12 @@ does scope now held (executing (wait_for condition body)) rest =
     if holds now (resolved scope condition) then moves (before body rest)
     else suspends (waits (any_of scope (names_in condition))) (executing (wait_for condition body) ∷ rest)
 -- 6.1, 11.6.1: it writes, waits for a change of what is read, and writes again
-does scope now held (driving outside name inside value) rest = record {
+does scope now held (driving outside target inside value) rest = record {
   effect = record nothing {
-    wrote = assigned_parts now (Whole (number_of outside name) ∷ []) (resolved inside value);
+    wrote = assigned_parts now (net_row_of outside target) (resolved inside value);
     suspension = waits (any_of inside (names_in value));
   };
-  next = driving outside name inside value ∷ rest;
+  next = driving outside target inside value ∷ rest;
 }
 -- clauses 17 and 18
 does scope now held (executing (task call)) rest = calls scope call rest

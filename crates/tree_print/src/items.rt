@@ -3,10 +3,11 @@
 use crate::expressions::{expression, expressions, optional};
 use crate::page::Page;
 use crate::statements::statement;
+use crate::tasks::target;
 use basis::NoMemory;
 use vast::module::{
     Bounds, Connection, Connections, DeclarationKind, Declared, Direction, Instance, ModuleItem,
-    NetKind, ParameterType, Setting, SignAndRange,
+    NetAssignment, NetKind, ParameterType, Setting, SignAndRange,
 };
 
 // The word of a net's kind.
@@ -56,6 +57,16 @@ pub fn setting(page: &mut Page<'_>, value: &Setting) -> Result<(), NoMemory> {
 fn settings(page: &mut Page<'_>, list: &[Setting]) -> Result<(), NoMemory> {
     for value in list {
         setting(page, value)?;
+    }
+    Ok(())
+}
+
+fn net_assignments(page: &mut Page<'_>, list: &[NetAssignment]) -> Result<(), NoMemory> {
+    for one in list {
+        page.open(b"set")?;
+        target(page, &one.target)?;
+        expression(page, &one.value)?;
+        page.close()?;
     }
     Ok(())
 }
@@ -183,7 +194,7 @@ pub fn item(page: &mut Page<'_>, value: &ModuleItem) -> Result<(), NoMemory> {
             declared(page, list)?;
         }
         ModuleItem::Events { names, .. } => page.tokens(names)?,
-        ModuleItem::Assignments { settings: list, .. } => settings(page, list)?,
+        ModuleItem::Assignments { list, .. } => net_assignments(page, list)?,
         ModuleItem::Initial {
             statement: body,
             ..

@@ -4,15 +4,16 @@ use Rattle.std.specs.List.{flat_map}
 use Rattle.vast.specs.Modules.{typed, input, output, by_order, variables, directed, parameters, declaration, events, assignments, initial, always, instances}
 use Rattle.vast.specs.Modules as written
 use Rattle.vast.specs.ExpressionTrees.{expression_told, boxed_told}
-use Rattle.vast.specs.ModuleTrees.{range_told, type_told, parameter_type_told, setting_told, declared_told, direction_told, port_told, head_told, connection_told, connections_told, instance_told, declaration_kind_told, item_told, module_told, source_told}
-use Rattle.vast.specs.Leaves.{leaves_of, boxed_leaves, range_leaves, type_leaves, parameter_type_leaves, setting_leaves, declared_leaves, direction_leaves, port_leaves, head_leaves, connection_leaves, connections_leaves, instance_leaves, declaration_kind_leaves, item_leaves, module_leaves, text_leaves}
-use Rattle.vast.specs.TreeWords.{expression_with, expression_words, range_with, range_words, type_with, type_words, parameter_type_with, parameter_type_words, setting_with, setting_words, declared_with, declared_words, direction_with, direction_words, port_with, port_words, head_with, head_words, connection_with, connection_words, connections_with, connections_words, instance_with, instance_words, declaration_kind_with, declaration_kind_words, item_with, item_words, module_with, module_words, source_with, source_words}
+use Rattle.vast.specs.ModuleTrees.{range_told, type_told, parameter_type_told, setting_told, net_assignment_told, declared_told, direction_told, port_told, head_told, connection_told, connections_told, instance_told, declaration_kind_told, item_told, module_told, source_told}
+use Rattle.vast.specs.Leaves.{leaves_of, boxed_leaves, range_leaves, type_leaves, parameter_type_leaves, setting_leaves, net_assignment_leaves, declared_leaves, direction_leaves, port_leaves, head_leaves, connection_leaves, connections_leaves, instance_leaves, declaration_kind_leaves, item_leaves, module_leaves, text_leaves}
+use Rattle.vast.specs.TreeWords.{expression_with, expression_words, range_with, range_words, type_with, type_words, parameter_type_with, parameter_type_words, setting_with, setting_words, net_assignment_with, net_assignment_words, declared_with, declared_words, direction_with, direction_words, port_with, port_words, head_with, head_words, connection_with, connection_words, connections_with, connections_words, instance_with, instance_words, declaration_kind_with, declaration_kind_words, item_with, item_words, module_with, module_words, source_with, source_words}
 use Rattle.vast.specs.declared.token.Token.{Token}
 use Rattle.vast.specs.declared.module.Bounds.{Bounds}
 use Rattle.vast.specs.declared.module.SignAndRange.{SignAndRange}
 use Rattle.vast.specs.declared.module.ParameterType.{ParameterType}
 use Rattle.vast.specs.declared.module.ParameterType.TheVariants as kinds
 use Rattle.vast.specs.declared.module.Setting.{Setting}
+use Rattle.vast.specs.declared.module.NetAssignment.{NetAssignment}
 use Rattle.vast.specs.declared.module.Declared.{Declared}
 use Rattle.vast.specs.declared.module.Direction.{Direction}
 use Rattle.vast.specs.declared.module.Direction.TheVariants as directions
@@ -30,7 +31,7 @@ use Rattle.vast.specs.declared.module.ModuleTree.{ModuleTree}
 use Rattle.vast.specs.declared.module.TextTree.{TextTree}
 use Rattle.vast.proofs.MappedLists.{map_same, option_same, joined_words, flat_words, words_if_some}
 use Rattle.vast.proofs.ExpressionWordLemmas.{expression_with_told, boxed_with_told, expression_words_told, boxed_words_told}
-use Rattle.vast.proofs.StatementWordLemmas.{statement_with_told, statement_words_told}
+use Rattle.vast.proofs.StatementWordLemmas.{target_with_told, pair_words_told, statement_with_told, statement_words_told}
 
 -- ---- told and then changed, they are told changed
 
@@ -54,6 +55,11 @@ module _ {V W : Type 0} (f : V → W) (told : Token → V) where
   -- name = value
   pub setting_with_told : (setting : Setting) → setting_with f (setting_told told setting) ≡ setting_told (λ x. f (told x)) setting
   setting_with_told setting = λ i. record { name = f (told setting.name); value = boxed_with_told f told setting.value i }
+
+  -- target = value
+  pub net_assignment_with_told : (one : NetAssignment) →
+      net_assignment_with f (net_assignment_told told one) ≡ net_assignment_told (λ x. f (told x)) one
+  net_assignment_with_told one = λ i. record { target = target_with_told f told one.target i; value = boxed_with_told f told one.value i }
 
   -- what is declared
   pub declared_with_told : (declared : Declared) → declared_with f (declared_told told declared) ≡ declared_told (λ x. f (told x)) declared
@@ -119,7 +125,8 @@ module _ {V W : Type 0} (f : V → W) (told : Token → V) where
   item_with_told (items.Declaration at kind list) = λ i. declaration (declaration_kind_with_told kind i)
       (map_same (declared_with f) (declared_told told) (declared_told (λ x. f (told x))) declared_with_told list.items i)
   item_with_told (items.Events at names) = λ i. events (map_same f told (λ x. f (told x)) (λ x. refl) names.items i)
-  item_with_told (items.Assignments at settings) = λ i. assignments (settings_with_told settings.items i)
+  item_with_told (items.Assignments at list) = λ i. assignments
+      (map_same (net_assignment_with f) (net_assignment_told told) (net_assignment_told (λ x. f (told x))) net_assignment_with_told list.items i)
   item_with_told (items.Initial at statement) = λ i. initial (statement_with_told f told statement i)
   item_with_told (items.Always at statement) = λ i. always (statement_with_told f told statement i)
   item_with_told (items.Instances name overrides list) = λ i. instances (f (told name))
@@ -160,6 +167,10 @@ module _ {W : Type 0} (told : Token → W) where
   -- name = value
   pub setting_words_told : (setting : Setting) → setting_words (setting_told told setting) ≡ map told (setting_leaves setting)
   setting_words_told setting = λ i. told setting.name ∷ boxed_words_told told setting.value i
+
+  -- target = value
+  pub net_assignment_words_told : (one : NetAssignment) → net_assignment_words (net_assignment_told told one) ≡ map told (net_assignment_leaves one)
+  net_assignment_words_told one = pair_words_told told one.target one.value
 
   -- what is declared
   pub declared_words_told : (declared : Declared) → declared_words (declared_told told declared) ≡ map told (declared_leaves declared)
@@ -217,7 +228,8 @@ module _ {W : Type 0} (told : Token → W) where
   item_words_told (items.Declaration at kind list) = joined_words told _ _ (declaration_kind_words_told kind)
       (flat_words told declared_words (declared_told told) declared_leaves declared_words_told list.items)
   item_words_told (items.Events at names) = refl
-  item_words_told (items.Assignments at settings) = settings_words_told settings.items
+  item_words_told (items.Assignments at list) =
+      flat_words told net_assignment_words (net_assignment_told told) net_assignment_leaves net_assignment_words_told list.items
   item_words_told (items.Initial at statement) = statement_words_told told statement
   item_words_told (items.Always at statement) = statement_words_told told statement
   item_words_told (items.Instances name overrides list) = λ i. told name ∷ joined_words told _ _

@@ -1,11 +1,11 @@
 -- Modules are told by their words and by what they are without them.
 use Rattle.std.proofs.Common.{◌≡◌, map}
 use Rattle.std.specs.List.{flat_map}
-use Rattle.vast.specs.Modules.{RangeOf, TypeOf, ParameterTypeOf, integer, typed, SettingOf, DeclaredOf, DirectionOf, input, output, PortOf, HeadParameterOf, ConnectionOf, ConnectionsOf, by_order, by_name, InstanceOf, DeclarationKindOf, variables, integers, directed, ItemOf, parameters, declaration, events, assignments, initial, always, instances, ModuleOf, SourceOf}
-use Rattle.vast.specs.TreeWords.{expression_with, expression_words, range_with, range_words, type_with, type_words, parameter_type_with, parameter_type_words, setting_with, setting_words, declared_with, declared_words, direction_with, direction_words, port_with, port_words, head_with, head_words, connection_with, connection_words, connections_with, connections_words, instance_with, instance_words, declaration_kind_with, declaration_kind_words, item_with, item_words, module_with, module_words, source_with, source_words}
+use Rattle.vast.specs.Modules.{RangeOf, TypeOf, ParameterTypeOf, integer, typed, SettingOf, NetAssignmentOf, DeclaredOf, DirectionOf, input, output, PortOf, HeadParameterOf, ConnectionOf, ConnectionsOf, by_order, by_name, InstanceOf, DeclarationKindOf, variables, integers, directed, ItemOf, parameters, declaration, events, assignments, initial, always, instances, ModuleOf, SourceOf}
+use Rattle.vast.specs.TreeWords.{expression_with, expression_words, range_with, range_words, type_with, type_words, parameter_type_with, parameter_type_words, setting_with, setting_words, net_assignment_with, net_assignment_words, declared_with, declared_words, direction_with, direction_words, port_with, port_words, head_with, head_words, connection_with, connection_words, connections_with, connections_words, instance_with, instance_words, declaration_kind_with, declaration_kind_words, item_with, item_words, module_with, module_words, source_with, source_words}
 use Rattle.vast.proofs.Refilling.{Filling, pure, word, both, made_to, fill_list, fill_option, two, three, four, Fills, pure_fills, word_fills, both_fills, made_fills, list_fills, words_fill, option_fills, filled_once}
 use Rattle.vast.proofs.RefilledExpressions.{fill_expression, expression_fills}
-use Rattle.vast.proofs.RefilledStatements.{fill_statement, statement_fills}
+use Rattle.vast.proofs.RefilledStatements.{fill_target, target_fills, fill_statement, statement_fills}
 
 -- a module of this form, with the words of a list
 module _ {V W : Type 0} (spare : V) where
@@ -22,6 +22,10 @@ module _ {V W : Type 0} (spare : V) where
 
   abbrev pub fill_setting : SettingOf W → Filling V (SettingOf V)
   fill_setting setting = made_to (two (λ a b. record { name = a; value = b })) (both (word spare) (fill_expression spare setting.value))
+
+  abbrev pub fill_net_assignment : NetAssignmentOf W → Filling V (NetAssignmentOf V)
+  fill_net_assignment one =
+      made_to (two (λ a b. record { target = a; value = b })) (both (fill_target spare one.target) (fill_expression spare one.value))
 
   abbrev pub fill_declared : DeclaredOf W → Filling V (DeclaredOf V)
   fill_declared declared =
@@ -58,7 +62,7 @@ module _ {V W : Type 0} (spare : V) where
   fill_item (parameters local type settings) = made_to (two (parameters local)) (both (fill_parameter_type type) (fill_list fill_setting settings))
   fill_item (declaration kind list) = made_to (two declaration) (both (fill_declaration_kind kind) (fill_list fill_declared list))
   fill_item (events names) = made_to events (fill_list (λ x. word spare) names)
-  fill_item (assignments settings) = made_to assignments (fill_list fill_setting settings)
+  fill_item (assignments list) = made_to assignments (fill_list fill_net_assignment list)
   fill_item (initial statement) = made_to initial (fill_statement spare statement)
   fill_item (always statement) = made_to always (fill_statement spare statement)
   fill_item (instances letters overrides list) =
@@ -97,6 +101,12 @@ module _ {V W : Type 0} (f : V → W) (spare : V) where
   setting_fills setting =
       made_fills (two (λ a b. record { name = a; value = b })) (both_fills (word_fills spare setting.name)
       (expression_fills f spare setting.value))
+
+  -- target = value
+  pub net_assignment_fills : (m : NetAssignmentOf V) → Fills (fill_net_assignment spare (net_assignment_with f m)) (net_assignment_words m) m
+  net_assignment_fills one =
+      made_fills (two (λ a b. record { target = a; value = b })) (both_fills (target_fills f spare one.target)
+      (expression_fills f spare one.value))
 
   -- what is declared
   pub declared_fills : (m : DeclaredOf V) → Fills (fill_declared spare (declared_with f m)) (declared_words m) m
@@ -156,7 +166,8 @@ module _ {V W : Type 0} (f : V → W) (spare : V) where
       made_fills (two declaration) (both_fills (declaration_kind_fills kind)
       (list_fills (fill_declared spare) (declared_with f) declared_words declared_fills list))
   item_fills (events names) = made_fills events (words_fill spare f names)
-  item_fills (assignments settings) = made_fills assignments (list_fills (fill_setting spare) (setting_with f) setting_words setting_fills settings)
+  item_fills (assignments list) =
+      made_fills assignments (list_fills (fill_net_assignment spare) (net_assignment_with f) net_assignment_words net_assignment_fills list)
   item_fills (initial statement) = made_fills initial (statement_fills f spare statement)
   item_fills (always statement) = made_fills always (statement_fills f spare statement)
   item_fills (instances letters overrides list) =

@@ -23,6 +23,7 @@ use Rattle.vast.specs.declared.module.SignAndRange.{SignAndRange}
 use Rattle.vast.specs.declared.module.ParameterType.{ParameterType}
 use Rattle.vast.specs.declared.module.ParameterType.TheVariants as kinds
 use Rattle.vast.specs.declared.module.Setting.{Setting}
+use Rattle.vast.specs.declared.module.NetAssignment.{NetAssignment}
 use Rattle.vast.specs.declared.module.Declared.{Declared}
 use Rattle.vast.specs.declared.module.Direction.{Direction}
 use Rattle.vast.specs.declared.module.Direction.TheVariants as directions
@@ -175,6 +176,9 @@ parameter_type_leaves (kinds.Typed type) = type_leaves type
 abbrev pub setting_leaves : Setting → List Token
 setting_leaves setting = setting.name ∷ boxed_leaves setting.value
 
+abbrev pub net_assignment_leaves : NetAssignment → List Token
+net_assignment_leaves one = pair_leaves one.target one.value
+
 abbrev pub declared_leaves : Declared → List Token
 declared_leaves declared = declared.name ∷ if_some boxed_leaves declared.value
 
@@ -207,7 +211,7 @@ abbrev pub item_leaves : ModuleItem → List Token
 item_leaves (items.Parameters at local type settings) = parameter_type_leaves type ++ flat_map setting_leaves settings.items
 item_leaves (items.Declaration at kind declared) = declaration_kind_leaves kind ++ flat_map declared_leaves declared.items
 item_leaves (items.Events at names) = names.items
-item_leaves (items.Assignments at settings) = flat_map setting_leaves settings.items
+item_leaves (items.Assignments at list) = flat_map net_assignment_leaves list.items
 item_leaves (items.Initial at statement) = statement_leaves statement
 item_leaves (items.Always at statement) = statement_leaves statement
 item_leaves (items.Instances name overrides list) =

@@ -4,13 +4,14 @@ use Rattle.vast.specs.Words.{Text}
 use Rattle.vast.specs.TokenTexts.{token_text}
 use Rattle.vast.specs.declared.token.Token.{Token}
 use Rattle.vast.specs.ExpressionTrees.{expression_told, boxed_told}
-use Rattle.vast.specs.StatementTrees.{statement_told}
-use Rattle.vast.specs.Modules.{RangeOf, TypeOf, ParameterTypeOf, SettingOf, DeclaredOf, DirectionOf, PortOf, HeadParameterOf, ConnectionOf, ConnectionsOf, InstanceOf, DeclarationKindOf, ItemOf, ModuleOf, SourceOf, RangeTree, TypeTree, ParameterType, integer, typed, SettingTree, DeclaredTree, DirectionTree, input, output, PortTree, HeadParameter, ConnectionTree, ConnectionsTree, by_order, by_name, InstanceTree, DeclarationKind, variables, integers, directed, ItemTree, parameters, declaration, events, assignments, initial, always, instances, ModuleTree, SourceTree}
+use Rattle.vast.specs.StatementTrees.{target_told, statement_told}
+use Rattle.vast.specs.Modules.{RangeOf, TypeOf, ParameterTypeOf, SettingOf, NetAssignmentOf, DeclaredOf, DirectionOf, PortOf, HeadParameterOf, ConnectionOf, ConnectionsOf, InstanceOf, DeclarationKindOf, ItemOf, ModuleOf, SourceOf, RangeTree, TypeTree, ParameterType, integer, typed, SettingTree, NetAssignment, DeclaredTree, DirectionTree, input, output, PortTree, HeadParameter, ConnectionTree, ConnectionsTree, by_order, by_name, InstanceTree, DeclarationKind, variables, integers, directed, ItemTree, parameters, declaration, events, assignments, initial, always, instances, ModuleTree, SourceTree}
 use Rattle.vast.specs.declared.module.Bounds.{Bounds}
 use Rattle.vast.specs.declared.module.SignAndRange.{SignAndRange}
 use Rattle.vast.specs.declared.module.ParameterType.{ParameterType as ParameterWords}
 use Rattle.vast.specs.declared.module.ParameterType.TheVariants as kinds
 use Rattle.vast.specs.declared.module.Setting.{Setting}
+use Rattle.vast.specs.declared.module.NetAssignment.{NetAssignment as NetAssignmentWords}
 use Rattle.vast.specs.declared.module.Declared.{Declared}
 use Rattle.vast.specs.declared.module.Direction.{Direction}
 use Rattle.vast.specs.declared.module.Direction.TheVariants as directions
@@ -41,6 +42,9 @@ module _ {W : Type 0} (told : Token → W) where
 
   abbrev pub setting_told : Setting → SettingOf W
   setting_told setting = record { name = told setting.name; value = boxed_told told setting.value }
+
+  abbrev pub net_assignment_told : NetAssignmentWords → NetAssignmentOf W
+  net_assignment_told one = record { target = target_told told one.target; value = boxed_told told one.value }
 
   abbrev pub declared_told : Declared → DeclaredOf W
   declared_told declared = record { name = told declared.name; value = option_map (boxed_told told) declared.value }
@@ -74,7 +78,7 @@ module _ {W : Type 0} (told : Token → W) where
   item_told (items.Parameters at local type settings) = parameters local (parameter_type_told type) (map setting_told settings.items)
   item_told (items.Declaration at kind declared) = declaration (declaration_kind_told kind) (map declared_told declared.items)
   item_told (items.Events at names) = events (map told names.items)
-  item_told (items.Assignments at settings) = assignments (map setting_told settings.items)
+  item_told (items.Assignments at list) = assignments (map net_assignment_told list.items)
   item_told (items.Initial at statement) = initial (statement_told told statement)
   item_told (items.Always at statement) = always (statement_told told statement)
   item_told (items.Instances name overrides list) =
@@ -104,6 +108,9 @@ module _ (words : List Text) where
 
   abbrev pub setting_tree : Setting → SettingTree
   setting_tree = setting_told (token_text words)
+
+  abbrev pub net_assignment : NetAssignmentWords → NetAssignment
+  net_assignment = net_assignment_told (token_text words)
 
   abbrev pub declared_tree : Declared → DeclaredTree
   declared_tree = declared_told (token_text words)

@@ -4,7 +4,7 @@ use Rattle.std.specs.Prelude.{◌≡◌, IsTrue, ℕ, nat_le, Bool, true, false,
 use Rattle.std.specs.List.{list_all}
 use Rattle.vast.specs.Words.{Text, is_name}
 use Rattle.vast.specs.Expressions.{ExpressionOf, ExpressionTree, spell_expression, depth, fits_expression}
-use Rattle.vast.specs.Statements.{StatementOf, StatementTree, listed, in_parentheses, spell_statement, statement_depth, fits_statement}
+use Rattle.vast.specs.Statements.{TargetOf, spell_target, target_depth, fits_target, StatementOf, StatementTree, listed, in_parentheses, spell_statement, statement_depth, fits_statement}
 use Rattle.vast.specs.declared.module.NetKind.{NetKind}
 use Rattle.vast.specs.declared.module.NetKind.TheVariants as net
 
@@ -26,6 +26,11 @@ pub data ParameterTypeOf (W : Type 0) : Type 0 where
 -- name = value
 pub record SettingOf (W : Type 0) : Type 0 where
   pub name : W
+  pub value : ExpressionOf W
+
+-- 6.1: target = value
+pub record NetAssignmentOf (W : Type 0) : Type 0 where
+  pub target : TargetOf W
   pub value : ExpressionOf W
 
 -- name = value, or name alone
@@ -74,7 +79,7 @@ pub data ItemOf (W : Type 0) : Type 0 where
   parameters : Bool → ParameterTypeOf W → List (SettingOf W) → ItemOf W  -- parameter type setting, .. ; or localparam ..
   declaration : DeclarationKindOf W → List (DeclaredOf W) → ItemOf W  -- reg type name, name = value, .. ;
   events : List W → ItemOf W  -- event name, .. ;
-  assignments : List (SettingOf W) → ItemOf W  -- assign name = value, .. ;
+  assignments : List (NetAssignmentOf W) → ItemOf W  -- assign target = value, .. ;
   initial : StatementOf W → ItemOf W  -- initial statement
   always : StatementOf W → ItemOf W  -- always statement
   instances : W → Option (ConnectionsOf W) → List (InstanceOf W) → ItemOf W  -- name #( connections ) instance, .. ;
@@ -103,6 +108,9 @@ ParameterType = ParameterTypeOf Text
 
 abbrev pub SettingTree : Type 0
 SettingTree = SettingOf Text
+
+abbrev pub NetAssignment : Type 0
+NetAssignment = NetAssignmentOf Text
 
 abbrev pub DeclaredTree : Type 0
 DeclaredTree = DeclaredOf Text
@@ -155,6 +163,9 @@ spell_parameter_type (typed type) = spell_type type
 
 abbrev pub spell_setting : SettingTree → List Text
 spell_setting setting = setting.name ∷ codes "=" ∷ spell_expression setting.value
+
+abbrev pub spell_net_assignment : NetAssignment → List Text
+spell_net_assignment one = spell_target one.target ++ codes "=" ∷ spell_expression one.value
 
 abbrev pub spell_value : Text → Option ExpressionTree → List Text
 spell_value letters None = letters ∷ []
@@ -223,7 +234,7 @@ spell_item (parameters local type settings) =
     parameter_word local ∷ (spell_parameter_type type ++ (listed spell_setting settings ++ codes ";" ∷ []))
 spell_item (declaration kind declared) = spell_declaration_kind kind ++ (listed spell_declared declared ++ codes ";" ∷ [])
 spell_item (events names) = codes "event" ∷ (listed (λ letters. letters ∷ []) names ++ codes ";" ∷ [])
-spell_item (assignments list) = codes "assign" ∷ (listed spell_setting list ++ codes ";" ∷ [])
+spell_item (assignments list) = codes "assign" ∷ (listed spell_net_assignment list ++ codes ";" ∷ [])
 spell_item (initial statement) = codes "initial" ∷ spell_statement statement
 spell_item (always statement) = codes "always" ∷ spell_statement statement
 spell_item (instances name overrides list) =
@@ -269,6 +280,9 @@ fits_parameter_type levels (typed type) = fits_type levels type
 
 abbrev pub fits_setting : ℕ → SettingTree → Bool
 fits_setting levels setting = is_name setting.name && fits_value levels setting.value
+
+abbrev pub fits_net_assignment : ℕ → NetAssignment → Bool
+fits_net_assignment levels one = (fits_target one.target && nat_le (target_depth one.target) levels) && fits_value levels one.value
 
 abbrev pub fits_declared : ℕ → DeclaredTree → Bool
 fits_declared levels declared = is_name declared.name && fits_optional levels declared.value
@@ -356,7 +370,7 @@ fits_item levels (parameters local type settings) = fits_parameter_type levels t
 -- names with and without a value may stand in one declaration, of nets, too (own)
 fits_item levels (declaration kind declared) = fits_declaration_kind levels kind && fits_names levels kind declared
 fits_item levels (events names) = are_some is_name names
-fits_item levels (assignments list) = are_some (fits_setting levels) list
+fits_item levels (assignments list) = are_some (fits_net_assignment levels) list
 fits_item levels (initial statement) = fits_body levels statement
 fits_item levels (always statement) = fits_body levels statement
 fits_item levels (instances name overrides list) =

@@ -1,6 +1,6 @@
 -- *product rule*: Modules whose words keep their numbers.
 pub use Rattle.vast.specs.Modules.{integer, typed, input, output, by_order, by_name, variables, integers, directed, parameters, declaration, events, assignments, initial, always, instances}
-use Rattle.vast.specs.Modules.{RangeOf, TypeOf, ParameterTypeOf, SettingOf, DeclaredOf, DirectionOf, PortOf, HeadParameterOf, ConnectionOf, ConnectionsOf, InstanceOf, DeclarationKindOf, ItemOf, ModuleOf, SourceOf}
+use Rattle.vast.specs.Modules.{RangeOf, TypeOf, ParameterTypeOf, SettingOf, NetAssignmentOf, DeclaredOf, DirectionOf, PortOf, HeadParameterOf, ConnectionOf, ConnectionsOf, InstanceOf, DeclarationKindOf, ItemOf, ModuleOf, SourceOf}
 use Rattle.vast.specs.NumberedWords.{Word}
 
 abbrev pub RangeTree : Type 0
@@ -14,6 +14,9 @@ ParameterType = ParameterTypeOf Word
 
 abbrev pub SettingTree : Type 0
 SettingTree = SettingOf Word
+
+abbrev pub NetAssignment : Type 0
+NetAssignment = NetAssignmentOf Word
 
 abbrev pub DeclaredTree : Type 0
 DeclaredTree = DeclaredOf Word

@@ -18,6 +18,7 @@ use Rattle.vast.specs.declared.module.Bounds.{Bounds}
 use Rattle.vast.specs.declared.module.SignAndRange.{SignAndRange}
 use Rattle.vast.specs.declared.module.ParameterType.{ParameterType as ParameterWords}
 use Rattle.vast.specs.declared.module.Setting.{Setting}
+use Rattle.vast.specs.declared.module.NetAssignment.{NetAssignment as NetAssignmentWords}
 use Rattle.vast.specs.declared.module.Declared.{Declared}
 use Rattle.vast.specs.declared.module.Direction.{Direction}
 use Rattle.vast.specs.declared.module.Port.{Port}
@@ -31,10 +32,10 @@ use Rattle.vast.specs.declared.module.ModuleTree.{ModuleTree as ModuleWords}
 use Rattle.vast.specs.declared.module.TextTree.{TextTree}
 use Rattle.vast.specs.NumberedExpressions.{ExpressionTree, ExpressionTrees}
 use Rattle.vast.specs.NumberedStatements.{TargetTree, TargetTrees, DelayTree, TermTree, FurtherTerm, EventTree, ArgumentTree, SelectionTree, TaskTree, StatementTree, StatementTrees, BranchTree, BranchTrees}
-use Rattle.vast.specs.NumberedModules.{RangeTree, TypeTree, ParameterType, SettingTree, DeclaredTree, DirectionTree, PortTree, HeadParameter, ConnectionTree, ConnectionsTree, InstanceTree, DeclarationKind, ItemTree, ModuleTree, SourceTree}
+use Rattle.vast.specs.NumberedModules.{RangeTree, TypeTree, ParameterType, SettingTree, NetAssignment, DeclaredTree, DirectionTree, PortTree, HeadParameter, ConnectionTree, ConnectionsTree, InstanceTree, DeclarationKind, ItemTree, ModuleTree, SourceTree}
 use Rattle.vast.specs.ExpressionTrees.{expression_told, row_told, expressions_told}
 use Rattle.vast.specs.StatementTrees.{target_told, delay_told, term_told, further_told, event_told, argument_told, path_told, selection_told, task_told, statement_told, branch_told, targets_told, statements_told, branches_told, target_row_told, statement_row_told, branch_row_told}
-use Rattle.vast.specs.ModuleTrees.{range_told, type_told, parameter_type_told, setting_told, declared_told, direction_told, port_told, head_told, connection_told, connections_told, instance_told, declaration_kind_told, item_told, module_told, source_told}
+use Rattle.vast.specs.ModuleTrees.{range_told, type_told, parameter_type_told, setting_told, net_assignment_told, declared_told, direction_told, port_told, head_told, connection_told, connections_told, instance_told, declaration_kind_told, item_told, module_told, source_told}
 
 module _ (words : List Text) where
   abbrev pub tree_of : Expression → ExpressionTree
@@ -111,6 +112,9 @@ module _ (words : List Text) where
 
   abbrev pub setting_tree : Setting → SettingTree
   setting_tree = setting_told (numbered words)
+
+  abbrev pub net_assignment : NetAssignmentWords → NetAssignment
+  net_assignment = net_assignment_told (numbered words)
 
   abbrev pub declared_tree : Declared → DeclaredTree
   declared_tree = declared_told (numbered words)

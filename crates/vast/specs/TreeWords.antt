@@ -4,7 +4,7 @@ use Rattle.std.specs.List.{flat_map}
 use Rattle.vast.specs.Expressions.{ExpressionOf, ExpressionsOf, number, name, time, bit, part, parentheses, concatenation, replication, conversion, apply, combine, conditional, none, first}
 use Rattle.vast.specs.Statements.{TargetOf, TargetsOf, DelayOf, by_number, by_name, by_value, TermOf, FurtherOf, EventOf, by_event, by_any, by_any_enclosed, by_terms, ArgumentOf, quoted, printed, left_out, SelectionOf, TaskOf, print, idle, dump_file, dump_vars, dump, end_run, StatementOf, StatementsOf, empty, block, assign, nonblocking, trigger, if_true, if_else, case_of, while_true, repeat_times, forever, for_loop, wait_for, delay, event, task, no_statement, first_statement, BranchOf, BranchesOf, labelled, default, no_branch, first_branch}
 use Rattle.vast.specs.Statements as written
-use Rattle.vast.specs.Modules.{RangeOf, TypeOf, ParameterTypeOf, integer, typed, SettingOf, DeclaredOf, DirectionOf, input, output, PortOf, HeadParameterOf, ConnectionOf, ConnectionsOf, by_order, InstanceOf, DeclarationKindOf, variables, integers, directed, ItemOf, parameters, declaration, events, assignments, initial, always, instances, ModuleOf, SourceOf}
+use Rattle.vast.specs.Modules.{RangeOf, TypeOf, ParameterTypeOf, integer, typed, SettingOf, NetAssignmentOf, DeclaredOf, DirectionOf, input, output, PortOf, HeadParameterOf, ConnectionOf, ConnectionsOf, by_order, InstanceOf, DeclarationKindOf, variables, integers, directed, ItemOf, parameters, declaration, events, assignments, initial, always, instances, ModuleOf, SourceOf}
 use Rattle.vast.specs.Modules as modules
 
 -- ---- each word changed
@@ -120,6 +120,9 @@ module _ {V W : Type 0} (f : V → W) where
   abbrev pub setting_with : SettingOf V → SettingOf W
   setting_with setting = record { name = f setting.name; value = expression_with setting.value }
 
+  abbrev pub net_assignment_with : NetAssignmentOf V → NetAssignmentOf W
+  net_assignment_with one = record { target = target_with one.target; value = expression_with one.value }
+
   abbrev pub declared_with : DeclaredOf V → DeclaredOf W
   declared_with declared = record { name = f declared.name; value = option_map expression_with declared.value }
 
@@ -152,7 +155,7 @@ module _ {V W : Type 0} (f : V → W) where
   item_with (parameters local type settings) = parameters local (parameter_type_with type) (map setting_with settings)
   item_with (declaration kind list) = declaration (declaration_kind_with kind) (map declared_with list)
   item_with (events names) = events (map f names)
-  item_with (assignments settings) = assignments (map setting_with settings)
+  item_with (assignments list) = assignments (map net_assignment_with list)
   item_with (initial statement) = initial (statement_with statement)
   item_with (always statement) = always (statement_with statement)
   item_with (instances letters overrides list) = instances (f letters) (option_map connections_with overrides) (map instance_with list)
@@ -303,6 +306,9 @@ module _ {W : Type 0} where
   abbrev pub setting_words : SettingOf W → List W
   setting_words setting = setting.name ∷ expression_words setting.value
 
+  abbrev pub net_assignment_words : NetAssignmentOf W → List W
+  net_assignment_words one = target_words one.target ++ expression_words one.value
+
   abbrev pub declared_words : DeclaredOf W → List W
   declared_words declared = declared.name ∷ words_if expression_words declared.value
 
@@ -335,7 +341,7 @@ module _ {W : Type 0} where
   item_words (parameters local type settings) = parameter_type_words type ++ flat_map setting_words settings
   item_words (declaration kind list) = declaration_kind_words kind ++ flat_map declared_words list
   item_words (events names) = names
-  item_words (assignments settings) = flat_map setting_words settings
+  item_words (assignments list) = flat_map net_assignment_words list
   item_words (initial statement) = statement_words statement
   item_words (always statement) = statement_words statement
   item_words (instances letters overrides list) =

@@ -11,7 +11,7 @@ use crate::module::{
 };
 use crate::module_parts_fit::{
     are_alone, connections_fit, declared_fit, direction_fits, head_parameters_fit, instances_fit,
-    parameter_type_fits, ports_fit, settings_fit, type_fits,
+    net_assignments_fit, parameter_type_fits, ports_fit, settings_fit, type_fits,
 };
 use crate::statement_fits::statement_fits;
 use crate::statement_parts_fit::are_names;
@@ -69,8 +69,8 @@ fn item_fits(words: &[&[u8]], item: &ModuleItem) -> bool
             declaration_kind_fits(words, kind) && names_fit(words, kind, declared)
         }
         ModuleItem::Events { names, .. } => !names.is_empty() && are_names(words, names),
-        ModuleItem::Assignments { settings, .. } => {
-            !settings.is_empty() && settings_fit(words, settings, DEPTH)
+        ModuleItem::Assignments { list, .. } => {
+            !list.is_empty() && net_assignments_fit(words, list, DEPTH)
         }
         ModuleItem::Initial { statement, .. } => statement_fits(words, statement, DEPTH),
         ModuleItem::Always { statement, .. } => statement_fits(words, statement, DEPTH),

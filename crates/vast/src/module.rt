@@ -1,7 +1,7 @@
 // Modules of the whole profile (IEEE 1364-2005, clauses 4 and 12, A.1 and A.2, narrowed to this product's profile).
 
 use crate::expression::Expression;
-use crate::statement::Statement;
+use crate::statement::{Statement, Target};
 use crate::token::Token;
 
 /// What holds a value: a net or a variable (4.2).
@@ -40,6 +40,13 @@ pub enum ParameterType {
 #[derive(Drop)]
 pub struct Setting {
     pub name: Token,
+    pub value: Box<Expression>,
+}
+
+/// `target = value` of an `assign` (A.6.1)
+#[derive(Drop)]
+pub struct NetAssignment {
+    pub target: Target,
     pub value: Box<Expression>,
 }
 
@@ -135,10 +142,10 @@ pub enum ModuleItem {
         at: u32,
         names: Vec<Token>,
     },
-    /// `assign name = value, ..;` (6.1)
+    /// `assign target = value, ..;` (6.1)
     Assignments {
         at: u32,
-        settings: Vec<Setting>,
+        list: Vec<NetAssignment>,
     },
     /// `initial statement` (9.9.1)
     Initial {

@@ -4,15 +4,16 @@ ghost use Rattle.std.specs.Prelude.{◌≡◌, Some, map, option_map};
 ghost use Rattle.std.specs.List.{list_all};
 ghost use Rattle.vast.specs.TokenTexts.{texts};
 ghost use Rattle.vast.specs.ExpressionTrees.{tree_of, boxed_tree};
-ghost use Rattle.vast.specs.Modules.{fits_value, fits_optional, fits_range, fits_type, fits_parameter_type, fits_setting, fits_declared, stands_alone, fits_direction, fits_port, is_named_port, fits_ports, fits_kind, fits_head_parameter, fits_head_parameters, fits_connection, fits_connections, fits_instance};
-ghost use Rattle.vast.specs.ModuleTrees.{range_tree, type_tree, parameter_type, setting_tree, declared_tree, direction_tree, port_tree, head_parameter, connection_tree, connections_tree, instance_tree};
+ghost use Rattle.vast.specs.Modules.{fits_value, fits_optional, fits_range, fits_type, fits_parameter_type, fits_setting, fits_net_assignment, fits_declared, stands_alone, fits_direction, fits_port, is_named_port, fits_ports, fits_kind, fits_head_parameter, fits_head_parameters, fits_connection, fits_connections, fits_instance};
+ghost use Rattle.vast.specs.ModuleTrees.{range_tree, type_tree, parameter_type, setting_tree, net_assignment, declared_tree, direction_tree, port_tree, head_parameter, connection_tree, connections_tree, instance_tree};
 
 use crate::expression::Expression;
 use crate::expression_fits::expression_fits;
 use crate::module::{
-    Bounds, Connection, Connections, Declared, Direction, HeadParameter, Instance, ParameterType,
-    Port, Setting, SignAndRange,
+    Bounds, Connection, Connections, Declared, Direction, HeadParameter, Instance, NetAssignment,
+    ParameterType, Port, Setting, SignAndRange,
 };
+use crate::statement_parts_fit::setting_fits as setting_stands;
 use crate::token::letters;
 use crate::words::is_name;
 
@@ -58,6 +59,25 @@ pub fn settings_fit(words: &[&[u8]], settings: &[Setting], levels: u32) -> bool
 {
     for setting in settings {
         if !setting_fits(words, setting, levels) {
+            return false;
+        }
+    }
+    true
+}
+
+fn net_assignment_fits(words: &[&[u8]], one: &NetAssignment, levels: u32) -> bool
+    ensures { result ≡ fits_net_assignment levels (net_assignment (texts words.now) one.now) }
+{
+    setting_stands(words, &one.target, &one.value, levels)
+}
+
+/// Whether each assignment of an `assign` stands so.
+pub fn net_assignments_fit(words: &[&[u8]], list: &[NetAssignment], levels: u32) -> bool
+    ensures { result ≡ list_all (fits_net_assignment levels)
+        (map (net_assignment (texts words.now)) list.now) }
+{
+    for one in list {
+        if !net_assignment_fits(words, one, levels) {
             return false;
         }
     }

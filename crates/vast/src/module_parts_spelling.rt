@@ -5,17 +5,18 @@ ghost use Rattle.vast.specs.TokenTexts.{token_text, texts};
 ghost use Rattle.vast.specs.ExpressionTrees.{tree_of, boxed_tree};
 ghost use Rattle.vast.specs.Expressions.{spell_expression};
 ghost use Rattle.vast.specs.Statements.{listed};
-ghost use Rattle.vast.specs.Modules.{spell_range, spell_signed, spell_type, spell_parameter_type, spell_setting, spell_declared, net_word as net_text, spell_net, spell_wire, spell_direction, spell_port, spell_kind, spell_head_parameter, spell_optional, spell_connection, spell_connections, spell_instance};
-ghost use Rattle.vast.specs.ModuleTrees.{range_tree, type_tree, parameter_type, setting_tree, declared_tree, direction_tree, port_tree, head_parameter, connection_tree, connections_tree, instance_tree};
+ghost use Rattle.vast.specs.Modules.{spell_range, spell_signed, spell_type, spell_parameter_type, spell_setting, spell_net_assignment, spell_declared, net_word as net_text, spell_net, spell_wire, spell_direction, spell_port, spell_kind, spell_head_parameter, spell_optional, spell_connection, spell_connections, spell_instance};
+ghost use Rattle.vast.specs.ModuleTrees.{range_tree, type_tree, parameter_type, setting_tree, net_assignment, declared_tree, direction_tree, port_tree, head_parameter, connection_tree, connections_tree, instance_tree};
 ghost use Rattle.vast.specs.Inner.{Puts};
 
 use crate::expression::Expression;
 use crate::expression_spelling::{put_expression, put_range};
 use crate::module::{
-    Bounds, Connection, Connections, Declared, Direction, HeadParameter, Instance, NetKind,
-    ParameterType, Port, Setting, SignAndRange,
+    Bounds, Connection, Connections, Declared, Direction, HeadParameter, Instance, NetAssignment,
+    NetKind, ParameterType, Port, Setting, SignAndRange,
 };
 use crate::spelling::{Spelling, put, put_comma, put_token};
+use crate::statement_parts_spelling::put_setting as put_assignment;
 use basis::NoMemory;
 
 fn put_bounds<'t>(
@@ -97,6 +98,36 @@ pub fn put_settings<'t>(
         put_comma(out, first)?;
         first = false;
         put_setting(out, words, setting)?;
+    }
+    Ok(())
+}
+
+fn put_net_assignment<'t>(
+    out: &mut Vec<Spelling<'t>>,
+    words: &[&'t [u8]],
+    one: &NetAssignment,
+) -> Result<(), NoMemory>
+    ensures { Puts out.old out.new result
+        (spell_net_assignment (net_assignment (texts words.now) one.now)) }
+{
+    put_assignment(out, words, &one.target, &one.value)
+}
+
+/// Puts the assignments of an `assign` with commas between them.
+#[tactic(auto, using(crate::proofs::SpellLemmas::listed_first))]
+pub fn put_net_assignments<'t>(
+    out: &mut Vec<Spelling<'t>>,
+    words: &[&'t [u8]],
+    list: &[NetAssignment],
+) -> Result<(), NoMemory>
+    ensures { Puts out.old out.new result
+        (listed spell_net_assignment (map (net_assignment (texts words.now)) list.now)) }
+{
+    let mut first = true;
+    for one in list {
+        put_comma(out, first)?;
+        first = false;
+        put_net_assignment(out, words, one)?;
     }
     Ok(())
 }

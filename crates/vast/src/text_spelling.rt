@@ -13,7 +13,7 @@ use crate::module::{
 };
 use crate::module_parts_spelling::{
     net_word, put_connections, put_declared, put_direction, put_head_parameters, put_instances,
-    put_parameter_type, put_ports, put_settings, put_type,
+    put_net_assignments, put_parameter_type, put_ports, put_settings, put_type,
 };
 use crate::spelling::{Spelling, put, put_comma, put_token};
 use crate::statement_spelling::put_statement;
@@ -116,9 +116,9 @@ fn put_item<'t>(
             put_names(out, words, names)?;
             put(out, b";")
         }
-        ModuleItem::Assignments { settings, .. } => {
+        ModuleItem::Assignments { list, .. } => {
             put(out, b"assign")?;
-            put_settings(out, words, settings)?;
+            put_net_assignments(out, words, list)?;
             put(out, b";")
         }
         ModuleItem::Initial { statement, .. } => {

@@ -355,7 +355,7 @@ module _ (design : Design) (code : Code) (facts : Holds design code) where
         (record { continuation = frames body after; effect = quiet })
         (record { continuation = frame.Executing place ∷ after; effect = record quiet { disposition = Waiting place } })
         (body_leads body (and_left (is_chain code.links (link_at code.links place).owner body (link_at code.links place).next) true h)) here
-    step_executing (ContinuousAssign net value terms) now there h = here
+    step_executing (ContinuousAssign targets value terms) now there h = here
     step_executing (Print when pieces) now there h = rest
     step_executing (DumpVars selection) now there h = rest
     step_executing (Dump asked) now there h = rest
@@ -379,7 +379,7 @@ module _ (design : Design) (code : Code) (facts : Holds design code) where
     step_turn n (Delay amount body) now there h counted = (record { within = within; owner = owner; counted = counted; next = next }, rest)
     step_turn n (EventControl terms body) now there h counted = (record { within = within; owner = owner; counted = counted; next = next }, rest)
     step_turn n (Wait condition terms body) now there h counted = (record { within = within; owner = owner; counted = counted; next = next }, rest)
-    step_turn n (ContinuousAssign net value terms) now there h counted = (record { within = within; owner = owner; counted = counted; next = next }, rest)
+    step_turn n (ContinuousAssign targets value terms) now there h counted = (record { within = within; owner = owner; counted = counted; next = next }, rest)
     step_turn n (Print when pieces) now there h counted = (record { within = within; owner = owner; counted = counted; next = next }, rest)
     step_turn n (DumpVars selection) now there h counted = (record { within = within; owner = owner; counted = counted; next = next }, rest)
     step_turn n (Dump asked) now there h counted = (record { within = within; owner = owner; counted = counted; next = next }, rest)
@@ -402,7 +402,7 @@ module _ (design : Design) (code : Code) (facts : Holds design code) where
     step_writing (Delay amount body) held now = (record { within = within; owner = owner; counted = tt; next = next }, rest)
     step_writing (EventControl terms body) held now = (record { within = within; owner = owner; counted = tt; next = next }, rest)
     step_writing (Wait condition terms body) held now = (record { within = within; owner = owner; counted = tt; next = next }, rest)
-    step_writing (ContinuousAssign net value terms) held now = (record { within = within; owner = owner; counted = tt; next = next }, rest)
+    step_writing (ContinuousAssign targets value terms) held now = (record { within = within; owner = owner; counted = tt; next = next }, rest)
     step_writing (Print when pieces) held now = (record { within = within; owner = owner; counted = tt; next = next }, rest)
     step_writing (DumpVars selection) held now = (record { within = within; owner = owner; counted = tt; next = next }, rest)
     step_writing (Dump asked) held now = (record { within = within; owner = owner; counted = tt; next = next }, rest)
@@ -426,7 +426,7 @@ module _ (design : Design) (code : Code) (facts : Holds design code) where
     pass_executing (Delay amount body) now = next
     pass_executing (EventControl terms body) now = next
     pass_executing (Wait condition terms body) now = next
-    pass_executing (ContinuousAssign net value terms) now = next
+    pass_executing (ContinuousAssign targets value terms) now = next
     pass_executing (Print when pieces) now = next
     pass_executing (DumpVars selection) now = next
     pass_executing (Dump asked) now = next
@@ -448,7 +448,7 @@ module _ (design : Design) (code : Code) (facts : Holds design code) where
     pass_turn n (Delay amount body) now = next
     pass_turn n (EventControl terms body) now = next
     pass_turn n (Wait condition terms body) now = next
-    pass_turn n (ContinuousAssign net value terms) now = next
+    pass_turn n (ContinuousAssign targets value terms) now = next
     pass_turn n (Print when pieces) now = next
     pass_turn n (DumpVars selection) now = next
     pass_turn n (Dump asked) now = next
@@ -470,7 +470,7 @@ module _ (design : Design) (code : Code) (facts : Holds design code) where
     pass_writing (Delay amount body) now = next
     pass_writing (EventControl terms body) now = next
     pass_writing (Wait condition terms body) now = next
-    pass_writing (ContinuousAssign net value terms) now = next
+    pass_writing (ContinuousAssign targets value terms) now = next
     pass_writing (Print when pieces) now = next
     pass_writing (DumpVars selection) now = next
     pass_writing (Dump asked) now = next
@@ -506,7 +506,7 @@ module _ (design : Design) (code : Code) (facts : Holds design code) where
     resume_executing (Delay amount body) now q h waits = absurd cc
     resume_executing (EventControl terms body) now q h waits = (cc, body_resumes body (and_left (is_chain code.links (link_at code.links place).owner body (link_at code.links place).next) true h))
     resume_executing (Wait condition terms body) now q h waits = wait_resumes body q (holds now condition) waits
-    resume_executing (ContinuousAssign net value terms) now q h waits = (cc, executing_here)
+    resume_executing (ContinuousAssign targets value terms) now q h waits = (cc, executing_here)
     resume_executing (Print Now pieces) now q h waits = absurd cc
     resume_executing (Print AtSlotEnd pieces) now q h waits = absurd cc
     resume_executing (Print AtChange pieces) now q h waits = absurd cc
@@ -530,7 +530,7 @@ module _ (design : Design) (code : Code) (facts : Holds design code) where
     no_wait_in_turn n (Delay amount body) q waits = absurd cc
     no_wait_in_turn n (EventControl terms body) q waits = absurd cc
     no_wait_in_turn n (Wait condition terms body) q waits = absurd cc
-    no_wait_in_turn n (ContinuousAssign net value terms) q waits = absurd cc
+    no_wait_in_turn n (ContinuousAssign targets value terms) q waits = absurd cc
     no_wait_in_turn n (Print when pieces) q waits = absurd cc
     no_wait_in_turn n (DumpVars selection) q waits = absurd cc
     no_wait_in_turn n (Dump asked) q waits = absurd cc
@@ -552,7 +552,7 @@ module _ (design : Design) (code : Code) (facts : Holds design code) where
     no_wait_in_writing (Delay amount body) held now q waits = absurd cc
     no_wait_in_writing (EventControl terms body) held now q waits = absurd cc
     no_wait_in_writing (Wait condition terms body) held now q waits = absurd cc
-    no_wait_in_writing (ContinuousAssign net value terms) held now q waits = absurd cc
+    no_wait_in_writing (ContinuousAssign targets value terms) held now q waits = absurd cc
     no_wait_in_writing (Print when pieces) held now q waits = absurd cc
     no_wait_in_writing (DumpVars selection) held now q waits = absurd cc
     no_wait_in_writing (Dump asked) held now q waits = absurd cc

@@ -18,7 +18,7 @@ use Rattle.vcompile.specs.Links.{place_number, first_point}
 abbrev pub terms_of : Action → List Term
 terms_of (EventControl terms places) = terms
 terms_of (Wait condition terms places) = terms
-terms_of (ContinuousAssign net value terms) = terms
+terms_of (ContinuousAssign targets value terms) = terms
 terms_of _ = []
 
 -- which change a term hears; any, of an event

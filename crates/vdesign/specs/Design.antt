@@ -1,6 +1,6 @@
 -- *trusted*: A design as the definitions see it (IEEE 1364-2005, clause 12): variables, scopes, and one table of actions.
 use Rattle.std.specs.Prelude.{ℕ, Bool, List, Option}
-use Rattle.vbits.specs.declared.bit4.Bit4.{Bit4}
+use Rattle.vbits.specs.Vectors.{Vector}
 use Rattle.basis.specs.declared.timescale.Timescale.{Timescale}
 use Rattle.vdesign.specs.declared.design.Kind.{Kind}
 use Rattle.vdesign.specs.declared.expression.Bounds.{Bounds}
@@ -12,7 +12,7 @@ pub record Variable : Type 0 where
   pub kind : Kind
   pub length : ℕ
   pub signed : Bool
-  pub start : Bit4  -- 4.2.2: each of its bits until it is first written
+  pub start : Vector  -- 4.2.1, 4.2.2: what it is until it is first written
   pub bounds : Option Bounds
 
 -- 12.1, 12.5: an instance or the top, its name, its path (the names of the scopes round it from the top's on and its own, joined by

@@ -249,10 +249,10 @@ pub enum Action {
         terms: Terms,
         body: Places,
     },
-    /// `assign net = value` (6.1), a process of its own: it writes the net of this number, and then one of the terms is waited for,
-    /// and it writes again.
+    /// `assign targets = value` (6.1), a process of its own: it writes the nets, and then one of the terms is waited for, and it
+    /// writes again.
     ContinuousAssign {
-        net: u32,
+        targets: Targets,
         value: Expression,
         terms: Terms,
     },

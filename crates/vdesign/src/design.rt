@@ -5,7 +5,7 @@ use crate::action::{Action, Places};
 use crate::expression::Bounds;
 use basis::Timescale;
 use std::marker::Model;
-use vbits::Bit4;
+use vbits::Vec4;
 
 /// A whole design, each list in the order of docs/LANGUAGE.md, "Order". A clause sees it as the record `Design` of
 /// specs/Design.antt.
@@ -54,8 +54,9 @@ pub struct Variable {
     /// In bits, 1 to 64.
     pub length: u32,
     pub signed: bool,
-    /// What each of its bits is until it is first written: x, or z where it is a net that nothing drives (4.2.2, 4.6).
-    pub start: Bit4,
+    /// What it is until it is first written: x, and z in the bits of a net that nothing drives (4.2.1, 4.2.2, 4.6); as many letters as it
+    /// has bits.
+    pub start: Vec4,
     /// The numbers of the leftmost and of the rightmost bit, where it was declared with a range.
     pub bounds: Option<Bounds>,
 }

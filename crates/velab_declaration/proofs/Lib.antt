@@ -1,4 +1,4 @@
 pub mod VariableLemmas
-pub mod DrivenLemmas
 pub mod ParameterLemmas
 pub mod TableLemmas
+pub mod DriveLemmas

@@ -9,7 +9,7 @@ use Rattle.velab_expr.specs.declared.fault.ElabFault.{ElabFault}
 use Rattle.velab_declaration.specs.ActionFlaws.{table_fault}
 use Rattle.velab_expr.proofs.ListLemmas.{drop_at}
 
-got_behind : {A : Type 0} (i : ℕ) (xs : List A) → slice_get (drop i xs) 0 ≡ slice_get xs i
+pub got_behind : {A : Type 0} (i : ℕ) (xs : List A) → slice_get (drop i xs) 0 ≡ slice_get xs i
 got_behind zero xs = refl
 got_behind (suc i) [] = refl
 got_behind (suc i) (x ∷ xs) = got_behind i xs
@@ -19,7 +19,7 @@ further zero xs = refl
 further (suc i) [] = refl
 further (suc i) (x ∷ xs) = further i xs
 
-drop_further : {A : Type 0} (i : ℕ) (xs : List A) → drop 1 (drop i xs) ≡ drop (i + 1) xs
+pub drop_further : {A : Type 0} (i : ℕ) (xs : List A) → drop 1 (drop i xs) ≡ drop (i + 1) xs
 drop_further i xs = further i xs ∙ ap (λ (n : ℕ). drop n xs) (sym (add-one i))
 
 module _ (rule : Action → Option Rule) (actions : List Action) (words : List (Option ℕ)) (i : ℕ) where

@@ -28,7 +28,7 @@ use Rattle.vmodules.specs.Ports.{Port, own_item, own_items, plain_names}
 use Rattle.vmodules.specs.declared.ports.PortForm.{PortForm}
 use Rattle.vast.specs.declared.module.ModuleTree.{ModuleTree as Parsed}
 use Rattle.vmodules.specs.Inner.{own_in, HoldSame}
-use Rattle.velab_declaration.specs.Variables.{Declaration as Declared_as, declared, all_declared, declarations_of, kind_of, ScopeDrivers, variable_in, variables_in, lower_port, lower_ports, lower_declaration, lower_variables, counted_kind}
+use Rattle.velab_declaration.specs.Variables.{Declaration as Declared_as, declared, all_declared, declarations_of, kind_of, variable_in, variables_in, lower_port, lower_ports, lower_declaration, lower_variables, counted_kind}
 use Rattle.velab_declaration.specs.declared.variable.Form.{Form}
 use Rattle.velab_declaration.specs.Inner.{names_of, declared_in, texts_of, own_texts, own_trees, own_tree, own_kind, own_variables, port_texts, names_before, names_declared}
 
@@ -102,30 +102,30 @@ pub declaration_is : (words made : List Text) (item : ModuleItem) (place : ℕ) 
 declaration_is words made item place kind declared list is same = ap (own_kind words made kind) same ∙ sym (ap (own_tree words made) is)
 
 -- the variables of a declaration one by one
-pub own_opens : (words made : List Text) (drivers : ScopeDrivers) (form : Form) (one : Declared) (more : List Declared) →
-    own_variables words made drivers form (one ∷ more) ≡ own_variables words made drivers form (one ∷ []) ++ own_variables words made drivers form more
-own_opens words made drivers form one more =
-    ap (λ (l : List DeclaredTree). variables_in drivers form l)
+pub own_opens : (words made : List Text) (path : Text) (form : Form) (one : Declared) (more : List Declared) →
+    own_variables words made path form (one ∷ more) ≡ own_variables words made path form (one ∷ []) ++ own_variables words made path form more
+own_opens words made path form one more =
+    ap (λ (l : List DeclaredTree). variables_in path form l)
     (filter-append (λ (d : DeclaredTree). not (is_declared made d.name.letters)) (declared_tree words one ∷ []) (map (declared_tree words) more))
-    ∙ map-append (λ (d : DeclaredTree). variable_in drivers form d.name.letters) (own_trees words made (one ∷ [])) (own_trees words made more)
+    ∙ map-append (λ (d : DeclaredTree). variable_in path form d.name.letters) (own_trees words made (one ∷ [])) (own_trees words made more)
 
 -- one that is a port has none, and one that isn't has its own
-pub own_made : (words made : List Text) (drivers : ScopeDrivers) (form : Form) (one : Declared) → is_declared made (numbered words one.name).letters ≡ true →
-    own_variables words made drivers form (one ∷ []) ≡ []
-own_made words made drivers form one is =
-    ap (λ b. variables_in drivers form (if not b then declared_tree words one ∷ [] else [])) is
+pub own_made : (words made : List Text) (path : Text) (form : Form) (one : Declared) → is_declared made (numbered words one.name).letters ≡ true →
+    own_variables words made path form (one ∷ []) ≡ []
+own_made words made path form one is =
+    ap (λ b. variables_in path form (if not b then declared_tree words one ∷ [] else [])) is
 
-pub own_put : (words made : List Text) (drivers : ScopeDrivers) (form : Form) (one : Declared) → is_declared made (numbered words one.name).letters ≡ false →
-    own_variables words made drivers form (one ∷ []) ≡ variable_in drivers form (numbered words one.name).letters ∷ []
-own_put words made drivers form one is =
-    ap (λ b. variables_in drivers form (if not b then declared_tree words one ∷ [] else [])) is
+pub own_put : (words made : List Text) (path : Text) (form : Form) (one : Declared) → is_declared made (numbered words one.name).letters ≡ false →
+    own_variables words made path form (one ∷ []) ≡ variable_in path form (numbered words one.name).letters ∷ []
+own_put words made path form one is =
+    ap (λ b. variables_in path form (if not b then declared_tree words one ∷ [] else [])) is
 
-pub ports_open : (drivers : ScopeDrivers) (scope : Scope) (p : Port) (more : List Port) →
-    lower_ports drivers scope (p ∷ more) ≡ (lower_ports drivers scope (p ∷ []) >>= λ front. lower_ports drivers scope more >>= λ others. Ok (front ++ others))
-ports_open drivers scope p more = by (lower_port drivers scope p)
+pub ports_open : (path : Text) (scope : Scope) (p : Port) (more : List Port) →
+    lower_ports path scope (p ∷ more) ≡ (lower_ports path scope (p ∷ []) >>= λ front. lower_ports path scope more >>= λ others. Ok (front ++ others))
+ports_open path scope p more = by (lower_port path scope p)
   where
-    by : (a : Result Variable ElabFault) → (a >>= λ one. lower_ports drivers scope more >>= λ others. Ok (one ∷ others))
-        ≡ ((a >>= λ one. Ok (one ∷ [])) >>= λ front. lower_ports drivers scope more >>= λ others. Ok (front ++ others))
+    by : (a : Result Variable ElabFault) → (a >>= λ one. lower_ports path scope more >>= λ others. Ok (one ∷ others))
+        ≡ ((a >>= λ one. Ok (one ∷ [])) >>= λ front. lower_ports path scope more >>= λ others. Ok (front ++ others))
     by (Ok one) = refl
     by (Err fault) = refl
 
@@ -147,27 +147,27 @@ same_symbols is_port (initial statement) = refl
 same_symbols is_port (always statement) = refl
 same_symbols is_port (instances letters overrides list) = refl
 
-module _ (words made : List Text) (drivers : ScopeDrivers) (scope : Scope) (items : List ModuleItem) (i : ℕ) (x : ModuleItem) (within : i < length items) (is : x ≡ get_or items i x) (known : ℕ) (here : Scope)
+module _ (words made : List Text) (path : Text) (scope : Scope) (items : List ModuleItem) (i : ℕ) (x : ModuleItem) (within : i < length items) (is : x ≡ get_or items i x) (known : ℕ) (here : Scope)
     (there : here ≡ at scope known) (before : List Variable) (all : Result (List Variable) ElabFault)
-    (same : behind before (lower_variables drivers (at scope known) (own_in words made (drop i items))) ≡ all) where
+    (same : behind before (lower_variables path (at scope known) (own_in words made (drop i items))) ≡ all) where
   abbrev item : ItemTree
   item = own_tree words made x
 
   abbrev rest : Result (List Variable) ElabFault
-  rest = lower_variables drivers (behind_item (at scope known) item) (own_in words made (drop (i + 1) items))
+  rest = lower_variables path (behind_item (at scope known) item) (own_in words made (drop (i + 1) items))
 
-  item_opens : all ≡ behind before (lower_declaration drivers here item >>= λ front. rest >>= λ others. Ok (front ++ others))
+  item_opens : all ≡ behind before (lower_declaration path here item >>= λ front. rest >>= λ others. Ok (front ++ others))
   item_opens =
       sym same
-      ∙ ap (λ (l : List ModuleItem). behind before (lower_variables drivers (at scope known) (own_in words made l))) (drop_at items i x within is)
-      ∙ ap (λ (s : Scope). behind before (lower_declaration drivers s item >>= λ front. rest >>= λ others. Ok (front ++ others))) (sym there)
+      ∙ ap (λ (l : List ModuleItem). behind before (lower_variables path (at scope known) (own_in words made l))) (drop_at items i x within is)
+      ∙ ap (λ (s : Scope). behind before (lower_declaration path s item >>= λ front. rest >>= λ others. Ok (front ++ others))) (sym there)
 
-  pub item_put : (n : ℕ) → n ≡ length (symbols_by (item_tree words x)) → (next : List Variable) → behind before (lower_declaration drivers here item) ≡ Ok next →
-      behind next (lower_variables drivers (at scope (known + n)) (own_in words made (drop (i + 1) items))) ≡ all
+  pub item_put : (n : ℕ) → n ≡ length (symbols_by (item_tree words x)) → (next : List Variable) → behind before (lower_declaration path here item) ≡ Ok next →
+      behind next (lower_variables path (at scope (known + n)) (own_in words made (drop (i + 1) items))) ≡ all
   item_put n counted next put =
-      ap (λ (k : ℕ). behind next (lower_variables drivers (at scope (known + k)) (own_in words made (drop (i + 1) items)))) (counted ∙ sym (same_symbols (is_declared made) (item_tree words x)))
-      ∙ goes_behind before (lower_declaration drivers here item) rest next put
+      ap (λ (k : ℕ). behind next (lower_variables path (at scope (known + k)) (own_in words made (drop (i + 1) items)))) (counted ∙ sym (same_symbols (is_declared made) (item_tree words x)))
+      ∙ goes_behind before (lower_declaration path here item) rest next put
       ∙ sym item_opens
 
-  pub item_refused : (fault : ElabFault) → behind before (lower_declaration drivers here item) ≡ Err fault → all ≡ Err fault
-  item_refused fault put = item_opens ∙ first_refused before (lower_declaration drivers here item) rest fault put
+  pub item_refused : (fault : ElabFault) → behind before (lower_declaration path here item) ≡ Err fault → all ≡ Err fault
+  item_refused fault put = item_opens ∙ first_refused before (lower_declaration path here item) rest fault put

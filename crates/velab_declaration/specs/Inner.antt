@@ -1,7 +1,7 @@
 -- *internal*: What the steps of elaboration are told by and answer.
-use Rattle.std.specs.Prelude.{not, List, [], ◌++◌, Vec, map, Option, Some, option_map}
+use Rattle.std.specs.Prelude.{not, List, ◌++◌, Vec, map, Option, Some, option_map}
 use Rattle.std.specs.Borrow.{Bor}
-use Rattle.std.specs.List.{filter, flat_map, filter_map}
+use Rattle.std.specs.List.{filter, flat_map}
 use Rattle.vdesign.specs.Design as design
 use Rattle.vast.specs.Words.{Text}
 use Rattle.vast.specs.NumberedWords.{Word, numbered}
@@ -13,8 +13,6 @@ use Rattle.vmodules.specs.declared.ports.PortForm.{PortForm}
 use Rattle.vast.specs.declared.module.Instance.{Instance}
 use Rattle.vast.specs.NumberedTrees.{instance_tree, parameter_type, head_parameter, declaration_kind, declared_tree, setting_tree, item_tree, module_tree}
 use Rattle.vast.specs.declared.module.DeclarationKind.{DeclarationKind as DeclarationWords}
-use Rattle.vast.specs.declared.module.NetKind.{NetKind}
-use Rattle.vast.specs.declared.module.NetKind.TheVariants.{Reg, Wire}
 use Rattle.vast.specs.declared.module.ModuleItem.{ModuleItem}
 use Rattle.vast.specs.declared.module.ModuleTree.{ModuleTree as Parsed}
 use Rattle.vast.specs.declared.module.Declared.{Declared}
@@ -22,15 +20,14 @@ use Rattle.vast.specs.declared.module.Setting.{Setting}
 use Rattle.vast.specs.declared.token.Token.{Token}
 use Rattle.vast.specs.declared.module.HeadParameter.{HeadParameter as HeadWords}
 use Rattle.vast.specs.declared.module.ParameterType.{ParameterType as ParameterWords}
-use Rattle.velab_expr.specs.declared.fault.Rule.TheVariants.{Doubled, Drivers}
+use Rattle.velab_expr.specs.declared.fault.Rule.TheVariants.{Doubled}
 use Rattle.velab_expr.specs.declared.fault.ElabFault.{ElabFault}
 use Rattle.velab_expr.specs.Rules.{IsBroken, broken_at}
 use Rattle.velab_expr.specs.Scopes.{Scope}
 use Rattle.velab_declaration.specs.declared.variable.Form.{Form}
-use Rattle.velab_declaration.specs.declared.driven.Driver.{Driver}
 use Rattle.velab_expr.specs.Symbols.{instance_symbol, Symbol, parameter_symbol, event_symbol, valueless_by, symbols_in_head}
 use Rattle.velab_declaration.specs.Parameters.{Overrides}
-use Rattle.velab_declaration.specs.Variables.{port_declaration, net_names, declarations_of, variables_in, variables_as, ScopeDrivers, declarations, driver_of, drivers_by}
+use Rattle.velab_declaration.specs.Variables.{declarations_of, variables_in, variables_as, declarations}
 
 -- the names that an item declares, and those that items do
 abbrev pub names_of : ItemTree → List Word
@@ -42,10 +39,6 @@ declared_in items = map (λ d. d.name) (flat_map declarations_of items)
 -- one of these words stands again, behind these names
 abbrev pub DoublesIn : List Text → List Word → ElabFault → Type 0
 DoublesIn names words = IsBroken (broken_at Doubled (again_behind names words))
-
--- one of these nets is driven again, behind those of these names
-abbrev pub BreaksDrivers : List Text → List Word → ElabFault → Type 0
-BreaksDrivers names words = IsBroken (broken_at Drivers (again_behind names words))
 
 -- parameters, in the words of a text
 abbrev pub type_of : List Text → Option (Bor ParameterWords) → Option ParameterType
@@ -99,19 +92,19 @@ own_texts words made list = filter (λ word. not (is_declared made word.letters)
 abbrev pub own_trees : List Text → List Text → List Declared → List DeclaredTree
 own_trees words made list = filter (λ one. not (is_declared made one.name.letters)) (map (declared_tree words) list)
 
-abbrev pub own_variables : List Text → List Text → ScopeDrivers → Form → List Declared → List design.Variable
-own_variables words made drivers form list = variables_in drivers form (own_trees words made list)
+abbrev pub own_variables : List Text → List Text → Text → Form → List Declared → List design.Variable
+own_variables words made path form list = variables_in path form (own_trees words made list)
 
-abbrev pub formed_variables : List Text → List Text → ScopeDrivers → Form → DeclarationWords → List Declared → List design.Variable
-formed_variables words made drivers form kind list =
-    variables_as drivers form (declaration_kind words kind) (own_names (is_declared made) (declaration_kind words kind) (map (declared_tree words) list))
+abbrev pub formed_variables : List Text → List Text → Text → Form → DeclarationWords → List Declared → List design.Variable
+formed_variables words made path form kind list =
+    variables_as path form (declaration_kind words kind) (own_names (is_declared made) (declaration_kind words kind) (map (declared_tree words) list))
 
 abbrev pub own_tree : List Text → List Text → ModuleItem → ItemTree
 own_tree words made item = own_item (is_declared made) (item_tree words item)
 
 -- the variables of names declared in this form
-abbrev pub variables_by : List Text → ScopeDrivers → Form → List Declared → List design.Variable
-variables_by words drivers form list = variables_in drivers form (map (declared_tree words) list)
+abbrev pub variables_by : List Text → Text → Form → List Declared → List design.Variable
+variables_by words path form list = variables_in path form (map (declared_tree words) list)
 
 -- a declaration, as an item
 abbrev pub kind_item : List Text → DeclarationWords → List Declared → ItemTree
@@ -119,34 +112,3 @@ kind_item words kind list = declaration (declaration_kind words kind) (map (decl
 
 abbrev pub own_kind : List Text → List Text → DeclarationWords → List Declared → ItemTree
 own_kind words made kind list = own_item (is_declared made) (kind_item words kind list)
-
--- the words that are driven, one driver each
-abbrev pub driver_word : Driver → Word
-driver_word driver = record { letters = driver.net.now; number = driver.at }
-
-abbrev pub driver_names : List Driver → List Word
-driver_names list = map driver_word list
-
--- those that are among these nets
-abbrev pub among : List Text → List Driver → List Word
-among nets list = filter (λ word. is_declared nets word.letters) (driver_names list)
-
-abbrev pub declared_drivers : List Text → List Declared → List Word
-declared_drivers words list = filter_map driver_of (map (declared_tree words) list)
-
-abbrev pub set_drivers : List Text → List Setting → List Word
-set_drivers words list = map (λ setting. setting.name) (map (setting_tree words) list)
-
-abbrev pub item_drivers : List Text → List ModuleItem → List Word
-item_drivers words items = flat_map drivers_by (map (item_tree words) items)
-
--- the nets among ports, and among what an item and items declare
-abbrev pub port_nets : List Text → List PortForm → List Text
-port_nets words ports = net_names (map port_declaration (map (port_form words) ports))
-
-abbrev pub nets_as : NetKind → List Text → List Text
-nets_as Reg names = []
-nets_as Wire names = names
-
-abbrev pub item_nets : List Text → List ModuleItem → List Text
-item_nets words items = net_names (flat_map declarations_of (map (item_tree words) items))

@@ -3,4 +3,6 @@ pub mod Variables
 pub mod Parameters
 pub mod Right
 pub mod ActionFlaws
+pub mod Drives
+pub mod DriveMarks
 pub mod Inner

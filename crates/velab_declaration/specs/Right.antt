@@ -32,6 +32,10 @@ writes_net variables (Part number bounds) = is_some_net (slice_get variables num
 abbrev pub writes_variables : List Variable → List Target → Bool
 writes_variables variables targets = list_all (λ target. not (writes_net variables target)) targets
 
+-- whether a continuous assignment may drive these
+abbrev pub writes_nets : List Variable → List Target → Bool
+writes_nets variables targets = list_all (writes_net variables) targets
+
 -- whether an action writes what it may
 abbrev pub writes_rightly : List Variable → Action → Bool
 writes_rightly variables (Assign targets value) = writes_variables variables targets
@@ -47,7 +51,7 @@ writes_rightly variables (Forever body) = true
 writes_rightly variables (Delay amount body) = true
 writes_rightly variables (EventControl terms body) = true
 writes_rightly variables (Wait condition terms body) = true
-writes_rightly variables (ContinuousAssign net value terms) = is_some_net (slice_get variables net)
+writes_rightly variables (ContinuousAssign targets value terms) = writes_nets variables targets
 writes_rightly variables (Print when pieces) = true
 writes_rightly variables (DumpVars selection) = true
 writes_rightly variables (Dump switch) = true

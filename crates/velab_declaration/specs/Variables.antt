@@ -1,12 +1,11 @@
--- *trusted*: The variables of an instance (IEEE 1364-2005, 4.2, 4.3.1, 4.8), and the nets that something drives in it (6.1).
-use Rattle.std.specs.Prelude.{ℕ, ◌==◌, Bool, true, false, ◌&&◌, if◌then◌else◌, List, [], ◌∷◌, ◌++◌, map, length, Option, None, Some, option_map, Result, Ok, not}
-use Rattle.std.specs.List.{filter, flat_map, filter_map}
-use Rattle.vbits.specs.declared.bit4.Bit4.TheVariants.{X, Z}
-use Rattle.vbits.specs.declared.bit4.Bit4.{Bit4}
+-- *trusted*: The variables of an instance (IEEE 1364-2005, 4.2, 4.3.1, 4.8).
+use Rattle.std.specs.Prelude.{ℕ, ◌==◌, Bool, true, false, ◌&&◌, if◌then◌else◌, List, [], ◌∷◌, ◌++◌, map, length, Option, None, Some, Result, Ok, not}
+use Rattle.std.specs.List.{flat_map}
+use Rattle.vbits.specs.declared.bit4.Bit4.TheVariants.{X}
+use Rattle.vbits.specs.Vectors.{filled}
 use Rattle.vast.specs.Words.{Text}
 use Rattle.vast.specs.NumberedWords.{Word}
 use Rattle.vmodules.specs.Ports.{Second, Port, type_in, ports_of, own_items, is_plain_list}
-use Rattle.vmodules.specs.Names.{is_declared}
 use Rattle.vast.specs.NumberedModules.{RangeTree, DeclarationKind, variables, integers, directed, DeclaredTree, ItemTree, parameters, declaration, events, assignments, initial, always, instances, ModuleTree}
 use Rattle.vast.specs.declared.module.NetKind.{NetKind}
 use Rattle.vast.specs.declared.module.NetKind.TheVariants as net
@@ -81,62 +80,16 @@ length_of Integer None = 32
 length_of Time None = 64
 length_of Wire None = 1
 
--- where variables stand: the path of their instance or the top's name, and the names of the nets in it that something drives
-pub record ScopeDrivers : Type 0 where
-  pub name : Text
-  pub driven : List Text
-
--- what each bit is until it is first written: z of a net that nothing drives (4.2.1), and else x (4.2.2; of a net that is driven, own)
-abbrev pub start_by : ScopeDrivers → Kind → Text → Bit4
-start_by drivers Reg text = X
-start_by drivers Integer text = X
-start_by drivers Time text = X
-start_by drivers Wire text = if is_declared drivers.driven text then X else Z
-
--- its name stands behind its instance's and a dot
-abbrev pub variable_in : ScopeDrivers → Form → Text → design.Variable
-variable_in drivers form text = record {
-  name = drivers.name ++ 46 ∷ text;
+-- its name stands behind its instance's path and a dot; which of its bits are z at first is told by the whole design (`started`)
+abbrev pub variable_in : Text → Form → Text → design.Variable
+variable_in path form text = record {
+  name = path ++ 46 ∷ text;
   kind = form.kind;
   length = length_of form.kind form.bounds;
   signed = form.signed;
-  start = start_by drivers form.kind text;
+  start = filled (length_of form.kind form.bounds) X;
   bounds = form.bounds;
 }
-
--- a net that is declared with a value is driven by it (6.1.1)
-abbrev pub driver_of : DeclaredTree → Option Word
-driver_of declared = option_map (λ value. declared.name) declared.value
-
-abbrev pub drivers_as : DeclarationKind → List DeclaredTree → List Word
-drivers_as (variables net.Wire type) list = filter_map driver_of list
-drivers_as (variables net.Reg type) list = []
-drivers_as (integers long) list = []
-drivers_as (directed direction) list = []
-
--- the names that an item drives, as often as it does (6.1)
-abbrev pub drivers_by : ItemTree → List Word
-drivers_by (parameters local type settings) = []
-drivers_by (declaration kind list) = drivers_as kind list
-drivers_by (events names) = []
-drivers_by (assignments settings) = map (λ setting. setting.name) settings
-drivers_by (initial statement) = []
-drivers_by (always statement) = []
-drivers_by (instances letters overrides list) = []
-
-abbrev pub is_wire : Kind → Bool
-is_wire Reg = false
-is_wire Integer = false
-is_wire Time = false
-is_wire Wire = true
-
--- the nets among what is declared (4.2.1)
-abbrev pub net_names : List Declaration → List Text
-net_names list = map (λ d. d.name.letters) (filter (λ d. is_wire d.kind) list)
-
--- those of ports, and of what items declare
-abbrev pub nets_of : List Port → List ItemTree → List Text
-nets_of ports items = net_names (map port_declaration ports ++ flat_map declarations_of items)
 
 -- ---- what is declared, lowered to the variables of a design
 
@@ -150,31 +103,31 @@ lower_kind scope (integers long) = Ok (record { kind = counted_kind long; signed
 lower_kind scope (directed direction) = lower_bounds scope (type_in direction).range >>= λ bounds. Ok (form_of net.Wire (type_in direction).signed bounds)
 
 -- a variable for each name
-abbrev pub variables_in : ScopeDrivers → Form → List DeclaredTree → List design.Variable
-variables_in drivers form list = map (λ one. variable_in drivers form one.name.letters) list
+abbrev pub variables_in : Text → Form → List DeclaredTree → List design.Variable
+variables_in path form list = map (λ one. variable_in path form one.name.letters) list
 
-abbrev pub variables_as : ScopeDrivers → Form → DeclarationKind → List DeclaredTree → List design.Variable
-variables_as drivers form (variables word type) list = variables_in drivers form list
-variables_as drivers form (integers long) list = variables_in drivers form list
-variables_as drivers form (directed direction) list = []  -- 12.3.3: these stand with the ports
+abbrev pub variables_as : Text → Form → DeclarationKind → List DeclaredTree → List design.Variable
+variables_as path form (variables word type) list = variables_in path form list
+variables_as path form (integers long) list = variables_in path form list
+variables_as path form (directed direction) list = []  -- 12.3.3: these stand with the ports
 
-abbrev pub lower_names : ScopeDrivers → Scope → DeclarationKind → List DeclaredTree → Result (List design.Variable) ElabFault
-lower_names drivers scope kind list = lower_kind scope kind >>= λ form. Ok (variables_as drivers form kind list)
+abbrev pub lower_names : Text → Scope → DeclarationKind → List DeclaredTree → Result (List design.Variable) ElabFault
+lower_names path scope kind list = lower_kind scope kind >>= λ form. Ok (variables_as path form kind list)
 
-abbrev pub lower_declaration : ScopeDrivers → Scope → ItemTree → Result (List design.Variable) ElabFault
-lower_declaration drivers scope (parameters local type settings) = Ok []
-lower_declaration drivers scope (declaration kind list) = lower_names drivers scope kind list
-lower_declaration drivers scope (events names) = Ok []
-lower_declaration drivers scope (assignments settings) = Ok []
-lower_declaration drivers scope (initial statement) = Ok []
-lower_declaration drivers scope (always statement) = Ok []
-lower_declaration drivers scope (instances letters overrides list) = Ok []
+abbrev pub lower_declaration : Text → Scope → ItemTree → Result (List design.Variable) ElabFault
+lower_declaration path scope (parameters local type settings) = Ok []
+lower_declaration path scope (declaration kind list) = lower_names path scope kind list
+lower_declaration path scope (events names) = Ok []
+lower_declaration path scope (assignments settings) = Ok []
+lower_declaration path scope (initial statement) = Ok []
+lower_declaration path scope (always statement) = Ok []
+lower_declaration path scope (instances letters overrides list) = Ok []
 
 -- in the order of the text, each in the scope of its place
-abbrev pub lower_variables : ScopeDrivers → Scope → List ItemTree → Result (List design.Variable) ElabFault
-lower_variables drivers scope [] = Ok []
-lower_variables drivers scope (item ∷ more) =
-    lower_declaration drivers scope item >>= λ front. lower_variables drivers (behind_item scope item) more >>= λ others. Ok (front ++ others)
+abbrev pub lower_variables : Text → Scope → List ItemTree → Result (List design.Variable) ElabFault
+lower_variables path scope [] = Ok []
+lower_variables path scope (item ∷ more) =
+    lower_declaration path scope item >>= λ front. lower_variables path (behind_item scope item) more >>= λ others. Ok (front ++ others)
 
 -- 12.3.3: where a port is declared again its range is the same, which is told by the name that stands again
 abbrev pub same_bounds : Option Bounds → Option Bounds → Bool
@@ -189,15 +142,15 @@ lower_again scope (Some second) bounds =
     lower_bounds scope second.type.range >>= λ other. required (same_bounds bounds other) rule.Width (Some second.name) bounds
 
 -- 12.3.3: a port is declared where it stands
-abbrev pub lower_port : ScopeDrivers → Scope → Port → Result design.Variable ElabFault
-lower_port drivers scope p =
+abbrev pub lower_port : Text → Scope → Port → Result design.Variable ElabFault
+lower_port path scope p =
     lower_bounds scope p.type.range >>= λ bounds.
     lower_again scope p.again bounds >>= λ whole.
-    Ok (variable_in drivers (form_of p.net p.type.signed whole) p.name.letters)
+    Ok (variable_in path (form_of p.net p.type.signed whole) p.name.letters)
 
-abbrev pub lower_ports : ScopeDrivers → Scope → List Port → Result (List design.Variable) ElabFault
-lower_ports drivers scope [] = Ok []
-lower_ports drivers scope (p ∷ more) = lower_port drivers scope p >>= λ one. lower_ports drivers scope more >>= λ others. Ok (one ∷ others)
+abbrev pub lower_ports : Text → Scope → List Port → Result (List design.Variable) ElabFault
+lower_ports path scope [] = Ok []
+lower_ports path scope (p ∷ more) = lower_port path scope p >>= λ one. lower_ports path scope more >>= λ others. Ok (one ∷ others)
 
 -- 12.3.2: ports that items declare stand behind all of these
 abbrev pub port_scope : ModuleTree → Scope → Scope

@@ -11,7 +11,7 @@ use vdesign::action::{Action, Target};
 use vdesign::design::{Kind, Variable};
 use velab_expr::fault::{ElabFault, Rule};
 
-fn is_net(kind: Kind) -> bool
+pub(crate) fn is_net(kind: Kind) -> bool
     ensures { result ≡ spec.is_net kind }
 {
     match kind {
@@ -39,6 +39,18 @@ fn writes_net(variables: &[Variable], target: &Target) -> bool
         Target::Bit { variable, .. } => is_some_net(variables, *variable),
         Target::Part { variable, .. } => is_some_net(variables, *variable),
     }
+}
+
+// Whether a continuous assignment may drive these.
+fn writes_nets(variables: &[Variable], targets: &[Target]) -> bool
+    ensures { result ≡ spec.writes_nets variables.now targets.now }
+{
+    for target in targets {
+        if !writes_net(variables, target) {
+            return false;
+        }
+    }
+    true
 }
 
 // Whether a process may write these.
@@ -73,7 +85,7 @@ fn writes_rightly(variables: &[Variable], action: &Action) -> bool
         Action::Delay { .. } => true,
         Action::EventControl { .. } => true,
         Action::Wait { .. } => true,
-        Action::ContinuousAssign { net, .. } => is_some_net(variables, *net),
+        Action::ContinuousAssign { targets, .. } => writes_nets(variables, targets.as_slice()),
         Action::Print { .. } => true,
         Action::DumpVars(_) => true,
         Action::Dump(_) => true,

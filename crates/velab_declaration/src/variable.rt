@@ -12,11 +12,10 @@ ghost use Rattle.velab_expr.specs.Inner.{symbols_in, IsNarrow};
 ghost use Rattle.velab_expr.specs.Ranges.{lower_bounds};
 ghost use Rattle.velab_declaration.specs.Inner.{own_kind, own_tree, own_variables, formed_variables, variables_by};
 
-use crate::drivers::ScopeDrivers;
 use basis::{NoMemory, OrMemory};
 use std::alloc::Global;
 use vast::module::{DeclarationKind, Declared, ModuleItem, ModuleTree, NetKind};
-use vbits::Bit4;
+use vbits::Vec4;
 use vdesign::design::{Kind, Variable};
 use vdesign::expression::Bounds;
 use velab_expr::fault::{ElabFault, Rule};
@@ -61,41 +60,18 @@ pub fn dotted_path(alloc: Global, scope: &[u8], name: &[u8]) -> Result<Vec<u8>, 
     Ok(text)
 }
 
-// What each bit of a variable is until it is first written.
-fn start_of(drivers: &ScopeDrivers<'_, '_>, kind: Kind, name: &[u8]) -> Bit4
-    ensures { result ≡ variables.start_by drivers.now kind name.now }
-{
-    match kind {
-        Kind::Reg => Bit4::X,
-        Kind::Integer => Bit4::X,
-        Kind::Time => Bit4::X,
-        Kind::Wire => {
-            if drivers.driven.place(name).is_some() {
-                Bit4::X
-            } else {
-                Bit4::Z
-            }
-        }
-    }
-}
-
-fn variable(
-    alloc: Global,
-    drivers: &ScopeDrivers<'_, '_>,
-    form: Form,
-    name: &[u8],
-) -> Result<Variable, NoMemory>
+fn variable(alloc: Global, path: &[u8], form: Form, name: &[u8]) -> Result<Variable, NoMemory>
     requires { IsNarrow form.bounds }
-    ensures { IfOk result (λ v. v ≡ variable_in drivers.now form name.now) }
+    ensures { IfOk result (λ v. v ≡ variable_in path.now form name.now) }
 {
-    let start = start_of(drivers, form.kind, name);
-    let name = dotted_path(alloc, drivers.name, name)?;
+    let length = length_of(form);
+    let name = dotted_path(alloc, path, name)?;
     Ok(Variable {
         name,
         kind: form.kind,
-        length: length_of(form),
+        length,
         signed: form.signed,
-        start,
+        start: Vec4::all_x(length),
         bounds: form.bounds,
     })
 }
@@ -104,17 +80,17 @@ fn variable(
 fn put_all(
     alloc: Global,
     tokens: &Tokens<'_>,
-    drivers: &ScopeDrivers<'_, '_>,
+    path: &[u8],
     form: Form,
     list: &[Declared],
     into: &mut Vec<Variable>,
 ) -> Result<(), NoMemory>
     requires { IsNarrow form.bounds }
     ensures { OnOk result (into.new.items ≡
-        into.old.items ++ variables_by (words_of tokens.now) drivers.now form list.now) }
+        into.old.items ++ variables_by (words_of tokens.now) path.now form list.now) }
 {
     for one in list {
-        let variable = variable(alloc, drivers, form, letters(tokens, one.name))?;
+        let variable = variable(alloc, path, form, letters(tokens, one.name))?;
         into.push(variable)?;
     }
     Ok(())
@@ -124,7 +100,7 @@ fn put_all(
 fn put_one(
     alloc: Global,
     tokens: &Tokens<'_>,
-    drivers: &ScopeDrivers<'_, '_>,
+    path: &[u8],
     made: &Names<'_>,
     form: Form,
     one: &Declared,
@@ -132,13 +108,13 @@ fn put_one(
 ) -> Result<(), NoMemory>
     requires { IsNarrow form.bounds }
     ensures { OnOk result (into.new.items ≡ into.old.items
-        ++ own_variables (words_of tokens.now) made.now drivers.now form (one.now ∷ [])) }
+        ++ own_variables (words_of tokens.now) made.now path.now form (one.now ∷ [])) }
 {
     let text = letters(tokens, one.name);
     if made.place(text).is_some() {
         return Ok(());
     }
-    let variable = variable(alloc, drivers, form, text)?;
+    let variable = variable(alloc, path, form, text)?;
     into.push(variable)?;
     Ok(())
 }
@@ -147,7 +123,7 @@ fn put_one(
 fn put_own(
     alloc: Global,
     tokens: &Tokens<'_>,
-    drivers: &ScopeDrivers<'_, '_>,
+    path: &[u8],
     made: &Names<'_>,
     form: Form,
     list: &[Declared],
@@ -155,10 +131,10 @@ fn put_own(
 ) -> Result<(), NoMemory>
     requires { IsNarrow form.bounds }
     ensures { OnOk result (into.new.items ≡ into.old.items
-        ++ own_variables (words_of tokens.now) made.now drivers.now form list.now) }
+        ++ own_variables (words_of tokens.now) made.now path.now form list.now) }
 {
     for one in list {
-        put_one(alloc, tokens, drivers, made, form, one, into)?;
+        put_one(alloc, tokens, path, made, form, one, into)?;
     }
     Ok(())
 }
@@ -220,7 +196,7 @@ fn form_of(
 fn put_formed(
     alloc: Global,
     tokens: &Tokens<'_>,
-    drivers: &ScopeDrivers<'_, '_>,
+    path: &[u8],
     made: &Names<'_>,
     form: Form,
     kind: &DeclarationKind,
@@ -229,13 +205,13 @@ fn put_formed(
 ) -> Result<(), NoMemory>
     requires { IsNarrow form.bounds }
     ensures { OnOk result (into.new.items ≡ into.old.items ++ formed_variables
-        (words_of tokens.now) made.now drivers.now form kind.now list.now) }
+        (words_of tokens.now) made.now path.now form kind.now list.now) }
 {
     match kind {
         DeclarationKind::Variables { .. } => {
-            put_own(alloc, tokens, drivers, made, form, list, into)
+            put_own(alloc, tokens, path, made, form, list, into)
         }
-        DeclarationKind::Integers { .. } => put_all(alloc, tokens, drivers, form, list, into),
+        DeclarationKind::Integers { .. } => put_all(alloc, tokens, path, form, list, into),
         DeclarationKind::Directed { .. } => Ok(()),
     }
 }
@@ -244,7 +220,7 @@ fn put_formed(
 fn put_names(
     alloc: Global,
     tokens: &Tokens<'_>,
-    drivers: &ScopeDrivers<'_, '_>,
+    path: &[u8],
     made: &Names<'_>,
     scope: &Scope<'_, '_>,
     kind: &DeclarationKind,
@@ -252,10 +228,10 @@ fn put_names(
     into: &mut Vec<Variable>,
 ) -> Result<(), OrMemory<ElabFault>>
     ensures { Makes result into.new.items (behind into.old.items (lower_declaration
-        drivers.now scope.now (own_kind (words_of tokens.now) made.now kind.now list.now))) }
+        path.now scope.now (own_kind (words_of tokens.now) made.now kind.now list.now))) }
 {
     let form = form_of(alloc, scope, tokens, kind)?;
-    put_formed(alloc, tokens, drivers, made, form, kind, list, into)?;
+    put_formed(alloc, tokens, path, made, form, kind, list, into)?;
     Ok(())
 }
 
@@ -263,18 +239,18 @@ fn put_names(
 fn put_item(
     alloc: Global,
     tokens: &Tokens<'_>,
-    drivers: &ScopeDrivers<'_, '_>,
+    path: &[u8],
     made: &Names<'_>,
     scope: &Scope<'_, '_>,
     item: &ModuleItem,
     into: &mut Vec<Variable>,
 ) -> Result<(), OrMemory<ElabFault>>
     ensures { Makes result into.new.items (behind into.old.items (lower_declaration
-        drivers.now scope.now (own_tree (words_of tokens.now) made.now item.now))) }
+        path.now scope.now (own_tree (words_of tokens.now) made.now item.now))) }
 {
     match item {
         ModuleItem::Declaration { kind, declared, .. } => {
-            put_names(alloc, tokens, drivers, made, scope, kind, declared, into)
+            put_names(alloc, tokens, path, made, scope, kind, declared, into)
         }
         ModuleItem::Parameters { .. } => Ok(()),
         ModuleItem::Events { .. } => Ok(()),
@@ -359,13 +335,13 @@ fn whole_bounds(
 fn put_port(
     alloc: Global,
     tokens: &Tokens<'_>,
-    drivers: &ScopeDrivers<'_, '_>,
+    path: &[u8],
     scope: &Scope<'_, '_>,
     port: &PortForm<'_>,
     into: &mut Vec<Variable>,
 ) -> Result<(), OrMemory<ElabFault>>
     ensures { Makes result into.new.items (behind into.old.items
-        (lower_ports drivers.now scope.now (port_form (words_of tokens.now) port.now ∷ []))) }
+        (lower_ports path.now scope.now (port_form (words_of tokens.now) port.now ∷ []))) }
 {
     let own = port_bounds(alloc, tokens, scope, port)?;
     let bounds = whole_bounds(alloc, tokens, scope, port.again, own)?;
@@ -374,7 +350,7 @@ fn put_port(
         signed: port_signed(port),
         bounds,
     };
-    let variable = variable(alloc, drivers, form, letters(tokens, port.name))?;
+    let variable = variable(alloc, path, form, letters(tokens, port.name))?;
     into.push(variable)?;
     Ok(())
 }
@@ -383,16 +359,16 @@ fn put_port(
 fn put_each_port(
     alloc: Global,
     tokens: &Tokens<'_>,
-    drivers: &ScopeDrivers<'_, '_>,
+    path: &[u8],
     scope: &Scope<'_, '_>,
     ports: &[PortForm<'_>],
     into: &mut Vec<Variable>,
 ) -> Result<(), OrMemory<ElabFault>>
     ensures { Makes result into.new.items (behind into.old.items
-        (lower_ports drivers.now scope.now (map (port_form (words_of tokens.now)) ports.now))) }
+        (lower_ports path.now scope.now (map (port_form (words_of tokens.now)) ports.now))) }
 {
     for port in ports {
-        put_port(alloc, tokens, drivers, scope, port, into)?;
+        put_port(alloc, tokens, path, scope, port, into)?;
     }
     Ok(())
 }
@@ -413,25 +389,25 @@ fn port_scope<'s, 't>(unit: &ModuleTree, scope: &Scope<'s, 't>) -> Scope<'s, 't>
 pub fn put_ports(
     alloc: Global,
     tokens: &Tokens<'_>,
-    drivers: &ScopeDrivers<'_, '_>,
+    path: &[u8],
     scope: &Scope<'_, '_>,
     unit: &ModuleTree,
     ports: &[PortForm<'_>],
     into: &mut Vec<Variable>,
 ) -> Result<(), OrMemory<ElabFault>>
-    ensures { Makes result into.new.items (behind into.old.items (lower_ports drivers.now
+    ensures { Makes result into.new.items (behind into.old.items (lower_ports path.now
         (variables.port_scope (module_tree (words_of tokens.now) unit.now) scope.now)
         (map (port_form (words_of tokens.now)) ports.now))) }
 {
     let here = port_scope(unit, scope);
-    put_each_port(alloc, tokens, drivers, &here, ports, into)
+    put_each_port(alloc, tokens, path, &here, ports, into)
 }
 
 // The variables that items declare, in the order of the text, without these ports.
 fn put_items(
     alloc: Global,
     tokens: &Tokens<'_>,
-    drivers: &ScopeDrivers<'_, '_>,
+    path: &[u8],
     made: &Names<'_>,
     scope: &Scope<'_, '_>,
     items: &[ModuleItem],
@@ -439,12 +415,12 @@ fn put_items(
 ) -> Result<(), OrMemory<ElabFault>>
     requires small { scope.now.known + length (symbols_in (words_of tokens.now) items.now) < 2 ^ 64 }
     ensures { Makes result into.new.items (behind into.old.items
-        (lower_variables drivers.now scope.now (own_in (words_of tokens.now) made.now items.now))) }
+        (lower_variables path.now scope.now (own_in (words_of tokens.now) made.now items.now))) }
 {
     let mut known = scope.known;
     for item in items {
         let here = scope.at(known);
-        put_item(alloc, tokens, drivers, made, &here, item, into)?;
+        put_item(alloc, tokens, path, made, &here, item, into)?;
         known += symbol_count(item);
     }
     Ok(())
@@ -455,7 +431,7 @@ fn put_items(
 pub fn put_variables(
     alloc: Global,
     tokens: &Tokens<'_>,
-    drivers: &ScopeDrivers<'_, '_>,
+    path: &[u8],
     scope: &Scope<'_, '_>,
     unit: &ModuleTree,
     into: &mut Vec<Variable>,
@@ -463,8 +439,8 @@ pub fn put_variables(
     requires small { scope.now.known
         + length (symbols_in (words_of tokens.now) unit.now.items.items) < 2 ^ 64 }
     ensures { Makes result into.new.items (behind into.old.items (lower_variables
-        drivers.now scope.now (own_items (module_tree (words_of tokens.now) unit.now)))) }
+        path.now scope.now (own_items (module_tree (words_of tokens.now) unit.now)))) }
 {
     let made = plain_names(alloc, tokens, unit)?;
-    put_items(alloc, tokens, drivers, &made, scope, &unit.items, into)
+    put_items(alloc, tokens, path, &made, scope, &unit.items, into)
 }

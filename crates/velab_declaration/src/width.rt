@@ -20,7 +20,7 @@ use vvalue::environment::Environment;
 use vvalue::flaw::{Flaw, flaw_of, targets_flaw};
 
 // For each variable as many bits as it has.
-fn blanks(alloc: Global, variables: &[Variable]) -> Result<Vec<Vec4>, NoMemory>
+pub(crate) fn blanks(alloc: Global, variables: &[Variable]) -> Result<Vec<Vec4>, NoMemory>
     ensures { IfOk result (λ values. values.items ≡ map spec.blank variables.now) }
 {
     let mut values = Vec::new(alloc);
@@ -117,7 +117,11 @@ fn action_flaw(action: &Action, environment: &Environment<'_>) -> Option<Flaw>
         Action::Delay { amount, .. } => flaw_of(amount, environment),
         Action::EventControl { .. } => None,
         Action::Wait { condition, .. } => flaw_of(condition, environment),
-        Action::ContinuousAssign { value, .. } => flaw_of(value, environment),
+        Action::ContinuousAssign { targets, value, .. } => assignment_flaw(
+            targets,
+            value,
+            environment,
+        ),
         Action::Print { pieces, .. } => pieces_flaw(pieces.as_slice(), environment),
         Action::DumpVars(_) => None,
         Action::Dump(_) => None,

@@ -6,4 +6,5 @@ pub mod ExpressionLemmas
 pub mod PartLemmas
 pub mod ConstantLemmas
 pub mod TargetLemmas
+pub mod ConnectedLemmas
 pub mod FirstLemmas

@@ -12,3 +12,4 @@ pub mod Selections
 pub mod Symbols
 pub mod Inner
 pub mod InnerParts
+pub mod InnerTargets

@@ -3,3 +3,4 @@ pub mod BranchLemmas
 pub mod WaitLemmas
 pub mod ProcessLemmas
 pub mod LineLemmas
+pub mod ConnectionLemmas

@@ -2,6 +2,7 @@
 use Rattle.std.specs.Prelude.{if◌then◌else◌, List, [], ◌∷◌, length, Option, None, Some, Result, Ok}
 use Rattle.vast.specs.NumberedWords.{Word}
 use Rattle.vast.specs.NumberedExpressions as text
+use Rattle.vast.specs.NumberedStatements.{TargetTree, whole}
 use Rattle.vmodules.specs.Ports.{Port}
 use Rattle.vmodules.specs.Connected.{NamedConnection, value_for}
 use Rattle.vdesign.specs.declared.action.Action.{Action}
@@ -10,45 +11,32 @@ use Rattle.vdesign.specs.declared.action.Action.TheVariants.{ContinuousAssign}
 use Rattle.velab_expr.specs.declared.fault.Rule.TheVariants.{Ports}
 use Rattle.velab_expr.specs.Answers.{◌>>=◌, refused}
 use Rattle.velab_expr.specs.Rules.{number_in}
-use Rattle.velab_expr.specs.Scopes.{Scope, lower_variable}
+use Rattle.velab_expr.specs.Scopes.{Scope}
 use Rattle.velab_expr.specs.Resolved.{lower_expression}
+use Rattle.velab_expr.specs.Written.{lower_net_target, target_of}
 use Rattle.velab_process.specs.Waits.{any_of, names_in}
 use Rattle.velab_process.specs.Statements.{Table, with_numbered}
 use Rattle.velab_process.specs.Processes.{Processes, with_begins_before}
 
--- the name that an expression is, alone
-abbrev pub only_name : text.ExpressionTree → Option Word
-only_name (text.number digits) = None
-only_name (text.name letters) = Some letters
-only_name (text.time word) = None
-only_name (text.bit letters index) = None
-only_name (text.part letters left right) = None
-only_name (text.parentheses inner) = None
-only_name (text.concatenation parts) = None
-only_name (text.replication count parts) = None
-only_name (text.conversion signed inner) = None
-only_name (text.apply operator inner) = None
-only_name (text.combine operator left right) = None
-only_name (text.conditional condition when_true when_false) = None
-
 -- an input is driven by what stands outside
 abbrev pub lower_input : Scope → Scope → Word → text.ExpressionTree → Result Action ElabFault
 lower_input outer inner port value =
-    lower_variable inner port >>= λ net.
+    lower_net_target inner (whole port) >>= λ targets.
     lower_expression outer value >>= λ e.
-    Ok (ContinuousAssign net e (any_of outer (names_in value)))
+    Ok (ContinuousAssign targets e (any_of outer (names_in value)))
 
--- an output drives a whole net outside: what it is connected to is a name alone, or this is told by the name of the instance
-abbrev pub lower_output : Word → Scope → Scope → Word → Option Word → Result Action ElabFault
+-- an output drives nets outside, or bits of them: what it is connected to is a name, a bit, a part, or a concatenation of such, or this is told by
+-- the name of the instance
+abbrev pub lower_output : Word → Scope → Scope → Word → Option TargetTree → Result Action ElabFault
 lower_output whose outer inner port None = refused Ports (Some whose)
-lower_output whose outer inner port (Some name) =
-    lower_variable outer name >>= λ net.
+lower_output whose outer inner port (Some target) =
+    lower_net_target outer target >>= λ targets.
     lower_expression inner (text.name port) >>= λ e.
-    Ok (ContinuousAssign net e (any_of inner (port ∷ [])))
+    Ok (ContinuousAssign targets e (any_of inner (port ∷ [])))
 
 abbrev pub lower_connection : Word → Scope → Scope → Port → text.ExpressionTree → Result Action ElabFault
 lower_connection whose outer inner p value =
-    if p.output then lower_output whose outer inner p.name (only_name value) else lower_input outer inner p.name value
+    if p.output then lower_output whose outer inner p.name (target_of value) else lower_input outer inner p.name value
 
 -- a process of one action
 abbrev pub one_process : Table → Option Word → Action → Processes

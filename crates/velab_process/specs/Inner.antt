@@ -1,14 +1,14 @@
 -- *internal*: What the steps of elaboration are told by and answer.
-use Rattle.std.specs.Prelude.{◌≡◌, ℕ, List, [], ◌++◌, Vec, map, Option, None, option_map, Result, Ok, Err, OnOk, Bool, true, false}
+use Rattle.std.specs.Prelude.{◌≡◌, ℕ, List, [], ◌∷◌, ◌++◌, Vec, map, Option, None, option_map, Result, Ok, Err, OnOk, Bool, true, false}
 use Rattle.std.specs.List.{filter_map}
 use Rattle.basis.specs.declared.memory.OrMemory.{OrMemory}
 use Rattle.vast.specs.Words.{Text}
 use Rattle.vast.specs.NumberedWords.{Word, numbered}
-use Rattle.vast.specs.NumberedTrees.{declared_tree, setting_tree, item_tree}
+use Rattle.vast.specs.NumberedTrees.{declared_tree, net_assignment, item_tree}
 use Rattle.vast.specs.declared.module.NetKind.{NetKind}
 use Rattle.vast.specs.declared.module.ModuleItem.{ModuleItem}
 use Rattle.vast.specs.declared.module.Declared.{Declared}
-use Rattle.vast.specs.declared.module.Setting.{Setting}
+use Rattle.vast.specs.declared.module.NetAssignment.{NetAssignment}
 use Rattle.vast.specs.declared.token.Token.{Token}
 use Rattle.vdesign.specs.declared.print.Piece.{Piece}
 use Rattle.vmodules.specs.Connected.{value_for}
@@ -20,10 +20,12 @@ use Rattle.velab_expr.specs.Answers.{◌>>=◌, Refuses}
 use Rattle.velab_expr.specs.Scopes.{Scope}
 use Rattle.vast.specs.NumberedExpressions as text
 use Rattle.vast.specs.NumberedStatements.{StatementTree, TargetTree, empty, block, assign, nonblocking, trigger, if_true, if_else, case_of, while_true, repeat_times, forever, for_loop, wait_for, delay, event, task}
-use Rattle.vdesign.specs.declared.action.Action.TheVariants.{While}
+use Rattle.vdesign.specs.declared.action.Action.{Action}
+use Rattle.vdesign.specs.declared.action.Action.TheVariants.{While, ContinuousAssign}
 use Rattle.velab_expr.specs.FirstWords.{first_in}
 use Rattle.velab_expr.specs.Resolved.{lower_expression}
-use Rattle.velab_process.specs.Waits.{names_in, read_by_delay, read_by_assignment, read_by_task, read_by, read_by_all, read_by_branches}
+use Rattle.velab_expr.specs.InnerTargets.{lower_connected}
+use Rattle.velab_process.specs.Waits.{any_of, names_in, read_by_delay, read_by_assignment, read_by_task, read_by, read_by_all, read_by_branches}
 use Rattle.velab_process.specs.Statements.{Table, Lowered, lowered_action, with_places_before, lower_assignment, lower_statement}
 use Rattle.velab_process.specs.Processes.{Processes, lower_processes, lower_items, process_trees_by, ProcessTree, process_of, driven_by}
 use Rattle.velab_process.specs.Connections.{lower_join, lower_joins}
@@ -90,8 +92,8 @@ inner_read (task call) = []
 abbrev pub starts_in : List Text → NetKind → List Declared → List ProcessTree
 starts_in words word list = filter_map (process_of word) (map (declared_tree words) list)
 
-abbrev pub drives_in : List Text → List Setting → List ProcessTree
-drives_in words list = map driven_by (map (setting_tree words) list)
+abbrev pub drives_in : List Text → List NetAssignment → List ProcessTree
+drives_in words list = map driven_by (map (net_assignment words) list)
 
 -- the processes of an item, and of items
 abbrev pub processes_of_item : List Text → Scope → Table → ModuleItem → Result Processes ElabFault
@@ -99,10 +101,6 @@ processes_of_item words scope table item = lower_processes scope table (process_
 
 abbrev pub processes_of : List Text → Scope → Table → List ModuleItem → Result Processes ElabFault
 processes_of words scope table items = lower_items scope table (map (item_tree words) items)
-
--- a name that was found
-abbrev pub name_of : List Text → Option Token → Option Word
-name_of words = option_map (numbered words)
 
 -- those of port connections
 abbrev pub joins_of : List Text → Token → Scope → Scope → List ConnectionEntry → Table → List PortForm → Result Processes ElabFault
@@ -112,6 +110,13 @@ joins_of words whose outer inner connections table ports =
 abbrev pub join_of : List Text → Token → Scope → Scope → List ConnectionEntry → Table → PortForm → Result Processes ElabFault
 join_of words whose outer inner connections table port =
     lower_join (numbered words whose) outer inner table (port_form words port) (value_for (entries_tree words connections) (port_form words port).name.letters)
+
+-- what an output drives outside, where that can be driven
+abbrev pub lower_driven : Scope → Scope → Word → text.ExpressionTree → Result Action ElabFault
+lower_driven outer inner port value =
+    lower_connected outer value >>= λ targets.
+    lower_expression inner (text.name port) >>= λ e.
+    Ok (ContinuousAssign targets e (any_of inner (port ∷ [])))
 
 -- ---- lines
 

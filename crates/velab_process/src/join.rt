@@ -1,6 +1,6 @@
 // Port connections: each is a continuous assignment, into an instance or out of it (IEEE 1364-2005, 12.3.9.2).
 
-ghost use Rattle.std.specs.Prelude.{◌≡◌, [], ◌∷◌, None, Some, Ok, option_map, List, map, OnOk};
+ghost use Rattle.std.specs.Prelude.{◌≡◌, [], ◌∷◌, None, Some, Ok, option_map, List, map, IfOk, OnOk};
 ghost use Rattle.vast.specs.Words.{Text};
 ghost use Rattle.vast.specs.NumberedTrees.{tree_of as text_tree};
 ghost use Rattle.vast.specs.NumberedWords.{numbered};
@@ -10,34 +10,26 @@ ghost use Rattle.velab_expr.specs.Answers.{Gives, Makes};
 ghost use Rattle.velab_process.specs.Processes.{with_begins_before};
 ghost use Rattle.velab_process.specs.Connections as spec;
 ghost use Rattle.velab_process.specs.Connections.{lower_input, lower_output, lower_connection};
-ghost use Rattle.velab_process.specs.Inner.{name_of, joins_of, join_of};
+ghost use Rattle.velab_process.specs.Inner.{lower_driven, joins_of, join_of};
+ghost use Rattle.velab_expr.specs.Written.{target_of};
+ghost use Rattle.vdesign.specs.declared.action.Target.{Target};
 
 use crate::statement::{Table, put};
 use crate::wait::{condition_terms, name_terms};
-use basis::OrMemory;
+use basis::{NoMemory, OrMemory};
 use std::alloc::Global;
 use vast::expression::Expression as Value;
 use vast::token::Token;
-use vdesign::action::{Action, Places};
+use vdesign::action::{Action, Places, Target, Targets};
 use velab_expr::expression::{expression_of, expression_of_name};
 use velab_expr::fault::{ElabFault, Rule};
 use velab_expr::refusal::refused;
 use velab_expr::scope::{Scope, number_of};
+use velab_expr::target::{connected_targets_of, is_drivable};
 use vlex::Tokens;
 use vmodules::connect::ConnectionMap;
 use vmodules::letters::letters;
 use vmodules::ports::PortForm;
-
-/// The name that an expression is, alone.
-pub fn only_name(value: &Value) -> Option<Token>
-    ensures { (words : List Text) → name_of words result
-        ≡ spec.only_name (text_tree words value.now) }
-{
-    match value {
-        Value::Name(name) => Some(*name),
-        _ => None,
-    }
-}
 
 // The ports of an instance: `outer` are the names where it stands, `inner` its own, and `whose` is the token of its name, by which a fault
 // of a connection is told.
@@ -68,30 +60,56 @@ impl<'a> Connector<'a> {
         Ok(())
     }
 
+    // A whole net, as a target.
+    fn whole(&self, net: u32) -> Result<Targets, NoMemory>
+        ensures { IfOk result (λ targets. targets ≡ Target.Whole net ∷ []) }
+    {
+        let mut list = Vec::new(self.alloc);
+        list.push(Target::Whole(net))?;
+        Ok(Targets::new(list))
+    }
+
     // What drives an input from outside.
     fn input_action(&self, port: Token, value: &Value) -> Result<Action, OrMemory<ElabFault>>
         ensures { Gives result (lower_input self.now.outer.now self.now.inner.now
             (numbered (words_of self.now.tokens.now) port) (text_tree (words_of self.now.tokens.now) value.now)) }
     {
         let net = number_of(self.inner, self.tokens, port)?;
+        let targets = self.whole(net)?;
         let terms = condition_terms(self.alloc, self.outer, self.tokens, value)?;
         let value = expression_of(self.alloc, self.outer, self.tokens, value)?;
-        Ok(Action::ContinuousAssign { net, value, terms })
+        Ok(Action::ContinuousAssign {
+            targets,
+            value,
+            terms,
+        })
     }
 
-    // What an output drives outside. E305 where that is no name alone.
-    fn output_action(&self, port: Token, net: Option<Token>) -> Result<Action, OrMemory<ElabFault>>
-        ensures { Gives result (lower_output (numbered (words_of self.now.tokens.now) self.now.whose)
-            self.now.outer.now self.now.inner.now
-            (numbered (words_of self.now.tokens.now) port) (name_of (words_of self.now.tokens.now) net)) }
+    // What an output drives outside, where that can be driven.
+    fn driven_action(&self, port: Token, value: &Value) -> Result<Action, OrMemory<ElabFault>>
+        ensures { Gives result (lower_driven self.now.outer.now self.now.inner.now
+            (numbered (words_of self.now.tokens.now) port) (text_tree (words_of self.now.tokens.now) value.now)) }
     {
-        let Some(net) = net else {
-            return Err(refused(Rule::Ports, Some(self.whose.number)));
-        };
-        let net = number_of(self.outer, self.tokens, net)?;
+        let targets = connected_targets_of(self.alloc, self.outer, self.tokens, value)?;
         let terms = name_terms(self.alloc, self.inner, self.tokens, port)?;
         let value = expression_of_name(self.alloc, self.inner, self.tokens, port)?;
-        Ok(Action::ContinuousAssign { net, value, terms })
+        Ok(Action::ContinuousAssign {
+            targets,
+            value,
+            terms,
+        })
+    }
+
+    // The same; E305 where it can't be driven.
+    fn output_action(&self, port: Token, value: &Value) -> Result<Action, OrMemory<ElabFault>>
+        ensures { Gives result (lower_output (numbered (words_of self.now.tokens.now) self.now.whose)
+            self.now.outer.now self.now.inner.now (numbered (words_of self.now.tokens.now) port)
+            (target_of (text_tree (words_of self.now.tokens.now) value.now))) }
+    {
+        if !is_drivable(value) {
+            return Err(refused(Rule::Ports, Some(self.whose.number)));
+        }
+        self.driven_action(port, value)
     }
 
     // What drives a port that is connected to this, or is driven by it.
@@ -105,7 +123,7 @@ impl<'a> Connector<'a> {
             (text_tree (words_of self.now.tokens.now) value.now)) }
     {
         if port.output {
-            self.output_action(port.name, only_name(value))
+            self.output_action(port.name, value)
         } else {
             self.input_action(port.name, value)
         }
@@ -168,7 +186,7 @@ impl<'a> Connector<'a> {
 
 /// A process for each port that is connected, in the order of the ports, after the processes that there are. `outer` are the names
 /// where the instance stands, `inner` its own, `connections` what its ports are connected to, `whose` the token of its name. E303 or E310
-/// where a name that is connected is wrong, E305 where an output isn't connected to a name alone, E306 or E307 where what is constant in
+/// where a name that is connected is wrong, E305 where what an output is connected to can't be driven, E306 or E307 where what is constant in
 /// a connection is wrong; E901.
 pub fn put_joins(
     alloc: Global,

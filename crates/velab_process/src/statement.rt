@@ -23,7 +23,7 @@ use basis::OrMemory;
 use std::alloc::Global;
 use std::marker::Model;
 use vast::expression::Expression as Value;
-use vast::module::{DeclarationKind, Declared, ModuleItem, NetKind, Setting};
+use vast::module::{DeclarationKind, Declared, ModuleItem, NetAssignment, NetKind};
 use vast::statement::{
     Argument, Branch, CaseKind, Delay, Dumping, Event, Printing, Statement, Target as Written, Task,
 };
@@ -34,10 +34,10 @@ use vdesign::expression::Expression;
 use vdesign::print::Pieces;
 use velab_expr::fault::ElabFault;
 use velab_expr::first::{first_argument, first_delay, first_in, first_target};
-use velab_expr::scope::{Scope, event_of, number_of};
+use velab_expr::scope::{Scope, event_of};
 use velab_expr::select::{levels_of, selection_of};
 use velab_expr::symbol::symbol_count;
-use velab_expr::target::targets_of;
+use velab_expr::target::{net_targets_of, targets_of};
 use vlex::Tokens;
 
 /// Actions in the order in which they are come to, and for each the number of a token, if it has one, by which a fault of it is told.
@@ -685,43 +685,48 @@ impl<'a> Elaborator<'a> {
         }
     }
 
-    // What drives a net.
+    // What drives nets.
     fn lower_drive(
         &self,
-        net: Token,
+        target: &Written,
         value: &Value,
         table: &mut Table,
         into: &mut Vec<usize>,
     ) -> Result<(), OrMemory<ElabFault>>
         ensures { Makes result (record { table = table.new; places = into.new.items })
             (with_places_before into.old.items (processes.lower_drive self.now.scope.now table.old
-            (numbered (words_of self.now.tokens.now) net) (text_tree (words_of self.now.tokens.now) value.now))) }
+            (target_tree (words_of self.now.tokens.now) target.now) (text_tree (words_of self.now.tokens.now) value.now))) }
     {
-        let number = number_of(self.scope, self.tokens, net)?;
+        let word = first_target(target);
+        let targets = net_targets_of(self.alloc, self.scope, self.tokens, target)?;
         let terms = condition_terms(self.alloc, self.scope, self.tokens, value)?;
         let value = self.expression(value)?;
-        let action = Action::ContinuousAssign {
-            net: number,
-            value,
-            terms,
-        };
-        put(table, into, Some(net.number), action)
+        put(
+            table,
+            into,
+            word,
+            Action::ContinuousAssign {
+                targets,
+                value,
+                terms,
+            },
+        )
     }
 
-    // The process that drives a net.
+    // The process that drives nets.
     fn lower_net(
         &self,
-        net: Token,
+        target: &Written,
         value: &Value,
         table: &mut Table,
         into: &mut Vec<Places>,
     ) -> Result<(), OrMemory<ElabFault>>
         ensures { Makes result (record { table = table.new; begins = into.new.items })
             (with_begins_before into.old.items (lower_processes self.now.scope.now table.old (continuous
-            (numbered (words_of self.now.tokens.now) net) (text_tree (words_of self.now.tokens.now) value.now) ∷ []))) }
+            (target_tree (words_of self.now.tokens.now) target.now) (text_tree (words_of self.now.tokens.now) value.now) ∷ []))) }
     {
         let mut begins = Vec::new(self.alloc);
-        self.lower_drive(net, value, table, &mut begins)?;
+        self.lower_drive(target, value, table, &mut begins)?;
         into.push(Places::new(begins))?;
         Ok(())
     }
@@ -761,7 +766,7 @@ impl<'a> Elaborator<'a> {
         match &one.value {
             None => Ok(()),
             Some(value) => match word {
-                NetKind::Wire => self.lower_net(one.name, value, table, into),
+                NetKind::Wire => self.lower_net(&Written::Whole(one.name), value, table, into),
                 NetKind::Reg => self.lower_variable(one.name, value, table, into),
             },
         }
@@ -786,9 +791,9 @@ impl<'a> Elaborator<'a> {
     }
 
     // The process of one part of an `assign`.
-    fn lower_setting(
+    fn lower_net_assignment(
         &self,
-        one: &Setting,
+        one: &NetAssignment,
         table: &mut Table,
         into: &mut Vec<Places>,
     ) -> Result<(), OrMemory<ElabFault>>
@@ -796,13 +801,13 @@ impl<'a> Elaborator<'a> {
             (with_begins_before into.old.items (lower_processes self.now.scope.now table.old
             (drives_in (words_of self.now.tokens.now) (one.now ∷ [])))) }
     {
-        self.lower_net(one.name, &one.value, table, into)
+        self.lower_net(&one.target, &one.value, table, into)
     }
 
     // The processes of an `assign`.
     fn lower_drives(
         &self,
-        list: &[Setting],
+        list: &[NetAssignment],
         table: &mut Table,
         into: &mut Vec<Places>,
     ) -> Result<(), OrMemory<ElabFault>>
@@ -811,7 +816,7 @@ impl<'a> Elaborator<'a> {
             (drives_in (words_of self.now.tokens.now) list.now))) }
     {
         for one in list {
-            self.lower_setting(one, table, into)?;
+            self.lower_net_assignment(one, table, into)?;
         }
         Ok(())
     }
@@ -844,7 +849,7 @@ impl<'a> Elaborator<'a> {
                 DeclarationKind::Directed { .. } => Ok(()),
             },
             ModuleItem::Events { .. } => Ok(()),
-            ModuleItem::Assignments { settings, .. } => self.lower_drives(settings, table, into),
+            ModuleItem::Assignments { list, .. } => self.lower_drives(list, table, into),
             ModuleItem::Always { statement, .. } => {
                 let mut begins = Vec::new(self.alloc);
                 self.lower_forever(statement, table, &mut begins)?;

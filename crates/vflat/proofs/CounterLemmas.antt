@@ -213,8 +213,8 @@ counted_behind code turns processes p q (Executing place) after (EventControl te
     same_counters code turns processes p q (Executing place) after (execute_at (Executing place) (EventControl terms body) [] held now).continuation left lt is counted (λ other m e. absurd cc)
 counted_behind code turns processes p q (Executing place) after (Wait condition terms body) held now left lt is one counted =
     same_counters code turns processes p q (Executing place) after (execute_at (Executing place) (Wait condition terms body) [] held now).continuation left lt is counted (λ other m e. absurd cc)
-counted_behind code turns processes p q (Executing place) after (ContinuousAssign net value terms) held now left lt is one counted =
-    same_counters code turns processes p q (Executing place) after (execute_at (Executing place) (ContinuousAssign net value terms) [] held now).continuation left lt is counted (λ other m e. absurd cc)
+counted_behind code turns processes p q (Executing place) after (ContinuousAssign targets value terms) held now left lt is one counted =
+    same_counters code turns processes p q (Executing place) after (execute_at (Executing place) (ContinuousAssign targets value terms) [] held now).continuation left lt is counted (λ other m e. absurd cc)
 counted_behind code turns processes p q (Executing place) after (Print when pieces) held now left lt is one counted =
     same_counters code turns processes p q (Executing place) after (execute_at (Executing place) (Print when pieces) [] held now).continuation left lt is counted (λ other m e. absurd cc)
 counted_behind code turns processes p q (Executing place) after (DumpVars selection) held now left lt is one counted =
@@ -267,8 +267,8 @@ counted_behind code turns processes p q (Repeating place n) after (EventControl 
 counted_behind code turns processes p q (Repeating place n) after (Wait condition terms body) held now left lt is one counted =
     same_counters code turns processes p q (Repeating place n) after (execute_at (Repeating place n) (Wait condition terms body) [] held now).continuation left lt is counted
     (λ other m e. subst (λ x. Contains (Repeating place n ∷ []) x) (sym e) (listed_first (Repeating place n) []))
-counted_behind code turns processes p q (Repeating place n) after (ContinuousAssign net value terms) held now left lt is one counted =
-    same_counters code turns processes p q (Repeating place n) after (execute_at (Repeating place n) (ContinuousAssign net value terms) [] held now).continuation left lt is counted
+counted_behind code turns processes p q (Repeating place n) after (ContinuousAssign targets value terms) held now left lt is one counted =
+    same_counters code turns processes p q (Repeating place n) after (execute_at (Repeating place n) (ContinuousAssign targets value terms) [] held now).continuation left lt is counted
     (λ other m e. subst (λ x. Contains (Repeating place n ∷ []) x) (sym e) (listed_first (Repeating place n) []))
 counted_behind code turns processes p q (Repeating place n) after (Print when pieces) held now left lt is one counted =
     same_counters code turns processes p q (Repeating place n) after (execute_at (Repeating place n) (Print when pieces) [] held now).continuation left lt is counted
@@ -314,8 +314,8 @@ counted_behind code turns processes p q (Writing place) after (EventControl term
     same_counters code turns processes p q (Writing place) after (execute_at (Writing place) (EventControl terms body) [] held now).continuation left lt is counted (λ other m e. absurd cc)
 counted_behind code turns processes p q (Writing place) after (Wait condition terms body) held now left lt is one counted =
     same_counters code turns processes p q (Writing place) after (execute_at (Writing place) (Wait condition terms body) [] held now).continuation left lt is counted (λ other m e. absurd cc)
-counted_behind code turns processes p q (Writing place) after (ContinuousAssign net value terms) held now left lt is one counted =
-    same_counters code turns processes p q (Writing place) after (execute_at (Writing place) (ContinuousAssign net value terms) [] held now).continuation left lt is counted (λ other m e. absurd cc)
+counted_behind code turns processes p q (Writing place) after (ContinuousAssign targets value terms) held now left lt is one counted =
+    same_counters code turns processes p q (Writing place) after (execute_at (Writing place) (ContinuousAssign targets value terms) [] held now).continuation left lt is counted (λ other m e. absurd cc)
 counted_behind code turns processes p q (Writing place) after (Print when pieces) held now left lt is one counted =
     same_counters code turns processes p q (Writing place) after (execute_at (Writing place) (Print when pieces) [] held now).continuation left lt is counted (λ other m e. absurd cc)
 counted_behind code turns processes p q (Writing place) after (DumpVars selection) held now left lt is one counted =

@@ -7,7 +7,8 @@ use Rattle.basis.proofs.Bools.{and_left, and_right, and_both, clash}
 use Rattle.basis.proofs.Numbers.{one_within}
 use Rattle.vast.specs.Words.{Text, is_name, reserved_words}
 use Rattle.vast.specs.Expressions.{ExpressionTree}
-use Rattle.vast.specs.Modules.{RangeTree, TypeTree, ParameterType, integer, typed, SettingTree, DeclaredTree, spell_range, spell_signed, spell_type, spell_parameter_type, spell_setting, spell_declared, fits_value, fits_range, fits_type, fits_parameter_type, fits_setting, fits_declared, are_some}
+use Rattle.vast.specs.Statements.{TargetTree}
+use Rattle.vast.specs.Modules.{RangeTree, TypeTree, ParameterType, integer, typed, SettingTree, DeclaredTree, spell_range, spell_signed, spell_type, spell_parameter_type, spell_setting, spell_declared, fits_value, fits_range, fits_type, fits_parameter_type, fits_setting, fits_declared, are_some, NetAssignment, spell_net_assignment, fits_net_assignment}
 use Rattle.vexpr_parse.specs.Readers.{Reader, front, is_front}
 use Rattle.vexpr_parse.specs.Words.{binary_of, written, ends}
 use Rattle.vexpr_parse.specs.Lawful.{Ends}
@@ -15,11 +16,12 @@ use Rattle.vexpr_parse.proofs.ReaderRules.{same_text}
 use Rattle.vgrammar.specs.Parts.{Both, both, Either, one_way, other_way, paired}
 use Rattle.vgrammar.specs.Starts.{is_some_meaning}
 use Rattle.vgrammar.specs.Statements.{word_only, List_of}
-use Rattle.vgrammar.specs.Modules.{free_value, range_of, range, type_of, type, parameter_type_of, parameter_type, setting_of, setting, declared_of, declared, ended}
+use Rattle.vgrammar.specs.Modules.{free_value, range_of, range, type_of, type, parameter_type_of, parameter_type, setting_of, setting, declared_of, declared, ended, net_assignment_of, net_assignment}
 use Rattle.vgrammar.proofs.Phrases.{Shape, Phrase, Example, Opens, Makes, From, always, phrase_within, made_phrase, past_shape, past_phrase, past_example, nothing_phrase, paired_shape, paired_phrase, before_phrase, paired_example, free_phrase}
 use Rattle.vgrammar.proofs.PhraseChoices.{ends_maybe, maybe_shape, maybe_phrase, either_shape, either_open_phrase, allows_all}
 use Rattle.vgrammar.proofs.LevelFacts.{and_true}
 use Rattle.vgrammar.proofs.ValuePhrases.{value_shape, value_phrase, value_example, nothing_example, only_shape, only_phrase, only_example, comma_shape, comma_phrase, allows_each}
+use Rattle.vgrammar.proofs.TargetPhrases.{target_shape, target_phrase, target_example}
 use Rattle.vgrammar.proofs.WordPhrases.{as_written}
 use Rattle.vgrammar.proofs.PartPhrases.{text_shape, a_name, named_phrase}
 
@@ -317,6 +319,47 @@ module _ (below : ℕ) where
       value = free_example.tree;
     };
     valid = and_both _ _ a_name.valid free_example.valid;
+  }
+
+  -- Net assignments
+
+  abbrev pub net_assignment_shape : Shape NetAssignment
+  net_assignment_shape = record {
+    spell = spell_net_assignment;
+    valid = fits_net_assignment levels;
+    closes = λ tree. ends 0;
+    stops = λ tree next. true;
+  }
+
+  abbrev AssignmentParts : Shape (Both TargetTree ExpressionTree)
+  AssignmentParts = paired_shape (target_shape levels) (past_shape (codes "=") Free)
+
+  pub net_assignment_phrase : Phrase (net_assignment levels) (ends 0) net_assignment_shape
+  net_assignment_phrase =
+      made_phrase net_assignment_of net_assignment_shape (λ tree v. record { parts = both tree.target tree.value; is = refl }) makes
+      (λ tree next e. e)
+      (before_phrase (codes "=") (target_phrase levels) free_phrase_value free_example refl)
+    where
+      makes : Makes net_assignment_of AssignmentParts net_assignment_shape []
+      makes = record { spelled = spelled; valid = valid; closes = closes; stops = λ tree next e. refl }
+        where
+          spelled : (tree : Both TargetTree ExpressionTree) → spell_net_assignment (net_assignment_of tree) ≡ AssignmentParts.spell tree
+          spelled (both target value) = refl
+
+          valid : (tree : Both TargetTree ExpressionTree) → fits_net_assignment levels (net_assignment_of tree) ≡ AssignmentParts.valid tree
+          valid (both target value) = refl
+
+          closes : (tree : Both TargetTree ExpressionTree) (next : Option Text) → ends 0 next ≡ true → AssignmentParts.closes tree next
+              ≡ true
+          closes (both target value) next e = e
+
+  pub a_net_assignment : Example net_assignment_shape
+  a_net_assignment = record {
+    tree = record {
+      target = (target_example levels (one_within below)).tree;
+      value = free_example.tree;
+    };
+    valid = and_both _ _ (target_example levels (one_within below)).valid free_example.valid;
   }
 
   abbrev pub declared_shape : Shape DeclaredTree

@@ -6,7 +6,7 @@ use Rattle.basis.proofs.Lists.{longer}
 use Rattle.vast.specs.Words.{Text, is_name, reserved_words}
 use Rattle.vast.specs.Expressions.{ExpressionTree, spell_expression}
 use Rattle.vast.specs.Statements.{StatementTree, empty}
-use Rattle.vast.specs.Modules.{SettingTree, DeclaredTree, ConnectionTree, ConnectionsTree, by_order, by_name, InstanceTree, variables, integers, directed, ItemTree, parameters, declaration, events, assignments, initial, always as always_item, instances, integer, spell_value, spell_declared, spell_connection, spell_connections, spell_instance, spell_item, parameter_word, net_word, fits_value, fits_type, fits_parameter_type, fits_setting, fits_declared, fits_connection, fits_connections, fits_overrides, fits_instance, fits_item, fits_direction, stands_alone, are_some, input, output}
+use Rattle.vast.specs.Modules.{SettingTree, DeclaredTree, ConnectionTree, ConnectionsTree, by_order, by_name, InstanceTree, variables, integers, directed, ItemTree, parameters, declaration, events, assignments, initial, always as always_item, instances, integer, spell_value, spell_declared, spell_connection, spell_connections, spell_instance, spell_item, parameter_word, net_word, fits_value, fits_type, fits_parameter_type, fits_setting, fits_declared, fits_connection, fits_connections, fits_overrides, fits_instance, fits_item, fits_direction, stands_alone, are_some, input, output, NetAssignment, fits_net_assignment}
 use Rattle.vast.specs.declared.module.NetKind.{NetKind}
 use Rattle.vast.specs.declared.module.NetKind.TheVariants as net
 use Rattle.vexpr_parse.specs.declared.beginning.Beginning.TheVariants as start
@@ -17,7 +17,7 @@ use Rattle.vexpr_parse.proofs.ReaderRules.{same_text, parts_of}
 use Rattle.vgrammar.specs.Parts.{Both, both, Either, one_way, other_way, made, paired, worded, many}
 use Rattle.vgrammar.specs.Starts.{is_meant}
 use Rattle.vgrammar.specs.Statements.{named, word_only, List_of, comma_list, statement, ends_statement}
-use Rattle.vgrammar.specs.Modules.{free_value, type, parameter_type, setting, declared, direction, is_direction, alone_of, alone, Directed, Value, value_in, connection_of, connection, Connections, connections_of, connections, instance_of, instance_behind, overrides, ended, net_of, local_of, Parameters, Variables, Instances, Item, item_of, item_parts, item}
+use Rattle.vgrammar.specs.Modules.{free_value, type, parameter_type, setting, declared, direction, is_direction, alone_of, alone, Directed, Value, value_in, connection_of, connection, Connections, connections_of, connections, instance_of, instance_behind, overrides, ended, net_of, local_of, Parameters, Variables, Instances, Item, item_of, item_parts, item, net_assignment}
 use Rattle.vgrammar.proofs.Phrases.{Shape, Phrase, Example, Worded, Opens, Makes, From, always, phrase_within, made_phrase, past_shape, past_phrase, past_example, nothing_phrase, worded_shape, worded_phrase, paired_shape, before_phrase, paired_example, free_phrase, next_phrase}
 use Rattle.vgrammar.proofs.PhraseChoices.{ends_maybe, maybe_shape, maybe_phrase, either_shape, either_phrase, either_tested, either_worded, Tested, allows_all}
 use Rattle.vgrammar.proofs.LevelFacts.{and_true}
@@ -27,7 +27,7 @@ use Rattle.vgrammar.proofs.PartPhrases.{text_shape, a_name, named_phrase}
 use Rattle.vgrammar.proofs.StatementShapes.{closes_statement, statement_shape, statement_closed}
 use Rattle.vgrammar.proofs.StatementLevels.{statement_phrase}
 use Rattle.vgrammar.proofs.DirectionPhrases.{net_shape, net_phrase, ends_direction, name_ends_direction, no_direction, direction_shape, direction_phrase}
-use Rattle.vgrammar.proofs.HeadPhrases.{name_isnt, name_means_not, Free, free_phrase_value, free_example, ends_type, type_shape, type_phrase, ends_parameter_type, parameter_type_shape, parameter_type_phrase, name_ends_type, setting_shape, setting_phrase, a_setting, declared_shape, declared_phrase, a_declared, ended_shape, ended_phrase, ended_example, some_valid}
+use Rattle.vgrammar.proofs.HeadPhrases.{name_isnt, name_means_not, Free, free_phrase_value, free_example, ends_type, type_shape, type_phrase, ends_parameter_type, parameter_type_shape, parameter_type_phrase, name_ends_type, setting_shape, setting_phrase, a_setting, declared_shape, declared_phrase, a_declared, ended_shape, ended_phrase, ended_example, some_valid, net_assignment_shape, net_assignment_phrase, a_net_assignment}
 
 abbrev close : Option Text → Bool
 close = is_front (codes ")")
@@ -80,7 +80,7 @@ closes_item (always_item body) = closes_statement body
 closes_item (instances letters tree list) = always
 
 abbrev AssignOrLater : Type 0
-AssignOrLater = Either (Both (List_of SettingTree) (Unit {0})) (Either StatementTree (Either StatementTree Instances))
+AssignOrLater = Either (Both (List_of NetAssignment) (Unit {0})) (Either StatementTree (Either StatementTree Instances))
 
 abbrev EventOrLater : Type 0
 EventOrLater = Either (Both (List_of Text) (Unit {0})) AssignOrLater
@@ -392,6 +392,16 @@ module _ (below : ℕ) where
   settings_example : Example Settings
   settings_example = ended_example (ends 0) (a_setting below)
 
+  abbrev Assigned : Shape (Both (List_of NetAssignment) (Unit {0}))
+  Assigned = ended_shape (ends 0) (net_assignment_shape below)
+
+  assigned_phrase : Phrase (ended (net_assignment levels)) always Assigned
+  unfolding binary_of
+  assigned_phrase = ended_phrase (net_assignment_phrase below) (a_net_assignment below) refl refl
+
+  assigned_example : Example Assigned
+  assigned_example = ended_example (ends 0) (a_net_assignment below)
+
   abbrev Declared : Shape (Both (List_of DeclaredTree) (Unit {0}))
   Declared = ended_shape (ends_maybe (is_front (codes "=")) (ends 0)) (declared_shape below)
 
@@ -534,7 +544,7 @@ module _ (below : ℕ) where
   FromInitial = either_shape (past_shape (codes "initial") Body) FromAlways
 
   abbrev FromAssign : Shape AssignOrLater
-  FromAssign = either_shape (past_shape (codes "assign") Settings) FromInitial
+  FromAssign = either_shape (past_shape (codes "assign") Assigned) FromInitial
 
   abbrev FromEvent : Shape EventOrLater
   FromEvent = either_shape (past_shape (codes "event") Names) FromAssign
@@ -585,7 +595,7 @@ module _ (below : ℕ) where
   from_initial_worded = either_worded (past_shape (codes "initial") Body) FromAlways (λ tree v. zero-lt-suc _) from_always_worded
 
   from_assign_worded : Worded FromAssign
-  from_assign_worded = either_worded (past_shape (codes "assign") Settings) FromInitial (λ tree v. zero-lt-suc _) from_initial_worded
+  from_assign_worded = either_worded (past_shape (codes "assign") Assigned) FromInitial (λ tree v. zero-lt-suc _) from_initial_worded
 
   from_event_worded : Worded FromEvent
   from_event_worded = either_worded (past_shape (codes "event") Names) FromAssign (λ tree v. zero-lt-suc _) from_assign_worded
@@ -621,7 +631,7 @@ module _ (below : ℕ) where
 
   from_assign_not : (test : Option Text → Bool) → test (Some (codes "assign")) ≡ false → Tested test false FromInitial →
       Tested test false FromAssign
-  from_assign_not test a r = either_tested test false (past_shape (codes "assign") Settings) FromInitial (λ tree v rest. a) r
+  from_assign_not test a r = either_tested test false (past_shape (codes "assign") Assigned) FromInitial (λ tree v rest. a) r
 
   from_event_not : (test : Option Text → Bool) → test (Some (codes "event")) ≡ false → Tested test false FromAssign →
       Tested test false FromEvent
@@ -662,7 +672,7 @@ module _ (below : ℕ) where
       (either_phrase (is_front (codes "integer")) (loose (past_phrase (codes "integer") declared_list_phrase declared_example))
       (either_phrase (is_front (codes "time")) (loose (past_phrase (codes "time") declared_list_phrase declared_example))
       (either_phrase (is_front (codes "event")) (loose (past_phrase (codes "event") names_phrase names_example))
-      (either_phrase (is_front (codes "assign")) (loose (past_phrase (codes "assign") settings_phrase settings_example))
+      (either_phrase (is_front (codes "assign")) (loose (past_phrase (codes "assign") assigned_phrase assigned_example))
       (either_phrase (is_front (codes "initial")) (past_phrase (codes "initial") body_phrase a_body)
       (either_phrase (is_front (codes "always")) (past_phrase (codes "always") body_phrase a_body) (loose instances_phrase)
       (λ tree v. zero-lt-suc _) instances_worded (λ tree v rest. refl) (not_named (codes "always") no_names.0))
@@ -747,7 +757,8 @@ module _ (below : ℕ) where
       valid (other_way (other_way (other_way (one_way (both (both one more) end))))) = some_valid (fits_declared levels) one more
       valid (other_way (other_way (other_way (other_way (one_way (both (both one more) end)))))) = some_valid (fits_declared levels) one more
       valid (other_way (other_way (other_way (other_way (other_way (one_way (both (both one more) end))))))) = some_valid is_name one more
-      valid (other_way (other_way (other_way (other_way (other_way (other_way (one_way (both (both one more) end)))))))) = some_valid (fits_setting levels) one more
+      valid (other_way (other_way (other_way (other_way (other_way (other_way (one_way (both (both one more) end)))))))) =
+          some_valid (fits_net_assignment levels) one more
       valid (other_way (other_way (other_way (other_way (other_way (other_way (other_way (one_way tree)))))))) = refl
       valid (other_way (other_way (other_way (other_way (other_way (other_way (other_way (other_way (one_way tree))))))))) = refl
       valid (other_way (other_way (other_way (other_way (other_way (other_way (other_way (other_way (other_way (both letters (both tree (both (both one more) end)))))))))))) =

@@ -5,9 +5,9 @@ use Rattle.vast.specs.Modules.{PortTree}
 use Rattle.vexpr_parse.specs.Readers.{Reader, is_front}
 use Rattle.vgrammar.specs.Starts.{is_meant}
 use Rattle.vgrammar.specs.Statements.{statement}
-use Rattle.vgrammar.specs.Modules.{free_value, range_of, range, type_of, type, parameter_type_of, parameter_type, setting_of, setting, declared_of, declared, value_in, connection_of, connection, connections_of, connections, instance_of, instance_behind, overrides, ended, net_of, local_of, alone_of, alone, item_of, item_parts, item, first_parameter_of, head_parameter_of, first_parameter, head_parameter, head_parameters, direction_of, direction, is_direction, port_of, port, named_port_of, named_port, ports_behind, port_list, ports_of, ports, head_list_of, module_of, module_tree, is_some_word, source}
+use Rattle.vgrammar.specs.Modules.{free_value, range_of, range, type_of, type, parameter_type_of, parameter_type, setting_of, setting, declared_of, declared, value_in, connection_of, connection, connections_of, connections, instance_of, instance_behind, overrides, ended, net_of, local_of, alone_of, alone, item_of, item_parts, item, first_parameter_of, head_parameter_of, first_parameter, head_parameter, head_parameters, direction_of, direction, is_direction, port_of, port, named_port_of, named_port, ports_behind, port_list, ports_of, ports, head_list_of, module_of, module_tree, is_some_word, source, net_assignment_of, net_assignment}
 use Rattle.vgrammar.proofs.Growth.{up, Growth, past_growth, made_growth, paired_growth, worded_growth, either_growth, maybe_growth, many_growth}
-use Rattle.vgrammar.proofs.PartGrowth.{value_growth, only_growth, comma_growth, named_word}
+use Rattle.vgrammar.proofs.PartGrowth.{value_growth, only_growth, comma_growth, named_word, target_growth}
 use Rattle.vgrammar.proofs.StatementGrowth.{statement_growth}
 
 ended_growth : {A : Type 0} {read more : Reader A} → Growth read more → Growth (ended read) (ended more)
@@ -46,6 +46,9 @@ module _ (below : ℕ) where
 
   setting_growth : Growth (setting levels) (setting (up levels))
   setting_growth = made_growth setting_of (paired_growth named_word (past_growth (codes "=") free_growth))
+
+  net_assignment_growth : Growth (net_assignment levels) (net_assignment (up levels))
+  net_assignment_growth = made_growth net_assignment_of (paired_growth (target_growth levels) (past_growth (codes "=") free_growth))
 
   declared_growth : Growth (declared levels) (declared (up levels))
   declared_growth =
@@ -95,7 +98,7 @@ module _ (below : ℕ) where
       (either_growth (is_front (codes "integer")) (past_growth (codes "integer") (ended_growth declared_growth))
       (either_growth (is_front (codes "time")) (past_growth (codes "time") (ended_growth declared_growth))
       (either_growth (is_front (codes "event")) (past_growth (codes "event") (ended_growth named_word))
-      (either_growth (is_front (codes "assign")) (past_growth (codes "assign") (ended_growth setting_growth))
+      (either_growth (is_front (codes "assign")) (past_growth (codes "assign") (ended_growth net_assignment_growth))
       (either_growth (is_front (codes "initial")) (past_growth (codes "initial") body_growth)
       (either_growth (is_front (codes "always")) (past_growth (codes "always") body_growth)
       (paired_growth named_word (paired_growth overrides_growth (ended_growth instance_growth)))))))))))

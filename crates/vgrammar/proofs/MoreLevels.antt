@@ -4,8 +4,8 @@ use Rattle.std.specs.List.{list_all}
 use Rattle.basis.proofs.Bools.{and_left, and_right, and_both}
 use Rattle.vast.specs.Words.{Text, is_name}
 use Rattle.vast.specs.Expressions.{ExpressionTree, depth, fits_expression}
-use Rattle.vast.specs.Statements.{StatementTree, statement_depth, fits_statement}
-use Rattle.vast.specs.Modules.{RangeTree, TypeTree, ParameterType, integer, typed, SettingTree, DeclaredTree, DirectionTree, input, output, PortTree, HeadParameter, ConnectionTree, ConnectionsTree, by_order, by_name, InstanceTree, DeclarationKind, variables, integers, directed, ItemTree, parameters, declaration, events, assignments, initial, always, instances, ModuleTree, SourceTree, fits_value, fits_optional, fits_range, fits_type, fits_parameter_type, fits_setting, fits_declared, fits_direction, fits_port, fits_behind, fits_ports, fits_kind, fits_head_parameter, is_kind, fits_head_parameters, fits_connection, fits_connections, fits_overrides, fits_instance, fits_declaration_kind, are_some, fits_names, fits_body, fits_item, fits_optional_parameters, fits_optional_ports, fits_module, DerivesWithin}
+use Rattle.vast.specs.Statements.{StatementTree, statement_depth, fits_statement, fits_target, target_depth}
+use Rattle.vast.specs.Modules.{RangeTree, TypeTree, ParameterType, integer, typed, SettingTree, DeclaredTree, DirectionTree, input, output, PortTree, HeadParameter, ConnectionTree, ConnectionsTree, by_order, by_name, InstanceTree, DeclarationKind, variables, integers, directed, ItemTree, parameters, declaration, events, assignments, initial, always, instances, ModuleTree, SourceTree, fits_value, fits_optional, fits_range, fits_type, fits_parameter_type, fits_setting, fits_declared, fits_direction, fits_port, fits_behind, fits_ports, fits_kind, fits_head_parameter, is_kind, fits_head_parameters, fits_connection, fits_connections, fits_overrides, fits_instance, fits_declaration_kind, are_some, fits_names, fits_body, fits_item, fits_optional_parameters, fits_optional_ports, fits_module, DerivesWithin, NetAssignment, fits_net_assignment}
 use Rattle.vgrammar.proofs.LevelFacts.{within_more}
 
 both_more : (a b c d : Bool) → (a ≡ true → c ≡ true) → (b ≡ true → d ≡ true) → (a && b) ≡ true → (c && d) ≡ true
@@ -50,6 +50,13 @@ module _ (n m : ℕ) (fewer : n ≤ m) where
   setting_more : (tree : SettingTree) → fits_setting n tree ≡ true → fits_setting m tree ≡ true
   setting_more tree v =
       same_and (is_name tree.name) (fits_value n tree.value) (fits_value m tree.value) (value_more tree.value) v
+
+  net_assignment_more : (tree : NetAssignment) → fits_net_assignment n tree ≡ true → fits_net_assignment m tree ≡ true
+  net_assignment_more tree v =
+      both_more (fits_target tree.target && nat_le (target_depth tree.target) n) (fits_value n tree.value)
+      (fits_target tree.target && nat_le (target_depth tree.target) m) (fits_value m tree.value)
+      (same_and (fits_target tree.target) (nat_le (target_depth tree.target) n) (nat_le (target_depth tree.target) m)
+      (within_more (target_depth tree.target) n m fewer)) (value_more tree.value) v
 
   declared_more : (tree : DeclaredTree) → fits_declared n tree ≡ true → fits_declared m tree ≡ true
   declared_more tree v =
@@ -132,7 +139,7 @@ module _ (n m : ℕ) (fewer : n ≤ m) where
       both_more (fits_declaration_kind n kind) (fits_names n kind list) (fits_declaration_kind m kind)
       (fits_names m kind list) (declaration_more kind) (names_more kind list) v
   item_more (events names) v = v
-  item_more (assignments list) v = settings_more list v
+  item_more (assignments list) v = some_more (fits_net_assignment n) (fits_net_assignment m) net_assignment_more list v
   item_more (initial body) v = body_more body v
   item_more (always body) v = body_more body v
   item_more (instances letters tree list) v =

@@ -3,15 +3,15 @@
 use Rattle.std.specs.Prelude.{ℕ, Bool, true, false, not, List, [], ◌∷◌, Option, Some, None, codes}
 use Rattle.vast.specs.Words.{Text}
 use Rattle.vast.specs.Expressions.{ExpressionTree}
-use Rattle.vast.specs.Statements.{StatementTree}
-use Rattle.vast.specs.Modules.{RangeTree, TypeTree, ParameterType, integer, typed, SettingTree, DeclaredTree, DirectionTree, input, output, PortTree, HeadParameter, ConnectionTree, ConnectionsTree, by_order, by_name, InstanceTree, variables, integers, directed, ItemTree, parameters, declaration, events, assignments, initial, always, instances, ModuleTree, SourceTree, net_word, parameter_word}
+use Rattle.vast.specs.Statements.{StatementTree, TargetTree}
+use Rattle.vast.specs.Modules.{RangeTree, TypeTree, ParameterType, integer, typed, SettingTree, DeclaredTree, DirectionTree, input, output, PortTree, HeadParameter, ConnectionTree, ConnectionsTree, by_order, by_name, InstanceTree, variables, integers, directed, ItemTree, parameters, declaration, events, assignments, initial, always, instances, ModuleTree, SourceTree, net_word, parameter_word, NetAssignment}
 use Rattle.vast.specs.declared.module.NetKind.{NetKind}
 use Rattle.vast.specs.declared.module.NetKind.TheVariants as net
 use Rattle.vexpr_parse.specs.Readers.{Reader, past, is_front}
 use Rattle.vexpr_parse.specs.Words.{written}
 use Rattle.vgrammar.specs.Parts.{Both, both, Either, one_way, other_way, made, paired, worded, many, maybe, either}
 use Rattle.vgrammar.specs.Starts.{is_meant}
-use Rattle.vgrammar.specs.Statements.{value, named, word_only, List_of, comma_list, statement}
+use Rattle.vgrammar.specs.Statements.{value, named, word_only, List_of, comma_list, statement, target}
 
 -- an expression that stands in no statement
 abbrev pub free_value : ℕ → Reader ExpressionTree
@@ -57,6 +57,13 @@ setting_of (both letters tree) = record { name = letters; value = tree }
 
 abbrev pub setting : ℕ → Reader SettingTree
 setting levels = made setting_of (paired named (past (codes "=") (free_value levels)))
+
+abbrev pub net_assignment_of : Both TargetTree ExpressionTree → NetAssignment
+net_assignment_of (both target value) = record { target = target; value = value }
+
+-- A.6.1: target = value
+abbrev pub net_assignment : ℕ → Reader NetAssignment
+net_assignment levels = made net_assignment_of (paired (target levels) (past (codes "=") (free_value levels)))
 
 abbrev pub declared_of : Both Text (Option ExpressionTree) → DeclaredTree
 declared_of (both letters tree) = record { name = letters; value = tree }
@@ -164,7 +171,7 @@ integers_of long (both list end) = declaration (integers long) (listed_of list)
 abbrev pub events_of : Both (List_of Text) (Unit {0}) → ItemTree
 events_of (both list end) = events (listed_of list)
 
-abbrev pub assignments_of : Both (List_of SettingTree) (Unit {0}) → ItemTree
+abbrev pub assignments_of : Both (List_of NetAssignment) (Unit {0}) → ItemTree
 assignments_of (both list end) = assignments (listed_of list)
 
 abbrev pub Instances : Type 0
@@ -177,7 +184,7 @@ abbrev pub Item : Type 0
 Item =
     Either Parameters (Either Variables (Either Directed (Either (Both (List_of DeclaredTree) (Unit {0}))
     (Either (Both (List_of DeclaredTree) (Unit {0})) (Either (Both (List_of Text) (Unit {0}))
-    (Either (Both (List_of SettingTree) (Unit {0})) (Either StatementTree (Either StatementTree Instances))))))))
+    (Either (Both (List_of NetAssignment) (Unit {0})) (Either StatementTree (Either StatementTree Instances))))))))
 
 abbrev pub item_of : Item → ItemTree
 item_of (one_way tree) = parameters_of tree
@@ -199,7 +206,7 @@ item_parts levels =
     (either (is_front (codes "integer")) (past (codes "integer") (ended (declared levels)))
     (either (is_front (codes "time")) (past (codes "time") (ended (declared levels)))
     (either (is_front (codes "event")) (past (codes "event") (ended named))
-    (either (is_front (codes "assign")) (past (codes "assign") (ended (setting levels)))
+    (either (is_front (codes "assign")) (past (codes "assign") (ended (net_assignment levels)))
     (either (is_front (codes "initial")) (past (codes "initial") (statement levels))
     (either (is_front (codes "always")) (past (codes "always") (statement levels))
     (paired named (paired (overrides levels) (ended (instance_behind levels))))))))))))

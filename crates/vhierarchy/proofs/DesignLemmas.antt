@@ -1,5 +1,5 @@
 -- Faults of the modules' names, of the top and of the whole, and what they say of a text.
-use Rattle.std.proofs.Common.{◌≡◌, ◌<◌, ℕ, ◌+◌, length, drop, get_or, List, [], ◌++◌, Option, Some, None, true, Result, Ok, Err, IfOk, sym, ap, ◌∙◌}
+use Rattle.std.proofs.Common.{◌≡◌, ◌<◌, ℕ, ◌+◌, length, drop, get_or, List, [], ◌∷◌, ◌++◌, Option, Some, None, true, Result, Ok, Err, IfOk, refl, sym, ap, ◌∙◌}
 use Rattle.vast.specs.Words.{Text}
 use Rattle.vast.specs.NumberedWords.{Word}
 use Rattle.vast.specs.NumberedModules.{ModuleTree, SourceTree}
@@ -18,10 +18,12 @@ use Rattle.velab_expr.specs.Answers.{◌>>=◌, found, fault_of, Refuses, Gives}
 use Rattle.velab_expr.specs.Rules.{told, broken_at, IsBroken}
 use Rattle.velab_expr.proofs.ListLemmas.{drop_at}
 use Rattle.velab_expr.proofs.AnswerLemmas.{still_refused}
+use Rattle.velab_declaration.specs.Drives.{Place, start_of, started}
+use Rattle.velab_declaration.specs.DriveMarks.{starts_from}
 use Rattle.vhierarchy.proofs.StepLemmas.{barred, first_refused}
 use Rattle.vhierarchy.specs.Instances.{barring, faultless, Part, Context, nothing, top_context, elaborate_instance, elaborate_top, design_by, broken_design, Whole, checked, whole_of, broken_ports, unbroken, top_whole, elaborated_whole, as_design, elaborated, Elaborates}
 use Rattle.vhierarchy.specs.Reasons.{IsDesignReason, IsOnlyDesign, HasNoDesign}
-use Rattle.vhierarchy.specs.Inner.{variable_names, scope_names}
+use Rattle.vhierarchy.specs.Inner.{variable_names, scope_names, with_starts}
 
 -- a path that stands before stands twice among all
 pub paths_again : (list : List Variable) (i : ℕ) (v : Variable) (names all : List Text) → i < length list → v ≡ get_or list i v → names ++ variable_names (drop i list) ≡ all →
@@ -33,6 +35,11 @@ pub scopes_again : (list : List Room) (i : ℕ) (s : Room) (names all : List Tex
     is_declared names s.path ≡ true → has_double all ≡ true
 scopes_again list i s names all within at same =
     doubles names (scope_names (drop (i + 1) list)) all s.path (ap (λ (ss : List Room). names ++ scope_names ss) (sym (drop_at list i s within at)) ∙ same)
+
+-- variables with what each is at first are what a design has
+pub all_started : (driven : List Place) (n : ℕ) (vs : List Variable) → with_starts vs (starts_from driven n vs) ≡ started driven n vs
+all_started driven n [] = refl
+all_started driven n (v ∷ more) = ap (λ (l : List Variable). record v { start = start_of driven n v } ∷ l) (all_started driven (n + 1) more)
 
 -- ---- the whole
 

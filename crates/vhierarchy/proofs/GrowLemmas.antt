@@ -41,7 +41,7 @@ module _ (modules : SourceTree) (part : Part) (context : Context) (levels below 
   after_own scope children own = each (λ so_far child. elaborate_instance below modules so_far (child_context scope context child)) own children
 
   abbrev after_children : Scope → List Instantiation → Result Part ElabFault
-  after_children scope children = lower_own context (ports_of context.unit) children scope part >>= λ own. after_own scope children own
+  after_children scope children = lower_own context (ports_of context.unit) scope part >>= λ own. after_own scope children own
 
   abbrev after_names : Scope → Result Part ElabFault
   after_names scope = lower_instances modules 0 scope.known context.unit.items >>= λ children. after_children scope children
@@ -64,13 +64,13 @@ module _ (modules : SourceTree) (part : Part) (context : Context) (levels below 
         same_refused _ all (sym children_next) e (first_refused (lower_instances modules 0 scope.known context.unit.items) (λ children. after_children scope children) e h)
 
     module _ (children : List Instantiation) (found : lower_instances modules 0 scope.known context.unit.items ≡ Ok children) (ports : List Port) (ports_are : ports ≡ ports_of context.unit) where
-      own_next : all ≡ (lower_own context ports children scope part >>= λ own. after_own scope children own)
+      own_next : all ≡ (lower_own context ports scope part >>= λ own. after_own scope children own)
       own_next =
           children_next ∙ then_is (lower_instances modules 0 scope.known context.unit.items) (λ list. after_children scope list) children found
-          ∙ (λ i. lower_own context (sym ports_are i) children scope part >>= λ own. after_own scope children own)
+          ∙ (λ i. lower_own context (sym ports_are i) scope part >>= λ own. after_own scope children own)
 
-      pub own_refused : (e : OrMemory ElabFault) → Refuses e (lower_own context ports children scope part) → Refuses e all
-      own_refused e h = same_refused _ all (sym own_next) e (first_refused (lower_own context ports children scope part) (λ own. after_own scope children own) e h)
+      pub own_refused : (e : OrMemory ElabFault) → Refuses e (lower_own context ports scope part) → Refuses e all
+      own_refused e h = same_refused _ all (sym own_next) e (first_refused (lower_own context ports scope part) (λ own. after_own scope children own) e h)
 
-      pub instance_is : (own : Part) → lower_own context ports children scope part ≡ Ok own → after_own scope children own ≡ all
-      instance_is own put = sym (own_next ∙ then_is (lower_own context ports children scope part) (λ o. after_own scope children o) own put)
+      pub instance_is : (own : Part) → lower_own context ports scope part ≡ Ok own → after_own scope children own ≡ all
+      instance_is own put = sym (own_next ∙ then_is (lower_own context ports scope part) (λ o. after_own scope children o) own put)

@@ -3,6 +3,5 @@ pub mod GrowLemmas
 pub mod DesignLemmas
 pub mod OwnLemmas
 pub mod RoomLemmas
-pub mod DriverLemmas
 pub mod InstantiationLemmas
 mod NamedLemmas

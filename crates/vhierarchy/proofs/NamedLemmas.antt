@@ -1,5 +1,5 @@
 -- The names of a design are names where those of its text are: paths of the grammar's names, one for each variable.
-use Rattle.std.proofs.Common.{◌≡◌, ◌≢◌, ℕ, zero, suc, ◌<◌, ◌+◌, Bool, true, false, ◌&&◌, ◌||◌, ◌==◌, not, List, [], ◌∷◌, ◌++◌, map, length, Option, Some, None, Result, Ok, Err, refl, sym, ap, subst, ◌∙◌, true≢false, arith}
+use Rattle.std.proofs.Common.{◌≡◌, ◌≢◌, ℕ, zero, suc, ◌<◌, ◌+◌, Bool, true, false, ◌&&◌, not, List, [], ◌∷◌, ◌++◌, map, length, Option, Some, None, Result, Ok, Err, refl, sym, ap, subst, ◌∙◌, true≢false, arith}
 use Rattle.std.specs.Prelude.{slice_get, cond, if◌then◌else◌, is_some, nat_le, filter, option_map}
 use Rattle.std.specs.List.{list_all, find}
 use Rattle.std.specs.Option.{option_or}
@@ -26,17 +26,18 @@ use Rattle.vdesign.specs.Design.{Variable, Design}
 use Rattle.vdesign.specs.declared.design.Kind.{Kind}
 use Rattle.velab_expr.specs.Scopes.{Scope}
 use Rattle.velab_expr.specs.Symbols.{behind_item, symbols_by}
-use Rattle.velab_declaration.specs.Variables.{port_names, ScopeDrivers, Declaration, all_declared, kind_of, declared_as, declarations_of, port_declaration, variable_in, form_of, variables_in, variables_as, lower_kind, lower_declaration, lower_variables, lower_again, port_scope, lower_ports, counted_kind}
+use Rattle.velab_declaration.specs.Variables.{port_names, Declaration, all_declared, kind_of, declared_as, declarations_of, port_declaration, variable_in, form_of, variables_in, variables_as, lower_kind, lower_declaration, lower_variables, lower_again, port_scope, lower_ports, counted_kind}
 use Rattle.velab_declaration.specs.declared.variable.Form.{Form}
+use Rattle.velab_declaration.specs.Drives.{Place, started}
 use Rattle.velab_expr.specs.Answers.{◌>>=◌, provided, required, found}
 use Rattle.velab_expr.specs.Ranges.{lower_bounds}
 use Rattle.velab_expr.specs.declared.fault.ElabFault.{ElabFault}
 use Rattle.vdesign.specs.declared.expression.Bounds.{Bounds}
 use Rattle.velab_expr.specs.declared.fault.Rule.{Rule}
-use Rattle.velab_expr.specs.declared.fault.Rule.TheVariants.{Doubled, Drivers, Ports, TooMany, Top}
+use Rattle.velab_expr.specs.declared.fault.Rule.TheVariants.{Doubled, Ports, TooMany, Top}
 use Rattle.velab_expr.specs.Rules.{broken_if}
 use Rattle.velab_expr.proofs.FaultLemmas.{first_right}
-use Rattle.vhierarchy.specs.Instances.{barring, faultless, Instantiation, instantiation_by, lower_instance, lower_list, named_again, lower_instances_of, lower_instances_by, lower_instances, Part, Context, lower_names, driven_by, scope_drivers_by, lower_own_variables, lower_own_processes, with_own, few_enough, lower_own, child_context, each, elaborate_instance, nothing, top_context, elaborate_top, variable_paths, design_by, broken_paths, broken_table, broken_design, Whole, checked, whole_of, broken_ports, unbroken, top_whole, elaborated_whole, as_design, Elaborates}
+use Rattle.vhierarchy.specs.Instances.{barring, faultless, Instantiation, instantiation_by, lower_instance, lower_list, named_again, lower_instances_of, lower_instances_by, lower_instances, Part, Context, lower_names, lower_own_variables, lower_own_processes, with_own, few_enough, lower_own, child_context, each, elaborate_instance, nothing, top_context, elaborate_top, variable_paths, driven_in, design_by, broken_paths, broken_table, broken_design, Whole, checked, whole_of, broken_ports, unbroken, top_whole, elaborated_whole, as_design, Elaborates}
 
 -- ---- letters and paths
 
@@ -381,25 +382,25 @@ all_paths = list_all (λ v. is_path v.name)
 abbrev have_paths : Result (List Variable) ElabFault → Bool
 have_paths = all_pass (λ v. is_path v.name)
 
-module _ (drivers : ScopeDrivers) (e : is_path drivers.name ≡ true) where
+module _ (path : Text) (e : is_path path ≡ true) where
   declared_paths : (form : Form) (kind : Kind) (signed : Bool) (range : Option RangeTree) (list : List DeclaredTree) →
-      list_all are_printable (names (all_declared kind signed range list)) ≡ true → all_paths (variables_in drivers form list) ≡ true
+      list_all are_printable (names (all_declared kind signed range list)) ≡ true → all_paths (variables_in path form list) ≡ true
   declared_paths form kind signed range [] all = refl
   declared_paths form kind signed range (one ∷ more) all =
-      and_both (is_path (drivers.name ++ 46 ∷ one.name.letters)) (all_paths (variables_in drivers form more))
-      (dotted_is_path drivers.name one.name.letters e (and_left (are_printable one.name.letters) (list_all are_printable (names (all_declared kind signed range more))) all))
+      and_both (is_path (path ++ 46 ∷ one.name.letters)) (all_paths (variables_in path form more))
+      (dotted_is_path path one.name.letters e (and_left (are_printable one.name.letters) (list_all are_printable (names (all_declared kind signed range more))) all))
       (declared_paths form kind signed range more (and_right (are_printable one.name.letters) (list_all are_printable (names (all_declared kind signed range more))) all))
 
-  kind_paths : (form : Form) (kind : DeclarationKind) (list : List DeclaredTree) → list_all are_printable (names (declared_as kind list)) ≡ true → all_paths (variables_as drivers form kind list) ≡ true
+  kind_paths : (form : Form) (kind : DeclarationKind) (list : List DeclaredTree) → list_all are_printable (names (declared_as kind list)) ≡ true → all_paths (variables_as path form kind list) ≡ true
   kind_paths form (variables word type) list all = declared_paths form (kind_of word) type.signed type.range list all
   kind_paths form (integers long) list all = declared_paths form (counted_kind long) (not long) None list all
   kind_paths form (directed direction) list all = refl
 
-  item_paths : (scope : Scope) (item : ItemTree) → list_all are_printable (names (declarations_of item)) ≡ true → have_paths (lower_declaration drivers scope item) ≡ true
+  item_paths : (scope : Scope) (item : ItemTree) → list_all are_printable (names (declarations_of item)) ≡ true → have_paths (lower_declaration path scope item) ≡ true
   item_paths scope (parameters local type settings) all = refl
   item_paths scope (declaration kind list) all = by (lower_kind scope kind)
     where
-      by : (a : Result Form ElabFault) → have_paths (a >>= λ form. Ok (variables_as drivers form kind list)) ≡ true
+      by : (a : Result Form ElabFault) → have_paths (a >>= λ form. Ok (variables_as path form kind list)) ≡ true
       by (Ok form) = kind_paths form kind list all
       by (Err fault) = refl
   item_paths scope (events list) all = refl
@@ -408,30 +409,30 @@ module _ (drivers : ScopeDrivers) (e : is_path drivers.name ≡ true) where
   item_paths scope (always statement) all = refl
   item_paths scope (instances text overrides list) all = refl
 
-  paths_from : (scope : Scope) (items : List ItemTree) → list_all item_is_named items ≡ true → have_paths (lower_variables drivers scope items) ≡ true
+  paths_from : (scope : Scope) (items : List ItemTree) → list_all item_is_named items ≡ true → have_paths (lower_variables path scope items) ≡ true
   paths_from scope [] all = refl
   paths_from scope (item ∷ more) all =
-      both_pass (λ (v : Variable). is_path v.name) (lower_declaration drivers scope item) (λ front. lower_variables drivers (behind_item scope item) more)
+      both_pass (λ (v : Variable). is_path v.name) (lower_declaration path scope item) (λ front. lower_variables path (behind_item scope item) more)
       (item_paths scope item
       (and_left (list_all are_printable (names (declarations_of item))) (list_all are_printable (instance_names item)) (and_left (item_is_named item) (list_all item_is_named more) all)))
       (λ front. paths_from (behind_item scope item) more (and_right (item_is_named item) (list_all item_is_named more) all))
 
-  port_paths : (scope : Scope) (ports : List Port) → list_all are_printable (names (map port_declaration ports)) ≡ true → have_paths (lower_ports drivers scope ports) ≡ true
+  port_paths : (scope : Scope) (ports : List Port) → list_all are_printable (names (map port_declaration ports)) ≡ true → have_paths (lower_ports path scope ports) ≡ true
   port_paths scope [] all = refl
   port_paths scope (p ∷ ps) all =
-      by (lower_bounds scope p.type.range) (λ bounds. lower_again scope p.again bounds) (lower_ports drivers scope ps)
+      by (lower_bounds scope p.type.range) (λ bounds. lower_again scope p.again bounds) (lower_ports path scope ps)
       (port_paths scope ps (and_right (are_printable p.name.letters) (list_all are_printable (names (map port_declaration ps))) all))
     where
       whole : (a : Result (Option Bounds) ElabFault) (b : Result (List Variable) ElabFault) → have_paths b ≡ true →
-          have_paths ((a >>= λ bounds. Ok (variable_in drivers (form_of p.net p.type.signed bounds) p.name.letters)) >>= λ one. b >>= λ others. Ok (one ∷ others)) ≡ true
+          have_paths ((a >>= λ bounds. Ok (variable_in path (form_of p.net p.type.signed bounds) p.name.letters)) >>= λ one. b >>= λ others. Ok (one ∷ others)) ≡ true
       whole (Ok bounds) (Ok others) rest =
-          and_both (is_path (drivers.name ++ 46 ∷ p.name.letters)) (all_paths others)
-          (dotted_is_path drivers.name p.name.letters e (and_left (are_printable p.name.letters) (list_all are_printable (names (map port_declaration ps))) all)) rest
+          and_both (is_path (path ++ 46 ∷ p.name.letters)) (all_paths others)
+          (dotted_is_path path p.name.letters e (and_left (are_printable p.name.letters) (list_all are_printable (names (map port_declaration ps))) all)) rest
       whole (Ok bounds) (Err fault) rest = refl
       whole (Err fault) b rest = refl
 
       by : (a : Result (Option Bounds) ElabFault) (again : Option Bounds → Result (Option Bounds) ElabFault) (b : Result (List Variable) ElabFault) → have_paths b ≡ true →
-          have_paths ((a >>= λ bounds. again bounds >>= λ same. Ok (variable_in drivers (form_of p.net p.type.signed same) p.name.letters)) >>= λ one. b >>= λ others. Ok (one ∷ others)) ≡ true
+          have_paths ((a >>= λ bounds. again bounds >>= λ same. Ok (variable_in path (form_of p.net p.type.signed same) p.name.letters)) >>= λ one. b >>= λ others. Ok (one ∷ others)) ≡ true
       by (Ok bounds) again b rest = whole (again bounds) b rest
       by (Err fault) again b rest = refl
 
@@ -495,23 +496,21 @@ few_paths name part all = by (nat_le (length part.begins) 256) (nat_le (length p
     by true false = refl
     by false b = refl
 
-own_paths : (context : Context) (ports : List Port) (children : List Instantiation) (scope : Scope) (part : Part) → is_path context.path ≡ true →
+own_paths : (context : Context) (ports : List Port) (scope : Scope) (part : Part) → is_path context.path ≡ true →
     list_all are_printable (names (map port_declaration ports)) ≡ true → list_all item_is_named context.unit.items ≡ true →
-    all_paths part.variables ≡ true → part_paths (lower_own context ports children scope part) ≡ true
-own_paths context ports children scope part e ports_named items_named before =
-    let drivers : ScopeDrivers = scope_drivers_by context ports children scope in
-    let own : have_paths (lower_own_variables context ports children scope) ≡ true =
-    barred_pass (λ (v : Variable). is_path v.name) (first_again (driven_by context ports children scope)) Drivers
-    (lower_ports drivers (port_scope context.unit scope) ports >>= λ front. lower_variables drivers scope (own_items context.unit) >>= λ others. Ok (front ++ others))
-    (both_pass (λ (v : Variable). is_path v.name) (lower_ports drivers (port_scope context.unit scope) ports) (λ front. lower_variables drivers scope (own_items context.unit))
-    (port_paths drivers e (port_scope context.unit scope) ports ports_named)
-    (λ front. paths_from drivers e scope (own_items context.unit)
-    (own_items_named (is_declared (letters_of (plain_names context.unit.ports))) context.unit.items items_named))) in
-    then_paths (lower_own_variables context ports children scope) _
+    all_paths part.variables ≡ true → part_paths (lower_own context ports scope part) ≡ true
+own_paths context ports scope part e ports_named items_named before =
+    let path : Text = context.path in
+    let own : have_paths (lower_own_variables context ports scope) ≡ true =
+    both_pass (λ (v : Variable). is_path v.name) (lower_ports path (port_scope context.unit scope) ports) (λ front. lower_variables path scope (own_items context.unit))
+    (port_paths path e (port_scope context.unit scope) ports ports_named)
+    (λ front. paths_from path e scope (own_items context.unit)
+    (own_items_named (is_declared (letters_of (plain_names context.unit.ports))) context.unit.items items_named)) in
+    then_paths (lower_own_variables context ports scope) _
     (λ variables is. then_paths (lower_own_processes context ports scope part.table) _
     (λ processes given. few_paths context.name (with_own context scope part variables processes)
     (list_all-append (λ (v : Variable). is_path v.name) part.variables variables
-    ∙ and_both (all_paths part.variables) (all_paths variables) before (all_told (λ (v : Variable). is_path v.name) (lower_own_variables context ports children scope) variables own is))))
+    ∙ and_both (all_paths part.variables) (all_paths variables) before (all_told (λ (v : Variable). is_path v.name) (lower_own_variables context ports scope) variables own is))))
 
 each_keeps : (step : Part → Instantiation → Result Part ElabFault) (good : Instantiation → Bool) →
     ((part : Part) (one : Instantiation) → good one ≡ true → all_paths part.variables ≡ true → part_paths (step part one) ≡ true) →
@@ -532,13 +531,13 @@ module _ (modules : SourceTree) (named : list_all is_named modules ≡ true) whe
       let items = and_right (ports_are_named context.unit) (list_all item_is_named context.unit.items) inner in
       then_paths (lower_names part context) _
       (λ scope scope_is. then_paths (lower_instances modules 0 scope.known context.unit.items) _
-      (λ children children_are. then_paths (lower_own context (ports_of context.unit) children scope part) _
+      (λ children children_are. then_paths (lower_own context (ports_of context.unit) scope part) _
       (λ own own_is.
       each_keeps (λ so_far child. elaborate_instance levels modules so_far (child_context scope context child)) wanted_is_named
       (λ so_far one good. grown_paths levels so_far (child_context scope context one) (dotted_is_path context.path one.name.letters e (and_left (are_printable one.name.letters) (is_named one.child) good))
       (and_right (are_printable one.name.letters) (is_named one.child) good))
       children own (all_told wanted_is_named (lower_instances modules 0 scope.known context.unit.items) children (from_named modules named 0 scope.known context.unit.items items) children_are)
-      (sym (ap part_paths own_is) ∙ own_paths context (ports_of context.unit) children scope part e ports items before))))
+      (sym (ap part_paths own_is) ∙ own_paths context (ports_of context.unit) scope part e ports items before))))
 
 top_paths : (modules : SourceTree) → list_all is_named modules ≡ true → (m : ModuleTree) → is_path m.name.letters ≡ true → is_named m ≡ true →
     part_paths (elaborate_top modules m) ≡ true
@@ -578,12 +577,20 @@ distinct_at (x ∷ vs) none (suc i) (suc j) v w lt first second =
 
 -- ---- the design
 
+started_names : (driven : List Place) (n : ℕ) (vs : List Variable) → map (λ (v : Variable). v.name) (started driven n vs) ≡ map (λ (v : Variable). v.name) vs
+started_names driven n [] = refl
+started_names driven n (v ∷ more) = ap (λ (names : List Text). v.name ∷ names) (started_names driven (n + 1) more)
+
+started_paths : (driven : List Place) (n : ℕ) (vs : List Variable) → all_paths (started driven n vs) ≡ all_paths vs
+started_paths driven n [] = refl
+started_paths driven n (v ∷ more) = ap (λ b. is_path v.name && b) (started_paths driven (n + 1) more)
+
 design_named : (scale : Timescale) (m : ModuleTree) (part : Part) → is_named m ≡ true → all_paths part.variables ≡ true →
     has_double (variable_paths part) ≡ false → AreNamed (design_by scale m part)
 design_named scale m part e paths none = record {
   top = and_left (are_printable m.name.letters) (ports_are_named m && list_all item_is_named m.items) e;
-  paths = path_at part.variables paths;
-  distinct = distinct_at part.variables none;
+  paths = path_at (started (driven_in part) 0 part.variables) (started_paths (driven_in part) 0 part.variables ∙ paths);
+  distinct = distinct_at (started (driven_in part) 0 part.variables) (ap has_double (started_names (driven_in part) 0 part.variables) ∙ none);
 }
 
 none_doubled : (b : Bool) (top : Option Word) → broken_if b Doubled top ≡ None → b ≡ false

@@ -1,36 +1,31 @@
 -- What an instance adds of its own: its names, its variables, its processes.
-use Rattle.std.proofs.Common.{◌≡◌, ◌<◌, ℕ, ◌+◌, Bool, true, false, Option, Some, None, List, [], ◌∷◌, ◌++◌, length, map, Result, Ok, Err, refl, sym, ap, subst, ◌∙◌, arith}
+use Rattle.std.proofs.Common.{◌≡◌, ◌<◌, ℕ, ◌+◌, Bool, true, false, Option, Some, List, [], ◌∷◌, ◌++◌, length, map, Result, Ok, Err, refl, sym, ap, ◌∙◌, arith}
 use Rattle.std.specs.Prelude.{not}
-use Rattle.basis.specs.Reasons.{Because}
 use Rattle.basis.specs.declared.memory.OrMemory.{OrMemory}
 use Rattle.vast.specs.Words.{Text}
 use Rattle.vast.specs.NumberedWords.{Word}
 use Rattle.vast.specs.NumberedModules.{ModuleTree}
 use Rattle.vast.specs.NumberedTrees.{module_tree}
-use Rattle.vast.specs.declared.module.ModuleItem.{ModuleItem}
 use Rattle.vdesign.specs.Design.{Variable}
 use Rattle.module_size.specs.Sizes.{module_size}
-use Rattle.vmodules.specs.Names.{letters_of, first_again, is_declared}
+use Rattle.vmodules.specs.Names.{is_declared}
 use Rattle.vmodules.specs.declared.ports.PortForm.{PortForm}
 use Rattle.vmodules.specs.Inner.{port_form}
 use Rattle.velab_expr.specs.declared.fault.ElabFault.{ElabFault}
-use Rattle.velab_expr.specs.declared.fault.Rule.TheVariants.{Doubled, Drivers}
+use Rattle.velab_expr.specs.declared.fault.Rule.TheVariants.{Doubled}
 use Rattle.velab_expr.specs.declared.scope.Meaning.{Meaning}
 use Rattle.velab_expr.specs.Answers.{◌>>=◌, behind, required, Refuses}
-use Rattle.velab_expr.specs.Rules.{broken_at, IsBroken}
 use Rattle.velab_expr.specs.Scopes.{Scope}
 use Rattle.velab_expr.specs.Symbols.{Symbol, name_in}
 use Rattle.velab_expr.proofs.AnswerLemmas.{goes_behind, still_refused}
 use Rattle.velab_process.specs.Processes.{Processes, with_begins_before}
 use Rattle.velab_declaration.specs.Parameters.{Overrides, lower_meaning, with_meaning, add_symbol, add_symbols}
-use Rattle.velab_declaration.specs.Variables.{ScopeDrivers, port_scope, lower_ports, lower_variables}
+use Rattle.velab_declaration.specs.Variables.{port_scope, lower_ports, lower_variables}
 use Rattle.vmodules.specs.Ports.{own_items}
-use Rattle.vhierarchy.specs.Instances.{barring, Part, Context, scope_of, few_enough, with_own}
-use Rattle.vhierarchy.specs.Inner.{nets_driven, own_variables}
+use Rattle.vhierarchy.specs.Instances.{Part, Context, scope_of, few_enough, with_own}
+use Rattle.vhierarchy.specs.Inner.{own_variables}
 use Rattle.vhierarchy.specs.declared.context.Context.{Context as ProgramContext}
-use Rattle.vhierarchy.specs.declared.instantiation.Instantiation.{Instantiation as ProgramInstantiation}
 use Rattle.velab_declaration.proofs.VariableLemmas.{first_refused as front_refused}
-use Rattle.vhierarchy.proofs.StepLemmas.{barred, first_refused}
 
 -- ---- names
 
@@ -68,52 +63,25 @@ few_known overrides scope next list given head whole bound added head_is whole_i
 
 -- ---- variables
 
--- where no net has two drivers, the variables of its ports come first, and then those of its items
-module _ (words : List Text) (told : ProgramContext) (ports : List PortForm) (instantiation : List ProgramInstantiation) (scope : Scope) (one : List ModuleItem)
-    (one_is : one ≡ told.unit.now.items.items) (before : List Variable) where
-  abbrev items : List ModuleItem
-  items = told.unit.now.items.items
-
-  abbrev nets : List ModuleItem → List Word
-  nets list = nets_driven words told.connections.now ports list instantiation
-
-  abbrev drivers : List Text → ScopeDrivers
-  drivers list = record { name = told.path.now; driven = list }
-
+-- the variables of its ports come first, and then those of its items
+module _ (words : List Text) (told : ProgramContext) (ports : List PortForm) (scope : Scope) (before : List Variable) where
   abbrev unit : ModuleTree
   unit = module_tree words told.unit.now
 
-  abbrev both : List Text → Result (List Variable) ElabFault
-  both list =
-      lower_ports (drivers list) (port_scope unit scope) (map (port_form words) ports) >>= λ front.
-      lower_variables (drivers list) scope (own_items unit) >>= λ others. Ok (front ++ others)
+  abbrev of_ports : Result (List Variable) ElabFault
+  of_ports = lower_ports told.path.now (port_scope unit scope) (map (port_form words) ports)
+
+  abbrev of_items : Result (List Variable) ElabFault
+  of_items = lower_variables told.path.now scope (own_items unit)
 
   abbrev all : Result (List Variable) ElabFault
-  all = own_variables words told ports instantiation scope
+  all = own_variables words told ports scope
 
-  pub drivers_refused : (e : OrMemory ElabFault) → Because (IsBroken (broken_at Drivers (first_again (nets one)))) e → Refuses e (behind before all)
-  drivers_refused e h =
-      first_refused all (λ more. Ok (before ++ more)) e
-      (barred Drivers (first_again (nets items)) (both (letters_of (nets items))) e
-      (subst (λ (l : List ModuleItem). Because (IsBroken (broken_at Drivers (first_again (nets l)))) e) one_is h))
+  pub ports_refused : (e : OrMemory ElabFault) → Refuses e (behind before of_ports) → Refuses e (behind before all)
+  ports_refused = still_refused (behind before of_ports) (behind before all) (λ fault is. front_refused before of_ports of_items fault is)
 
-  module _ (once : first_again (nets one) ≡ None) (driven : List Text) (driven_is : driven ≡ letters_of (nets one)) where
-    all_is : all ≡ both driven
-    all_is =
-        ap (λ (w : Option Word). barring w Drivers (both (letters_of (nets items)))) (ap (λ (l : List ModuleItem). first_again (nets l)) (sym one_is) ∙ once)
-        ∙ (λ i. both (sym (driven_is ∙ ap (λ (l : List ModuleItem). letters_of (nets l)) one_is) i))
-
-    abbrev of_ports : Result (List Variable) ElabFault
-    of_ports = lower_ports (drivers driven) (port_scope unit scope) (map (port_form words) ports)
-
-    abbrev of_items : Result (List Variable) ElabFault
-    of_items = lower_variables (drivers driven) scope (own_items unit)
-
-    pub ports_refused : (e : OrMemory ElabFault) → Refuses e (behind before of_ports) → Refuses e (behind before all)
-    ports_refused = still_refused (behind before of_ports) (behind before all) (λ fault is. ap (behind before) all_is ∙ front_refused before of_ports of_items fault is)
-
-    pub variables_are : (middle : List Variable) → behind before of_ports ≡ Ok middle → behind middle of_items ≡ behind before all
-    variables_are middle put = goes_behind before of_ports of_items middle put ∙ ap (behind before) (sym all_is)
+  pub variables_are : (middle : List Variable) → behind before of_ports ≡ Ok middle → behind middle of_items ≡ behind before all
+  variables_are middle put = goes_behind before of_ports of_items middle put
 
 -- ---- the part with what is its own
 

@@ -1,6 +1,5 @@
 -- *internal*: What the steps of elaboration over instances are told by and answer.
-use Rattle.std.specs.Prelude.{◌≡◌, ℕ, nat_le, List, ◌++◌, map, Option, Some, option_map, Result, Ok, Err}
-use Rattle.std.specs.List.{filter, flat_map}
+use Rattle.std.specs.Prelude.{◌≡◌, ℕ, nat_le, List, [], ◌∷◌, map, Option, Some, option_map, Result, Ok, Err}
 use Rattle.basis.specs.declared.memory.OrMemory.{OrMemory}
 use Rattle.vast.specs.Words.{Text}
 use Rattle.vast.specs.NumberedWords.{Word, numbered}
@@ -9,21 +8,24 @@ use Rattle.vast.specs.declared.module.ModuleItem.{ModuleItem}
 use Rattle.vast.specs.declared.module.Instance.{Instance}
 use Rattle.vast.specs.declared.module.Connections.{Connections}
 use Rattle.vast.specs.declared.module.ModuleTree.{ModuleTree as Parsed}
-use Rattle.vmodules.specs.Names.{is_declared, letters_of}
+use Rattle.vmodules.specs.Names.{letters_of}
 use Rattle.vmodules.specs.Connected.{open_names}
-use Rattle.vmodules.specs.Inner.{ConnectionEntry, Units, entries_tree, units_tree, port_form}
+use Rattle.vmodules.specs.Inner.{Units, entries_tree, units_tree, port_form}
 use Rattle.vmodules.specs.declared.ports.PortForm.{PortForm}
 use Rattle.velab_expr.specs.declared.fault.ElabFault.{ElabFault}
 use Rattle.velab_expr.specs.declared.fault.Rule.TheVariants.{TooMany}
 use Rattle.velab_expr.specs.Answers.{provided, required, Refuses}
 use Rattle.velab_expr.specs.Scopes.{Scope, at}
 use Rattle.basis.specs.declared.timescale.Timescale.{Timescale}
+use Rattle.vbits.specs.Vectors.{Vector}
 use Rattle.vdesign.specs.Design.{Variable, Scope as Room, Design}
 use Rattle.velab_process.specs.Processes.{Processes}
 use Rattle.velab_process.specs.Statements.{Table}
-use Rattle.velab_declaration.specs.Variables.{port_names, nets_of}
-use Rattle.velab_declaration.specs.Inner.{overrides_tree, item_drivers}
-use Rattle.vhierarchy.specs.Instances.{Instantiation, Part, Context, child_context, lower_instances, lower_list, driven_inside, driven_outputs, driven_outside, lower_own_variables, lower_own_processes, lower_own, each, elaborate_instance}
+use Rattle.velab_declaration.specs.Variables.{port_names}
+use Rattle.velab_declaration.specs.Inner.{overrides_tree}
+use Rattle.velab_declaration.specs.Drives.{started}
+use Rattle.velab_declaration.specs.DriveMarks.{starts_from}
+use Rattle.vhierarchy.specs.Instances.{Instantiation, Part, Context, child_context, lower_instances, lower_list, lower_own_variables, lower_own_processes, lower_own, each, elaborate_instance, driven_in}
 use Rattle.vhierarchy.specs.declared.instantiation.Instantiation.{Instantiation as ProgramInstantiation}
 use Rattle.vhierarchy.specs.declared.instantiation.Open.{Open}
 use Rattle.vhierarchy.specs.declared.context.Context.{Context as ProgramContext}
@@ -54,26 +56,6 @@ context_tree words context = record {
   connections = entries_tree words context.connections.now;
 }
 
--- the names that connected inputs drive, and those that outputs of instances do
-abbrev pub inputs_of : List Text → List ConnectionEntry → List PortForm → List Word
-inputs_of words connections ports = driven_inside (entries_tree words connections) (map (port_form words) ports)
-
-abbrev pub outputs_of : List Text → List ConnectionEntry → List PortForm → List Word
-outputs_of words connections ports = driven_outputs (entries_tree words connections) (map (port_form words) ports)
-
--- the names that instances drive outside
-abbrev pub outputs_by : List Text → List ProgramInstantiation → List Word
-outputs_by words list = flat_map driven_outside (instantiation_trees words list)
-
--- the names that something drives in an instance, and the nets among them
-abbrev pub words_driven : List Text → List ConnectionEntry → List PortForm → List ModuleItem → List ProgramInstantiation → List Word
-words_driven words connections ports items instantiation = (inputs_of words connections ports ++ item_drivers words items) ++ outputs_by words instantiation
-
-abbrev pub nets_driven : List Text → List ConnectionEntry → List PortForm → List ModuleItem → List ProgramInstantiation → List Word
-nets_driven words connections ports items instantiation =
-    filter (λ net. is_declared (nets_of (map (port_form words) ports) (map (item_tree words) items)) net.letters)
-    (words_driven words connections ports items instantiation)
-
 -- ---- answers, told of the program's values
 
 -- it gives what these values say
@@ -101,9 +83,8 @@ instances_listed words child known overrides list =
     lower_list (module_tree words child) known (option_map (connections_tree words) overrides) (map (instance_tree words) list)
 
 -- what an instance adds of its own
-abbrev pub own_variables : List Text → ProgramContext → List PortForm → List ProgramInstantiation → Scope → Result (List Variable) ElabFault
-own_variables words context ports instantiation scope =
-    lower_own_variables (context_tree words context) (map (port_form words) ports) (instantiation_trees words instantiation) scope
+abbrev pub own_variables : List Text → ProgramContext → List PortForm → Scope → Result (List Variable) ElabFault
+own_variables words context ports scope = lower_own_variables (context_tree words context) (map (port_form words) ports) scope
 
 abbrev pub own_processes : List Text → ProgramContext → List PortForm → Scope → Table → Result Processes ElabFault
 own_processes words context ports scope table = lower_own_processes (context_tree words context) (map (port_form words) ports) scope table
@@ -112,9 +93,8 @@ own_processes words context ports scope table = lower_own_processes (context_tre
 abbrev pub few : Word → ℕ → ℕ → Part → Result Part ElabFault
 few name processes scopes part = provided (nat_le processes 256) TooMany (Some name) (required (nat_le scopes 1025) TooMany (Some name) part)
 
-abbrev pub own_part : List Text → ProgramContext → List PortForm → List ProgramInstantiation → Scope → Part → Result Part ElabFault
-own_part words context ports instantiation scope part =
-    lower_own (context_tree words context) (map (port_form words) ports) (instantiation_trees words instantiation) scope part
+abbrev pub own_part : List Text → ProgramContext → List PortForm → Scope → Part → Result Part ElabFault
+own_part words context ports scope part = lower_own (context_tree words context) (map (port_form words) ports) scope part
 
 -- an instance that is asked for and all below it, and those of a list, one after another
 abbrev pub instance_below : Units → ℕ → ProgramContext → Scope → Part → Instantiation → Result Part ElabFault
@@ -131,12 +111,22 @@ variable_names = map (λ v. v.name)
 abbrev pub scope_names : List Room → List Text
 scope_names = map (λ s. s.path)
 
+-- what its variables are before anything is written
+abbrev pub starts_in : Part → List Vector
+starts_in part = starts_from (driven_in part) 0 part.variables
+
+-- variables with what each is before anything is written
+abbrev pub with_starts : List Variable → List Vector → List Variable
+with_starts [] starts = []
+with_starts (v ∷ more) [] = v ∷ more
+with_starts (v ∷ more) (start ∷ others) = record v { start = start } ∷ with_starts more others
+
 -- a part as a design, under a top's name
 abbrev pub named_design : Text → Timescale → Part → Design
 named_design name scale part = record {
   top = name;
   scale = scale;
-  variables = part.variables;
+  variables = started (driven_in part) 0 part.variables;
   scopes = part.scopes;
   actions = part.table.actions;
   processes = part.begins;

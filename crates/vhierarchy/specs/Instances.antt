@@ -1,12 +1,10 @@
 -- *trusted*: `Elaborates modules top scale design`: the design that a text stands for, by recursion over instances (IEEE 1364-2005,
 -- clause 12).
 use Rattle.std.specs.Prelude.{◌≡◌, ℕ, zero, suc, ◌+◌, nat_le, Bool, ◌&&◌, if◌then◌else◌, List, [], ◌∷◌, ◌++◌, map, length, Option, None, Some, option_map, Result, Ok, Err}
-use Rattle.std.specs.List.{flat_map, filter, filter_map}
 use Rattle.std.specs.Option.{option_or}
 use Rattle.basis.specs.declared.timescale.Timescale.{Timescale}
 use Rattle.vast.specs.Words.{Text}
 use Rattle.vast.specs.NumberedWords.{Word}
-use Rattle.vast.specs.NumberedExpressions.{ExpressionTree}
 use Rattle.vast.specs.NumberedModules.{ConnectionsTree, InstanceTree, ItemTree, parameters, declaration, events, assignments, initial, always, instances, ModuleTree, SourceTree}
 use Rattle.module_size.specs.Sizes.{size_of, module_size}
 use Rattle.vmodules.specs.Names.{has_double, is_declared, letters_of, first_again}
@@ -15,7 +13,7 @@ use Rattle.vmodules.specs.Ports.{Port, ports_of, own_items}
 use Rattle.vmodules.specs.Misdeclared.{misdeclared}
 use Rattle.vmodules.specs.declared.misdeclared.PortFlaw.{PortFlaw}
 use Rattle.vmodules.specs.declared.misdeclared.PortFlaw.TheVariants as flaw
-use Rattle.vmodules.specs.Connected.{NamedConnection, open_names, named_connections, named_connections_if, misfit, misfit_if, value_for}
+use Rattle.vmodules.specs.Connected.{NamedConnection, open_names, named_connections, named_connections_if, misfit, misfit_if}
 use Rattle.vdesign.specs.Design as design
 use Rattle.vdesign.specs.declared.action.Action.{Action}
 use Rattle.vdesign.specs.declared.action.Action.TheVariants.{Assign, Nonblocking, AssignDelayed, NonblockingDelayed, Trigger, Test, Case, While, Repeat, Forever, Delay, EventControl, Wait, ContinuousAssign, Print, DumpVars, Dump, NoOperation, Finish, Stop}
@@ -27,13 +25,14 @@ use Rattle.velab_expr.specs.Answers.{◌>>=◌, refused, required, provided, fou
 use Rattle.velab_expr.specs.Rules.{told, unless, broken_if}
 use Rattle.velab_declaration.specs.Right.{kind_rule}
 use Rattle.velab_declaration.specs.ActionFlaws.{blank_environment, flaw_rule, table_fault}
+use Rattle.velab_declaration.specs.Drives.{Place, driven_by_all, drivers_fault, started}
 use Rattle.velab_expr.specs.Scopes.{Scope, at}
 use Rattle.velab_expr.specs.Symbols.{symbols_by}
-use Rattle.velab_process.specs.Connections.{only_name, lower_joins}
+use Rattle.velab_process.specs.Connections.{lower_joins}
 use Rattle.velab_process.specs.Processes.{Processes, with_begins_before, lower_items}
 use Rattle.velab_process.specs.Statements.{Table}
 use Rattle.velab_declaration.specs.Parameters.{Overrides, Base, item_scope}
-use Rattle.velab_declaration.specs.Variables.{port_names, declared_names, ScopeDrivers, port_scope, lower_ports, lower_variables, drivers_by, nets_of}
+use Rattle.velab_declaration.specs.Variables.{port_names, declared_names, port_scope, lower_ports, lower_variables}
 
 -- this answer, barring a word at which the rule is broken
 abbrev pub barring : {A : Type 0} → Option Word → Rule → Result A ElabFault → Result A ElabFault
@@ -109,31 +108,6 @@ lower_instances modules before known [] = Ok []
 lower_instances modules before known (item ∷ more) =
     lower_instances_by modules before known item >>= λ front.
     lower_instances modules (before + length front) (known + length (symbols_by item)) more >>= λ others. Ok (front ++ others)
-
--- ---- names that are driven (6.1, 12.3.9.2)
-
--- the port, where it is an input that is connected
-abbrev pub driven_input : Port → Option ExpressionTree → Option Word
-driven_input p None = None
-driven_input p (Some value) = if p.output then None else Some p.name
-
-abbrev pub driven_inside : List NamedConnection → List Port → List Word
-driven_inside connections ports = filter_map (λ p. driven_input p (value_for connections p.name.letters)) ports
-
--- the net outside that an output drives
-abbrev pub driven_net : Port → Option ExpressionTree → Option Word
-driven_net p None = None
-driven_net p (Some value) = if p.output then only_name value else None
-
-abbrev pub driven_outputs : List NamedConnection → List Port → List Word
-driven_outputs connections ports = filter_map (λ p. driven_net p (value_for connections p.name.letters)) ports
-
-abbrev pub driven_outside : Instantiation → List Word
-driven_outside instantiation = driven_outputs instantiation.connections (ports_of instantiation.child)
-
--- by its inputs, by its items, and by the outputs of the instances in it, as often as they do
-abbrev pub driven_names : List NamedConnection → List Port → List Instantiation → List ItemTree → List Word
-driven_names connections ports instantiation items = (driven_inside connections ports ++ flat_map drivers_by items) ++ flat_map driven_outside instantiation
 
 -- ---- what an instance adds (12.1, 12.3)
 
@@ -212,24 +186,13 @@ few_enough name part =
     provided (nat_le (length part.begins) 256) rule.TooMany (Some name)
     (required (nat_le (length part.scopes) 1025) rule.TooMany (Some name) part)
 
--- what is its own, by its ports, the instances in it and its names
-module _ (context : Context) (ports : List Port) (children : List Instantiation) (scope : Scope) where
-  -- the nets in it that something drives, as often as it does
-  abbrev pub driven_by : List Word
-  driven_by =
-      filter (λ net. is_declared (nets_of ports context.unit.items) net.letters)
-      (driven_names context.connections ports children context.unit.items)
-
-  -- where its variables stand
-  abbrev pub scope_drivers_by : ScopeDrivers
-  scope_drivers_by = record { name = context.path; driven = letters_of driven_by }
-
-  -- its ports, and what its items declare; no net has two drivers
+-- what is its own, by its ports and its names
+module _ (context : Context) (ports : List Port) (scope : Scope) where
+  -- its ports, and what its items declare
   abbrev pub lower_own_variables : Result (List design.Variable) ElabFault
   lower_own_variables =
-      none_again rule.Drivers driven_by
-      (lower_ports scope_drivers_by (port_scope context.unit scope) ports >>= λ front.
-      lower_variables scope_drivers_by scope (own_items context.unit) >>= λ others. Ok (front ++ others))
+      lower_ports context.path (port_scope context.unit scope) ports >>= λ front.
+      lower_variables context.path scope (own_items context.unit) >>= λ others. Ok (front ++ others)
 
   -- with its own variables, its scope and its own processes
   abbrev pub lower_own : Part → Result Part ElabFault
@@ -264,7 +227,7 @@ elaborate_instance zero modules part context = refused rule.Depth (Some context.
 elaborate_instance (suc levels) modules part context =
     lower_names part context >>= λ scope.
     lower_instances modules 0 scope.known context.unit.items >>= λ children.
-    lower_own context (ports_of context.unit) children scope part >>= λ own.
+    lower_own context (ports_of context.unit) scope part >>= λ own.
     each (λ so_far child. elaborate_instance levels modules so_far (child_context scope context child)) own children
 
 -- ---- the design (12.1)
@@ -291,12 +254,16 @@ top_context m = record {
 unfoldable pub elaborate_top : SourceTree → ModuleTree → Result Part ElabFault
 elaborate_top modules m = elaborate_instance 16 modules nothing (top_context m)
 
+-- the bits that its continuous assignments and its port connections drive
+abbrev pub driven_in : Part → List Place
+driven_in part = driven_by_all (blank_environment part.variables) part.table.actions
+
 -- under the timescale of the text (19.8)
 abbrev pub design_by : Timescale → ModuleTree → Part → design.Design
 design_by scale m part = record {
   top = m.name.letters;
   scale = scale;
-  variables = part.variables;
+  variables = started (driven_in part) 0 part.variables;
   scopes = part.scopes;
   actions = part.table.actions;
   processes = part.begins;
@@ -334,7 +301,7 @@ broken_selection scopes variables (Forever body) = None
 broken_selection scopes variables (Delay amount body) = None
 broken_selection scopes variables (EventControl terms body) = None
 broken_selection scopes variables (Wait condition terms body) = None
-broken_selection scopes variables (ContinuousAssign net value terms) = None
+broken_selection scopes variables (ContinuousAssign targets value terms) = None
 broken_selection scopes variables (Print when pieces) = None
 broken_selection scopes variables (Dump command) = None
 broken_selection scopes variables NoOperation = None
@@ -349,12 +316,14 @@ broken_paths top part =
     (option_or (broken_if (has_double (scope_paths part)) rule.Doubled (Some top))
     (table_fault (broken_selection (scope_paths part) (variable_paths part)) part.table.actions part.table.words))
 
--- there are at most 256 processes, which is told before; what is written is a variable or a net as it is to be, and no size is wrong
+-- there are at most 256 processes, which is told before; what is written is a variable or a net as it is to be, no size is wrong, and no bit of a
+-- net has two drivers
 abbrev pub broken_table : Word → Part → Option ElabFault
 broken_table top part =
     option_or (unless (nat_le (length part.begins) 256) rule.TooMany (Some top))
     (option_or (table_fault (kind_rule part.variables) part.table.actions part.table.words)
-    (table_fault (flaw_rule (blank_environment part.variables)) part.table.actions part.table.words))
+    (option_or (table_fault (flaw_rule (blank_environment part.variables)) part.table.actions part.table.words)
+    (drivers_fault (blank_environment part.variables) [] part.table.actions part.table.words)))
 
 abbrev pub broken_design : Word → Part → Option ElabFault
 broken_design top part = option_or (broken_paths top part) (broken_table top part)

@@ -15,7 +15,7 @@ ghost use Rattle.velab_expr.specs.Answers.{Gives};
 ghost use Rattle.vhierarchy.specs.Instances as spec;
 ghost use Rattle.vhierarchy.specs.Instances.{Elaborates, as_design, broken_paths, broken_ports, broken_table, checked, elaborate_top, top_whole, whole_of};
 ghost use Rattle.vhierarchy.specs.Reasons.{IsDesignReason, IsOnlyDesign, HasNoDesign};
-ghost use Rattle.vhierarchy.specs.Inner.{named_design, scope_names, variable_names};
+ghost use Rattle.vhierarchy.specs.Inner.{named_design, scope_names, starts_in, variable_names, with_starts};
 
 use crate::context::Context;
 use crate::grow::put_unit;
@@ -26,7 +26,9 @@ use basis::{NoMemory, OrMemory, Timescale};
 use std::alloc::Global;
 use vast::module::{ModuleTree, TextTree};
 use vast::token::Token;
+use vbits::Vec4;
 use vdesign::design::{Design, Scope as Room, Variable};
+use velab_declaration::drives::starts_of;
 use velab_declaration::names::note;
 use velab_declaration::parameter::Overrides;
 use velab_declaration::right::check_kinds;
@@ -138,8 +140,10 @@ fn check_paths(alloc: Global, part: &Part, top: Token) -> Result<(), OrMemory<El
     check_selections(&scopes, &variables, &table.actions, &table.words)
 }
 
-// What the table of a part breaks. E309 where it has too many processes, E306 or E310 where an action is wrong.
-fn check_table(alloc: Global, part: &Part, top: Token) -> Result<(), OrMemory<ElabFault>>
+// What each variable is before anything is written. E309 where the part has too many processes, E306 or E310 where an action is wrong,
+// E304 where two drive one bit.
+fn check_table(alloc: Global, part: &Part, top: Token) -> Result<Vec<Vec4>, OrMemory<ElabFault>>
+    ensures starts { IfOk result (λ starts. starts.items ≡ starts_in part.now) }
     ensures right { (words : List Text) →
         OnOk result (broken_table (numbered words top) part.now ≡ None) }
     ensures err { (words : List Text) →
@@ -150,22 +154,50 @@ fn check_table(alloc: Global, part: &Part, top: Token) -> Result<(), OrMemory<El
     }
     let table = &part.table;
     check_kinds(&part.variables, &table.actions, &table.words)?;
-    check_flaws(alloc, &part.variables, &table.actions, &table.words)
+    check_flaws(alloc, &part.variables, &table.actions, &table.words)?;
+    starts_of(alloc, &part.variables, &table.actions, &table.words)
+}
+
+// A variable with what it is before anything is written.
+fn begin(variable: &mut Variable, start: Vec4)
+    ensures { variable.new ≡ record variable.old { start = start } }
+{
+    variable.start = start;
+}
+
+// Each variable with what it is before anything is written.
+fn start_all(variables: &mut [Variable], starts: &[Vec4])
+    ensures { variables.new ≡ with_starts variables.old starts.now }
+{
+    if let Some((variable, more)) = variables.split_first_mut() {
+        if let Some((start, others)) = starts.split_first() {
+            begin(variable, *start);
+            start_all(more, others);
+        }
+    }
 }
 
 // A part as a design.
-fn design_by(alloc: Global, name: &[u8], scale: Timescale, part: Part) -> Result<Design, NoMemory>
+fn design_by(
+    alloc: Global,
+    name: &[u8],
+    scale: Timescale,
+    part: Part,
+    starts: &[Vec4],
+) -> Result<Design, NoMemory>
     requires few { length part.begins ≤ 256 }
+    requires starts { starts.now ≡ starts_in part }
     ensures { IfOk result (λ design. design ≡ named_design name.now scale part) }
 {
     let Part {
-        variables,
+        mut variables,
         scopes,
         table,
         begins,
         ..
     } = part;
     let Table { actions, .. } = table;
+    start_all(&mut variables, starts);
     Ok(Design {
         top: Vec::from_slice(alloc, name)?,
         scale,
@@ -176,7 +208,7 @@ fn design_by(alloc: Global, name: &[u8], scale: Timescale, part: Part) -> Result
     })
 }
 
-// The design of a part, where it is right. Errors: E302, E303, E306, E309, E310, E901.
+// The design of a part, where it is right. Errors: E302, E303, E304, E306, E309, E310, E901.
 fn checked_design(
     alloc: Global,
     tokens: &Tokens<'_>,
@@ -188,8 +220,8 @@ fn checked_design(
         (as_design scale (checked (module_tree (words_of tokens.now) unit.now) part)) }
 {
     check_paths(alloc, &part, unit.name)?;
-    check_table(alloc, &part, unit.name)?;
-    let design = design_by(alloc, letters(tokens, unit.name), scale, part)?;
+    let starts = check_table(alloc, &part, unit.name)?;
+    let design = design_by(alloc, letters(tokens, unit.name), scale, part, &starts)?;
     Ok(design)
 }
 

@@ -42,16 +42,7 @@ pub fn put_unit<'t, 'u>(
     let known = known_names(alloc, tokens, part, context, &ports)?;
     let scope = known.growing.scope().at(known.head);
     let instantiation = instantiations_in(alloc, modules, known.head, &context.unit.items)?;
-    put_own(
-        alloc,
-        tokens,
-        context,
-        &ports,
-        &instantiation,
-        &scope,
-        known.size,
-        part,
-    )?;
+    put_own(alloc, tokens, context, &ports, &scope, known.size, part)?;
     put_each(
         alloc,
         modules,

@@ -5,7 +5,6 @@
 
 mod context;
 mod design;
-mod drivers;
 mod grow;
 mod instantiation;
 pub mod law;

@@ -17,8 +17,6 @@ ghost use Rattle.vhierarchy.specs.Instances.{lower_names};
 ghost use Rattle.vhierarchy.specs.Inner.{GivesAs, few, own_part, own_processes, own_variables, context_tree, scope_at_head};
 
 use crate::context::Context;
-use crate::drivers::driven_names;
-use crate::instantiation::Instantiation;
 use crate::part::Part;
 use crate::room::room_for;
 use basis::{NoMemory, OrMemory};
@@ -27,7 +25,6 @@ use vast::token::Token;
 use vdesign::action::Places;
 use vdesign::design::{Scope as Room, Variable};
 use velab_declaration::declared::declared;
-use velab_declaration::drivers::ScopeDrivers;
 use velab_declaration::parameter::{Growing, add_head, add_items, add_valueless};
 use velab_declaration::variable::{put_ports, put_variables};
 use velab_expr::fault::{ElabFault, Rule};
@@ -109,35 +106,30 @@ pub fn known_names<'t>(
     })
 }
 
-// The variables of an instance. Errors: E303, E304, E306, E307, E310, E901.
+// The variables of an instance. Errors: E303, E306, E307, E310, E901.
 fn put_own_variables(
     alloc: Global,
     tokens: &Tokens<'_>,
     context: &Context<'_, '_, '_>,
     ports: &[PortForm<'_>],
-    instantiation: &[Instantiation<'_, '_>],
     scope: &Scope<'_, '_>,
     into: &mut Vec<Variable>,
 ) -> Result<(), OrMemory<ElabFault>>
     requires small { scope.now.known
         + length (symbols_in (words_of tokens.now) context.now.unit.now.items.items) < 2 ^ 64 }
     ensures { Makes result into.new.items (behind into.old.items
-        (own_variables (words_of tokens.now) context.now ports.now instantiation.now scope.now)) }
+        (own_variables (words_of tokens.now) context.now ports.now scope.now)) }
 {
-    let driven = driven_names(
+    put_ports(
         alloc,
         tokens,
-        context.connections,
+        context.path,
+        scope,
+        context.unit,
         ports,
-        &context.unit.items,
-        instantiation,
+        into,
     )?;
-    let drivers = ScopeDrivers {
-        name: context.path,
-        driven,
-    };
-    put_ports(alloc, tokens, &drivers, scope, context.unit, ports, into)?;
-    put_variables(alloc, tokens, &drivers, scope, context.unit, into)
+    put_variables(alloc, tokens, context.path, scope, context.unit, into)
 }
 
 // The processes of an instance: those of its port connections, and its own. Errors: E303, E305, E306, E307, E310, E901.
@@ -211,13 +203,12 @@ fn check_counts(begins: &[Places], scopes: &[Room], name: Token) -> Result<(), O
     Ok(())
 }
 
-/// What an instance adds of its own, where its names are right. Errors: E303, E304, E305, E306, E307, E309, E310, E901.
+/// What an instance adds of its own, where its names are right. Errors: E303, E305, E306, E307, E309, E310, E901.
 pub fn put_own(
     alloc: Global,
     tokens: &Tokens<'_>,
     context: &Context<'_, '_, '_>,
     ports: &[PortForm<'_>],
-    instantiation: &[Instantiation<'_, '_>],
     scope: &Scope<'_, '_>,
     size: usize,
     part: &mut Part,
@@ -227,17 +218,9 @@ pub fn put_own(
     requires whole { size ≡
         part.old.size + module_size (module_tree (words_of tokens.now) context.now.unit.now) }
     ensures { Makes result part.new
-        (own_part (words_of tokens.now) context.now ports.now instantiation.now scope.now part.old) }
+        (own_part (words_of tokens.now) context.now ports.now scope.now part.old) }
 {
-    put_own_variables(
-        alloc,
-        tokens,
-        context,
-        ports,
-        instantiation,
-        scope,
-        &mut part.variables,
-    )?;
+    put_own_variables(alloc, tokens, context, ports, scope, &mut part.variables)?;
     put_scope(
         alloc,
         letters(tokens, context.name),

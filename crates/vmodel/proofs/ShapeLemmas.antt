@@ -1,7 +1,6 @@
 -- Values keep the shape of their variables: what is written or waits to be written has its target's length and sign.
 use Rattle.std.proofs.Common.{◌≡◌, ℕ, zero, suc, ◌+◌, ◌-◌, ◌≤◌, ◌==◌, nat_lt, nat_le, take, drop, arith, cond, Bool, true, false, List, [], ◌∷◌, ◌++◌, length, map, Option, Some, None, refl, sym, ap, subst, ◌∙◌}
 use Rattle.std.specs.Prelude.{slice_get, slice_set, unwrap_or}
-use Rattle.std.proofs.lemmas.List.{length-replicate}
 use Rattle.sched_core.specs.Rules.{choice_at}
 use Rattle.std.proofs.lemmas.Bool.Decides.{nat_tests}
 use Rattle.vbits.specs.declared.bit4.Bit4.{Bit4}
@@ -306,7 +305,7 @@ execute-suits variables place (EventControl terms body) after now h = record { w
 execute-suits variables place (Wait condition terms body) after now h = wait_result-suit variables place (holds_at now condition) body after
 execute-suits variables place (Case kind value branches otherwise) after now h = record { wrote = tt; posted = λ post is. cc }
 execute-suits variables place (Repeat count body) after now h = record { wrote = tt; posted = λ post is. cc }
-execute-suits variables place (ContinuousAssign net value terms) after now h = record { wrote = assigned_parts-suits variables (WholeTarget net ∷ []) value now h; posted = λ post is. cc }
+execute-suits variables place (ContinuousAssign targets value terms) after now h = record { wrote = assigned_parts-suits variables targets value now h; posted = λ post is. cc }
 execute-suits variables place (Print Now pieces) after now h = record { wrote = tt; posted = λ post is. cc }
 execute-suits variables place (Print AtSlotEnd pieces) after now h = record { wrote = tt; posted = λ post is. cc }
 execute-suits variables place (Print AtChange pieces) after now h = record { wrote = tt; posted = λ post is. cc }
@@ -385,10 +384,9 @@ next-shaped variables design s i h = by_choice (slice_get (choices s) i)
 -- ---- the run
 
 opening-shape : (variable : Variable) → HasShape variable (opening_value variable)
-unfolding filled
 opening-shape variable =
-    let x : Vector = filled variable.length variable.start in
-    (ap length (marked x variable.signed).0 ∙ length-replicate variable.length variable.start, (marked x variable.signed).1)
+    let x : Vector = resize variable.start variable.length in
+    (ap length (marked x variable.signed).0 ∙ resized_length variable.start variable.length, (marked x variable.signed).1)
 
 opening-shaped : (variables : List Variable) → AreShaped variables (map opening_value variables)
 opening-shaped [] = tt

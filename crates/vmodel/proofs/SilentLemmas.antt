@@ -54,7 +54,7 @@ execute-silent place (Repeat count body) after now h = record { shown = tt; stro
 execute-silent place (Forever body) after now h = record { shown = tt; strobed = refl }
 execute-silent place (Delay amount body) after now h = record { shown = tt; strobed = refl }
 execute-silent place (EventControl terms body) after now h = record { shown = tt; strobed = refl }
-execute-silent place (ContinuousAssign net value terms) after now h = record { shown = tt; strobed = refl }
+execute-silent place (ContinuousAssign targets value terms) after now h = record { shown = tt; strobed = refl }
 execute-silent place (DumpVars selection) after now h = record { shown = tt; strobed = refl }
 execute-silent place (Dump switch) after now h = record { shown = tt; strobed = refl }
 execute-silent place NoOperation after now h = record { shown = tt; strobed = refl }

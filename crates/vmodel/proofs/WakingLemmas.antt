@@ -55,7 +55,7 @@ none_comes values (Some (Delay amount body)) = refl
 none_comes values (Some (Wait condition terms body)) = none_hears values terms
 none_comes values (Some (Case kind value branches otherwise)) = refl
 none_comes values (Some (Repeat count body)) = refl
-none_comes values (Some (ContinuousAssign net value terms)) = none_hears values terms
+none_comes values (Some (ContinuousAssign targets value terms)) = none_hears values terms
 none_comes values (Some (Print when pieces)) = refl
 none_comes values (Some (DumpVars selection)) = refl
 none_comes values (Some (Dump switch)) = refl
@@ -133,7 +133,7 @@ module _ (news : News) (before after : List Vector) (d : AreChanges news.changes
   comes_is_by (Some (Wait condition terms body)) = any_is terms
   comes_is_by (Some (Case kind value branches otherwise)) = refl
   comes_is_by (Some (Repeat count body)) = refl
-  comes_is_by (Some (ContinuousAssign net value terms)) = any_is terms
+  comes_is_by (Some (ContinuousAssign targets value terms)) = any_is terms
   comes_is_by (Some (Print when pieces)) = refl
   comes_is_by (Some (DumpVars selection)) = refl
   comes_is_by (Some (Dump switch)) = refl

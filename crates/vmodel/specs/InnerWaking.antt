@@ -54,7 +54,7 @@ any_hears_of news (term ∷ terms) = hears_of news term || any_hears_of news ter
 abbrev pub comes_by : News → Option Action → Bool
 comes_by news (Some (EventControl terms body)) = any_hears_of news terms
 comes_by news (Some (Wait condition terms body)) = any_hears_of news terms
-comes_by news (Some (ContinuousAssign net value terms)) = any_hears_of news terms
+comes_by news (Some (ContinuousAssign targets value terms)) = any_hears_of news terms
 comes_by news _ = false
 
 abbrev pub comes_at : List Action → News → Option ℕ → Bool

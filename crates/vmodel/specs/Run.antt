@@ -1,6 +1,6 @@
 -- *trusted*: Runs under logs, and their histories (IEEE 1364-2005, 4.2.2, 4.6, 9.9.1, 17.4; docs/SCHEDULING.md).
 use Rattle.std.specs.Prelude.{ℕ, zero, suc, ◌==◌, ◌&&◌, ◌||◌, is_some, Bool, true, false, List, [], ◌∷◌, ◌++◌, Option, Some, None, map, length}
-use Rattle.vbits.specs.Vectors.{Vector, filled, with_sign}
+use Rattle.vbits.specs.Vectors.{Vector, resize, with_sign}
 use Rattle.sched_core.specs.Rules.{Rules, stands, choice_at}
 use Rattle.vdesign.specs.Design.{Variable, Design}
 use Rattle.sched_core.specs.declared.end.Cause.{Cause}
@@ -21,7 +21,7 @@ use Rattle.vmodel.specs.Step.{frames, next, items_of, slot_end_of}
 
 -- a variable starts at x (4.2.2), a net that nothing drives at z (4.2.1), one that is driven at x (own)
 abbrev pub opening_value : Variable → Vector
-opening_value variable = with_sign (filled variable.length variable.start) variable.signed
+opening_value variable = with_sign (resize variable.start variable.length) variable.signed
 
 -- a process begins at its first places
 abbrev pub opening_process : List ℕ → Process

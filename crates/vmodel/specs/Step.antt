@@ -13,7 +13,6 @@ use Rattle.vdesign.specs.declared.dump.DumpCommand.TheVariants as command
 use Rattle.vdesign.specs.declared.print.When.{When}
 use Rattle.vdesign.specs.declared.print.When.TheVariants.{Now, AtSlotEnd, AtChange}
 use Rattle.vdesign.specs.declared.print.Piece.{Piece}
-use Rattle.vdesign.specs.declared.action.Target.TheVariants.{Whole as WholeTarget}
 use Rattle.sched_core.specs.declared.end.Cause.{Cause}
 use Rattle.sched_core.specs.declared.end.Cause.TheVariants.{Finish as Finished, Stop as Stopped}
 use Rattle.vmodel.specs.declared.history.Item.{Item}
@@ -123,9 +122,9 @@ execute place (EventControl terms body) after now = record { continuation = fram
 execute place (Wait condition terms body) after now =
     if holds now condition then record { continuation = frames body after; effect = quiet }
     else record { continuation = Executing place ∷ after; effect = record quiet { disposition = Waiting place } }
--- 6.1, 11.6.1: `assign net = value` writes, waits for a change, and writes again, each in one step (own)
-execute place (ContinuousAssign net value terms) after now =
-    record { continuation = Executing place ∷ after; effect = record quiet { wrote = assigned_parts now (WholeTarget net ∷ []) value; disposition = Waiting place } }
+-- 6.1, 11.6.1: `assign targets = value` writes, waits for a change, and writes again, each in one step (own)
+execute place (ContinuousAssign targets value terms) after now =
+    record { continuation = Executing place ∷ after; effect = record quiet { wrote = assigned_parts now targets value; disposition = Waiting place } }
 -- 17.1: `$display(..)`, `$strobe(..)`, `$monitor(..)`
 execute place (Print when pieces) after now = record { continuation = after; effect = print_effect when place }
 -- 18.1: `$dumpvars(..)`, whose selection stands at its place, and its kin

@@ -48,7 +48,7 @@ any_hears before after triggered (term ∷ terms) = hears before after triggered
 abbrev pub has_come : Option Action → List Vector → List Vector → Option ℕ → Bool
 has_come (Some (EventControl terms body)) before after triggered = any_hears before after triggered terms
 has_come (Some (Wait condition terms body)) before after triggered = any_hears before after triggered terms
-has_come (Some (ContinuousAssign net value terms)) before after triggered = any_hears before after triggered terms
+has_come (Some (ContinuousAssign targets value terms)) before after triggered = any_hears before after triggered terms
 has_come _ before after triggered = false
 
 -- whether a process wakes that waits at this place of the table, or doesn't wait

@@ -10,7 +10,7 @@ ghost use Rattle.vmodel.specs.InnerStep.{wait_result, behind, step_result, effec
 
 use crate::part::Parts;
 use crate::process::Frame;
-use crate::value::{assigned_one, assigned_parts, held_value, resumed_parts};
+use crate::value::{assigned_parts, held_value, resumed_parts};
 use basis::NoMemory;
 use sched_core::end::Cause;
 use std::alloc::Global;
@@ -459,8 +459,8 @@ pub fn effect_of<'d>(
             body,
             ..
         } => Ok(wait_of(place, condition, body, environment, effect)),
-        Action::ContinuousAssign { net, value, .. } => {
-            let parts = assigned_one(&Target::Whole(*net), value, environment);
+        Action::ContinuousAssign { targets, value, .. } => {
+            let parts = assigned_parts(alloc, targets, value, environment)?;
             Ok(continuous_assign_of(place, parts, effect))
         }
         Action::Print { when, .. } => {

@@ -83,12 +83,8 @@ fn part_of(target: &Target, value: Vec4, environment: &Environment<'_>) -> Optio
     }
 }
 
-/// The parts that an assignment to one target writes (6.2).
-pub fn assigned_one(
-    target: &Target,
-    expression: &Expression,
-    environment: &Environment<'_>,
-) -> Parts
+// The parts that an assignment to one target writes (6.2).
+fn assigned_one(target: &Target, expression: &Expression, environment: &Environment<'_>) -> Parts
     ensures { result ≡ spec.assigned_parts environment.now (target.now ∷ []) expression.now }
 {
     let value = right_side(expression, target_size(target, environment), environment);

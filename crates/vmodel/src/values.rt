@@ -1,7 +1,6 @@
 // The values of all variables, by number (IEEE 1364-2005, 4.2).
 
 ghost use Rattle.std.specs.Prelude.{◌≡◌, ◌≤◌, List, slice_set, IfOk, OnOk, map};
-ghost use Rattle.vbits.specs.Vectors as vectors;
 ghost use Rattle.vbits.specs.Vectors.{Vector};
 ghost use Rattle.vmodel.specs.Parts as spec;
 ghost use Rattle.vmodel.specs.Run.{opening_value};
@@ -12,7 +11,7 @@ use crate::part::Part;
 use basis::NoMemory;
 use std::alloc::Global;
 use std::marker::Model;
-use vbits::{Bit4, Vec4};
+use vbits::Vec4;
 use vdesign::design::Variable;
 
 /// A change of a variable by a step.
@@ -127,21 +126,6 @@ impl Eq for Values {
     ghost laws = { values_equivalent };
 }
 
-// So many letters that are the same.
-#[tactic(auto, using(crate::proofs::OpeningLemmas::ones_filled))]
-fn vector_of_letter(len: u32, letter: Bit4) -> Vec4
-    requires some { 1 ≤ len }
-    requires few { len ≤ 64 }
-    ensures { result ≡ vectors.filled len letter }
-{
-    match letter {
-        Bit4::Zero => Vec4::zeros(len),
-        Bit4::One => Vec4::zeros(len).not(),
-        Bit4::X => Vec4::all_x(len),
-        Bit4::Z => Vec4::all_z(len),
-    }
-}
-
 impl Values {
     /// A variable starts at x, a net that nothing drives at z (4.2.2, 4.6).
     pub fn opening(alloc: Global, variables: &[Variable]) -> Result<Values, NoMemory>
@@ -149,7 +133,7 @@ impl Values {
     {
         let mut list = Vec::new(alloc);
         for variable in variables {
-            let value = vector_of_letter(variable.length, variable.start);
+            let value = variable.start.resize(variable.length);
             list.push(value.with_sign(variable.signed))?;
         }
         Ok(Values { list })

@@ -12,9 +12,9 @@ use Rattle.vgrammar.specs.declared.start.StatementStart.TheVariants as start
 use Rattle.vgrammar.specs.Parts.{made, paired, maybe, roomy}
 use Rattle.vgrammar.specs.Starts.{start_of, start_word, statement_starts, begins_target, is_target, is_some_meaning, is_meant, meant_if, is_word, sign_of, edge_of, comma_of}
 use Rattle.vgrammar.specs.Statements.{value, named, numbered, word_only, comma_list, select, target_of, named_target, joined_of, joined_targets, target, delay_of, amount, assignment_of, assignment, guarded, if_of, guarded_of, setting, for_of, delayed_of, term_of, term, further_of, event_of, control, event_body_of, block_of, has_default, branch_of, default_branch, branch, case_parts_of, case_parts, begins_argument, argument_of, arguments, print_of, optional_print_of, idle_of, dump_file_of, path_of, selection_of, selection, dump_vars_of, end_of, dump_of, trigger_of, statement_by, lead_by, begins_statement, statement}
-use Rattle.vgrammar.specs.Modules.{range_of, type_of, parameter_type_of, setting_of, declared_of, connection_of, connections_of, instance_of, ended, net_of, local_of, item_of, first_parameter_of, head_parameter_of, direction_of, is_direction, alone_of, port_of, named_port_of, ports_behind, ports_of, head_list_of, module_of, is_some_word}
+use Rattle.vgrammar.specs.Modules.{range_of, type_of, parameter_type_of, setting_of, declared_of, connection_of, connections_of, instance_of, ended, net_of, local_of, item_of, first_parameter_of, head_parameter_of, direction_of, is_direction, alone_of, port_of, named_port_of, ports_behind, ports_of, head_list_of, module_of, is_some_word, net_assignment_of}
 use Rattle.vgrammar.specs.Modules as with_levels
-use Rattle.vparse.specs.TextReaders.{free_value, range, type, parameter_type, setting as module_setting, declared, connection, connections, item, head_parameters, direction, ports, module_tree, source}
+use Rattle.vparse.specs.TextReaders.{free_value, range, type, parameter_type, setting as module_setting, declared, connection, connections, item, head_parameters, direction, ports, module_tree, source, net_assignment}
 use Rattle.vparse.specs.Profile.{keywords, system_names, left_out, is_any_outside}
 use Rattle.vparse.proofs.DeepWords.{Inside, same_inside, written_inside, name_inside, Fine, Safe, LeadFine, got_safe, then_fine, led_safe, if_fine, room_fine, past_safe, choose_where, made_safe, linked_safe, paired_safe, maybe_safe, either_safe, worded_safe, many_safe, roomy_fine, first_inside, bracket_inside, brace_inside, parenthesis_inside, expression_safe}
 
@@ -221,6 +221,9 @@ parameter_safe = made_safe parameter_type_of (either_safe (is_front (codes "inte
 setting_safe : Safe module_setting
 setting_safe = made_safe setting_of (paired_safe named_word (past_safe (codes "=") free_safe))
 
+net_assignment_safe : Safe net_assignment
+net_assignment_safe = made_safe net_assignment_of (paired_safe (target_safe 64) (past_safe (codes "=") free_safe))
+
 declared_safe : Safe declared
 declared_safe =
     made_safe declared_of (paired_safe named_word (maybe_safe (is_front (codes "=")) (past_safe (codes "=") free_safe)))
@@ -253,7 +256,7 @@ item_safe =
     (either_safe (is_front (codes "integer")) (past_safe (codes "integer") (list_safe declared_safe))
     (either_safe (is_front (codes "time")) (past_safe (codes "time") (list_safe declared_safe))
     (either_safe (is_front (codes "event")) (past_safe (codes "event") (list_safe named_word))
-    (either_safe (is_front (codes "assign")) (past_safe (codes "assign") (list_safe setting_safe))
+    (either_safe (is_front (codes "assign")) (past_safe (codes "assign") (list_safe net_assignment_safe))
     (either_safe (is_front (codes "initial")) (past_safe (codes "initial") (statement_safe 64))
     (either_safe (is_front (codes "always")) (past_safe (codes "always") (statement_safe 64))
     (paired_safe named_word (paired_safe (maybe_safe (is_front (codes "#")) (past_safe (codes "#") connections_safe))

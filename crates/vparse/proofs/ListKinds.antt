@@ -1,15 +1,17 @@
 -- What stands in the lists of modules leaves fewer words where it is read.
-use Rattle.std.proofs.Common.{◌≡◌, ℕ, ◌<◌, ◌≤◌, Option, None, Some, List, [], length, arith, zero-lt-suc}
+use Rattle.std.proofs.Common.{◌≡◌, ℕ, ◌<◌, ◌≤◌, Option, None, Some, List, [], length, codes, arith, zero-lt-suc}
 use Rattle.basis.proofs.Lists.{longer}
 use Rattle.vast.specs.Words.{Text, is_name}
 use Rattle.vast.specs.TokenTexts.{token_text}
 use Rattle.vast.specs.Expressions.{ExpressionTree}
 use Rattle.vast.specs.ExpressionTrees.{tree_of}
+use Rattle.vast.specs.Statements as targets
 use Rattle.vast.specs.Modules as trees
-use Rattle.vast.specs.ModuleTrees.{setting_tree, declared_tree, connection_tree, instance_tree, head_parameter as head_tree, port_tree}
+use Rattle.vast.specs.ModuleTrees.{setting_tree, declared_tree, connection_tree, instance_tree, head_parameter as head_tree, port_tree, net_assignment as net_assignment_tree}
 use Rattle.vast.specs.declared.token.Token.{Token}
 use Rattle.vast.specs.declared.expression.Expression.{Expression}
 use Rattle.vast.specs.declared.module.Setting.{Setting}
+use Rattle.vast.specs.declared.module.NetAssignment.{NetAssignment}
 use Rattle.vast.specs.declared.module.Declared.{Declared}
 use Rattle.vast.specs.declared.module.Connection.{Connection}
 use Rattle.vast.specs.declared.module.Instance.{Instance}
@@ -19,11 +21,11 @@ use Rattle.vexpr_parse.specs.Readers.{Reader, got}
 use Rattle.vexpr_parse.proofs.ReaderRules.{Eats}
 use Rattle.vgrammar.specs.Statements.{named}
 use Rattle.vgrammar.specs.Modules.{alone, named_port}
-use Rattle.vparse.specs.TextReaders.{free_value, setting, declared, connection, instance_behind, head_parameter, port}
+use Rattle.vparse.specs.TextReaders.{free_value, setting, declared, connection, instance_behind, head_parameter, port, net_assignment}
 use Rattle.vgrammar.proofs.Phrases.{sound_eats}
 use Rattle.vgrammar.proofs.ValuePhrases.{value_worded}
 use Rattle.vgrammar.proofs.PartPhrases.{text_shape, named_phrase}
-use Rattle.vgrammar.proofs.HeadPhrases.{Free, free_phrase_value, setting_shape, setting_phrase, declared_shape, declared_phrase}
+use Rattle.vgrammar.proofs.HeadPhrases.{Free, free_phrase_value, setting_shape, setting_phrase, declared_shape, declared_phrase, net_assignment_shape, net_assignment_phrase}
 use Rattle.vgrammar.proofs.ItemPhrases.{connection_shape, connection_phrase, instance_shape, instance_phrase, alone_shape, alone_phrase}
 use Rattle.vgrammar.proofs.ModulePhrases.{head_shape, head_parameter_phrase, port_shape, port_phrase, named_port_shape, named_port_phrase}
 
@@ -35,6 +37,10 @@ no_more_words read eats words left tree e = weaker (length left) (length words) 
 
 pub setting_eats : Eats setting
 setting_eats = sound_eats setting (setting_shape 63) (setting_phrase 63).sound (λ tree v. zero-lt-suc _)
+
+pub net_assignment_eats : Eats net_assignment
+net_assignment_eats =
+    sound_eats net_assignment (net_assignment_shape 63) (net_assignment_phrase 63).sound (λ tree v. longer (targets.spell_target tree.target) (codes "=") _)
 
 pub declared_eats : Eats declared
 declared_eats = sound_eats declared (declared_shape 63) (declared_phrase 63).sound (λ tree v. some tree.name tree.value)
@@ -75,6 +81,10 @@ value_eats = sound_eats free_value (Free 63) (free_phrase_value 63).sound (λ tr
 pub setting_fewer : (text words left : List Text) (one : Setting) → setting words ≡ got (setting_tree text one) left →
     length left ≤ length words
 setting_fewer text words left one e = no_more_words setting setting_eats words left (setting_tree text one) e
+
+pub net_assignment_fewer : (text words left : List Text) (one : NetAssignment) → net_assignment words ≡ got (net_assignment_tree text one) left →
+    length left ≤ length words
+net_assignment_fewer text words left one e = no_more_words net_assignment net_assignment_eats words left (net_assignment_tree text one) e
 
 pub declared_fewer : (text words left : List Text) (one : Declared) → declared words ≡ got (declared_tree text one) left →
     length left ≤ length words

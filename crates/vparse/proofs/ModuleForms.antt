@@ -4,13 +4,13 @@ use Rattle.std.specs.Str.{bytes_eq}
 use Rattle.vast.specs.Words.{Text}
 use Rattle.vast.specs.Statements.{StatementTree}
 use Rattle.vast.specs.Expressions.{ExpressionTree}
-use Rattle.vast.specs.Modules.{HeadParameter, SettingTree, DeclaredTree, ConnectionTree, ConnectionsTree, initial, always, PortTree, by_order, by_name, ItemTree, parameters, declaration, variables, integers, directed, DirectionTree, events, assignments, instances, ModuleTree}
+use Rattle.vast.specs.Modules.{HeadParameter, SettingTree, DeclaredTree, ConnectionTree, ConnectionsTree, initial, always, PortTree, by_order, by_name, ItemTree, parameters, declaration, variables, integers, directed, DirectionTree, events, assignments, instances, ModuleTree, NetAssignment}
 use Rattle.vexpr_parse.specs.Readers.{Answer, got, stop, Reader, front, is_front, and_then, past, follow, goes, refused, choose}
 use Rattle.vgrammar.specs.Parts.{Both, both, Either, one_way, other_way, made, paired, worded, many, maybe, either}
 use Rattle.vgrammar.specs.Starts.{is_meant}
 use Rattle.vgrammar.specs.Statements.{named, word_only, List_of, comma_list, statement}
 use Rattle.vgrammar.specs.Modules.{Parameters, Variables, Directed, Instances, listed_of, connections_of, ended, net_of, local_of, alone, is_direction, first_port_of, named_port_of, named_port, PortsBehind, ports_behind, parameters_of, variables_of, directed_of, integers_of, events_of, assignments_of, instances_of, item_of, head_list_of, ports_of, module_of}
-use Rattle.vparse.specs.TextReaders.{free_value, type, parameter_type, setting, declared, connection, connections, instance_behind, overrides, item, first_parameter, head_parameter, head_parameters, direction, port, ports, module_tree as module_reader}
+use Rattle.vparse.specs.TextReaders.{free_value, type, parameter_type, setting, declared, connection, connections, instance_behind, overrides, item, first_parameter, head_parameter, head_parameters, direction, port, ports, module_tree as module_reader, net_assignment}
 use Rattle.vparse.specs.ModuleGives.{connections_in, heads_in, some_ports, named_ports, listed_ports, ports_in, found_or, parameters_at, variables_at, directed_at, directed_item, integers_at, events_at, assignments_at, instances_at, instances_item, process_item, listed_item, variables_item, any_item, optional_heads, optional_ports, all_items, items_in, module_with, module_headed, module_named, module_at}
 use Rattle.vgrammar.proofs.ManyTurns.{until_is, first_until_is}
 use Rattle.vgrammar.specs.Lists.{all_until, rest_until}
@@ -251,10 +251,10 @@ abbrev process_parts : Reader Process
 process_parts = either (is_front (codes "initial")) (past (codes "initial") (statement 64)) alone_parts
 
 abbrev Assigned : Type 0
-Assigned = Either (Both (List_of SettingTree) (Unit {0})) Process
+Assigned = Either (Both (List_of NetAssignment) (Unit {0})) Process
 
 abbrev assigned_parts : Reader Assigned
-assigned_parts = either (is_front (codes "assign")) (past (codes "assign") (ended setting)) process_parts
+assigned_parts = either (is_front (codes "assign")) (past (codes "assign") (ended net_assignment)) process_parts
 
 abbrev Named : Type 0
 Named = Either (Both (List_of Text) (Unit {0})) Assigned
@@ -341,10 +341,10 @@ listed_is words =
     (either_rule of_named (is_front (codes "event")) (past (codes "event") (ended named)) assigned_parts
     (past (codes "event") events_at) assigned_item words
     (past_rule events_of (codes "event") (ended named) events_at (until_is (codes ";") named events_of events (λ one list. refl)) words)
-    (either_rule of_assigned (is_front (codes "assign")) (past (codes "assign") (ended setting)) process_parts
+    (either_rule of_assigned (is_front (codes "assign")) (past (codes "assign") (ended net_assignment)) process_parts
     (past (codes "assign") assignments_at) process_item words
-    (past_rule assignments_of (codes "assign") (ended setting) assignments_at
-    (until_is (codes ";") setting assignments_of assignments (λ one list. refl)) words)
+    (past_rule assignments_of (codes "assign") (ended net_assignment) assignments_at
+    (until_is (codes ";") net_assignment assignments_of assignments (λ one list. refl)) words)
     (process_is words))))
 
 directed_item_is : (words : List Text) → made of_directed directed_parts words ≡ directed_item words

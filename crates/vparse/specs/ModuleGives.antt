@@ -30,7 +30,7 @@ use Rattle.vgrammar.specs.Parts.{both, one_way, other_way, made, paired, maybe, 
 use Rattle.vgrammar.specs.Starts.{is_meant}
 use Rattle.vgrammar.specs.Statements.{named, word_only, statement}
 use Rattle.vgrammar.specs.Modules.{Value, net_of, local_of, alone, head_list_of, Direction, is_direction, named_port, is_some_word}
-use Rattle.vparse.specs.TextReaders.{range, type, parameter_type, setting, declared, free_value, connection, instance_behind, overrides, item, first_parameter, head_parameter, head_parameters, direction, first_port, port, ports, module_tree}
+use Rattle.vparse.specs.TextReaders.{range, type, parameter_type, setting, declared, free_value, connection, instance_behind, overrides, item, first_parameter, head_parameter, head_parameters, direction, first_port, port, ports, module_tree, net_assignment}
 use Rattle.vgrammar.specs.Lists.{all_until, rest_until}
 
 -- this very word stands first and is passed, or another stands there
@@ -236,7 +236,7 @@ abbrev pub events_at : Reader ItemTree
 events_at = made events (all_until (codes ";") named)
 
 abbrev pub assignments_at : Reader ItemTree
-assignments_at = made assignments (all_until (codes ";") setting)
+assignments_at = made assignments (all_until (codes ";") net_assignment)
 
 abbrev pub instances_at : Text → Reader ItemTree
 instances_at letters words = and_then (overrides words) (λ tree. made (instances letters tree) (all_until (codes ";") instance_behind))

@@ -1,7 +1,7 @@
 -- *internal*: The readers of modules with the 64 levels that a text has (docs/LANGUAGE.md, "Depth").
 use Rattle.std.specs.Prelude.{List, Option}
 use Rattle.vast.specs.Expressions.{ExpressionTree}
-use Rattle.vast.specs.Modules.{RangeTree, TypeTree, ParameterType, SettingTree, DeclaredTree, DirectionTree, PortTree, HeadParameter, ConnectionTree, ConnectionsTree, InstanceTree, ItemTree, ModuleTree, SourceTree}
+use Rattle.vast.specs.Modules.{RangeTree, TypeTree, ParameterType, SettingTree, DeclaredTree, DirectionTree, PortTree, HeadParameter, ConnectionTree, ConnectionsTree, InstanceTree, ItemTree, ModuleTree, SourceTree, NetAssignment}
 use Rattle.vexpr_parse.specs.Readers.{Reader}
 use Rattle.vgrammar.specs.Parts.{Both, made, paired}
 use Rattle.vgrammar.specs.Statements.{List_of, named}
@@ -22,6 +22,9 @@ parameter_type = with_levels.parameter_type 64
 
 abbrev pub setting : Reader SettingTree
 setting = with_levels.setting 64
+
+abbrev pub net_assignment : Reader NetAssignment
+net_assignment = with_levels.net_assignment 64
 
 abbrev pub declared : Reader DeclaredTree
 declared = with_levels.declared 64

@@ -1,8 +1,8 @@
 // Names with their values (IEEE 1364-2005, 4.2 and 4.10).
 
 ghost use Rattle.std.specs.Prelude.{◌≡◌, ◌<◌, IfOk};
-ghost use Rattle.vast.specs.Leaves.{boxed_leaves, declared_leaves, if_some, setting_leaves};
-ghost use Rattle.vast.specs.ModuleTrees.{setting_tree, declared_tree};
+ghost use Rattle.vast.specs.Leaves.{boxed_leaves, declared_leaves, if_some, net_assignment_leaves, setting_leaves};
+ghost use Rattle.vast.specs.ModuleTrees.{setting_tree, net_assignment as net_assignment_tree, declared_tree};
 ghost use Rattle.vexpr_parse.specs.Answers.{Keeps};
 ghost use Rattle.vstatement_parse.specs.Gives.{Gives, value_tree};
 ghost use Rattle.vparse.specs.ModuleGives.{optional_of, optional_value};
@@ -13,9 +13,10 @@ use crate::types::LEVELS;
 use basis::OrMemory;
 use std::alloc::Global;
 use vast::expression::Expression;
-use vast::module::{Declared, Setting};
+use vast::module::{Declared, NetAssignment, Setting};
 use vexpr_parse::{Cursor, Stop};
 use vlex::Tokens;
+use vstatement_parse::targets::target;
 use vstatement_parse::values::value as read_value;
 use vstatement_parse::words::name_word;
 
@@ -32,6 +33,21 @@ pub fn setting(
     cursor.symbol(tokens, b"=")?;
     let value = read_value(alloc, tokens, cursor, LEVELS)?;
     Ok(Setting { name, value })
+}
+
+/// `target = value`
+pub fn net_assignment(
+    alloc: Global,
+    tokens: &Tokens<'_>,
+    cursor: &mut Cursor,
+) -> Result<NetAssignment, OrMemory<Stop>>
+    ensures gives { Gives net_assignment_tree reading.net_assignment tokens.now cursor.old cursor.new result }
+    ensures kept { IfOk result (Keeps net_assignment_leaves tokens.now cursor.old cursor.new) }
+{
+    let target = target(alloc, tokens, cursor, LEVELS)?;
+    cursor.symbol(tokens, b"=")?;
+    let value = read_value(alloc, tokens, cursor, LEVELS)?;
+    Ok(NetAssignment { target, value })
 }
 
 // `= value`, if it stands there.

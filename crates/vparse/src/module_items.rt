@@ -11,7 +11,7 @@ ghost use Rattle.vparse.specs.ModuleGives.{ReadsAt, any_item, assignments_at, di
 ghost use Rattle.vparse.specs.TextReaders as reading;
 
 use crate::connections::{instances, overrides};
-use crate::module_lists::{all_alone, declared_names, names, settings};
+use crate::module_lists::{all_alone, declared_names, names, net_assignments, settings};
 use crate::ports::{direction, is_direction, optional_net};
 use crate::types::{parameter_type, sign_and_range};
 use basis::OrMemory;
@@ -126,8 +126,8 @@ fn assignments(
     ensures gives { Gives item_tree assignments_at tokens.now cursor.old cursor.new result }
     ensures kept { IfOk result (Keeps item_leaves tokens.now cursor.old cursor.new) }
 {
-    let settings = settings(alloc, tokens, cursor)?;
-    Ok(ModuleItem::Assignments { at, settings })
+    let list = net_assignments(alloc, tokens, cursor)?;
+    Ok(ModuleItem::Assignments { at, list })
 }
 
 // Behind the name of the module that is taken.

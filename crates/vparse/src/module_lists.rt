@@ -2,8 +2,8 @@
 
 ghost use Rattle.std.specs.Prelude.{◌≡◌, ◌∷◌, [], codes, IfOk};
 ghost use Rattle.vast.specs.ExpressionTrees.{tree_of};
-ghost use Rattle.vast.specs.Leaves.{declared_leaves, leaves_of, setting_leaves};
-ghost use Rattle.vast.specs.ModuleTrees.{declared_tree, setting_tree};
+ghost use Rattle.vast.specs.Leaves.{declared_leaves, leaves_of, net_assignment_leaves, setting_leaves};
+ghost use Rattle.vast.specs.ModuleTrees.{declared_tree, net_assignment as net_assignment_tree, setting_tree};
 ghost use Rattle.vast.specs.TokenTexts.{token_text};
 ghost use Rattle.vexpr_parse.specs.Answers.{Keeps};
 ghost use Rattle.vstatement_parse.specs.Gives.{Gives};
@@ -13,13 +13,13 @@ ghost use Rattle.vgrammar.specs.Statements as reading_words;
 ghost use Rattle.vgrammar.specs.Lists.{all_until};
 ghost use Rattle.vgrammar.specs.Modules as parts;
 
-use crate::declarations::{alone, declared_name, setting};
+use crate::declarations::{alone, declared_name, net_assignment, setting};
 use crate::lists::list_until;
 use crate::types::LEVELS;
 use basis::OrMemory;
 use std::alloc::Global;
 use vast::expression::Expression;
-use vast::module::{Declared, Setting};
+use vast::module::{Declared, NetAssignment, Setting};
 use vast::token::Token;
 use vexpr_parse::{Cursor, Stop, expression};
 use vlex::Tokens;
@@ -58,6 +58,34 @@ pub fn settings(
             ensures kept { IfOk result (Keeps setting_leaves
                 tokens.entry.now cursor.entry.now cursor.exit.now) }
         { setting(alloc, tokens, cursor) },
+        tokens,
+        cursor,
+        first,
+        b";",
+    )
+}
+
+/// Targets with values, up to `;`.
+#[tactic(auto, using(crate::proofs::ListKinds::net_assignment_fewer))]
+pub fn net_assignments(
+    alloc: Global,
+    tokens: &Tokens<'_>,
+    cursor: &mut Cursor,
+) -> Result<Vec<NetAssignment>, OrMemory<Stop>>
+    ensures gives { Gives (all_of net_assignment_tree) (all_until (codes ";") reading.net_assignment)
+        tokens.now cursor.old cursor.new result }
+    ensures kept { IfOk result (Keeps (all_leaves net_assignment_leaves)
+        tokens.now cursor.old cursor.new) }
+{
+    let first = net_assignment(alloc, tokens, cursor)?;
+    list_until(
+        alloc,
+        &|cursor|
+            ensures gives { Gives net_assignment_tree reading.net_assignment
+                tokens.entry.now cursor.entry.now cursor.exit.now result }
+            ensures kept { IfOk result (Keeps net_assignment_leaves
+                tokens.entry.now cursor.entry.now cursor.exit.now) }
+        { net_assignment(alloc, tokens, cursor) },
         tokens,
         cursor,
         first,

@@ -1,10 +1,12 @@
 -- *trusted*: What an assignment writes to (IEEE 1364-2005, 5.1.14, 5.2.1, 6.2): how many bits its targets have, and which bits of their
 -- variables these are.
-use Rattle.std.specs.Prelude.{ℕ, ◌+◌, ◌-◌, nat_le, Bool, if◌then◌else◌, ◌&&◌, List, [], ◌∷◌, length, Option, option_and_then}
+use Rattle.std.specs.Prelude.{ℕ, ◌+◌, ◌-◌, nat_lt, nat_le, min, Bool, if◌then◌else◌, ◌&&◌, List, [], ◌∷◌, length, slice_get, Option, None, Some, option_and_then}
+use Rattle.vbits.specs.Vectors.{Vector}
 use Rattle.vdesign.specs.declared.expression.Bounds.{Bounds}
 use Rattle.vdesign.specs.Expressions.{ExpressionTree}
 use Rattle.vdesign.specs.declared.action.Target.{Target}
 use Rattle.vdesign.specs.declared.action.Target.TheVariants.{Whole, Bit, Part}
+use Rattle.vvalue.specs.declared.target.Span.{Span}
 use Rattle.vvalue.specs.Value.{Environment, value_at, bounds_of, place_in, index_in, part_size, by_itself}
 
 abbrev pub target_size : Environment → Target → ℕ
@@ -34,3 +36,34 @@ both_fall declared selected = falls declared && falls selected
 -- doesn't
 abbrev pub leftwards : Bool → ℕ → ℕ → ℕ
 leftwards falling number from = if falling then number - from else from - number
+
+-- the variable that a target is of
+abbrev pub variable_of : Target → ℕ
+variable_of (Whole n) = n
+variable_of (Bit n index) = n
+variable_of (Part n selected) = n
+
+-- how many bits a variable has, if there is one
+abbrev pub size_if : Option Vector → ℕ
+size_if None = 0
+size_if (Some v) = length v.letters
+
+abbrev pub variable_size : Environment → ℕ → ℕ
+variable_size now n = size_if (slice_get now.values n)
+
+-- of so many bits from a place on those that a variable of this size has
+abbrev pub within : ℕ → ℕ → ℕ → Span
+within size low count = record { low = low; count = min count (size - low) }
+
+abbrev pub span_at : ℕ → Option ℕ → Span
+span_at size None = record { low = 0; count = 0 }
+span_at size (Some place) = if nat_lt place size then record { low = place; count = 1 } else record { low = 0; count = 0 }
+
+-- 5.2.1: the bits of its variable that a target stands for; those that the variable hasn't are left out
+abbrev pub span_of : Environment → Target → Span
+span_of now (Whole n) = record { low = 0; count = variable_size now n }
+span_of now (Bit n index) = span_at (variable_size now n) (place_at now n index)
+span_of now (Part n selected) =
+    let bounds = bounds_of now n in
+    let falling = both_fall bounds selected in
+    within (variable_size now n) (leftwards falling selected.right bounds.right) (part_size selected - leftwards falling bounds.right selected.right)

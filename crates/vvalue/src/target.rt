@@ -65,3 +65,79 @@ pub fn leftwards(falling: bool, number: u32, from: u32) -> u32
         from.saturating_sub(number)
     }
 }
+
+/// The variable that a target is of.
+pub fn variable_of(target: &Target) -> u32
+    ensures { result ≡ spec.variable_of target.now }
+{
+    match target {
+        Target::Whole(variable) => *variable,
+        Target::Bit { variable, .. } => *variable,
+        Target::Part { variable, .. } => *variable,
+    }
+}
+
+/// Bits of a variable that stand side by side: how far the rightmost stands from the variable's rightmost, and how many they are.
+#[derive(Clone, Copy)]
+pub struct Span {
+    pub low: u32,
+    pub count: u32,
+}
+
+// How many bits a variable has; 0 where there is none.
+fn variable_size(environment: &Environment<'_>, variable: u32) -> u32
+    ensures { result ≡ spec.variable_size environment.now variable }
+{
+    match environment.values.get(variable as usize) {
+        None => 0,
+        Some(value) => value.len(),
+    }
+}
+
+// Of so many bits from a place on those that a variable of this size has.
+fn within(size: u32, low: u32, count: u32) -> Span
+    ensures { result ≡ spec.within size low count }
+{
+    Span {
+        low,
+        count: count.min(size.saturating_sub(low)),
+    }
+}
+
+// The bit at a place, if the variable has it.
+fn span_at(size: u32, place: Option<u64>) -> Span
+    ensures { result ≡ spec.span_at size place }
+{
+    match place {
+        Some(place) if place < u64::from(size) => Span {
+            low: place as u32,
+            count: 1,
+        },
+        _ => Span { low: 0, count: 0 },
+    }
+}
+
+/// The bits of its variable that a target stands for (5.2.1); those that the variable hasn't are left out.
+pub fn span_of(target: &Target, environment: &Environment<'_>) -> Span
+    ensures { result ≡ spec.span_of environment.now target.now }
+{
+    match target {
+        Target::Whole(variable) => Span {
+            low: 0,
+            count: variable_size(environment, *variable),
+        },
+        Target::Bit { variable, index } => span_at(
+            variable_size(environment, *variable),
+            place_at(environment, *variable, index),
+        ),
+        Target::Part { variable, bounds } => {
+            let declared = bounds_of(environment, *variable);
+            let falling = both_fall(declared, *bounds);
+            within(
+                variable_size(environment, *variable),
+                leftwards(falling, bounds.right, declared.right),
+                part_size(*bounds).saturating_sub(leftwards(falling, declared.right, bounds.right)),
+            )
+        }
+    }
+}

@@ -5,5 +5,5 @@ use Rattle.velab_declaration.proofs.variable.put_all.Given as goal
 
 abbrev pub invariant-loop-one : goal.invariant-loop-one
 invariant-loop-one l =
-    l.into.items ++ variables_by (words_of l.tokens) l.drivers l.form (drop l.one-index l.list)
-    ≡ l.initial.into.items ++ variables_by (words_of l.tokens) l.drivers l.form l.list
+    l.into.items ++ variables_by (words_of l.tokens) l.path l.form (drop l.one-index l.list)
+    ≡ l.initial.into.items ++ variables_by (words_of l.tokens) l.path l.form l.list

@@ -7,5 +7,5 @@ use Rattle.velab_declaration.proofs.variable.put_each_port.Given as goal
 
 abbrev pub invariant-loop-port : goal.invariant-loop-port
 invariant-loop-port l =
-    behind l.into.items (lower_ports l.drivers l.scope (map (port_form (words_of l.tokens)) (drop l.port-index l.ports)))
-    ≡ behind l.initial.into.items (lower_ports l.drivers l.scope (map (port_form (words_of l.tokens)) l.ports))
+    behind l.into.items (lower_ports l.path l.scope (map (port_form (words_of l.tokens)) (drop l.port-index l.ports)))
+    ≡ behind l.initial.into.items (lower_ports l.path l.scope (map (port_form (words_of l.tokens)) l.ports))

@@ -8,6 +8,6 @@ use Rattle.velab_declaration.proofs.variable.put_item.Goals as goal
 
 pub returns-in-Declaration : goal.returns-in-Declaration
 returns-in-Declaration c =
-    subst (λ (item : ItemTree). Makes c.put_names.result c.put_names.new.into.items (behind c.args.into.now.items (lower_declaration c.args.drivers.now c.args.scope.now item)))
+    subst (λ (item : ItemTree). Makes c.put_names.result c.put_names.new.into.items (behind c.args.into.now.items (lower_declaration c.args.path.now c.args.scope.now item)))
     (declaration_is (words_of c.args.tokens.now) c.args.made.now c.args.item.now c.in-Declaration.at c.in-Declaration.kind c.in-Declaration.declared c.deref.result.now c.in-Declaration.is c.deref.ensures.value)
     c.put_names.ensures

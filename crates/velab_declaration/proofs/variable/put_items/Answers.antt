@@ -27,7 +27,7 @@ loop-item-preserved c =
     let both = length-append (symbols_by (item_tree words c.item-item.result)) (flat_map symbols_by (map (item_tree words) rest)) in
     record {
       same =
-          item_put words c.args.made.now c.args.drivers.now c.args.scope.now items c.loop-item.item-index c.item-item.result c.loop-item-test.true c.item-item.is c.loop-item.known
+          item_put words c.args.made.now c.args.path.now c.args.scope.now items c.loop-item.item-index c.item-item.result c.loop-item-test.true c.item-item.is c.loop-item.known
           c.at-here.result c.at-here.ensures c.loop-item.into.items _ c.loop-item.invariant.same c.symbol_count-known.result counted c.put_item.new.into.items c.in_ok-put_item.ensures;
       small = omega (arith, counted, opens, both, c.loop-item.invariant.small);
     }
@@ -35,9 +35,9 @@ loop-item-preserved c =
 pub returns-in_err-put_item : goal.returns-in_err-put_item
 returns-in_err-put_item c =
     let words = words_of c.args.tokens.now in
-    let all : Result (List Variable) ElabFault = behind c.args.into.now.items (lower_variables c.args.drivers.now c.args.scope.now (own_in words c.args.made.now c.args.items.now)) in
+    let all : Result (List Variable) ElabFault = behind c.args.into.now.items (lower_variables c.args.path.now c.args.scope.now (own_in words c.args.made.now c.args.items.now)) in
     hands_on c.from_residual.result c.in_err-put_item.field-0.0 c.put_item.new.into.items all c.from_residual.ensures.1
-    (still_refused (behind c.loop-item.into.items (lower_declaration c.args.drivers.now c.at-here.result (own_tree words c.args.made.now c.item-item.result))) all
-    (item_refused words c.args.made.now c.args.drivers.now c.args.scope.now c.args.items.now c.loop-item.item-index c.item-item.result c.loop-item-test.true c.item-item.is c.loop-item.known
+    (still_refused (behind c.loop-item.into.items (lower_declaration c.args.path.now c.at-here.result (own_tree words c.args.made.now c.item-item.result))) all
+    (item_refused words c.args.made.now c.args.path.now c.args.scope.now c.args.items.now c.loop-item.item-index c.item-item.result c.loop-item-test.true c.item-item.is c.loop-item.known
     c.at-here.result c.at-here.ensures c.loop-item.into.items all c.loop-item.invariant.same)
     c.in_err-put_item.field-0.0 c.in_err-put_item.ensures)

@@ -11,7 +11,7 @@ use Rattle.velab_declaration.proofs.variable.put_items.Given as goal
 
 abbrev pub invariant-loop-item : goal.invariant-loop-item
 invariant-loop-item l = record {
-  same : behind l.into.items (lower_variables l.drivers (at l.scope l.known) (own_in (words_of l.tokens) l.made (drop l.item-index l.items)))
-      ≡ behind l.initial.into.items (lower_variables l.drivers l.scope (own_in (words_of l.tokens) l.made l.items));
+  same : behind l.into.items (lower_variables l.path (at l.scope l.known) (own_in (words_of l.tokens) l.made (drop l.item-index l.items)))
+      ≡ behind l.initial.into.items (lower_variables l.path l.scope (own_in (words_of l.tokens) l.made l.items));
   small : l.known + length (flat_map symbols_by (map (item_tree (words_of l.tokens)) (drop l.item-index l.items))) < 2 ^ 64;
 }

@@ -9,7 +9,7 @@ pub loop-one-preserved : goal.loop-one-preserved
 loop-one-preserved c =
     let words = words_of c.args.tokens.now in
     let made = c.args.made.now in
-    let drivers = c.args.drivers.now in
-    step c.args.list.now c.loop-one.one-index c.one-item.result c.loop-one-test.true c.one-item.is (own_variables words made drivers c.args.form)
-    (λ y. own_variables words made drivers c.args.form (y ∷ [])) (own_opens words made drivers c.args.form)
+    let path = c.args.path.now in
+    step c.args.list.now c.loop-one.one-index c.one-item.result c.loop-one-test.true c.one-item.is (own_variables words made path c.args.form)
+    (λ y. own_variables words made path c.args.form (y ∷ [])) (own_opens words made path c.args.form)
     c.loop-one.into.items c.put_one.new.into.items _ c.in_ok-put_one.ensures c.loop-one.invariant

@@ -5,5 +5,5 @@ use Rattle.velab_declaration.proofs.variable.put_own.Given as goal
 
 abbrev pub invariant-loop-one : goal.invariant-loop-one
 invariant-loop-one l =
-    l.into.items ++ own_variables (words_of l.tokens) l.made l.drivers l.form (drop l.one-index l.list)
-    ≡ l.initial.into.items ++ own_variables (words_of l.tokens) l.made l.drivers l.form l.list
+    l.into.items ++ own_variables (words_of l.tokens) l.made l.path l.form (drop l.one-index l.list)
+    ≡ l.initial.into.items ++ own_variables (words_of l.tokens) l.made l.path l.form l.list

@@ -8,5 +8,5 @@ use Rattle.velab_declaration.proofs.variable.put_ports.Goals as goal
 
 pub returns : goal.returns
 returns c =
-    subst (λ (here : Scope). Makes c.put_each_port.result c.put_each_port.new.into.items (behind c.args.into.now.items (lower_ports c.args.drivers.now here (map (port_form (words_of c.args.tokens.now)) c.args.ports.now))))
+    subst (λ (here : Scope). Makes c.put_each_port.result c.put_each_port.new.into.items (behind c.args.into.now.items (lower_ports c.args.path.now here (map (port_form (words_of c.args.tokens.now)) c.args.ports.now))))
     (c.port_scope-here.ensures (words_of c.args.tokens.now)) c.put_each_port.ensures

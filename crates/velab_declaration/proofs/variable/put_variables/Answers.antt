@@ -15,6 +15,6 @@ put_items-requires c = record {
 
 pub returns : goal.returns
 returns c =
-    subst (λ (l : List ItemTree). Makes c.put_items.result c.put_items.new.into.items (behind c.args.into.now.items (lower_variables c.args.drivers.now c.args.scope.now l)))
+    subst (λ (l : List ItemTree). Makes c.put_items.result c.put_items.new.into.items (behind c.args.into.now.items (lower_variables c.args.path.now c.args.scope.now l)))
     (items_are (words_of c.args.tokens.now) c.in_ok-made.made c.args.unit.now c.deref.result.now c.deref.ensures.value c.in_ok-made.ensures)
     c.put_items.ensures

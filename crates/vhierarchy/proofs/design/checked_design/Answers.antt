@@ -15,10 +15,10 @@ returns-in_err-check_paths c =
     (wrong c.args.scale m c.args.part c.in_err-check_paths.field-0.0
     (first_breaks (broken_paths m.name c.args.part) (broken_table m.name c.args.part) c.in_err-check_paths.field-0.0 (c.in_err-check_paths.ensures.err words)))
 
-pub returns-in_err-check_table : goal.returns-in_err-check_table
-returns-in_err-check_table c =
+pub returns-in_err-starts : goal.returns-in_err-starts
+returns-in_err-starts c =
     let words = words_of c.args.tokens.now in
     let m : ModuleTree = module_tree words c.args.unit.now in
-    hands_over c.from_residual-in_err-check_table.result c.in_err-check_table.field-0.0 _ c.from_residual-in_err-check_table.ensures.1
-    (wrong c.args.scale m c.args.part c.in_err-check_table.field-0.0
-    (then_breaks (broken_paths m.name c.args.part) (broken_table m.name c.args.part) (c.in_ok-check_paths.ensures.right words) c.in_err-check_table.field-0.0 (c.in_err-check_table.ensures.err words)))
+    hands_over c.from_residual-in_err-starts.result c.in_err-starts.field-0.0 _ c.from_residual-in_err-starts.ensures.1
+    (wrong c.args.scale m c.args.part c.in_err-starts.field-0.0
+    (then_breaks (broken_paths m.name c.args.part) (broken_table m.name c.args.part) (c.in_ok-check_paths.ensures.right words) c.in_err-starts.field-0.0 (c.in_err-starts.ensures.err words)))

@@ -62,6 +62,24 @@ put_unit-returns-in_err-put_own t c =
     let words : List Text = c.args.modules.now.words in
     let context : Context = context_tree words c.args.context.now in
     let ports : List Port = map (port_form words) c.deref-3.result.now in
+    let children : List Instantiation = instantiation_trees words c.in_ok-instantiation.instantiation.items in
+    let scope : Scope = scope_at_head c.in_ok-known.known in
+    let named : lower_names c.args.part.now context ≡ Ok scope =
+    ap (λ (ws : List Text). lower_names c.args.part.now (context_tree ws c.args.context.now)) (sym c.tokens-tokens.ensures) ∙ c.in_ok-known.ensures.gives in
+    let found : lower_instances modules 0 scope.known context.unit.items ≡ Ok children =
+    ap (λ (items : List ModuleItem). instances_in c.args.modules.now 0 c.in_ok-known.known.head items) (sym c.deref-2.ensures.value) ∙ c.in_ok-instantiation.ensures in
+    let ports_are : ports ≡ ports_of context.unit = ap (λ (l : List PortForm). map (port_form words) l) c.deref-3.ensures.value ∙ ap (λ (ws : List Text). map (port_form ws) c.in_ok-ports.ports.items) (sym c.tokens-tokens.ensures) ∙ c.in_ok-ports.ensures ∙ ap (λ (ws : List Text). ports_of (module_tree ws c.args.context.now.unit.now)) c.tokens-tokens.ensures in
+    let scope_is : c.at-scope.result ≡ scope = c.at-scope.ensures ∙ (λ i. at (c.scope.ensures.same i) c.in_ok-known.known.head) in
+    hands_on c.from_residual-in_err-put_own.result c.in_err-put_own.field-0.0 c.put_own.new.part _ c.from_residual-in_err-put_own.ensures.1
+    (own_refused modules c.args.part.now context c.args.levels (c.args.levels - 1) (omega arith) scope named children found ports ports_are c.in_err-put_own.field-0.0
+    (same_refused _ _ (λ i. own_part (c.tokens-tokens.ensures i) c.args.context.now c.deref-3.result.now (scope_is i) c.args.part.now) c.in_err-put_own.field-0.0 c.in_err-put_own.ensures))
+
+pub put_unit-returns : goal.put_unit-returns
+put_unit-returns t c =
+    let modules : SourceTree = units_tree c.args.modules.now in
+    let words : List Text = c.args.modules.now.words in
+    let context : Context = context_tree words c.args.context.now in
+    let ports : List Port = map (port_form words) c.deref-3.result.now in
     let children : List Instantiation = instantiation_trees words c.deref-4.result.now in
     let scope : Scope = scope_at_head c.in_ok-known.known in
     let named : lower_names c.args.part.now context ≡ Ok scope =
@@ -71,27 +89,8 @@ put_unit-returns-in_err-put_own t c =
     ∙ ap (λ (list : List _). Ok (instantiation_trees words list)) (sym c.deref-4.ensures.value) in
     let ports_are : ports ≡ ports_of context.unit = ap (λ (l : List PortForm). map (port_form words) l) c.deref-3.ensures.value ∙ ap (λ (ws : List Text). map (port_form ws) c.in_ok-ports.ports.items) (sym c.tokens-tokens.ensures) ∙ c.in_ok-ports.ensures ∙ ap (λ (ws : List Text). ports_of (module_tree ws c.args.context.now.unit.now)) c.tokens-tokens.ensures in
     let scope_is : c.at-scope.result ≡ scope = c.at-scope.ensures ∙ (λ i. at (c.scope.ensures.same i) c.in_ok-known.known.head) in
-    hands_on c.from_residual-in_err-put_own.result c.in_err-put_own.field-0.0 c.put_own.new.part _ c.from_residual-in_err-put_own.ensures.1
-    (own_refused modules c.args.part.now context c.args.levels (c.args.levels - 1) (omega arith) scope named children found ports ports_are c.in_err-put_own.field-0.0
-    (same_refused _ _ (λ i. own_part (c.tokens-tokens.ensures i) c.args.context.now c.deref-3.result.now c.deref-4.result.now (scope_is i) c.args.part.now) c.in_err-put_own.field-0.0 c.in_err-put_own.ensures))
-
-pub put_unit-returns : goal.put_unit-returns
-put_unit-returns t c =
-    let modules : SourceTree = units_tree c.args.modules.now in
-    let words : List Text = c.args.modules.now.words in
-    let context : Context = context_tree words c.args.context.now in
-    let ports : List Port = map (port_form words) c.deref-3.result.now in
-    let children : List Instantiation = instantiation_trees words c.deref-5.result.now in
-    let scope : Scope = scope_at_head c.in_ok-known.known in
-    let named : lower_names c.args.part.now context ≡ Ok scope =
-    ap (λ (ws : List Text). lower_names c.args.part.now (context_tree ws c.args.context.now)) (sym c.tokens-tokens.ensures) ∙ c.in_ok-known.ensures.gives in
-    let found : lower_instances modules 0 scope.known context.unit.items ≡ Ok children =
-    ap (λ (items : List ModuleItem). instances_in c.args.modules.now 0 c.in_ok-known.known.head items) (sym c.deref-2.ensures.value) ∙ c.in_ok-instantiation.ensures
-    ∙ ap (λ (list : List _). Ok (instantiation_trees words list)) (sym c.deref-5.ensures.value) in
-    let ports_are : ports ≡ ports_of context.unit = ap (λ (l : List PortForm). map (port_form words) l) c.deref-3.ensures.value ∙ ap (λ (ws : List Text). map (port_form ws) c.in_ok-ports.ports.items) (sym c.tokens-tokens.ensures) ∙ c.in_ok-ports.ensures ∙ ap (λ (ws : List Text). ports_of (module_tree ws c.args.context.now.unit.now)) c.tokens-tokens.ensures in
-    let scope_is : c.at-scope.result ≡ scope = c.at-scope.ensures ∙ (λ i. at (c.scope.ensures.same i) c.in_ok-known.known.head) in
     same_made c.put_each.result c.put_each.new.part _ _
-    ((λ i. instances_below c.args.modules.now (c.args.levels - 1) c.args.context.now (scope_is i) c.put_own.new.part c.deref-5.result.now)
+    ((λ i. instances_below c.args.modules.now (c.args.levels - 1) c.args.context.now (scope_is i) c.put_own.new.part c.deref-4.result.now)
     ∙ instance_is modules c.args.part.now context c.args.levels (c.args.levels - 1) (omega arith) scope named children found ports ports_are c.put_own.new.part
-    ((λ i. own_part ((sym c.tokens-tokens.ensures) i) c.args.context.now c.deref-3.result.now ((c.deref-5.ensures.value ∙ sym c.deref-4.ensures.value) i) ((sym scope_is) i) c.args.part.now) ∙ c.in_ok-put_own.ensures))
+    ((λ i. own_part ((sym c.tokens-tokens.ensures) i) c.args.context.now c.deref-3.result.now ((sym scope_is) i) c.args.part.now) ∙ c.in_ok-put_own.ensures))
     c.put_each.ensures

@@ -1,24 +1,16 @@
 use Rattle.vexpr_parse.specs.Texts.{words_of}
 use Rattle.velab_expr.proofs.AnswerLemmas.{hands_on}
 use Rattle.vhierarchy.proofs.StepLemmas.{same_made}
-use Rattle.vhierarchy.proofs.OwnLemmas.{drivers_refused, ports_refused, variables_are}
+use Rattle.vhierarchy.proofs.OwnLemmas.{ports_refused, variables_are}
 use Rattle.vhierarchy.proofs.own.put_own_variables.Goals as goal
-
-pub returns-in_err-driven : goal.returns-in_err-driven
-returns-in_err-driven c =
-    hands_on c.from_residual.result c.in_err-driven.field-0.0 c.args.into.now.items _ c.from_residual.ensures.1
-    (drivers_refused (words_of c.args.tokens.now) c.args.context.now c.args.ports.now c.args.instantiation.now c.args.scope.now c.deref.result.now
-    c.deref.ensures.value c.args.into.now.items c.in_err-driven.field-0.0 c.in_err-driven.ensures.err)
 
 pub returns-in_err-put_ports : goal.returns-in_err-put_ports
 returns-in_err-put_ports c =
-    hands_on c.from_residual-in_err-put_ports.result c.in_err-put_ports.field-0.0 c.put_ports.new.into.items _ c.from_residual-in_err-put_ports.ensures.1
-    (ports_refused (words_of c.args.tokens.now) c.args.context.now c.args.ports.now c.args.instantiation.now c.args.scope.now c.deref.result.now
-    c.deref.ensures.value c.args.into.now.items c.in_ok-driven.ensures.right c.in_ok-driven.driven c.in_ok-driven.ensures.ok c.in_err-put_ports.field-0.0 c.in_err-put_ports.ensures)
+    hands_on c.from_residual.result c.in_err-put_ports.field-0.0 c.put_ports.new.into.items _ c.from_residual.ensures.1
+    (ports_refused (words_of c.args.tokens.now) c.args.context.now c.args.ports.now c.args.scope.now c.args.into.now.items c.in_err-put_ports.field-0.0 c.in_err-put_ports.ensures)
 
 pub returns : goal.returns
 returns c =
     same_made c.put_variables.result c.put_variables.new.into.items _ _
-    (variables_are (words_of c.args.tokens.now) c.args.context.now c.args.ports.now c.args.instantiation.now c.args.scope.now c.deref.result.now
-    c.deref.ensures.value c.args.into.now.items c.in_ok-driven.ensures.right c.in_ok-driven.driven c.in_ok-driven.ensures.ok c.put_ports.new.into.items c.in_ok-put_ports.ensures)
+    (variables_are (words_of c.args.tokens.now) c.args.context.now c.args.ports.now c.args.scope.now c.args.into.now.items c.put_ports.new.into.items c.in_ok-put_ports.ensures)
     c.put_variables.ensures
