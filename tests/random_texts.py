@@ -320,6 +320,34 @@ class Body:
         if is_process:
             self.process_lines.append(len(self.lines))
 
+    def pieces(self, one):
+        """A net as what drives it names it: whole, or bits and parts of it, not always all; each with its size."""
+        if one.bounds is None or self.rng.random() < 0.6:
+            return [(one.name, one.length)]
+        (left, right), found = one.bounds, []
+        step = 1 if right >= left else -1
+        first = left
+        while (right - first) * step >= 0:
+            last = first + step * min(self.rng.choice([0, 0, 1, 3, 40]), abs(right - first))
+            if self.rng.random() < 0.8:
+                bit = f"[{first}]" if self.rng.random() < 0.7 else f"[{first} + 0]"
+                found.append((f"{one.name}{bit if first == last else f'[{first}:{last}]'}", abs(last - first) + 1))
+            first = last + step
+        return found
+
+    def drive(self, nets):
+        """An `assign` for each piece of these nets, or for some of them together (6.1)."""
+        pieces = [piece for one in nets for piece in self.pieces(one)]
+        if self.rng.random() < 0.3:
+            self.rng.shuffle(pieces)
+        while pieces:
+            row = [pieces.pop(0)]
+            while pieces and self.rng.random() < 0.3 and sum(size for _, size in row) + pieces[0][1] <= 64:
+                row.append(pieces.pop(0))
+            names = ", ".join(name for name, _ in row)
+            target = names if len(row) == 1 and self.rng.random() < 0.9 else f"{{{names}}}"
+            self.item(f"assign {target} = {self.texts.value()};", True)
+
     def declare(self, objects):
         """Declarations; nets are driven here, by an `assign` behind, or not at all."""
         later = []
@@ -329,8 +357,7 @@ class Body:
             has_value = is_driven and self.rng.random() < 0.4 or not is_net and self.rng.random() < 0.1
             self.item(f"{declaration(one)}{f' = {self.texts.value()}' if has_value else ''};", has_value)
             later += [one] if is_driven and not has_value else []
-        for one in later:
-            self.item(f"assign {one.name} = {self.texts.value()};", True)
+        self.drive(later)
 
     def processes(self, count, dumps):
         for n in range(count):
@@ -450,7 +477,7 @@ def child(rng, name, below, asked):
     body.declare(names.objects[len(ports):])
     for word, one in ports:
         if word == "output" and one.kind == "wire" and rng.random() < 0.8:
-            body.item(f"assign {one.name} = {body.texts.value()};")
+            body.drive([one])
     body.processes(rng.randrange(0, 3), False)
     paths = instances(rng, body, below)
     return Child(name, "\n".join([*lines, "endmodule", ""]), ports, heads, paths)
@@ -475,15 +502,27 @@ def given(rng, one, outside):
     return f" #({', '.join(f'.{head.name}({constant(rng, outside) if rng.random() < 0.9 else str()})' for head in chosen)})"
 
 
+def outlet(rng, body, inner, name):
+    """A net that is declared here for an output, or bits of it, or several nets (12.3.9)."""
+    chance = rng.random()
+    if chance < 0.7:
+        body.item(f"wire{ranged(inner.signed, inner.bounds)} {name};")
+        return name
+    if chance < 0.85:
+        low = rng.randrange(0, 3)
+        body.item(f"wire [{low + inner.length + 1}:{low}] {name};")
+        return f"{name}[{low + inner.length}:{low + 1}]" if inner.length > 1 or rng.random() < 0.5 else f"{name}[{low}]"
+    body.item(f"wire [1:0] {name}; wire {name}0;")
+    return rng.choice([f"{{{name}, {name}0}}", f"{{{name}0, {name}[1]}}", f"{{{name}0, {{{name}}}}}"])
+
+
 def instances(rng, body, below):
     """Instances of some of the modules below, and nets for what comes out of them; the paths of those, and of what stands in them."""
     paths = []
     for n in range(rng.choice([0, 1, 1, 2]) if below else 0):
         one, pairs = rng.choice(below), []
         for m, (word, inner) in enumerate(one.ports):
-            if word == "output":
-                body.item(f"wire{ranged(inner.signed, inner.bounds)} n{n}_{m};")
-            pairs.append((inner.name, f"n{n}_{m}" if word == "output" else body.texts.value()))
+            pairs.append((inner.name, outlet(rng, body, inner, f"n{n}_{m}") if word == "output" else body.texts.value()))
         if rng.random() < 0.6:
             rng.shuffle(pairs)
             wiring = ", ".join(f".{inner}({value if rng.random() < 0.9 else ''})" for inner, value in pairs if rng.random() < 0.85)

@@ -71,6 +71,8 @@ def size_of(tree):
         return inner - 1 + (len(parts[0]) - 2) * size_of(parts[1])
     if kind == "terms" or kind == "events":
         return len(parts)
+    if kind == "set" and isinstance(parts[0], tuple):
+        return inner
     if kind == "string":
         return 1 + len(parts[0])
     if kind == "path":
@@ -128,10 +130,28 @@ class Design:
         """The numbers of the bits of each, leftmost and rightmost."""
         return [one.bounds or (one.length - 1, 0) for one in self.objects]
 
+    def driven(self):
+        """The bits that are driven, each by its object and its place from the right, as often as they are (6.1, 12.3.9.2)."""
+        return [bit for actions in self.processes for kind, *what in actions if kind == "drive" for target in what[0] for bit in self.bits_of(target)]
+
+    def bits_of(self, target):
+        """The bits that a target with constant bounds stands for, those out of its object left out."""
+        kind, place, *numbers = target
+        one = self.objects[place]
+        left, right = one.bounds or (one.length - 1, 0)
+        if kind == "whole":
+            return [(place, bit) for bit in range(one.length)]
+        if kind == "bit":
+            letters, signed = numbers[0].own(World([], [], 0, [])), numbers[0].signed(World([], [], 0, []))
+            numbers = [integer(letters, signed)] * 2 if is_known(letters) else [-1, -1]
+        low, high = sorted(numbers)
+        return [(place, abs(number - right)) for number in range(low, high + 1) if min(left, right) <= number <= max(left, right)]
+
     def start(self):
-        """The values before anything is written: z of a net that nothing drives."""
-        driven = {target[1] for actions in self.processes for kind, *what in actions if kind == "drive" for target in what[0]}
-        return [("z" if one.kind == "wire" and n not in driven else "x") * one.length for n, one in enumerate(self.objects)]
+        """The values before anything is written: of a net z where nothing drives it."""
+        driven = set(self.driven())
+        at_first = lambda one, bit: "z" if one.kind == "wire" and bit not in driven else "x"
+        return ["".join(at_first(one, (n, bit)) for bit in range(one.length)) for n, one in enumerate(self.objects)]
 
 
 # what an action reads for `@*`: the places of its expressions, and of its bodies
@@ -621,10 +641,8 @@ class Unit:
                     if value != "-":
                         self.starts(what[0][0], name, value, count)
             elif kind == "assigns":
-                for _, name, value in what:
-                    place = self.object(name)
-                    if place is not None:
-                        self.drive(place, self.checked(value, count))
+                for _, target, value in what:
+                    self.drive(self.driven(target, count), self.checked(value, count))
             elif kind == "initial":
                 self.whole.process(self.statement(what[0], count))
             elif kind == "always":
@@ -634,14 +652,34 @@ class Unit:
         place = self.object(name)
         made = self.checked(value, before)
         if place is not None and word == "wire":
-            self.drive(place, made)
+            self.drive([("whole", place)], made)
         elif place is not None:
             self.whole.process([("assign", [("whole", place)], made)])
 
-    def drive(self, place, value):
-        if self.whole.design.objects[place].kind != "wire":
+    def driven(self, tree, before):
+        """What a left side of nets drives, leftmost first; a bit goes by a constant (6.1)."""
+        kind, *what = tree
+        if kind == "joined":
+            return [one for part in what for one in self.driven(part, before)]
+        place = self.object(what[0])
+        if place is None:
+            return []
+        if kind == "whole":
+            return [("whole", place)]
+        meaning = self.scope[what[0]]
+        if not self.has_bits(meaning):
             self.refuse(310)
-        self.whole.process([("drive", [("whole", place)], value)])
+        if kind == "bit":
+            index = self.constant(what[1], before)
+            return [("bit", place, index)] if index and index.fits(self.whole.world()) else []
+        return [("part", place, *self.part(meaning, *what[1:], before))]
+
+    def drive(self, targets, value):
+        if any(self.whole.design.objects[target[1]].kind != "wire" for target in targets):
+            self.refuse(310)
+        if sum(target_size(self.whole.design, target) for target in targets) > 64:
+            self.refuse(306)
+        self.whole.process([("drive", targets, value)])
 
     def instances(self, before):
         for count, item in zip(before, self.tree[4:]):
@@ -669,11 +707,20 @@ class Unit:
             if name not in wired:
                 continue
             if word == "input":
-                self.drive(place, outside.checked(wired[name], before))
-            elif wired[name][0] != "name":
+                self.drive([("whole", place)], outside.checked(wired[name], before))
+            elif (target := target_of(wired[name])) is None:
                 self.refuse(305)
-            elif (net := outside.object(wired[name][1])) is not None:
-                self.drive(net, Variable(name, place))
+            else:
+                self.drive(outside.driven(target, before), Variable(name, place))
+
+
+def target_of(tree):
+    """What an output that is connected to an expression drives (12.3.9); None where it can't be driven."""
+    kind, *parts = tree
+    if kind == "concatenation":
+        targets = [target_of(part) for part in parts]
+        return None if None in targets else ("joined", *targets)
+    return {"name": ("whole", *parts), "bit": tree, "part": tree}.get(kind)
 
 
 def target_size(design, target):
@@ -721,8 +768,7 @@ class Whole:
         one.instances(own)
 
     def finished(self):
-        driven = [target[1] for actions in self.design.processes for kind, *what in actions if kind == "drive" for target in what[0]]
-        if len(driven) != len(set(driven)):
+        if not self.broken and has_twice(self.design.driven()):
             self.broken.add(304)
         if len(self.design.processes) > MOST_PROCESSES:
             self.broken.add(309)

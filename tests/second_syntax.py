@@ -729,7 +729,7 @@ class Reader:
             elif word == "event":
                 tree = ("events", *self.listed(self.name))
             elif word == "assign":
-                tree = ("assigns", *self.listed(self.name_and_value))
+                tree = ("assigns", *self.listed(lambda: ("set", *self.setting(0))))
             else:
                 kind = (word,) if word in ("integer", "time") else (word, self.range_type())
                 tree = ("declare", kind, *self.listed(self.declared))
@@ -887,7 +887,7 @@ SPELLINGS = {
     "integer": lambda: ["integer"],
     "wire": lambda kind: ["wire", *spelled(kind)],
     "reg": lambda kind: ["reg", *spelled(kind)],
-    "set": lambda name, value: [name, "=", *spelled(value)],
+    "set": lambda target, value: [*([target] if isinstance(target, str) else spelled(target)), "=", *spelled(value)],
     "declared": lambda name, value: [name, *([] if value == "-" else ["=", *spelled(value)])],
     "head": lambda kind, value: [*([] if kind == "-" else ["parameter", *spelled(kind)]), *spelled(value)],
     "parameters": lambda *heads: ["#", *enclosed(commas(heads))],
@@ -1142,6 +1142,12 @@ class Maker:
     def set(self, deep=0):
         return "set", self.name(), self.value(deep)
 
+    def driven(self, deep=0):
+        """What an `assign` drives, and its value."""
+        is_first = deep and self.chance(0.3)
+        target = self.target(deep, True) if is_first else self.target(self.rng.choice([1, 1, 2, 3]))
+        return "set", target, self.value(0 if is_first else deep)
+
     def declared(self, deep=0):
         return "declared", self.name(), self.value(deep) if deep or self.chance(0.4) else "-"
 
@@ -1177,7 +1183,7 @@ class Maker:
         if kind == "events":
             return (kind, *self.some(self.name, 1, 3))
         if kind == "assigns":
-            return (kind, *self.some(self.set, 0, 2), self.set(deep))
+            return (kind, *self.some(self.driven, 0, 2), self.driven(deep))
         overrides = self.connections(deep * first) if deep and first or self.chance(0.3) else "-"
         instance = lambda deep=0: ("instance", self.name(), self.connections(deep))
         return (kind, self.name(), overrides, *self.some(instance, 0, 1), instance(deep * (not first)))
