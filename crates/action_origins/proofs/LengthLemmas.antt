@@ -8,7 +8,7 @@ use Rattle.vast.specs.NumberedExpressions.{ExpressionTree, ExpressionTrees}
 use Rattle.vast.specs.NumberedStatements as written
 use Rattle.vast.specs.NumberedStatements.{TargetTree, TargetTrees, DelayTree, by_number, by_name, by_value, TermTree, EventTree, by_event, by_any, by_any_enclosed, by_terms, ArgumentTree, quoted, printed, left_out, SelectionTree, TaskTree, print, idle, dump_file, dump_vars, dump, end_run, StatementTree, StatementTrees, empty, block, assign, nonblocking, trigger, if_true, if_else, case_of, while_true, repeat_times, forever, for_loop, wait_for, delay, event, task, no_statement, first_statement, BranchTree, BranchTrees, labelled, default, no_branch, first_branch}
 use Rattle.vast.specs.NumberedModules as modules
-use Rattle.vast.specs.NumberedModules.{RangeTree, TypeTree, ParameterType, integer, typed, SettingTree, NetAssignment, DeclaredTree, DirectionTree, input, output, PortTree, HeadParameter, ConnectionTree, ConnectionsTree, InstanceTree, DeclarationKind, variables, integers, directed, ItemTree, parameters, declaration, events, assignments, initial, always, instances}
+use Rattle.vast.specs.NumberedModules.{RangeTree, TypeTree, ParameterType, integer, typed, SettingTree, NetAssignment, DeclaredTree, DirectionTree, input, output, output_integer, PortTree, HeadParameter, ConnectionTree, ConnectionsTree, InstanceTree, DeclarationKind, variables, integers, directed, ItemTree, parameters, declaration, events, assignments, initial, always, instances}
 use Rattle.vast.specs.declared.statement.Edge.{Edge}
 use Rattle.vast.specs.declared.module.NetKind.{NetKind}
 use Rattle.vast.specs.Expressions.{spell_expression, spell_parts, spell_more_parts}
@@ -360,7 +360,7 @@ type_spelled : (type : TypeTree) → type_length type ≡ length (spell_type (ty
 type_spelled type = both (spell_signed type.signed) (spell_range (option_map (range_with letters) type.range)) _ _ (signed_spelled type.signed) (range_spelled type.range)
 
 parameter_type_spelled : (type : ParameterType) → parameter_type_length type ≡ length (spell_parameter_type (parameter_type_with letters type))
-parameter_type_spelled integer = refl
+parameter_type_spelled (integer long) = refl
 parameter_type_spelled (typed type) = type_spelled type
 
 setting_spelled : (setting : SettingTree) → setting_length setting ≡ length (plain.spell_setting (setting_with letters setting))
@@ -379,10 +379,12 @@ direction_spelled (Some (input wire type)) =
     omega (arith, wire_spelled wire, type_spelled type, length-append (spell_wire wire) (spell_type (type_with letters type)))
 direction_spelled (Some (output net type)) =
     omega (arith, net_spelled net, type_spelled type, length-append (spell_net net) (spell_type (type_with letters type)))
+direction_spelled (Some (output_integer long)) = refl
 
 port_spelled : (port : PortTree) → port_length port ≡ length (spell_port (port_with letters port))
 port_spelled port =
-    omega (arith, direction_spelled port.direction, length-append (spell_direction (option_map (direction_with letters) port.direction)) (letters port.name ∷ []))
+    both (spell_direction (option_map (direction_with letters) port.direction)) (spell_value (letters port.name) (option_map (expression_with letters) port.value)) _ _
+    (direction_spelled port.direction) (value_spelled (letters port.name) port.value)
 
 kind_spelled : (kind : Option ParameterType) → length_if kind_length kind ≡ length (spell_kind (option_map (parameter_type_with letters) kind))
 kind_spelled None = refl

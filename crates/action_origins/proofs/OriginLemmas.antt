@@ -11,8 +11,9 @@ use Rattle.vast.specs.declared.statement.CaseKind.{CaseKind}
 use Rattle.vast.specs.declared.statement.Branch.{Branch}
 use Rattle.vast.specs.declared.statement.Statement.{Statement, Block, Case}
 use Rattle.vast.proofs.ToldTrees.{told_block, told_case}
+use Rattle.vmodules.specs.Ports.{ports_declared}
 use Rattle.action_origins.specs.Lengths.{head_length, statement_length, statements_length, branches_length, begin_length}
-use Rattle.action_origins.specs.Origins.{number_of, statement_origins, statements_origins, branches_origins, items_origins, items_left, origins_below, module_origins}
+use Rattle.action_origins.specs.Origins.{number_of, statement_origins, statements_origins, branches_origins, declared_origins, items_origins, items_left, origins_below, module_origins}
 use Rattle.std.specs.Option.{option_map}
 use Rattle.vast.specs.declared.token.Token.{Token}
 
@@ -61,11 +62,15 @@ module _ (words : List Text) where
         let size : statement_length (statement_tree words s) ≡ head_length (tree_of words amount) + (branches_length (branch_trees words items) + 1) = ap statement_length (sym case_is) in
         omega (arith, head, h, end, size)
 
-  -- the items of a module, and then what stands below it
-  pub module_put : (modules : SourceTree) (m : ModuleTree) (levels below : ℕ) (old between new : List ℕ) → levels ≡ suc below →
-      between ≡ old ++ items_origins words (items_left words m) m.items →
+  -- the values of the ports of a module, its items, and then what stands below it
+  pub module_put : (modules : SourceTree) (m : ModuleTree) (levels below : ℕ) (old first between new : List ℕ) → levels ≡ suc below →
+      first ≡ old ++ declared_origins (ports_declared m.ports) → between ≡ first ++ items_origins words (items_left words m) m.items →
       new ≡ between ++ flat_map (origins_below (module_origins words below modules) modules) m.items → new ≡ old ++ module_origins words levels modules m
-  module_put modules m levels below old between new is own put =
-      put ∙ ap (λ (l : List ℕ). l ++ flat_map (origins_below (module_origins words below modules) modules) m.items) own
-      ∙ append_assoc old (items_origins words (items_left words m) m.items) (flat_map (origins_below (module_origins words below modules) modules) m.items)
+  module_put modules m levels below old first between new is ports own put =
+      let values : List ℕ = declared_origins (ports_declared m.ports) in
+      let items : List ℕ = items_origins words (items_left words m) m.items in
+      let others : List ℕ = flat_map (origins_below (module_origins words below modules) modules) m.items in
+      put ∙ ap (λ (l : List ℕ). l ++ others) (own ∙ ap (λ (l : List ℕ). l ++ items) ports)
+      ∙ append_assoc (old ++ values) items others
+      ∙ append_assoc old values (items ++ others)
       ∙ ap (λ (n : ℕ). old ++ module_origins words n modules m) (sym is)

@@ -6,7 +6,7 @@ use Rattle.vast.specs.NumberedExpressions.{ExpressionTree, ExpressionTrees}
 use Rattle.vast.specs.NumberedStatements as written
 use Rattle.vast.specs.NumberedStatements.{TargetTree, TargetTrees, DelayTree, by_number, by_name, by_value, TermTree, EventTree, by_event, by_any, by_any_enclosed, by_terms, ArgumentTree, quoted, printed, left_out, SelectionTree, TaskTree, print, idle, dump_file, dump_vars, dump, end_run, StatementTree, StatementTrees, empty, block, assign, nonblocking, trigger, if_true, if_else, case_of, while_true, repeat_times, forever, for_loop, wait_for, delay, event, task, no_statement, first_statement, BranchTree, BranchTrees, labelled, default, no_branch, first_branch}
 use Rattle.vast.specs.NumberedModules as modules
-use Rattle.vast.specs.NumberedModules.{RangeTree, TypeTree, ParameterType, integer, typed, SettingTree, DeclaredTree, DirectionTree, input, output, PortTree, HeadParameter, ConnectionTree, ConnectionsTree, InstanceTree, DeclarationKind, variables, integers, directed, ItemTree, parameters, declaration, events, assignments, initial, always, instances, NetAssignment}
+use Rattle.vast.specs.NumberedModules.{RangeTree, TypeTree, ParameterType, integer, typed, SettingTree, DeclaredTree, DirectionTree, input, output, output_integer, PortTree, HeadParameter, ConnectionTree, ConnectionsTree, InstanceTree, DeclarationKind, variables, integers, directed, ItemTree, parameters, declaration, events, assignments, initial, always, instances, NetAssignment}
 
 -- of what may be left out
 abbrev pub length_if : {A : Type 0} → (A → ℕ) → Option A → ℕ
@@ -210,7 +210,7 @@ abbrev pub type_length : TypeTree → ℕ
 type_length type = word_where type.signed + length_if range_length type.range
 
 abbrev pub parameter_type_length : ParameterType → ℕ
-parameter_type_length integer = 1
+parameter_type_length (integer long) = 1
 parameter_type_length (typed type) = type_length type
 
 abbrev pub setting_length : SettingTree → ℕ
@@ -229,9 +229,10 @@ declared_length declared = 1 + length_if value_length declared.value
 abbrev pub direction_length : DirectionTree → ℕ
 direction_length (input wire type) = 1 + (word_where wire + type_length type)
 direction_length (output net type) = 1 + (word_if net + type_length type)
+direction_length (output_integer long) = 2
 
 abbrev pub port_length : PortTree → ℕ
-port_length port = 1 + length_if direction_length port.direction
+port_length port = length_if direction_length port.direction + (1 + length_if value_length port.value)
 
 -- parameter type
 abbrev pub kind_length : ParameterType → ℕ
@@ -272,6 +273,6 @@ item_length (instances letters overrides list) = 1 + (length_if overrides_length
 abbrev pub head_parameters_length : List HeadParameter → ℕ
 head_parameters_length list = 2 + list_length head_parameter_length list
 
--- ( direction name, .. )
+-- ( direction name = value, .. )
 abbrev pub ports_length : List PortTree → ℕ
 ports_length list = 1 + list_length port_length list

@@ -8,11 +8,12 @@ use Rattle.vast.specs.NumberedWords.{Word}
 use Rattle.vast.specs.NumberedStatements.{StatementTree, StatementTrees, empty, block, assign, nonblocking, trigger, if_true, if_else, case_of, while_true, repeat_times, forever, for_loop, wait_for, delay, event, task, no_statement, first_statement, BranchTree, BranchTrees, labelled, default, no_branch, first_branch}
 use Rattle.vast.specs.NumberedModules.{DeclaredTree, NetAssignment, ConnectionsTree, by_order, by_name, InstanceTree, ItemTree, parameters, declaration, events, assignments, initial, always, instances, ModuleTree, SourceTree}
 use Rattle.vmodules.specs.Hierarchy.{module_of, top_of}
+use Rattle.vmodules.specs.Ports.{ports_declared}
 use Rattle.action_origins.specs.Lengths.{length_if, parts_length, delay_length, event_length, head_length, for_length, turn_length, default_length, statement_length, item_length, branch_length, head_parameters_length, ports_length, begin_length, net_assignment_length}
 
 -- ---- what begins at a name
 
--- 6.2.1, 6.1.1: what is declared with a value begins at its name
+-- 6.2.1, 6.1.1, A.2.1.2: what is declared with a value begins at its name
 abbrev pub declared_origins : List DeclaredTree → List ℕ
 declared_origins list = filter_map (λ one. option_map (λ value. one.name.number) one.value) list
 
@@ -104,11 +105,12 @@ module _ (words : List Text) where
   items_left m =
       (((length words - (m.name.number + 1)) - length_if head_parameters_length m.parameters) - length_if ports_length m.ports) - 1
 
-  -- 12.1: a module and all below it, so many levels deep: its own items first, then the instances in it
+  -- 12.1: a module and all below it, so many levels deep: the values of its ports first, then its own items, then the instances in it
   abbrev pub module_origins : ℕ → SourceTree → ModuleTree → List ℕ
   module_origins zero modules m = []
   module_origins (suc levels) modules m =
-      items_origins (items_left m) m.items ++ flat_map (origins_below (module_origins levels modules) modules) m.items
+      declared_origins (ports_declared m.ports)
+      ++ (items_origins (items_left m) m.items ++ flat_map (origins_below (module_origins levels modules) modules) m.items)
 
   -- those of the design whose top this is
   abbrev pub top_origins : SourceTree → Option ModuleTree → List ℕ

@@ -48,7 +48,7 @@ pub fn past_parameter_type(kind: &ParameterType, left: usize) -> usize
         result ≡ left - parameter_type_length (parameter_type words kind.now) }
 {
     match kind {
-        ParameterType::Integer => left.saturating_sub(1),
+        ParameterType::Integer { .. } => left.saturating_sub(1),
         ParameterType::Typed(kind) => past_type(kind, left),
     }
 }
@@ -159,17 +159,25 @@ fn past_direction(direction: &Direction, left: usize) -> usize
         Direction::Output { net, kind } => {
             past_type(kind, past_net(*net, left.saturating_sub(1)))
         }
+        Direction::OutputInteger { .. } => left.saturating_sub(2),
+    }
+}
+
+fn past_port_direction(direction: &Option<Direction>, left: usize) -> usize
+    ensures { (words : List Text) → result ≡ left - length_if direction_length
+        (option_map (direction_tree words) direction.now) }
+{
+    match direction {
+        None => left,
+        Some(direction) => past_direction(direction, left),
     }
 }
 
 fn past_port(port: &Port, left: usize) -> usize
     ensures { (words : List Text) → result ≡ left - port_length (port_tree words port.now) }
 {
-    let left = left.saturating_sub(1);
-    match &port.direction {
-        None => left,
-        Some(direction) => past_direction(direction, left),
-    }
+    let left = past_port_direction(&port.direction, left);
+    past_value(&port.value, left.saturating_sub(1))
 }
 
 fn past_each_port(ports: &[Port], mut left: usize) -> usize

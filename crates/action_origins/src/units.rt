@@ -2,13 +2,14 @@
 
 ghost use Rattle.std.specs.Prelude.{◌≡◌, ◌-◌, ◌++◌, List, None, Some, map, IfOk, OnOk};
 ghost use Rattle.std.specs.List.{flat_map};
-ghost use Rattle.vast.specs.NumberedTrees.{connection_tree, connections_tree, declared_tree, instance_tree, item_tree, module_tree, net_assignment, source_tree, tree_of};
+ghost use Rattle.vast.specs.NumberedTrees.{connection_tree, connections_tree, declared_tree, instance_tree, item_tree, module_tree, net_assignment, port_tree, source_tree, tree_of};
 ghost use Rattle.vast.specs.NumberedModules.{by_name, by_order};
 ghost use Rattle.vast.specs.NumberedWords.{numbered};
 ghost use Rattle.vast.specs.Words.{Text};
 ghost use Rattle.vexpr_parse.specs.Texts.{words_of};
 ghost use Rattle.vmodules.specs.Names.{first_again};
-ghost use Rattle.vmodules.specs.Inner.{named_text, unit_names, unit_tree, units_tree};
+ghost use Rattle.vmodules.specs.Inner.{named_text, optional_ports, unit_names, unit_tree, units_tree};
+ghost use Rattle.vmodules.specs.Ports.{port_declared, ports_declared};
 ghost use Rattle.action_origins.specs.Lengths.{item_length, list_length};
 ghost use Rattle.action_origins.specs.Origins as spec;
 ghost use Rattle.action_origins.specs.Origins.{declared_origins, design_origins, driven_origins, instances_origins, item_origins, items_origins, joined_origins, module_origins, origins_below, top_origins};
@@ -24,7 +25,7 @@ use std::alloc::Global;
 use vast::expression::Expression;
 use vast::module::{
     Connection, Connections, DeclarationKind, Declared, Instance, ModuleItem, ModuleTree,
-    NetAssignment, TextTree,
+    NetAssignment, Port, TextTree,
 };
 use vast::token::Token;
 use vlex::Tokens;
@@ -45,6 +46,30 @@ fn put_declared(list: &[Declared], into: &mut Vec<usize>) -> Result<(), NoMemory
         }
     }
     Ok(())
+}
+
+// Puts where ports of a list begin that have a value.
+fn put_listed(list: &[Port], into: &mut Vec<usize>) -> Result<(), NoMemory>
+    ensures { OnOk result ((words : List Text) → into.new.items ≡ into.old.items
+        ++ declared_origins (map port_declared (map (port_tree words) list.now))) }
+{
+    for one in list {
+        if one.value.is_some() {
+            into.push(one.name.number as usize)?;
+        }
+    }
+    Ok(())
+}
+
+// The same of the ports of a module, where it has a list of them.
+fn put_ports(ports: &Option<Vec<Port>>, into: &mut Vec<usize>) -> Result<(), NoMemory>
+    ensures { OnOk result ((words : List Text) → into.new.items ≡ into.old.items
+        ++ declared_origins (ports_declared (optional_ports words ports.now))) }
+{
+    match ports {
+        None => Ok(()),
+        Some(list) => put_listed(list, into),
+    }
 }
 
 // Puts where the parts of an `assign` begin, from whose first target so many words are left.
@@ -198,6 +223,7 @@ fn put_module(
         return Ok(());
     }
     let tokens = modules.tokens();
+    put_ports(&unit.ports, into)?;
     put_items(tokens, &unit.items, items_left(tokens, unit), into)?;
     put_below(modules, levels - 1, &unit.items, into)
 }

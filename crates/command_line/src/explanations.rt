@@ -127,7 +127,7 @@ const EXPLANATIONS: [Explanation; 34] = [
     },
     Explanation {
         number: 310,
-        meaning: "a name of another kind than its use asks for: a net that a statement writes, a variable that an assign or an output drives, a parameter that is written or waited for, a named event or an instance in an expression, a variable's path in $dumpvars, a bit of what has no range, an input that is declared as a variable; or a format that isn't known or has no argument",
+        meaning: "a name of another kind than its use asks for: a net that a statement writes, a variable that an assign or an output drives, a parameter that is written or waited for, a named event or an instance in an expression, a variable's path in $dumpvars, a bit of what has no range, an input that is declared as a variable, a value of a port whose direction doesn't say reg, integer or time; or a format that isn't known or has no argument",
         example: "reg r; assign r = 1;, wire w; initial w = 1;, $display(\"%d\");",
         advice: "declare it as what it is used as; docs/LANGUAGE.md lists the formats under Printed lines",
     },

@@ -24,7 +24,7 @@ use Rattle.velab_expr.specs.Resolved.{lower_value}
 use Rattle.velab_expr.specs.Scopes.{Scope}
 use Rattle.velab_expr.specs.Symbols.{behind_item}
 use Rattle.velab_declaration.specs.declared.variable.Form.{Form}
-use Rattle.velab_declaration.specs.Variables.{length_of, variable_in, form_of, lower_kind, variables_in, variables_as, lower_declaration, lower_variables, lower_again, lower_port, lower_ports, counted_kind}
+use Rattle.velab_declaration.specs.Variables.{length_of, variable_in, form_of, port_form, lower_kind, variables_in, variables_as, lower_declaration, lower_variables, lower_again, lower_port, lower_ports, integer_kind}
 use Rattle.elaboration_law.proofs.StepLemmas.{same_value, then_ok, required_ok, found_ok}
 use Rattle.elaboration_law.proofs.AgainLemmas.{again_keeps}
 use Rattle.dump_law.specs.Small.{AreSmallBounds, IsSmallVariable}
@@ -90,9 +90,9 @@ module _ (path : Text) where
   ports_small scope (p ∷ more) vs is =
       let one = then_ok (lower_port path scope p) (λ one. lower_ports path scope more >>= λ others. Ok (one ∷ others)) vs is in
       let others = then_ok (lower_ports path scope more) (λ others. Ok (one.0 ∷ others)) vs one.2 in
-      let bounds = then_ok (lower_bounds scope p.type.range) (λ bounds. lower_again scope p.again bounds >>= λ whole. Ok (variable_in path (form_of p.net p.type.signed whole) p.name.letters)) one.0 one.1 in
-      let whole = then_ok (lower_again scope p.again bounds.0) (λ whole. Ok (variable_in path (form_of p.net p.type.signed whole) p.name.letters)) one.0 bounds.2 in
-      let form = form_of p.net p.type.signed whole.0 in
+      let bounds = then_ok (lower_bounds scope p.type.range) (λ bounds. lower_again scope p.again bounds >>= λ whole. Ok (variable_in path (port_form p whole) p.name.letters)) one.0 one.1 in
+      let whole = then_ok (lower_again scope p.again bounds.0) (λ whole. Ok (variable_in path (port_form p whole) p.name.letters)) one.0 bounds.2 in
+      let form = port_form p whole.0 in
       let small = subst IsRanged (again_keeps scope p.again bounds.0 whole.0 whole.1) (bounds_small scope p.type.range bounds.0 bounds.1) in
       let here = variable_small path form p.name.letters small in
       subst (All IsSmallVariable) (same_value (one.0 ∷ others.0) vs others.2)
@@ -104,7 +104,7 @@ module _ (path : Text) where
       let bounds = then_ok (lower_bounds scope type.range) (λ bounds. Ok (form_of word type.signed bounds)) form is in
       subst (λ (f : Form). IsRanged f.bounds) (same_value (form_of word type.signed bounds.0) form bounds.2) (bounds_small scope type.range bounds.0 bounds.1)
   kind_small scope (integers long) form is =
-      subst (λ (f : Form). IsRanged f.bounds) (same_value (record { kind = counted_kind long; signed = not long; bounds = None }) form is) tt
+      subst (λ (f : Form). IsRanged f.bounds) (same_value (record { kind = integer_kind long; signed = not long; bounds = None }) form is) tt
   kind_small scope (directed direction) form is =
       let range = (type_in direction).range in
       let bounds = then_ok (lower_bounds scope range) (λ bounds. Ok (form_of net.Wire (type_in direction).signed bounds)) form is in

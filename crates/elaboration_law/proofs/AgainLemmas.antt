@@ -4,6 +4,7 @@ use Rattle.vast.specs.Words.{Text}
 use Rattle.vast.specs.NumberedModules.{ItemTree, parameters, declaration, events, assignments, initial, always, instances}
 use Rattle.vdesign.specs.declared.expression.Bounds.{Bounds}
 use Rattle.vmodules.specs.Ports.{Second, own_item}
+use Rattle.vmodules.specs.Placed.{placed_item}
 use Rattle.velab_expr.specs.declared.fault.Rule.TheVariants.{Width}
 use Rattle.velab_expr.specs.Answers.{required}
 use Rattle.velab_expr.specs.Scopes.{Scope}
@@ -39,6 +40,16 @@ same_behind is_port scope (assignments settings) = refl
 same_behind is_port scope (initial statement) = refl
 same_behind is_port scope (always statement) = refl
 same_behind is_port scope (instances letters overrides list) = refl
+
+-- and so does it in an instance
+pub placed_behind : (path : Text) (scope : Scope) (item : ItemTree) → behind_item scope (placed_item path item) ≡ behind_item scope item
+placed_behind path scope (parameters local type settings) = refl
+placed_behind path scope (declaration kind list) = refl
+placed_behind path scope (events names) = refl
+placed_behind path scope (assignments settings) = refl
+placed_behind path scope (initial statement) = refl
+placed_behind path scope (always statement) = refl
+placed_behind path scope (instances letters overrides list) = refl
 
 -- and has the same range
 pub same_range : (named : Text → Worth) (is_port : Text → Bool) (item : ItemTree) → is_item_ranged named (own_item is_port item) ≡ is_item_ranged named item

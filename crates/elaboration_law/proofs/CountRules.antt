@@ -15,6 +15,7 @@ use Rattle.module_size.specs.Sizes.{module_size}
 use Rattle.vmodules.specs.Names.{is_declared, first_again}
 use Rattle.vmodules.specs.Hierarchy.{module_of}
 use Rattle.vmodules.specs.Ports.{Port, ports_of}
+use Rattle.vmodules.specs.Placed.{placed_items}
 use Rattle.vmodules.specs.Connected.{NamedConnection, value_for}
 use Rattle.vexpr_parse.proofs.Turning.{le_so}
 use Rattle.velab_expr.specs.declared.fault.Rule.TheVariants.{Top, Doubled, TooMany}
@@ -92,14 +93,14 @@ items_counted scope table (item ∷ more) made is =
     ∙ sym (length-append (process_trees_by item) (flat_map process_trees_by more))
 
 pub own_processes_counted : (context : Context) (scope : Scope) (table : Table) (made : Made) → lower_own_processes context (ports_of context.unit) scope table ≡ Ok made →
-    length made.begins ≡ length (connected (instance_at context)) + length (flat_map process_trees_by context.unit.items)
+    length made.begins ≡ length (connected (instance_at context)) + length (flat_map process_trees_by (placed_items context.path context.unit))
 own_processes_counted context scope table made is =
     let joins = then_ok (lower_joins context.name context.overrides.scope scope context.connections table (ports_of context.unit))
-    (λ joins. with_begins_before joins.begins (lower_items scope joins.table context.unit.items)) made is in
-    let items = then_ok (lower_items scope joins.0.table context.unit.items) (λ ps. Ok (record { table = ps.table; begins = joins.0.begins ++ ps.begins })) made joins.2 in
+    (λ joins. with_begins_before joins.begins (lower_items scope joins.table (placed_items context.path context.unit))) made is in
+    let items = then_ok (lower_items scope joins.0.table (placed_items context.path context.unit)) (λ ps. Ok (record { table = ps.table; begins = joins.0.begins ++ ps.begins })) made joins.2 in
     ap (λ (m : Made). length m.begins) (sym (same_value (record { table = items.0.table; begins = joins.0.begins ++ items.0.begins }) made items.2))
     ∙ length-append joins.0.begins items.0.begins
-    ∙ (λ i. joins_counted context.name context.overrides.scope scope context.connections table (ports_of context.unit) joins.0 joins.1 i + items_counted scope joins.0.table context.unit.items items.0 items.1 i)
+    ∙ (λ i. joins_counted context.name context.overrides.scope scope context.connections table (ports_of context.unit) joins.0 joins.1 i + items_counted scope joins.0.table (placed_items context.path context.unit) items.0 items.1 i)
 
 -- ---- named events
 
@@ -300,7 +301,7 @@ pub record NamesCounted (part : Part) (context : Context) (scope : Scope) : Type
   pub few_events : scope.events ≤ 4294967295
   pub events_are : scope.events ≡ part.events + length (flat_map events_by context.unit.items)
   pub few_letters : letters_held part + letters_added context ≤ 1048576
-  pub small : part.size + module_size context.unit ≤ 4194304
+  pub small : part.size + module_size (length context.path) context.unit ≤ 4194304
 
 module _ (part : Part) (context : Context) where
   abbrev counted : Result Scope ElabFault
@@ -316,31 +317,31 @@ module _ (part : Part) (context : Context) where
       let inner = provided_ok (has_room part context) TooMany (Some context.name) (item_scope (base_of part context) context.unit) scope few.1 in
       let events = nat_le part.events 4294967295 in
       let letters = nat_le (letters_held part + letters_added context) 1048576 in
-      let size = nat_le (part.size + module_size context.unit) 4194304 in
+      let size = nat_le (part.size + module_size (length context.path) context.unit) 4194304 in
       let both = and_right events (letters && size) inner.0 in
       record {
         few_variables = le_so (length part.variables + length (declared_names context.unit)) 1024 few.0;
         few_events = scope_few (base_of part context) context.unit scope inner.1 (le_so part.events 4294967295 (and_left events (letters && size) inner.0));
         events_are = scope_counted (base_of part context) context.unit scope inner.1;
         few_letters = le_so (letters_held part + letters_added context) 1048576 (and_left letters size both);
-        small = le_so (part.size + module_size context.unit) 4194304 (and_right letters size both);
+        small = le_so (part.size + module_size (length context.path) context.unit) 4194304 (and_right letters size both);
       }
 
   -- too many variables, too many named events, names that are too long, or modules that are too large
   abbrev pub ManyNames : Type 0
   ManyNames =
       (1024 < length part.variables + length (declared_names context.unit)) ⊎ ((4294967295 < part.events + length (flat_map events_by context.unit.items))
-      ⊎ ((1048576 < letters_held part + letters_added context) ⊎ (4194304 < part.size + module_size context.unit)))
+      ⊎ ((1048576 < letters_held part + letters_added context) ⊎ (4194304 < part.size + module_size (length context.path) context.unit)))
 
   no_room : has_room part context ≡ false → ManyNames
   no_room none =
-      by (nat_le part.events 4294967295) (nat_le (letters_held part + letters_added context) 1048576) (nat_le (part.size + module_size context.unit) 4194304) refl refl refl none
+      by (nat_le part.events 4294967295) (nat_le (letters_held part + letters_added context) 1048576) (nat_le (part.size + module_size (length context.path) context.unit) 4194304) refl refl refl none
     where
       by : (events letters size : Bool) → nat_le part.events 4294967295 ≡ events → nat_le (letters_held part + letters_added context) 1048576 ≡ letters →
-          nat_le (part.size + module_size context.unit) 4194304 ≡ size → (events && (letters && size)) ≡ false → ManyNames
+          nat_le (part.size + module_size (length context.path) context.unit) 4194304 ≡ size → (events && (letters && size)) ≡ false → ManyNames
       by false letters size e f g none = let more = gt_of part.events 4294967295 e in inr (inl (omega (arith, more)))
       by true false size e f g none = inr (inr (inl (gt_of (letters_held part + letters_added context) 1048576 f)))
-      by true true false e f g none = inr (inr (inr (gt_of (part.size + module_size context.unit) 4194304 g)))
+      by true true false e f g none = inr (inr (inr (gt_of (part.size + module_size (length context.path) context.unit) 4194304 g)))
       by true true true e f g none = absurd cc
 
   module _ (fault : ElabFault) (rule : fault.rule ≡ TooMany) where

@@ -26,6 +26,8 @@ use Rattle.elaboration_law.proofs.ModuleRules.{is_of_names, is_of_instances, is_
 use Rattle.elaboration_law.proofs.DesignRules.{table_tells, unless_tells, kind_broken, flaw_broken, broken_paths_tell}
 use Rattle.elaboration_law.proofs.PlaceLemmas.{got_in_front, got_behind}
 use Rattle.elaboration_law.proofs.HierarchyLemmas.{OwnFault, in_names, in_instances, in_own, ToldBelow, too_deep, by_own, Told, in_modules, in_ports, is_of_ports, of_ports, in_top, in_hierarchy, in_design, all_elaborated, fault_told, top_told_below}
+use Rattle.basis.proofs.Lists.{place_within}
+use Rattle.velab_declaration.proofs.DriveLemmas.{again_both}
 use Rattle.elaboration_law.proofs.NameLemmas.{or_none, or_some}
 use Rattle.elaboration_law.proofs.DepthLemmas.{one_top}
 
@@ -58,11 +60,6 @@ is_among place (one ∷ more) zero is =
     let same : one ≡ place = cc in
     or_first (same_place place one) (is_driven more place) (subst (λ (p : Place). same_place place p ≡ true) (sym same) (bit_itself place))
 is_among place (one ∷ more) (suc k) is = or_second (same_place place one) (is_driven more place) (is_among place more k is)
-
-stands_within : {A : Type 0} (list : List A) (k : ℕ) (x : A) → slice_get list k ≡ Some x → k < length list
-stands_within [] k x is = absurd cc
-stands_within (one ∷ more) zero x is = omega arith
-stands_within (one ∷ more) (suc k) x is = let rest = stands_within more k x is in omega (arith, rest)
 
 got_before : {A : Type 0} (xs ys : List A) (k : ℕ) → k < length xs → slice_get (xs ++ ys) k ≡ slice_get xs k
 got_before [] ys k lt = absurd (omega (arith, lt))
@@ -111,7 +108,7 @@ not_before (suc a) (suc b) h = by (not_before a b (omega (arith, h)))
 once_driven : (before list : List Place) → drives_again before list ≡ false → (place : Place) (one other : ℕ) → one < other → length before ≤ other →
     slice_get (before ++ list) one ≡ Some place → slice_get (before ++ list) other ≡ Some place → ⊥
 once_driven before [] e place one other lt behind first again =
-    let within = stands_within [] (other - length before) place (sym (got_behind before [] (other - length before) other (omega (arith, behind))) ∙ again) in
+    let within = place_within [] (other - length before) place (sym (got_behind before [] (other - length before) other (omega (arith, behind))) ∙ again) in
     omega (arith, within)
 once_driven before (next ∷ more) e place one other lt behind first again =
     by (not_before other (length before) behind) (once_driven (before ++ next ∷ []) more (or_right (is_driven before next) (drives_again (before ++ next ∷ []) more) e) place one other lt)
@@ -133,17 +130,6 @@ once_driven before (next ∷ more) e place one other lt behind first again =
         (ap (λ (l : List Place). slice_get l other) (append_assoc before (next ∷ []) more) ∙ again)
 
 -- ---- what the table tells of them
-
-again_both : (before xs ys : List Place) → drives_again before (xs ++ ys) ≡ (drives_again before xs || drives_again (before ++ xs) ys)
-again_both before [] ys = ap (λ (l : List Place). drives_again l ys) (sym (append-nil before))
-again_both before (x ∷ xs) ys =
-    (λ i. is_driven before x || again_both (before ++ x ∷ []) xs ys i)
-    ∙ (λ i. is_driven before x || (drives_again (before ++ x ∷ []) xs || drives_again (append_assoc before (x ∷ []) xs i) ys))
-    ∙ or_joined (is_driven before x) (drives_again (before ++ x ∷ []) xs) (drives_again (before ++ x ∷ xs) ys)
-  where
-    or_joined : (a b c : Bool) → (a || (b || c)) ≡ ((a || b) || c)
-    or_joined true b c = refl
-    or_joined false b c = refl
 
 -- nothing is told only where no bit is driven twice, and something only where one is
 abbrev TellsAgain : Bool → Option ElabFault → Type 0

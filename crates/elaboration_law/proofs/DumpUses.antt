@@ -25,6 +25,7 @@ use Rattle.velab_expr.specs.Resolved.{lower_expression}
 use Rattle.velab_expr.specs.Written.{lower_target, lower_net_target, target_of}
 use Rattle.velab_expr.specs.Selections.{levels_in, dotted_path, chosen_by, chosen_of, lower_selection}
 use Rattle.vmodules.specs.Ports.{Port}
+use Rattle.vmodules.specs.Placed.{placed_items}
 use Rattle.vmodules.specs.Connected.{NamedConnection, value_for}
 use Rattle.velab_process.specs.Connections.{lower_input, lower_output, lower_connection, one_process, lower_join, lower_joins}
 use Rattle.vhierarchy.specs.Instances.{lower_own_processes, Context}
@@ -277,13 +278,13 @@ module _ (whose : Word) (outer inner : Scope) where
 
 -- ---- an instance
 
-own_adds : (context : Context) (ports : List Port) (scope : Scope) (table : Table) → Adds of_processes table (flat_map (paths_by_item scope.top) context.unit.items) (lower_own_processes context ports scope table)
+own_adds : (context : Context) (ports : List Port) (scope : Scope) (table : Table) → Adds of_processes table (flat_map (paths_by_item scope.top) (placed_items context.path context.unit)) (lower_own_processes context ports scope table)
 own_adds context ports scope table =
-    let paths = flat_map (paths_by_item scope.top) context.unit.items in
+    let paths = flat_map (paths_by_item scope.top) (placed_items context.path context.unit) in
     then_adds of_processes of_processes table [] paths (lower_joins context.name context.overrides.scope scope context.connections table ports) _
     (joins_add context.name context.overrides.scope scope context.connections table ports) (λ joins.
-    begun_adds joins.table paths joins.begins (lower_items scope joins.table context.unit.items) (items_add scope joins.table context.unit.items))
+    begun_adds joins.table paths joins.begins (lower_items scope joins.table (placed_items context.path context.unit)) (items_add scope joins.table (placed_items context.path context.unit)))
 
 pub own_dumps : (context : Context) (ports : List Port) (scope : Scope) (table : Table) (processes : Processes) → lower_own_processes context ports scope table ≡ Ok processes →
-    dumped processes.table ≡ dumped table ++ flat_map (paths_by_item scope.top) context.unit.items
-own_dumps context ports scope table processes is = subst (Adds of_processes table (flat_map (paths_by_item scope.top) context.unit.items)) is (own_adds context ports scope table)
+    dumped processes.table ≡ dumped table ++ flat_map (paths_by_item scope.top) (placed_items context.path context.unit)
+own_dumps context ports scope table processes is = subst (Adds of_processes table (flat_map (paths_by_item scope.top) (placed_items context.path context.unit))) is (own_adds context ports scope table)

@@ -276,22 +276,26 @@ of_ports m rule is = sym (ap is_of_ports is) ∙ by m.flaw
     by flaw.Undeclared = refl
     by flaw.Doubled = refl
     by flaw.Input = refl
+    by flaw.Valued = refl
 
--- and of these by one flaw each
+-- and of these by one flaw each, or by one of two
 pub doubled_port : (f : PortFlaw) → rule_of_port f ≡ Doubled → f ≡ flaw.Doubled
 doubled_port flaw.Undeclared is = absurd cc
 doubled_port flaw.Doubled is = refl
 doubled_port flaw.Input is = absurd cc
+doubled_port flaw.Valued is = absurd cc
 
 pub unknown_port : (f : PortFlaw) → rule_of_port f ≡ Unknown → f ≡ flaw.Undeclared
 unknown_port flaw.Undeclared is = refl
 unknown_port flaw.Doubled is = absurd cc
 unknown_port flaw.Input is = absurd cc
+unknown_port flaw.Valued is = absurd cc
 
-pub input_port : (f : PortFlaw) → rule_of_port f ≡ Kind → f ≡ flaw.Input
-input_port flaw.Undeclared is = absurd cc
-input_port flaw.Doubled is = absurd cc
-input_port flaw.Input is = refl
+pub kind_port : (f : PortFlaw) → rule_of_port f ≡ Kind → (f ≡ flaw.Input) ⊎ (f ≡ flaw.Valued)
+kind_port flaw.Undeclared is = absurd cc
+kind_port flaw.Doubled is = absurd cc
+kind_port flaw.Input is = inl refl
+kind_port flaw.Valued is = inr refl
 
 module _ (modules : SourceTree) (top : Option Text) (scale : Timescale) where
   abbrev topped : Result Whole ElabFault

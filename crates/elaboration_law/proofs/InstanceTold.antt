@@ -11,7 +11,9 @@ use Rattle.vast.specs.NumberedStatements.{TargetTree, whole}
 use Rattle.vast.specs.NumberedModules.{ConnectionsTree, InstanceTree, ItemTree, parameters, declaration, events, assignments, initial, always, instances, ModuleTree, SourceTree}
 use Rattle.vmodules.specs.Names.{is_declared, letters_of, first_again}
 use Rattle.vmodules.specs.Hierarchy.{module_of}
-use Rattle.vmodules.specs.Ports.{Port, plain_names, is_plain_list, own_items, ports_of}
+use Rattle.vmodules.specs.Ports.{Port, plain_names, is_plain_list, own_items, ports_of, process_items}
+use Rattle.vmodules.specs.Placed.{placed_items}
+use Rattle.elaboration_law.proofs.PlacedWidths.{items_sized}
 use Rattle.vmodules.specs.Connected.{NamedConnection, open_names, misfit, misfit_if, value_for}
 use Rattle.vdesign.specs.Design.{Variable}
 use Rattle.vvalue.specs.Value.{Environment}
@@ -188,7 +190,7 @@ module _ (part : Part) (context : Context) (outside : Text → Worth) (round : I
   connected = list_all (is_connected one) (ports_of context.unit)
 
   abbrev pub processed : Bool
-  processed = list_all (is_sized_item (worth_in one)) context.unit.items
+  processed = list_all (is_sized_item (worth_in one)) (process_items context.unit)
 
   -- its names
 
@@ -261,12 +263,14 @@ module _ (part : Part) (context : Context) (outside : Text → Worth) (round : I
       processes_told rest table t s =
           let around = round_more part.variables vs context.overrides.scope outside round in
           let now = blank_environment ((part.variables ++ vs) ++ rest) in
+          let placed = list_all (is_sized_item (worth_in one)) (placed_items context.path context.unit) in
           goes_on (of_processes now) (of_processes now) (t && connected) (t && (connected && processed)) (lower_joins context.name context.overrides.scope scope context.connections table (ports_of context.unit)) _
           (λ e. sym (and_assoc t connected processed) ∙ first_false (t && connected) processed e)
           (joins_told now context.overrides.scope outside around.vectors (around.agrees rest) scope (worth_in one) round_here.vectors (round_here.agrees rest) context.connections context.name table t s (ports_of context.unit)) (λ joins k.
-          subst (λ (x : Bool). Told (of_processes now) x (with_begins_before joins.begins (lower_items scope joins.table context.unit.items))) (and_assoc t connected processed)
-          (begun now ((t && connected) && processed) joins.begins (lower_items scope joins.table context.unit.items)
-          (items_told (worth_in one) round_here.vectors now scope (round_here.agrees rest) joins.table (t && connected) k context.unit.items)))
+          subst (λ (x : Bool). Told (of_processes now) x (with_begins_before joins.begins (lower_items scope joins.table (placed_items context.path context.unit))))
+          (and_assoc t connected placed ∙ ap (λ (b : Bool). t && (connected && b)) (items_sized (worth_in one) context.path (process_items context.unit)))
+          (begun now ((t && connected) && placed) joins.begins (lower_items scope joins.table (placed_items context.path context.unit))
+          (items_told (worth_in one) round_here.vectors now scope (round_here.agrees rest) joins.table (t && connected) k (placed_items context.path context.unit))))
 
       -- all is right where its connections and its processes are
       pub right_is : has_right_widths one ≡ (connected && processed)

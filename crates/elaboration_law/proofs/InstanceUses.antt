@@ -10,7 +10,8 @@ use Rattle.vast.specs.NumberedStatements as written
 use Rattle.vast.specs.NumberedModules.{ConnectionsTree, InstanceTree, ParameterType, integer, typed, DeclarationKind, variables, integers, directed, ItemTree, parameters, declaration, events, assignments, initial, always, instances, ModuleTree, SourceTree}
 use Rattle.vmodules.specs.Names.{is_declared, letters_of, first_again}
 use Rattle.vmodules.specs.Hierarchy.{module_of}
-use Rattle.vmodules.specs.Ports.{Second, Port, type_in, plain_names, is_plain_list, own_item, own_items, ports_of}
+use Rattle.vmodules.specs.Ports.{Second, Port, type_in, plain_names, is_plain_list, own_item, own_items, ports_of, port_values}
+use Rattle.vmodules.specs.Placed.{placed_item, placed_items}
 use Rattle.vmodules.specs.Connected.{NamedConnection, open_names, misfit, misfit_if, value_for}
 use Rattle.velab_expr.specs.declared.fault.Rule.{Rule}
 use Rattle.velab_expr.specs.declared.fault.Rule.TheVariants.{Top, Doubled, Drivers, Ports, Width, Depth, TooMany}
@@ -30,14 +31,14 @@ use Rattle.velab_process.specs.Processes.{Processes, process_trees_by, lower_pro
 use Rattle.velab_process.specs.Connections.{lower_input, lower_output, lower_connection, lower_join, lower_joins}
 use Rattle.vhierarchy.specs.Instances.{barring, Instantiation, instantiation_by, lower_instance, lower_list, named_again, lower_instances_of, lower_instances_by, lower_instances, lower_own_variables, lower_own_processes, with_own, few_enough, lower_own, base_of, lower_names, Part, Context, has_room}
 use Rattle.elaboration_law.specs.Uses.{Use, Read, Driven, use_of, used_in, used_in_range, used_in_target_by}
-use Rattle.elaboration_law.specs.Places.{Place, UseAt, at_place, all_fit, variables_of, place_behind, place_after, used_in_type, used_outside, used_by_output, used_at_port, used_if_connected, used_in_kind, used_in_declaration, used_in_processes, used_in_symbol, used_in_symbols, used_again, port_place, used_in_port, used_in_connection, used_by_items, used_in_instance}
+use Rattle.elaboration_law.specs.Places.{Place, UseAt, at_place, all_fit, variables_of, place_behind, place_after, used_in_type, used_outside, used_by_output, used_at_port, used_if_connected, used_in_kind, used_in_declaration, used_in_processes, used_in_placed, used_in_symbol, used_in_symbols, used_again, port_place, used_in_port, used_in_connection, used_by_items, used_by_own_processes, used_in_instance}
 use Rattle.elaboration_law.proofs.HierarchyLemmas.{Own, OwnFault, in_names, in_instances, in_own}
 use Rattle.elaboration_law.proofs.UseLemmas.{Judges, Question, Fits, then_judges, known_judges, nothing_more, last_judges, required_judges, provided_judges, barring_judges}
 use Rattle.elaboration_law.proofs.ExpressionUses.{constant_knows, bounds_know, expression_knows, target_knows}
 use Rattle.elaboration_law.proofs.StatementUses.{processes_know}
 use Rattle.elaboration_law.proofs.NameRules.{names_added}
-use Rattle.elaboration_law.proofs.PlaceLemmas.{IsAt, Grown, grown_at, firm_by, firm_behind, first_grown, symbol_makes, symbol_grown, symbols_grown, Stands, stands_at, stands_on, stands_last, names_stand}
-use Rattle.elaboration_law.proofs.AgainLemmas.{same_behind}
+use Rattle.elaboration_law.proofs.PlaceLemmas.{IsAt, Grown, grown_at, firm_by, firm_behind, first_grown, symbol_makes, symbol_grown, symbols_grown, Stands, stands_at, stands_on, values_stand, stands_last, names_stand}
+use Rattle.elaboration_law.proofs.AgainLemmas.{same_behind, placed_behind}
 
 -- a rule about what is used, that no other step tells
 pub record UseRule : Type 1 where
@@ -92,7 +93,7 @@ module _ (r : UseRule) where
 
     type_judged : (place : Place) (scope : Scope) (type : Option ParameterType) → IsAt place scope → Judged r (at_place place (used_in_type type)) (lower_type scope type)
     type_judged place scope None h = refl
-    type_judged place scope (Some integer) h = refl
+    type_judged place scope (Some (integer long)) h = refl
     type_judged place scope (Some (typed type)) h = judged_by place scope (used_in_range type.range) (lower_bounds scope type.range) h (bounds_know r.question scope type.range)
 
     value_judged : (place : Place) (scope : Scope) (value : text.ExpressionTree) (other : Option text.ExpressionTree) → IsAt place scope →
@@ -177,14 +178,31 @@ module _ (r : UseRule) where
         (subst (λ (x : Scope). Judged r (used_by_items m used_in_declaration (before ++ item ∷ []) more) (lower_variables path x others)) (sym (same_behind is_port scope item))
         (variables_judged is_port path (behind_item scope item) (before ++ item ∷ []) more (stands_on m before more item scope s))) (λ vs. refl))
 
-    items_judged : (scope : Scope) (table : Table) (before items : List ItemTree) → Stands m before items scope → Judged r (used_by_items m used_in_processes before items) (lower_items scope table items)
-    items_judged scope table before [] s = refl
-    items_judged scope table before (item ∷ more) s =
+    items_judged : (path : Text) (scope : Scope) (table : Table) (before items : List ItemTree) → Stands m before items scope →
+        Judged r (used_by_items m (used_in_placed path) before items) (lower_items scope table (map (placed_item path) items))
+    items_judged path scope table before [] s = refl
+    items_judged path scope table before (item ∷ more) s =
         let place = place_behind m before in
-        both (at_place place (used_in_processes item)) (used_by_items m used_in_processes (before ++ item ∷ []) more) (lower_processes scope table (process_trees_by item)) _
-        (judged_by place scope (used_in_processes item) (lower_processes scope table (process_trees_by item)) (stands_at m before (item ∷ more) scope s) (processes_know r.question scope table (process_trees_by item))) (λ front.
-        begun_judged (used_by_items m used_in_processes (before ++ item ∷ []) more) front.begins (lower_items (behind_item scope item) front.table more)
-        (items_judged (behind_item scope item) front.table (before ++ item ∷ []) more (stands_on m before more item scope s)))
+        let own = placed_item path item in
+        let others = map (placed_item path) more in
+        let uses = used_by_items m (used_in_placed path) (before ++ item ∷ []) more in
+        both (at_place place (used_in_processes own)) uses (lower_processes scope table (process_trees_by own)) _
+        (judged_by place scope (used_in_processes own) (lower_processes scope table (process_trees_by own)) (stands_at m before (item ∷ more) scope s) (processes_know r.question scope table (process_trees_by own))) (λ front.
+        begun_judged uses front.begins (lower_items (behind_item scope own) front.table others)
+        (subst (λ (x : Scope). Judged r uses (lower_items x front.table others)) (sym (placed_behind path scope item))
+        (items_judged path (behind_item scope item) front.table (before ++ item ∷ []) more (stands_on m before more item scope s))))
+
+    -- the values of its ports, and then its items
+    own_items_judged : (path : Text) (scope : Scope) (table : Table) → Stands m [] m.items scope → Judged r (used_by_own_processes m path) (lower_items scope table (placed_items path m))
+    own_items_judged path scope table s =
+        let place = place_behind m [] in
+        let item = port_values m in
+        let others = map (placed_item path) m.items in
+        let uses = used_by_items m (used_in_placed path) [] m.items in
+        both (at_place place (used_in_processes item)) uses (lower_processes scope table (process_trees_by item)) _
+        (judged_by place scope (used_in_processes item) (lower_processes scope table (process_trees_by item)) (stands_at m [] m.items scope s) (processes_know r.question scope table (process_trees_by item))) (λ front.
+        begun_judged uses front.begins (lower_items (behind_item scope item) front.table others)
+        (items_judged path (behind_item scope item) front.table [] m.items (values_stand m scope s)))
 
     again_judged : (scope : Scope) (again : Option Second) (bounds : Option Bounds) → IsAt (port_place m) scope → Judged r (at_place (port_place m) (used_again again)) (lower_again scope again bounds)
     again_judged scope None bounds h = refl
@@ -352,7 +370,7 @@ module _ (r : UseRule) where
     in_connections = flat_map (used_in_connection context.unit outside context.overrides.values context.connections) ports
 
     abbrev in_items : List UseAt
-    in_items = used_by_items context.unit used_in_processes [] context.unit.items
+    in_items = used_by_own_processes context.unit context.path
 
     few_silent : (made : Part) → Judges asked true (few_enough context.name made)
     few_silent made =
@@ -386,7 +404,7 @@ module _ (r : UseRule) where
       own_processes_judged =
           both in_connections in_items (lower_joins context.name context.overrides.scope scope context.connections part.table ports) _
           (joins_judged context.unit outside context.overrides.values context.connections scope context.overrides.scope at_first around context.name part.table ports) (λ joins.
-          begun_judged in_items joins.begins (lower_items scope joins.table context.unit.items) (items_judged context.unit scope joins.table [] context.unit.items s))
+          begun_judged in_items joins.begins (lower_items scope joins.table (placed_items context.path context.unit)) (own_items_judged context.unit context.path scope joins.table s))
 
       own_judged : Judged r (in_variables ++ (in_connections ++ in_items)) (lower_own context ports scope part)
       own_judged =
@@ -394,7 +412,7 @@ module _ (r : UseRule) where
           last (in_connections ++ in_items) (lower_own_processes context ports scope part.table) _ own_processes_judged (λ ps. few_silent (with_own context scope part vs ps)))
 
     abbrev in_instance : List UseAt
-    in_instance = used_in_instance context.unit outside context.overrides.values context.connections
+    in_instance = used_in_instance context.unit outside context.overrides.values context.connections context.path
 
     module _ (modules : SourceTree) where
       abbrev after_names : Scope → Result Part ElabFault

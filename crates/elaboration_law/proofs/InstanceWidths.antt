@@ -18,7 +18,7 @@ use Rattle.velab_expr.specs.Constants.{nothing}
 use Rattle.velab_expr.specs.Ranges.{lower_bounds}
 use Rattle.velab_expr.specs.Symbols.{Symbol, symbols_in_head, symbols_by, valueless_by, behind_item}
 use Rattle.velab_declaration.specs.Parameters.{Overrides, Base, add_symbol, add_symbols, first_scope, item_scope}
-use Rattle.velab_declaration.specs.Variables.{declared_names, form_of, variable_in, same_bounds, lower_again, lower_port, lower_ports, lower_kind, lower_declaration, lower_variables}
+use Rattle.velab_declaration.specs.Variables.{declared_names, port_form, variable_in, same_bounds, lower_again, lower_port, lower_ports, lower_kind, lower_declaration, lower_variables}
 use Rattle.elaboration_law.specs.Places.{symbols_of}
 use Rattle.elaboration_law.specs.Widths.{Worth, is_range}
 use Rattle.elaboration_law.specs.Worths.{nothing_known, worths_in, are_set_in, bounds_by, range_of_kind, is_again, is_port_ranged, is_item_ranged}
@@ -158,7 +158,7 @@ module _ (named : Text → Worth) (vectors : AreVectors named) (path : Text) whe
     where
       by : (a : Result (Option Bounds) ElabFault) → IsRange named p.type.range (is_range named p.type.range) a →
           Judges is_width (is_port_ranged named p)
-          (a >>= λ bounds. lower_again scope p.again bounds >>= λ whole. Ok (variable_in path (form_of p.net p.type.signed whole) p.name.letters))
+          (a >>= λ bounds. lower_again scope p.again bounds >>= λ whole. Ok (variable_in path (port_form p whole) p.name.letters))
       by (Ok bounds) k =
           ranged_first (is_range named p.type.range) (is_again named p.type.range p.again) _ k.1
           (last_judges is_width (is_again named p.type.range p.again) (lower_again scope p.again bounds) _ (again_judged scope h p.type.range p.again bounds k.0) (λ whole. refl))

@@ -23,7 +23,7 @@ use Rattle.velab_expr.specs.Scopes.{Scope, meaning_of, bounds_for}
 use Rattle.velab_expr.specs.Constants.{nothing}
 use Rattle.velab_expr.specs.Ranges.{span}
 use Rattle.velab_declaration.specs.ActionFlaws.{blank_environment}
-use Rattle.velab_declaration.specs.Variables.{Declaration, all_declared, kind_of, declarations_of, declarations, port_declaration, port_names, length_of, counted_kind}
+use Rattle.velab_declaration.specs.Variables.{Declaration, all_declared, kind_of, declarations_of, declarations, port_declaration, port_names, length_of, integer_kind}
 use Rattle.elaboration_law.specs.Places.{variables_of}
 use Rattle.elaboration_law.specs.Doubles.{other_names}
 use Rattle.vmodules.specs.Names.{is_declared, letters_of}
@@ -143,7 +143,7 @@ module _ (constants : Text → Worth) where
   item_ranged : (item : ItemTree) → is_item_ranged constants item ≡ true → ranged (declarations_of item) ≡ true
   item_ranged (parameters local type settings) e = refl
   item_ranged (declaration (variables word type) list) e = names_ranged (kind_of word) type.signed type.range list e
-  item_ranged (declaration (integers long) list) e = names_ranged (counted_kind long) (not long) None list refl
+  item_ranged (declaration (integers long) list) e = names_ranged (integer_kind long) (not long) None list refl
   item_ranged (declaration (directed direction) list) e = refl
   item_ranged (events list) e = refl
   item_ranged (assignments settings) e = refl

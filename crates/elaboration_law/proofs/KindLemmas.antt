@@ -21,7 +21,7 @@ use Rattle.vhierarchy.specs.Instances.{Part, variable_paths, scope_paths, broken
 use Rattle.elaboration_law.specs.Laws.{IsMeant}
 use Rattle.elaboration_law.specs.Uses.{Way, Read, ReadIn, Written, WrittenIn, Driven, DrivenIn, Triggered, Awaited, Use, use_of, use_of_time, use_of_formats, use_of_levels}
 use Rattle.elaboration_law.specs.Places.{Thing, a_variable, a_parameter, an_event, an_instance, Place, no_place, thing_of, UseAt, all_fit, used_in_instance, HasMisuse, of_top, of_instance}
-use Rattle.elaboration_law.specs.Kinds.{variable_suits, parameter_suits, event_suits, suits, is_suited, formats_fit, selects_no_variable, HasMiskind, of_use, of_input, of_variable_path}
+use Rattle.elaboration_law.specs.Kinds.{variable_suits, parameter_suits, event_suits, suits, is_suited, formats_fit, selects_no_variable, HasMiskind, of_use, of_input, of_value, of_variable_path}
 use Rattle.elaboration_law.specs.Unknowns.{all_below}
 use Rattle.velab_declaration.specs.Variables.{Declaration}
 use Rattle.velab_expr.specs.Selections.{levels_in}
@@ -31,8 +31,8 @@ use Rattle.elaboration_law.proofs.ToldLemmas.{untold_fault}
 use Rattle.elaboration_law.proofs.DesignRules.{broken_tells, drivers_tell, unless_tells}
 use Rattle.vmodules.specs.declared.misdeclared.PortFlaw.{PortFlaw}
 use Rattle.vmodules.specs.declared.misdeclared.PortFlaw.TheVariants as flaw
-use Rattle.elaboration_law.proofs.PortLemmas.{IsWrong, port_doubled, block_doubled, port_alone, variable_input, one_wrong, all_untold, no_variable_input}
-use Rattle.elaboration_law.proofs.HierarchyLemmas.{Told, in_modules, in_ports, input_port, in_top, in_hierarchy, in_design, all_elaborated, fault_told}
+use Rattle.elaboration_law.proofs.PortLemmas.{IsWrong, port_doubled, block_doubled, port_alone, variable_input, valued_net, one_wrong, all_untold, no_variable_input, no_valued_net}
+use Rattle.elaboration_law.proofs.HierarchyLemmas.{Told, in_modules, in_ports, kind_port, in_top, in_hierarchy, in_design, all_elaborated, fault_told}
 use Rattle.elaboration_law.proofs.NameLemmas.{variables_are, paths_are, or_none, or_some}
 use Rattle.elaboration_law.proofs.DepthLemmas.{one_top}
 use Rattle.elaboration_law.proofs.DumpUses.{dumped}
@@ -97,20 +97,20 @@ module _ (list : List UseAt) where
 
 module _ (modules : SourceTree) (top : Option Text) where
   misuse_first : HasMisuse is_suited_first modules top → HasMisuse is_suited modules top
-  misuse_first (of_top m is_top e) = of_top m is_top (first_fails (used_in_instance m no_place [] []) e)
+  misuse_first (of_top m is_top e) = of_top m is_top (first_fails (used_in_instance m no_place [] [] m.name.letters) e)
   misuse_first (of_instance levels one before name overrides list after child made stands inside there listed e) =
-      of_instance levels one before name overrides list after child made stands inside there listed (first_fails (used_by_listed one.unit before overrides child made) e)
+      of_instance levels one before name overrides list after child made stands inside there listed (first_fails (used_by_listed one before overrides child made) e)
 
   misuse_later : HasMisuse is_suited_later modules top → HasMisuse is_suited modules top
-  misuse_later (of_top m is_top e) = of_top m is_top (later_fails (used_in_instance m no_place [] []) e)
+  misuse_later (of_top m is_top e) = of_top m is_top (later_fails (used_in_instance m no_place [] [] m.name.letters) e)
   misuse_later (of_instance levels one before name overrides list after child made stands inside there listed e) =
-      of_instance levels one before name overrides list after child made stands inside there listed (later_fails (used_by_listed one.unit before overrides child made) e)
+      of_instance levels one before name overrides list after child made stands inside there listed (later_fails (used_by_listed one before overrides child made) e)
 
   misuse_either : HasMisuse is_suited modules top → HasMisuse is_suited_first modules top ⊎ HasMisuse is_suited_later modules top
-  misuse_either (of_top m is_top e) = case (λ f. inl (of_top m is_top f)) (λ f. inr (of_top m is_top f)) (one_fails (used_in_instance m no_place [] []) e)
+  misuse_either (of_top m is_top e) = case (λ f. inl (of_top m is_top f)) (λ f. inr (of_top m is_top f)) (one_fails (used_in_instance m no_place [] [] m.name.letters) e)
   misuse_either (of_instance levels one before name overrides list after child made stands inside there listed e) =
       case (λ f. inl (of_instance levels one before name overrides list after child made stands inside there listed f)) (λ f. inr (of_instance levels one before name overrides list after child made stands inside there listed f))
-      (one_fails (used_by_listed one.unit before overrides child made) e)
+      (one_fails (used_by_listed one before overrides child made) e)
 
 -- ---- paths
 
@@ -220,17 +220,21 @@ module _ (modules : SourceTree) (top : Option Text) (unit : ModuleTree) (part : 
 -- ---- the law
 
 module _ (modules : SourceTree) (top : Option Text) where
-  port_told : (f : PortFlaw) → f ≡ flaw.Input → (m : ModuleTree) → Contains modules m → IsWrong m f → HasMiskind modules top
-  port_told f input m inside (port_doubled e twice) = absurd cc
-  port_told f input m inside (block_doubled e twice) = absurd cc
-  port_told f input m inside (port_alone e alone) = absurd cc
-  port_told f input m inside (variable_input e one) = of_input m inside one
+  port_told : (f : PortFlaw) → (f ≡ flaw.Input) ⊎ (f ≡ flaw.Valued) → (m : ModuleTree) → Contains modules m → IsWrong m f → HasMiskind modules top
+  port_told f (inl input) m inside (port_doubled e twice) = absurd cc
+  port_told f (inr value) m inside (port_doubled e twice) = absurd cc
+  port_told f (inl input) m inside (block_doubled e twice) = absurd cc
+  port_told f (inr value) m inside (block_doubled e twice) = absurd cc
+  port_told f (inl input) m inside (port_alone e alone) = absurd cc
+  port_told f (inr value) m inside (port_alone e alone) = absurd cc
+  port_told f kind m inside (variable_input e one) = of_input m inside one
+  port_told f kind m inside (valued_net e one) = of_value m inside one
 
   kinds_told : (fault : ElabFault) → fault.rule ≡ Kind → Told modules top fault → HasMiskind modules top
   kinds_told fault rule (in_modules w again other) = absurd cc
   kinds_told fault rule (in_ports wrong is other) =
       let one = one_wrong modules wrong is in
-      port_told wrong.flaw (input_port wrong.flaw (other ∙ rule)) one.0 one.1 one.2
+      port_told wrong.flaw (kind_port wrong.flaw (other ∙ rule)) one.0 one.1 one.2
   kinds_told fault rule (in_top missing other) = absurd cc
   kinds_told fault rule (in_hierarchy unit is_top err) = of_use (misuse_first modules top (unsuited_told modules top fault unit rule is_top err))
   kinds_told fault rule (in_design unit part is_top ok broken) = by (design_is_wrong modules top unit part ok fault rule broken)
@@ -248,6 +252,7 @@ module _ (modules : SourceTree) (top : Option Text) where
           let all = all_elaborated modules top scale design is in
           right_never modules top all.unit all.part all.is_top all.is_part (design_is_right modules top all.unit all.part all.is_part all.is_right).1 later
   kinds_never scale design is (of_input m inside one) = no_variable_input m (all_untold modules (all_elaborated modules top scale design is).ports_right m inside) one
+  kinds_never scale design is (of_value m inside one) = no_valued_net m (all_untold modules (all_elaborated modules top scale design is).ports_right m inside) one
   kinds_never scale design is (of_variable_path m is_top lacks) =
       let all = all_elaborated modules top scale design is in
       let same = one_top modules top m all.unit is_top all.is_top in

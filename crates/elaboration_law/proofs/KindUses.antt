@@ -185,7 +185,7 @@ value_left : (default : Form) (front : Option FormatFront) (watched : Bool) (e :
 value_left default None watched e = refl
 value_left default (Some front) watched e = refl
 
-module _ (letters : List ℕ) where
+module _ (path letters : List ℕ) where
   shown_some : (front : FormatFront) (width : FieldWidth) (notation : Notation) → is_some (string_shown front width notation letters) ≡ shows_letters notation
   shown_some front width Binary = refl
   shown_some front width Octal = refl
@@ -205,19 +205,19 @@ module _ (letters : List ℕ) where
   shown_left front width Character = refl
   shown_left front width Letters = refl
 
-  string_some : (front : Option FormatFront) → is_some (string_taken front letters) ≡ takes_string front
+  string_some : (front : Option FormatFront) → is_some (string_taken path front letters) ≡ takes_string front
   string_some None = refl
   string_some (Some front) = by front.form
     where
-      by : (form : Option Form) → is_some (string_by front form letters) ≡ string_fits form
+      by : (form : Option Form) → is_some (string_by path front form letters) ≡ string_fits form
       by None = refl
       by (Some form) = shown_some front form.width form.notation
 
-  string_left : (front : Option FormatFront) → format_left (string_taken front letters) ≡ left_by_string front letters
+  string_left : (front : Option FormatFront) → format_left (string_taken path front letters) ≡ left_by_string path front letters
   string_left None = refl
   string_left (Some front) = by front.form
     where
-      by : (form : Option Form) → format_left (string_by front form letters) ≡ left_by form front.rest letters
+      by : (form : Option Form) → format_left (string_by path front form letters) ≡ left_by path form front.rest letters
       by None = refl
       by (Some form) = shown_left front form.width form.notation
 
@@ -227,22 +227,22 @@ formats_are default scope format [] all is =
     sym (ap (λ (l : List Argument). is_some (pieces_by default format l)) (same_value [] all is)) ∙ last_ended (front_of format)
 formats_are default scope format (quoted letters ∷ more) all is =
     let text = between_quotes letters.letters in
-    let others = then_ok (lower_arguments scope more) (λ others. Ok (string text ∷ others)) all is in
-    let taken = string_taken (front_of format) (letters_of Plain text) in
-    sym (ap (λ (l : List Argument). is_some (pieces_by default format l)) (same_value (string text ∷ others.0) all others.2))
+    let others = then_ok (lower_arguments scope more) (λ others. Ok (string letters.path text ∷ others)) all is in
+    let taken = string_taken letters.path (front_of format) (letters_of Plain text) in
+    sym (ap (λ (l : List Argument). is_some (pieces_by default format l)) (same_value (string letters.path text ∷ others.0) all others.2))
     ∙ taken_some taken (pieces_by default (format_left taken) others.0)
-    ∙ ap (λ (l : List ℕ). is_some taken && is_some (pieces_by default l others.0)) (string_left (letters_of Plain text) (front_of format))
-    ∙ (λ i. string_some (letters_of Plain text) (front_of format) i
-    && formats_are default scope (left_by_string (front_of format) (letters_of Plain text)) more others.0 others.1 i)
+    ∙ ap (λ (l : List ℕ). is_some taken && is_some (pieces_by default l others.0)) (string_left letters.path (letters_of Plain text) (front_of format))
+    ∙ (λ i. string_some letters.path (letters_of Plain text) (front_of format) i
+    && formats_are default scope (left_by_string letters.path (front_of format) (letters_of Plain text)) more others.0 others.1 i)
 formats_are default scope format (left_out ∷ more) all is =
     let text = codes " " in
-    let others = then_ok (lower_arguments scope more) (λ others. Ok (string text ∷ others)) all is in
-    let taken = string_taken (front_of format) (letters_of Plain text) in
-    sym (ap (λ (l : List Argument). is_some (pieces_by default format l)) (same_value (string text ∷ others.0) all others.2))
+    let others = then_ok (lower_arguments scope more) (λ others. Ok (string [] text ∷ others)) all is in
+    let taken = string_taken [] (front_of format) (letters_of Plain text) in
+    sym (ap (λ (l : List Argument). is_some (pieces_by default format l)) (same_value (string [] text ∷ others.0) all others.2))
     ∙ taken_some taken (pieces_by default (format_left taken) others.0)
-    ∙ ap (λ (l : List ℕ). is_some taken && is_some (pieces_by default l others.0)) (string_left (letters_of Plain text) (front_of format))
-    ∙ (λ i. string_some (letters_of Plain text) (front_of format) i
-    && formats_are default scope (left_by_string (front_of format) (letters_of Plain text)) more others.0 others.1 i)
+    ∙ ap (λ (l : List ℕ). is_some taken && is_some (pieces_by default l others.0)) (string_left [] (letters_of Plain text) (front_of format))
+    ∙ (λ i. string_some [] (letters_of Plain text) (front_of format) i
+    && formats_are default scope (left_by_string [] (front_of format) (letters_of Plain text)) more others.0 others.1 i)
 formats_are default scope format (printed tree ∷ more) all is =
     let one = then_ok (lower_argument scope (printed tree)) (λ argument. lower_arguments scope more >>= λ others. Ok (argument ∷ others)) all is in
     let e = then_ok (lower_expression scope tree) (λ e. Ok (value (is_watched tree) e)) one.0 one.1 in

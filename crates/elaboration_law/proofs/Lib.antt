@@ -4,6 +4,7 @@ pub mod StatementRules
 pub mod ModuleRules
 pub mod StepLemmas
 pub mod WordLemmas
+pub mod ValueLemmas
 pub mod PortLemmas
 pub mod AgainLemmas
 pub mod HierarchyLemmas
@@ -47,6 +48,7 @@ pub mod ParameterWidths
 pub mod InstanceWidths
 pub mod VariableWidths
 pub mod StatementWidths
+pub mod PlacedWidths
 pub mod InstanceWorths
 pub mod InstanceTold
 pub mod WidthLemmas

@@ -12,6 +12,7 @@ use Rattle.vdesign.specs.declared.action.Action.{Action}
 use Rattle.vmodules.specs.Names.{letters_of}
 use Rattle.vmodules.specs.Hierarchy.{module_of, top_of}
 use Rattle.vmodules.specs.Ports.{Port, ports_of}
+use Rattle.vmodules.specs.Placed.{placed_items}
 use Rattle.vmodules.specs.Connected.{NamedConnection, open_names, misfit, misfit_if, value_for}
 use Rattle.velab_expr.specs.declared.fault.Rule.TheVariants.{Top, Doubled, Ports, TooMany}
 use Rattle.velab_expr.specs.declared.fault.ElabFault.{ElabFault}
@@ -245,20 +246,20 @@ module _ (context : Context) (scope : Scope) (part : Part) (fault : ElabFault) (
   Found = Unnamed context.name context.overrides.scope scope context.connections ports
 
   in_joins : (lower_joins context.name context.overrides.scope scope context.connections part.table ports ≡ Err fault)
-      ⊎ ((joins : Made) × (lower_joins context.name context.overrides.scope scope context.connections part.table ports ≡ Ok joins) × (with_begins_before joins.begins (lower_items scope joins.table context.unit.items) ≡ Err fault)) →
+      ⊎ ((joins : Made) × (lower_joins context.name context.overrides.scope scope context.connections part.table ports ≡ Ok joins) × (with_begins_before joins.begins (lower_items scope joins.table (placed_items context.path context.unit)) ≡ Err fault)) →
       Found
   in_joins (inl err) = joins_unnamed context.name context.overrides.scope scope fault rule context.connections part.table ports err
-  in_joins (inr (joins, ok, err)) = absurd (by (then_err (lower_items scope joins.table context.unit.items) (λ ps. Ok (with_front joins ps)) fault err))
+  in_joins (inr (joins, ok, err)) = absurd (by (then_err (lower_items scope joins.table (placed_items context.path context.unit)) (λ ps. Ok (with_front joins ps)) fault err))
     where
-      by : (lower_items scope joins.table context.unit.items ≡ Err fault)
-          ⊎ ((ps : Made) × (lower_items scope joins.table context.unit.items ≡ Ok ps) × (Ok (with_front joins ps) ≡ Err fault)) → ⊥
-      by (inl err) = untold is_local (lower_items scope joins.table context.unit.items) fault Ports (items_tell scope joins.table context.unit.items) refl err rule
+      by : (lower_items scope joins.table (placed_items context.path context.unit) ≡ Err fault)
+          ⊎ ((ps : Made) × (lower_items scope joins.table (placed_items context.path context.unit) ≡ Ok ps) × (Ok (with_front joins ps) ≡ Err fault)) → ⊥
+      by (inl err) = untold is_local (lower_items scope joins.table (placed_items context.path context.unit)) fault Ports (items_tell scope joins.table (placed_items context.path context.unit)) refl err rule
       by (inr (ps, ok, err)) = cc
 
   own_unnamed : OwnTold context scope part fault → Found
   own_unnamed (in_variables err) = absurd (untold is_local (lower_own_variables context ports scope) fault Ports (own_variables_tell context ports scope) refl err rule)
   own_unnamed (in_processes err) =
-      in_joins (then_err (lower_joins context.name context.overrides.scope scope context.connections part.table ports) (λ joins. with_begins_before joins.begins (lower_items scope joins.table context.unit.items)) fault err)
+      in_joins (then_err (lower_joins context.name context.overrides.scope scope context.connections part.table ports) (λ joins. with_begins_before joins.begins (lower_items scope joins.table (placed_items context.path context.unit))) fault err)
   own_unnamed (too_many variables processes ok err) = absurd (let other = (few_err context.name (with_own context scope part variables processes) fault err).1 in cc)
 
 -- ---- the law
@@ -300,7 +301,7 @@ module _ (modules : SourceTree) (top : Option Text) where
       let within = subst (λ (i : Instance). Contains (ports_of i.unit) p) (sym found.at) inside in
       let connected = ap (λ (i : Instance). value_for i.connections p.name.letters) found.at ∙ there in
       let joins = then_ok (lower_joins context.name context.overrides.scope found.own.scope context.connections found.part.table (ports_of context.unit))
-      (λ joins. with_begins_before joins.begins (lower_items found.own.scope joins.table context.unit.items)) s.processes s.processes_made in
+      (λ joins. with_begins_before joins.begins (lower_items found.own.scope joins.table (placed_items context.path context.unit))) s.processes s.processes_made in
       outputs_named context.name context.overrides.scope found.own.scope context.connections found.part.table (ports_of context.unit) joins.0 p value joins.1 within out connected none
 
 pub misfits_meant : IsMeant Ports HasMisfit

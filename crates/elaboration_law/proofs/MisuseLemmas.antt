@@ -28,12 +28,13 @@ use Rattle.elaboration_law.proofs.InstanceUses.{UseRule, own_fits, own_misuses}
 
 -- what an instance in this context uses, where it stands at this place
 abbrev pub used_at : Place → Context → List UseAt
-used_at outside context = used_in_instance context.unit outside context.overrides.values context.connections
+used_at outside context = used_in_instance context.unit outside context.overrides.values context.connections context.path
 
 -- what one that an item lists uses
-abbrev pub used_by_listed : ModuleTree → List ItemTree → Option ConnectionsTree → ModuleTree → InstanceTree → List UseAt
-used_by_listed unit before overrides child made =
-    used_in_instance child (place_behind unit before) (named_connections_if (letters_of (open_names child)) overrides) (named_connections (letters_of (port_names child)) made.connections)
+abbrev pub used_by_listed : Instance → List ItemTree → Option ConnectionsTree → ModuleTree → InstanceTree → List UseAt
+used_by_listed one before overrides child made =
+    used_in_instance child (place_behind one.unit before) (named_connections_if (letters_of (open_names child)) overrides) (named_connections (letters_of (port_names child)) made.connections)
+    (one.path ++ 46 ∷ made.name.letters)
 
 -- what was elaborated for an instance, it and all below it
 record AnsweredAt (modules : SourceTree) (one : Instance) : Type 0 where
@@ -73,7 +74,7 @@ module _ (modules : SourceTree) where
     fitting_listed : (levels : ℕ) (part : Part) (context : Context) (all : Part) → elaborate_instance levels modules part context ≡ Ok all →
         (before : List ItemTree) (name : Word) (overrides : Option ConnectionsTree) (list : List InstanceTree) (after : List ItemTree) (child : ModuleTree) (made : InstanceTree) →
         before ++ instances name overrides list ∷ after ≡ context.unit.items → module_of modules name.letters ≡ Some child → Contains list made →
-        all_fit r.fits (used_by_listed context.unit before overrides child made) ≡ true
+        all_fit r.fits (used_by_listed (instance_at context) before overrides child made) ≡ true
     fitting_listed zero part context all is before name overrides list after child made inside there listed = absurd cc
     fitting_listed (suc levels) part context all is before name overrides list after child made inside there listed =
         let opened = opened_ok modules levels part context all is in
@@ -99,7 +100,7 @@ pub record MisusesBelow (fits : Place → Use → Bool) (modules : SourceTree) (
   pub inside : before ++ instances name overrides list ∷ after ≡ one.unit.items
   pub there : module_of modules name.letters ≡ Some child
   pub listed : Contains list made
-  pub misuses : all_fit fits (used_by_listed one.unit before overrides child made) ≡ false
+  pub misuses : all_fit fits (used_by_listed one before overrides child made) ≡ false
 
 module _ (fits : Place → Use → Bool) (modules : SourceTree) where
   one_deeper : (root child : Instance) → Contains (instances_in modules root) child → MisusesBelow fits modules child → MisusesBelow fits modules root
@@ -122,7 +123,7 @@ module _ (fits : Place → Use → Bool) (modules : SourceTree) where
 
   -- an instance in this one
   here : (context : Context) (known : ℕ) (c : Instantiation) (m : MadeBy modules known context.unit.items c) →
-      all_fit fits (used_in_instance c.child (place_behind context.unit m.before) c.values c.connections) ≡ false → MisusesBelow fits modules (instance_at context)
+      all_fit fits (used_in_instance c.child (place_behind context.unit m.before) c.values c.connections (context.path ++ 46 ∷ c.name.letters)) ≡ false → MisusesBelow fits modules (instance_at context)
   here context known c m misuses = record {
     depth = 0;
     one = instance_at context;
@@ -137,7 +138,7 @@ module _ (fits : Place → Use → Bool) (modules : SourceTree) where
     inside = m.inside;
     there = m.there;
     listed = m.listed;
-    misuses = ap (λ (x : Instantiation). all_fit fits (used_in_instance x.child (place_behind context.unit m.before) x.values x.connections)) m.is ∙ misuses;
+    misuses = ap (λ (x : Instantiation). all_fit fits (used_in_instance x.child (place_behind context.unit m.before) x.values x.connections (context.path ++ 46 ∷ x.name.letters))) m.is ∙ misuses;
   }
 
   -- or one below it
@@ -179,7 +180,7 @@ module _ (r : UseRule) (modules : SourceTree) (fault : ElabFault) (rule : fault.
 -- ---- a text
 
 module _ (r : UseRule) (modules : SourceTree) (m : ModuleTree) where
-  top_fits : (all : Part) → elaborate_top modules m ≡ Ok all → all_fit r.fits (used_in_instance m no_place [] []) ≡ true
+  top_fits : (all : Part) → elaborate_top modules m ≡ Ok all → all_fit r.fits (used_in_instance m no_place [] [] m.name.letters) ≡ true
   unfolding elaborate_top
   top_fits all is = fitting modules r 16 nothing (top_context m) all no_place nowhere_is is
 
@@ -187,7 +188,7 @@ module _ (r : UseRule) (modules : SourceTree) (m : ModuleTree) where
   unfolding elaborate_top
   top_answered all depth one is stands = answered_at modules depth 16 nothing (top_context m) all one is stands
 
-  top_misuses : (fault : ElabFault) → fault.rule ≡ r.rule → elaborate_top modules m ≡ Err fault → (all_fit r.fits (used_in_instance m no_place [] []) ≡ false) ⊎ MisusesBelow r.fits modules (top_instance m)
+  top_misuses : (fault : ElabFault) → fault.rule ≡ r.rule → elaborate_top modules m ≡ Err fault → (all_fit r.fits (used_in_instance m no_place [] [] m.name.letters) ≡ false) ⊎ MisusesBelow r.fits modules (top_instance m)
   unfolding elaborate_top
   top_misuses fault rule is = told_in r modules fault rule 16 nothing (top_context m) no_place nowhere_is is
 
@@ -195,7 +196,7 @@ module _ (r : UseRule) (modules : SourceTree) (top : Option Text) where
   pub misuse_told : (fault : ElabFault) (unit : ModuleTree) → fault.rule ≡ r.rule → top_of modules top ≡ Some unit → elaborate_top modules unit ≡ Err fault → HasMisuse r.fits modules top
   misuse_told fault unit rule is_top err = by (top_misuses r modules unit fault rule err)
     where
-      by : (all_fit r.fits (used_in_instance unit no_place [] []) ≡ false) ⊎ MisusesBelow r.fits modules (top_instance unit) → HasMisuse r.fits modules top
+      by : (all_fit r.fits (used_in_instance unit no_place [] [] unit.name.letters) ≡ false) ⊎ MisusesBelow r.fits modules (top_instance unit) → HasMisuse r.fits modules top
       by (inl misuses) = of_top unit is_top misuses
       by (inr u) = of_instance u.depth u.one u.before u.name u.overrides u.list u.after u.child u.made (unit, is_top, u.stands) u.inside u.there u.listed u.misuses
 
@@ -203,11 +204,11 @@ module _ (r : UseRule) (modules : SourceTree) (top : Option Text) where
   misuse_never scale design is (of_top m is_top misuses) =
       let all = all_elaborated modules top scale design is in
       let same = one_top modules top m all.unit is_top all.is_top in
-      true≢false (sym (top_fits r modules all.unit all.part all.is_part) ∙ sym (ap (λ (u : ModuleTree). all_fit r.fits (used_in_instance u no_place [] [])) same) ∙ misuses)
+      true≢false (sym (top_fits r modules all.unit all.part all.is_part) ∙ sym (ap (λ (u : ModuleTree). all_fit r.fits (used_in_instance u no_place [] [] u.name.letters)) same) ∙ misuses)
   misuse_never scale design is (of_instance levels one before name overrides list after child made (m, is_top, stands) inside there listed misuses) =
       let all = all_elaborated modules top scale design is in
       let same = one_top modules top m all.unit is_top all.is_top in
       let found = top_answered r modules all.unit all.part levels one all.is_part (subst (λ (u : ModuleTree). StandsBelow modules levels (top_instance u) one) same stands) in
       let within = subst (λ (i : Instance). before ++ instances name overrides list ∷ after ≡ i.unit.items) (sym found.at) inside in
       true≢false (sym (fitting_listed modules r found.levels found.part found.context found.all found.is before name overrides list after child made within there listed)
-      ∙ ap (λ (i : Instance). all_fit r.fits (used_by_listed i.unit before overrides child made)) found.at ∙ misuses)
+      ∙ ap (λ (i : Instance). all_fit r.fits (used_by_listed i before overrides child made)) found.at ∙ misuses)

@@ -8,6 +8,7 @@ use Rattle.vast.specs.NumberedModules.{ParameterType, integer, typed, SettingTre
 use Rattle.vmodules.specs.Names.{is_declared, letters_of, first_again}
 use Rattle.vmodules.specs.Hierarchy.{module_of}
 use Rattle.vmodules.specs.Ports.{Second, Port, type_in, own_items}
+use Rattle.vmodules.specs.Placed.{placed_items}
 use Rattle.vdesign.specs.declared.expression.Bounds.{Bounds}
 use Rattle.vmodules.specs.Connected.{open_names, misfit, misfit_if, value_for}
 use Rattle.velab_expr.specs.declared.fault.Rule.{Rule}
@@ -169,7 +170,7 @@ connections_own Kind e = refl
 
 type_tells : (scope : Scope) (type : Option ParameterType) → Tells is_local (lower_type scope type)
 type_tells scope None = tt
-type_tells scope (Some integer) = tt
+type_tells scope (Some (integer long)) = tt
 type_tells scope (Some (typed type)) = bounds_tell scope type.range
 
 parameter_tells : (outer scope : Scope) (value : text.ExpressionTree) (other : Option text.ExpressionTree) → Tells is_local (lower_parameter_value outer scope value other)
@@ -295,7 +296,7 @@ module _ (context : Context) (ports : List Port) (scope : Scope) where
   own_processes_tell part =
       then_tells is_of_connections (lower_joins context.name context.overrides.scope scope context.connections part.table ports) _
       (joins_tell context.name context.overrides.scope scope context.connections part.table ports) (λ joins.
-      then_tells is_of_connections (lower_items scope joins.table context.unit.items) _ (wider is_local is_of_connections local_connections (lower_items scope joins.table context.unit.items) (items_tell scope joins.table context.unit.items)) (λ processes. tt))
+      then_tells is_of_connections (lower_items scope joins.table (placed_items context.path context.unit)) _ (wider is_local is_of_connections local_connections (lower_items scope joins.table (placed_items context.path context.unit)) (items_tell scope joins.table (placed_items context.path context.unit))) (λ processes. tt))
 
   pub few_tells : (part : Part) → Tells is_of_own (few_enough context.name part)
   few_tells part =

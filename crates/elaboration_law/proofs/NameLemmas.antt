@@ -27,7 +27,7 @@ use Rattle.elaboration_law.proofs.DesignRules.{is_of_table, table_tells, selecti
 use Rattle.elaboration_law.proofs.DoubleLemmas.{none_twice, one_twice}
 use Rattle.vmodules.specs.declared.misdeclared.PortFlaw.{PortFlaw}
 use Rattle.vmodules.specs.declared.misdeclared.PortFlaw.TheVariants as flaw
-use Rattle.elaboration_law.proofs.PortLemmas.{IsWrong, port_doubled, block_doubled, port_alone, variable_input, one_wrong, all_untold, no_port_twice, no_block_twice}
+use Rattle.elaboration_law.proofs.PortLemmas.{IsWrong, port_doubled, block_doubled, port_alone, variable_input, valued_net, one_wrong, all_untold, no_port_twice, no_block_twice}
 use Rattle.elaboration_law.proofs.HierarchyLemmas.{instance_at, OwnFault, in_names, in_instances, in_own, ToldBelow, too_deep, by_own, Told, in_modules, in_ports, doubled_port, in_top, in_hierarchy, in_design, WasElaborated, all_elaborated, fault_told, top_elaborated, top_told_below}
 use Rattle.elaboration_law.proofs.OwnLemmas.{own_steps, own_named}
 use Rattle.elaboration_law.proofs.GatherLemmas.{Gathers, top_gathered}
@@ -140,6 +140,7 @@ module _ (modules : SourceTree) (top : Option Text) where
   port_told f doubled m inside (block_doubled e twice) = block_twice m inside twice
   port_told f doubled m inside (port_alone e alone) = absurd cc
   port_told f doubled m inside (variable_input e one) = absurd cc
+  port_told f doubled m inside (valued_net e one) = absurd cc
 
   names_told : (fault : ElabFault) → fault.rule ≡ Doubled → Told modules top fault → IsDeclaredTwice modules top
   names_told fault rule (in_modules w again other) = module_twice (one_twice (module_names modules) w again)

@@ -15,7 +15,7 @@ use Rattle.velab_expr.specs.Ranges.{lower_bounds}
 use Rattle.velab_expr.specs.Scopes.{Scope}
 use Rattle.velab_expr.specs.Symbols.{behind_item}
 use Rattle.velab_declaration.specs.declared.variable.Form.{Form}
-use Rattle.velab_declaration.specs.Variables.{Declaration, all_declared, declared_as, declarations_of, variable_in, variables_in, variables_as, form_of, lower_kind, lower_again, port_scope, lower_declaration, lower_variables, lower_port, lower_ports, declared_names, port_names, declarations}
+use Rattle.velab_declaration.specs.Variables.{Declaration, all_declared, declared_as, declarations_of, variable_in, variables_in, variables_as, port_form, lower_kind, lower_again, port_scope, lower_declaration, lower_variables, lower_port, lower_ports, declared_names, port_names, declarations}
 use Rattle.velab_process.specs.Processes.{Processes}
 use Rattle.vhierarchy.specs.Instances.{lower_own, lower_own_variables, lower_own_processes, with_own, few_enough, scope_of, Part, Context}
 use Rattle.elaboration_law.proofs.StepLemmas.{same_value, then_ok, then_err, provided_ok, required_ok}
@@ -80,10 +80,10 @@ module _ (path : Text) where
   ports_named scope (p ∷ more) vs is =
       let one = then_ok (lower_port path scope p) (λ one. lower_ports path scope more >>= λ others. Ok (one ∷ others)) vs is in
       let others = then_ok (lower_ports path scope more) (λ others. Ok (one.0 ∷ others)) vs one.2 in
-      let bounds = then_ok (lower_bounds scope p.type.range) (λ bounds. lower_again scope p.again bounds >>= λ whole. Ok (variable_in path (form_of p.net p.type.signed whole) p.name.letters)) one.0 one.1 in
-      let whole = then_ok (lower_again scope p.again bounds.0) (λ whole. Ok (variable_in path (form_of p.net p.type.signed whole) p.name.letters)) one.0 bounds.2 in
+      let bounds = then_ok (lower_bounds scope p.type.range) (λ bounds. lower_again scope p.again bounds >>= λ whole. Ok (variable_in path (port_form p whole) p.name.letters)) one.0 one.1 in
+      let whole = then_ok (lower_again scope p.again bounds.0) (λ whole. Ok (variable_in path (port_form p whole) p.name.letters)) one.0 bounds.2 in
       sym (ap names (same_value (one.0 ∷ others.0) vs others.2))
-      ∙ (λ i. (sym (same_value (variable_in path (form_of p.net p.type.signed whole.0) p.name.letters) one.0 whole.2) i).name ∷ ports_named scope more others.0 others.1 i)
+      ∙ (λ i. (sym (same_value (variable_in path (port_form p whole.0) p.name.letters) one.0 whole.2) i).name ∷ ports_named scope more others.0 others.1 i)
 
   in_named : (form : Form) (kind : Kind) (signed : _) (range : _) (list : List DeclaredTree) →
       names (variables_in path form list) ≡ map (dotted path) (map (λ (d : Declaration). d.name) (all_declared kind signed range list))

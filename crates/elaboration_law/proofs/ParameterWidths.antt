@@ -29,7 +29,7 @@ use Rattle.velab_expr.specs.Constants.{nothing, worth}
 use Rattle.velab_expr.specs.Resolved.{lower_constant}
 use Rattle.velab_expr.specs.Ranges.{span}
 use Rattle.velab_expr.specs.Symbols.{Symbol, parameter_symbol, event_symbol, instance_symbol, name_in}
-use Rattle.velab_declaration.specs.Parameters.{Overrides, typed_value, parameter_by, lower_type, lower_parameter_value, lower_setting, lower_meaning, with_meaning, add_symbols}
+use Rattle.velab_declaration.specs.Parameters.{Overrides, typed_value, integer_length, parameter_by, lower_type, lower_parameter_value, lower_setting, lower_meaning, with_meaning, add_symbols}
 use Rattle.elaboration_law.specs.Widths.{Worth, meant, selected_by, is_sized, is_sized_if, is_bound, is_range}
 use Rattle.elaboration_law.specs.Worths.{no_worth, with_name, range_of, bounds_by, set_to, worth_as, worth_by, is_set, worths_behind, are_set}
 use Rattle.elaboration_law.proofs.UseLemmas.{first_false, second_false}
@@ -43,7 +43,7 @@ use Rattle.elaboration_law.proofs.ExpressionWidths.{is_width, is_within, AreWort
 module _ (scope : Scope) (named : Text → Worth) (vectors : AreVectors named) (agrees : AreWorth true nothing scope named) where
   type_sizes : (type : Option ParameterType) → IsRange named (range_of type) (is_range named (range_of type)) (lower_type scope type)
   type_sizes None = (refl, refl)
-  type_sizes (Some integer) = (refl, refl)
+  type_sizes (Some (integer long)) = (refl, refl)
   type_sizes (Some (typed type)) = bounds_sizes scope named vectors agrees type.range
 
   module _ (outer : Scope) (outside : Text → Worth) (outer_vectors : AreVectors outside) (outer_agrees : AreWorth true nothing outer outside) (values : List NamedConnection) where
@@ -98,10 +98,14 @@ abbrev AreNarrow : Option Bounds → Type 0
 AreNarrow None = Unit {0}
 AreNarrow (Some bounds) = span bounds ≤ 64
 
+integer_sized : (long : Bool) → IsSize (integer_length long)
+integer_sized true = record { some = omega arith; few = omega arith }
+integer_sized false = record { some = omega arith; few = omega arith }
+
 parameter_sized : (type : Option ParameterType) (bounds : Option Bounds) (e : ExpressionTree) → AreNarrow bounds → IsSize (size_of nothing e) → IsSize (length (parameter_by type bounds e).letters)
 unfolding with_sign
 parameter_sized None bounds e narrow h = subst IsSize (sym (worth_long e)) h
-parameter_sized (Some integer) bounds e narrow h = subst IsSize (sym (right_side_length nothing 32 e)) (record { some = omega arith; few = omega arith })
+parameter_sized (Some (integer long)) bounds e narrow h = subst IsSize (sym (right_side_length nothing (integer_length long) e)) (integer_sized long)
 parameter_sized (Some (typed type)) bounds e narrow h = by type.signed bounds narrow
   where
     by : (signed : Bool) (b : Option Bounds) → AreNarrow b → IsSize (length (typed_value signed b e).letters)

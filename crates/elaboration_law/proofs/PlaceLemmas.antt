@@ -16,7 +16,8 @@ use Rattle.velab_expr.specs.Scopes.{Scope, at}
 use Rattle.velab_expr.specs.Symbols.{Symbol, parameter_symbol, event_symbol, instance_symbol, name_in, valueless_by, symbols_behind, symbols_in_head, symbols_by, behind_item}
 use Rattle.velab_declaration.specs.Parameters.{Overrides, Base, lower_type, parameter_by, lower_setting, lower_meaning, with_meaning, add_symbol, add_symbols, first_scope, item_scope}
 use Rattle.velab_declaration.specs.Variables.{Declaration, port_declaration, declarations, port_names, declared_names}
-use Rattle.vmodules.specs.Ports.{Port, ports_of}
+use Rattle.vmodules.specs.Ports.{Port, ports_of, port_values}
+use Rattle.velab_process.proofs.ProcessLemmas.{values_placed}
 use Rattle.vhierarchy.specs.Instances.{Part, Context, base_of, lower_names, no_scope, has_room}
 use Rattle.elaboration_law.specs.Doubles.{names_in_module}
 use Rattle.elaboration_law.specs.Places.{Place, Thing, a_variable, a_parameter, an_event, an_instance, no_place, variables_of, symbols_of, thing_by, things_in, names_behind, place_behind, place_after}
@@ -412,6 +413,10 @@ module _ (m : ModuleTree) where
         items = append_assoc before (item ∷ []) after ∙ s.items;
         known = omega (arith, known, further, one);
       }
+
+  -- the item of its ports' values names nothing
+  pub values_stand : (scope : Scope) → Stands m [] m.items scope → Stands m [] m.items (behind_item scope (port_values m))
+  values_stand scope s = subst (Stands m [] m.items) (sym (values_placed scope m)) s
 
   -- and behind all of them
   pub stands_last : (scope : Scope) → Stands m [] m.items scope → IsAt (place_behind m m.items) (at scope (length scope.others))

@@ -3,29 +3,22 @@ use Rattle.std.proofs.Common.{◌≡◌, Bool, true, false, true≢false, if◌t
 use Rattle.std.specs.List.{Contains, flat_map}
 use Rattle.std.specs.Option.{option_or}
 use Rattle.vast.specs.NumberedWords.{Word}
-use Rattle.vast.specs.NumberedModules.{input, output, PortTree, variables, integers, directed, ItemTree, parameters, declaration, events, assignments, initial, always, instances, ModuleTree, SourceTree}
+use Rattle.vast.specs.NumberedModules.{input, output, output_integer, PortTree, variables, integers, directed, ItemTree, parameters, declaration, events, assignments, initial, always, instances, ModuleTree, SourceTree}
 use Rattle.vast.specs.declared.module.NetKind.TheVariants as net
 use Rattle.vmodules.specs.Names.{is_declared, has_double, letters_of, first_again}
 use Rattle.vmodules.specs.Ports.{listed_names, plain_names, is_plain_list}
 use Rattle.vmodules.specs.Blocks.{blocks_by, named_in, doubled_block}
-use Rattle.vmodules.specs.Misdeclared.{Misdeclared, flawed, words_by, words_as, outside, among, stray, port_flaw, flaw_of, misdeclared}
+use Rattle.vmodules.specs.Misdeclared.{Misdeclared, flawed, words_by, words_as, outside, among, stray, port_flaw, valued_port, flaw_of, misdeclared}
 use Rattle.vmodules.specs.declared.misdeclared.PortFlaw.{PortFlaw}
 use Rattle.vmodules.specs.declared.misdeclared.PortFlaw.TheVariants as flaw
 use Rattle.vmodules.specs.declared.misdeclared.Declaring.TheVariants as how
-use Rattle.elaboration_law.specs.ItemPorts.{seconds_as, HasOneOf, HasPortTwice, listed_twice, directed_twice, directed_besides, held_twice, HasPortAlone, undirected, unlisted, HasVariableInput, HasBlockTwice, blocks_alike, block_and_other}
+use Rattle.elaboration_law.specs.ItemPorts.{seconds_as, HasOneOf, HasPortTwice, listed_twice, directed_twice, directed_besides, held_twice, HasPortAlone, undirected, unlisted, HasVariableInput, HasValuedNet, HasBlockTwice, blocks_alike, block_and_other}
 use Rattle.elaboration_law.proofs.StepLemmas.{contains_first, contains_more, contains_cases, contains_none}
 use Rattle.elaboration_law.proofs.DoubleLemmas.{none_twice, one_twice}
+use Rattle.elaboration_law.proofs.ValueLemmas.{or_told, or_nothing, value_wrong, no_value}
 use Rattle.elaboration_law.proofs.WordLemmas.{double_parts, second_double, shared_double, found_outside, none_outside, behind_told, none_behind, fewer_double, among_each}
 
 -- ---- one flaw behind another
-
-or_told : {A : Type 0} (a b : Option A) (x : A) → option_or a b ≡ Some x → (a ≡ Some x) ⊎ ((a ≡ None) × (b ≡ Some x))
-or_told None b x is = inr (refl, is)
-or_told (Some y) b x is = inl is
-
-or_nothing : {A : Type 0} (a b : Option A) → option_or a b ≡ None → (a ≡ None) × (b ≡ None)
-or_nothing None b is = (refl, is)
-or_nothing (Some y) b is = absurd cc
 
 flawed_told : (f : PortFlaw) (word : Option Word) (x : Misdeclared) → flawed f word ≡ Some x → (w : Word) × (word ≡ Some w) × (x.flaw ≡ f)
 flawed_told f None x is = absurd cc
@@ -68,6 +61,7 @@ inputs_are_ports (declaration (variables net type) list) = inl refl
 inputs_are_ports (declaration (integers long) list) = inl refl
 inputs_are_ports (declaration (directed (input wire type)) list) = inl refl
 inputs_are_ports (declaration (directed (output net type)) list) = inr refl
+inputs_are_ports (declaration (directed (output_integer long)) list) = inr refl
 inputs_are_ports (events names) = inl refl
 inputs_are_ports (assignments settings) = inl refl
 inputs_are_ports (initial statement) = inl refl
@@ -97,6 +91,7 @@ pub record IsUntold (m : ModuleTree) : Type 0 where
   pub whole : outside (words_as how.Ports m.items) (plain_names m.ports) ≡ None
   pub held : first_again (words_as how.WholePorts m.items ++ seconds_as how.Seconds m) ≡ None
   pub input : first_again (words_as how.Inputs m.items ++ seconds_as how.Registers m) ≡ None
+  pub value : valued_port m ≡ None
   pub block : doubled_block m ≡ None
 
 -- what a flaw is told for is wrong
@@ -105,6 +100,7 @@ pub data IsWrong (m : ModuleTree) (f : PortFlaw) : Type 0 where
   block_doubled : f ≡ flaw.Doubled → HasBlockTwice m → IsWrong m f
   port_alone : f ≡ flaw.Undeclared → HasPortAlone m → IsWrong m f
   variable_input : f ≡ flaw.Input → HasVariableInput m → IsWrong m f
+  valued_net : f ≡ flaw.Valued → HasValuedNet m → IsWrong m f
 
 module _ (m : ModuleTree) where
   abbrev plain : List Word
@@ -144,7 +140,8 @@ module _ (m : ModuleTree) where
 
   pub untold : flaw_of m ≡ None → IsUntold m
   untold is =
-      let both = or_nothing (port_flaw m) (flawed flaw.Doubled (doubled_block m)) is in
+      let both = or_nothing (port_flaw m) (option_or (flawed flaw.Valued (valued_port m)) (flawed flaw.Doubled (doubled_block m))) is in
+      let last = or_nothing (flawed flaw.Valued (valued_port m)) (flawed flaw.Doubled (doubled_block m)) both.1 in
       let one = or_nothing (flawed flaw.Doubled (first_again plain)) flaw_2 both.0 in
       let two = or_nothing (stray listed (outside plain ports)) flaw_3 one.1 in
       let three = or_nothing (flawed flaw.Doubled (first_again ports)) flaw_4 two.1 in
@@ -157,7 +154,8 @@ module _ (m : ModuleTree) where
         whole = flawed_nothing flaw.Undeclared (outside ports plain) four.0;
         held = flawed_nothing flaw.Doubled (first_again holding) five.0;
         input = flawed_nothing flaw.Input (first_again (inputs ++ registers)) five.1;
-        block = flawed_nothing flaw.Doubled (doubled_block m) both.1;
+        value = flawed_nothing flaw.Valued (valued_port m) last.0;
+        block = flawed_nothing flaw.Doubled (doubled_block m) last.1;
       }
 
   module _ (right : IsUntold m) where
@@ -181,6 +179,9 @@ module _ (m : ModuleTree) where
 
     pub no_variable_input : HasVariableInput m → ⊥
     no_variable_input one = true≢false (sym (shared_double inputs registers one) ∙ none_twice (inputs ++ registers) right.input)
+
+    pub no_valued_net : HasValuedNet m → ⊥
+    no_valued_net one = no_value m right.value one
 
     pub no_block_twice : HasBlockTwice m → ⊥
     no_block_twice (blocks_alike twice) = (none_behind (letters_of (named_in m)) (flat_map blocks_by m.items) right.block).0 twice
@@ -253,12 +254,16 @@ module _ (m : ModuleTree) where
         by (inl twice) = blocks_alike twice
         by (inr one) = block_and_other one
 
+    later_wrong : (flawed flaw.Valued (valued_port m) ≡ Some x) ⊎ ((flawed flaw.Valued (valued_port m) ≡ None) × (flawed flaw.Doubled (doubled_block m) ≡ Some x)) → IsWrong m x.flaw
+    later_wrong (inl value) = let t = flawed_told flaw.Valued (valued_port m) x value in valued_net t.2 (value_wrong m t.0 t.1)
+    later_wrong (inr (none, block)) = let t = flawed_told flaw.Doubled (doubled_block m) x block in block_doubled t.2 (block_wrong t.0 t.1)
+
     pub flaw_wrong : flaw_of m ≡ Some x → IsWrong m x.flaw
-    flaw_wrong is = by (or_told (port_flaw m) (flawed flaw.Doubled (doubled_block m)) x is)
+    flaw_wrong is = by (or_told (port_flaw m) (option_or (flawed flaw.Valued (valued_port m)) (flawed flaw.Doubled (doubled_block m))) x is)
       where
-        by : (port_flaw m ≡ Some x) ⊎ ((port_flaw m ≡ None) × (flawed flaw.Doubled (doubled_block m) ≡ Some x)) → IsWrong m x.flaw
+        by : (port_flaw m ≡ Some x) ⊎ ((port_flaw m ≡ None) × (option_or (flawed flaw.Valued (valued_port m)) (flawed flaw.Doubled (doubled_block m)) ≡ Some x)) → IsWrong m x.flaw
         by (inl port) = wrong_1 (or_told (flawed flaw.Doubled (first_again plain)) flaw_2 x port)
-        by (inr (none, block)) = let t = flawed_told flaw.Doubled (doubled_block m) x block in block_doubled t.2 (block_wrong t.0 t.1)
+        by (inr (none, later)) = later_wrong (or_told (flawed flaw.Valued (valued_port m)) (flawed flaw.Doubled (doubled_block m)) x later)
 
 -- ---- the modules of a text
 

@@ -148,7 +148,7 @@ module _ (vs : List Variable) where
       pub listed_suit : (depth : ℕ) (one : Instance) → StandsBelow modules depth (instance_at context) one →
           (before : List ItemTree) (name : Word) (overrides : Option ConnectionsTree) (list : List InstanceTree) (after : List ItemTree) (child : ModuleTree) (made : InstanceTree) →
           before ++ instances name overrides list ∷ after ≡ one.unit.items → module_of modules name.letters ≡ Some child → Contains list made →
-          all_suit (used_by_listed one.unit before overrides child made) ≡ true
+          all_suit (used_by_listed one before overrides child made) ≡ true
 
     right_below : (levels : ℕ) (part : Part) (context : Context) (all : Part) (outside : Place) → IsAt outside context.overrides.scope → Real vs outside context.overrides.scope → elaborate_instance levels modules part context ≡ Ok all → Within all →
         all_right vs all.table ≡ true → RightBelow outside part context
@@ -195,13 +195,13 @@ module _ (vs : List Variable) where
             listed : (depth : ℕ) (one : Instance) → StandsBelow modules depth (instance_at context) one →
                 (before : List ItemTree) (name : Word) (overrides : Option ConnectionsTree) (list : List InstanceTree) (after : List ItemTree) (child : ModuleTree) (made : InstanceTree) →
                 before ++ instances name overrides list ∷ after ≡ one.unit.items → module_of modules name.letters ≡ Some child → Contains list made →
-                all_suit (used_by_listed one.unit before overrides child made) ≡ true
+                all_suit (used_by_listed one before overrides child made) ≡ true
             listed zero one stands before name overrides list after child made inside there listed_there =
                 let within_it = inside ∙ sym (ap (λ (i : Instance). i.unit.items) stands) in
                 let c = instantiation_by child (own.scope.known + length (flat_map symbols_by before)) overrides made in
                 let found = all_made modules 0 own.scope.known before name overrides list after own.children child made (ap (lower_instances modules 0 own.scope.known) within_it ∙ own.instances_are) there listed_there in
                 let it = all_good.1 c found in
-                sym (ap (λ (i : Instance). all_suit (used_by_listed i.unit before overrides child made)) stands)
+                sym (ap (λ (i : Instance). all_suit (used_by_listed i before overrides child made)) stands)
                 ∙ (rest it.0 (child_context own.scope context c) it.1 (place_behind context.unit before)
                 (behind_items part context own.scope before (instances name overrides list ∷ after) own.names_are within_it) (real_here part context own within) it.2 it.3 it.4).own_suit
             listed (suc depth) one (child_there, inside_there, stands) before name overrides list after child made inside there listed_there =
@@ -220,7 +220,7 @@ module _ (modules : SourceTree) (m : ModuleTree) (final : Part) where
   abbrev design : List Variable
   design = final.variables
 
-  top_wrong : elaborate_top modules m ≡ Ok final → all_right design final.table ≡ false → (all_suit (used_in_instance m no_place [] []) ≡ false) ⊎ MisusesBelow is_suited_later modules (top_instance m)
+  top_wrong : elaborate_top modules m ≡ Ok final → all_right design final.table ≡ false → (all_suit (used_in_instance m no_place [] [] m.name.letters) ≡ false) ⊎ MisusesBelow is_suited_later modules (top_instance m)
   unfolding elaborate_top
   top_wrong is wrong = wrong_in design modules 16 nothing (top_context m) final no_place nowhere_is (nothing_real design) is ([], append-nil design) refl wrong
 
@@ -232,14 +232,14 @@ module _ (modules : SourceTree) (top : Option Text) (unit : ModuleTree) (final :
   pub wrong_told : all_right final.variables final.table ≡ false → HasMisuse is_suited_later modules top
   wrong_told wrong = by (top_wrong modules unit final is wrong)
     where
-      by : (all_suit (used_in_instance unit no_place [] []) ≡ false) ⊎ MisusesBelow is_suited_later modules (top_instance unit) → HasMisuse is_suited_later modules top
+      by : (all_suit (used_in_instance unit no_place [] [] unit.name.letters) ≡ false) ⊎ MisusesBelow is_suited_later modules (top_instance unit) → HasMisuse is_suited_later modules top
       by (inl misuses) = of_top unit is_top misuses
       by (inr u) = of_instance u.depth u.one u.before u.name u.overrides u.list u.after u.child u.made (unit, is_top, u.stands) u.inside u.there u.listed u.misuses
 
   pub right_never : all_right final.variables final.table ≡ true → ¬ HasMisuse is_suited_later modules top
   right_never right (of_top m same_top misuses) =
       let same = one_top modules top m unit same_top is_top in
-      true≢false (sym (top_right modules unit final is right).own_suit ∙ sym (ap (λ (u : ModuleTree). all_suit (used_in_instance u no_place [] [])) same) ∙ misuses)
+      true≢false (sym (top_right modules unit final is right).own_suit ∙ sym (ap (λ (u : ModuleTree). all_suit (used_in_instance u no_place [] [] u.name.letters)) same) ∙ misuses)
   right_never right (of_instance levels one before name overrides list after child made (m, same_top, stands) inside there listed misuses) =
       let same = one_top modules top m unit same_top is_top in
       true≢false (sym ((top_right modules unit final is right).listed_suit levels one (subst (λ (u : ModuleTree). StandsBelow modules levels (top_instance u) one) same stands) before name overrides list after child made inside there listed) ∙ misuses)

@@ -11,7 +11,8 @@ use Rattle.vast.specs.NumberedExpressions as text
 use Rattle.vast.specs.NumberedStatements.{TargetTree}
 use Rattle.vast.specs.NumberedStatements as written
 use Rattle.vast.specs.NumberedModules.{RangeTree, ParameterType, integer, typed, DeclarationKind, variables, integers, directed, DeclaredTree, ItemTree, parameters, declaration, events, assignments, initial, always, instances, ModuleTree, SourceTree}
-use Rattle.vmodules.specs.Ports.{Second, Port, type_in, own_items, ports_of}
+use Rattle.vmodules.specs.Ports.{Second, Port, type_in, own_items, ports_of, port_values}
+use Rattle.vmodules.specs.Placed.{placed_item, placed_items}
 use Rattle.vmodules.specs.Connected.{NamedConnection, value_for}
 use Rattle.vdesign.specs.Design.{Variable}
 use Rattle.vdesign.specs.declared.design.Kind.{Kind}
@@ -26,20 +27,20 @@ use Rattle.velab_expr.specs.Resolved.{lower_expression}
 use Rattle.velab_expr.specs.Symbols.{Symbol, parameter_symbol, event_symbol, instance_symbol, name_in, behind_item}
 use Rattle.velab_declaration.specs.declared.variable.Form.{Form}
 use Rattle.velab_declaration.specs.Right.{is_net, is_some_net}
-use Rattle.velab_declaration.specs.Variables.{Declaration, all_declared, declared_as, declarations_of, declarations, port_declaration, variable_in, variables_in, variables_as, form_of, kind_of, lower_kind, lower_again, port_scope, lower_declaration, lower_variables, lower_port, lower_ports, counted_kind}
+use Rattle.velab_declaration.specs.Variables.{Declaration, all_declared, declared_as, declarations_of, declarations, port_declaration, variable_in, variables_in, variables_as, form_of, port_form, kind_of, port_kind, lower_kind, lower_again, port_scope, lower_declaration, lower_variables, lower_port, lower_ports, integer_kind}
 use Rattle.velab_expr.specs.Written.{lower_net_target, target_of}
 use Rattle.velab_process.specs.Statements.{Table}
 use Rattle.velab_process.specs.Processes.{Processes, process_trees_by, lower_processes, lower_items, with_begins_before}
 use Rattle.velab_process.specs.Connections.{lower_input, lower_output, lower_connection, lower_join, lower_joins}
 use Rattle.vhierarchy.specs.Instances.{lower_own_processes, Part, Context}
 use Rattle.elaboration_law.specs.Uses.{Use, Read, Driven, use_of, used_in, used_in_range, used_in_target_by}
-use Rattle.elaboration_law.specs.Places.{Place, a_variable, UseAt, at_place, all_fit, variables_of, symbols_of, thing_by, place_behind, place_after, used_in_type, used_again, port_place, used_outside, used_by_output, used_at_port, used_if_connected, used_in_declaration, used_in_processes, used_in_symbol, used_in_symbols, used_in_port, used_in_connection, used_by_items, used_in_instance}
+use Rattle.elaboration_law.specs.Places.{Place, a_variable, UseAt, at_place, all_fit, variables_of, symbols_of, thing_by, place_behind, place_after, used_in_type, used_again, port_place, used_outside, used_by_output, used_at_port, used_if_connected, used_in_declaration, used_in_processes, used_in_placed, used_in_symbol, used_in_symbols, used_in_port, used_in_connection, used_by_items, used_by_own_processes, used_in_instance}
 use Rattle.elaboration_law.specs.Kinds.{is_ranged}
 use Rattle.elaboration_law.proofs.StepLemmas.{same_value, then_ok}
 use Rattle.elaboration_law.proofs.HierarchyLemmas.{Own}
-use Rattle.elaboration_law.proofs.AgainLemmas.{again_keeps}
+use Rattle.elaboration_law.proofs.AgainLemmas.{again_keeps, placed_behind}
 use Rattle.elaboration_law.proofs.OwnLemmas.{own_steps}
-use Rattle.elaboration_law.proofs.PlaceLemmas.{there_is, got_in_front, got_behind, got_mapped, count_declared, IsAt, Stands, stands_at, stands_on}
+use Rattle.elaboration_law.proofs.PlaceLemmas.{there_is, got_in_front, got_behind, got_mapped, count_declared, IsAt, Stands, stands_at, stands_on, values_stand}
 use Rattle.elaboration_law.proofs.RightLemmas.{bits_in, is_right}
 use Rattle.elaboration_law.proofs.RightUses.{Says, through, last_says, and_true, Real, is_suited_later, suit, constants_hold, lower_says, row_right, driven_right, target_says}
 use Rattle.elaboration_law.proofs.RightStatements.{processes_grow}
@@ -72,7 +73,7 @@ range_suits place (Some range) =
 
 type_suits : (place : Place) (type : Option ParameterType) → all_suit (at_place place (used_in_type type)) ≡ true
 type_suits place None = refl
-type_suits place (Some integer) = refl
+type_suits place (Some (integer long)) = refl
 type_suits place (Some (typed type)) = range_suits place type.range
 
 outside_suits : (place : Place) (value : Option text.ExpressionTree) → all_suit (at_place place (used_outside value)) ≡ true
@@ -122,13 +123,13 @@ module _ (m : ModuleTree) where
         (symbol_suits names one) (symbols_suit (names ++ (name_in one).letters ∷ []) more)
 
     -- what is left of an instance's uses
-    instance_suits : all_suit (used_in_instance m outside values connections) ≡
-        (all_suit (flat_map (used_in_connection m outside values connections) (ports_of m)) && all_suit (used_by_items m used_in_processes [] m.items))
-    instance_suits =
+    instance_suits : (path : Text) → all_suit (used_in_instance m outside values connections path) ≡
+        (all_suit (flat_map (used_in_connection m outside values connections) (ports_of m)) && all_suit (used_by_own_processes m path))
+    instance_suits path =
         let in_symbols = used_in_symbols m outside values connections (variables_of m) (symbols_of m) in
         let in_variables = flat_map (used_in_port m) (ports_of m) ++ used_by_items m used_in_declaration [] m.items in
         let in_connections = flat_map (used_in_connection m outside values connections) (ports_of m) in
-        let in_items = used_by_items m used_in_processes [] m.items in
+        let in_items = used_by_own_processes m path in
         all_joined in_symbols (in_variables ++ (in_connections ++ in_items))
         ∙ ap (λ (b : Bool). b && all_suit (in_variables ++ (in_connections ++ in_items))) (symbols_suit (variables_of m) (symbols_of m))
         ∙ all_joined in_variables (in_connections ++ in_items)
@@ -151,20 +152,38 @@ module _ (vs : List Variable) where
   acted : (table : Table) (action : Action) → list_all (is_right vs) (table.actions ++ action ∷ []) ≡ (all_right table && is_right vs action)
   acted table action = list_all-append (is_right vs) table.actions (action ∷ []) ∙ ap (λ (b : Bool). all_right table && b) (sym (and_true (is_right vs action)))
 
-  items_grow : (m : ModuleTree) (scope : Scope) (table : Table) (before items : List ItemTree) → Stands m before items scope → Real vs (place_behind m before) scope →
-      Says of_processes (all_right table && all_suit (used_by_items m used_in_processes before items)) (lower_items scope table items)
-  items_grow m scope table before [] s real = and_true (all_right table)
-  items_grow m scope table before (item ∷ more) s real =
+  items_grow : (m : ModuleTree) (path : Text) (scope : Scope) (table : Table) (before items : List ItemTree) → Stands m before items scope → Real vs (place_behind m before) scope →
+      Says of_processes (all_right table && all_suit (used_by_items m (used_in_placed path) before items)) (lower_items scope table (map (placed_item path) items))
+  items_grow m path scope table before [] s real = and_true (all_right table)
+  items_grow m path scope table before (item ∷ more) s real =
       let place = place_behind m before in
+      let own = placed_item path item in
+      let others = map (placed_item path) more in
+      let here = suit place (used_in_processes own) in
+      let rest = all_suit (used_by_items m (used_in_placed path) (before ++ item ∷ []) more) in
+      subst (λ (x : Bool). Says of_processes x (lower_items scope table (own ∷ others)))
+      (and_assoc (all_right table) here rest ∙ ap (λ (x : Bool). all_right table && x) (ap (λ (x : Bool). x && rest) (sym (all_at_place place (used_in_processes own)))
+      ∙ sym (all_joined (at_place place (used_in_processes own)) (used_by_items m (used_in_placed path) (before ++ item ∷ []) more))))
+      (through of_processes of_processes (λ d. d && rest) (all_right table && here) (lower_processes scope table (process_trees_by own)) _
+      (processes_grow vs place scope (stands_at m before (item ∷ more) scope s) real table (process_trees_by own)) (λ front.
+      begun (all_right front.table && rest) front.begins (lower_items (behind_item scope own) front.table others)
+      (subst (λ (x : Scope). Says of_processes (all_right front.table && rest) (lower_items x front.table others)) (sym (placed_behind path scope item))
+      (items_grow m path (behind_item scope item) front.table (before ++ item ∷ []) more (stands_on m before more item scope s) real))))
+
+  own_items_grow : (m : ModuleTree) (path : Text) (scope : Scope) (table : Table) → Stands m [] m.items scope → Real vs (place_behind m []) scope →
+      Says of_processes (all_right table && all_suit (used_by_own_processes m path)) (lower_items scope table (placed_items path m))
+  own_items_grow m path scope table s real =
+      let place = place_behind m [] in
+      let item = port_values m in
       let here = suit place (used_in_processes item) in
-      let rest = all_suit (used_by_items m used_in_processes (before ++ item ∷ []) more) in
-      subst (λ (x : Bool). Says of_processes x (lower_items scope table (item ∷ more)))
+      let rest = all_suit (used_by_items m (used_in_placed path) [] m.items) in
+      subst (λ (x : Bool). Says of_processes x (lower_items scope table (placed_items path m)))
       (and_assoc (all_right table) here rest ∙ ap (λ (x : Bool). all_right table && x) (ap (λ (x : Bool). x && rest) (sym (all_at_place place (used_in_processes item)))
-      ∙ sym (all_joined (at_place place (used_in_processes item)) (used_by_items m used_in_processes (before ++ item ∷ []) more))))
+      ∙ sym (all_joined (at_place place (used_in_processes item)) (used_by_items m (used_in_placed path) [] m.items))))
       (through of_processes of_processes (λ d. d && rest) (all_right table && here) (lower_processes scope table (process_trees_by item)) _
-      (processes_grow vs place scope (stands_at m before (item ∷ more) scope s) real table (process_trees_by item)) (λ front.
-      begun (all_right front.table && rest) front.begins (lower_items (behind_item scope item) front.table more)
-      (items_grow m (behind_item scope item) front.table (before ++ item ∷ []) more (stands_on m before more item scope s) real)))
+      (processes_grow vs place scope (stands_at m [] m.items scope s) real table (process_trees_by item)) (λ front.
+      begun (all_right front.table && rest) front.begins (lower_items (behind_item scope item) front.table (map (placed_item path) m.items))
+      (items_grow m path (behind_item scope item) front.table [] m.items (values_stand m scope s) real)))
 
   -- ---- connections
 
@@ -224,20 +243,20 @@ module _ (vs : List Variable) where
 
   pub own_grows : (context : Context) (outside : Place) (scope : Scope) (table : Table) (processes : Processes) → IsAt outside context.overrides.scope → Real vs outside context.overrides.scope →
       Stands context.unit [] context.unit.items scope → Real vs (place_behind context.unit []) scope → lower_own_processes context (ports_of context.unit) scope table ≡ Ok processes →
-      all_right processes.table ≡ (all_right table && all_suit (used_in_instance context.unit outside context.overrides.values context.connections))
+      all_right processes.table ≡ (all_right table && all_suit (used_in_instance context.unit outside context.overrides.values context.connections context.path))
   own_grows context outside scope table processes around real_around s real is =
-      subst (Says of_processes (all_right table && all_suit (used_in_instance context.unit outside context.overrides.values context.connections))) is
+      subst (Says of_processes (all_right table && all_suit (used_in_instance context.unit outside context.overrides.values context.connections context.path))) is
       (subst (λ (x : Bool). Says of_processes x (lower_own_processes context (ports_of context.unit) scope table))
-      (and_assoc (all_right table) in_connections in_items ∙ ap (λ (x : Bool). all_right table && x) (sym (instance_suits context.unit outside context.overrides.values context.connections)))
+      (and_assoc (all_right table) in_connections in_items ∙ ap (λ (x : Bool). all_right table && x) (sym (instance_suits context.unit outside context.overrides.values context.connections context.path)))
       (through of_processes of_processes (λ d. d && in_items) (all_right table && in_connections) (lower_joins context.name context.overrides.scope scope context.connections table (ports_of context.unit)) _
       (joins_grow context.unit outside context.overrides.values context.connections scope context.overrides.scope (stands_at context.unit [] context.unit.items scope s) around real real_around context.name table (ports_of context.unit)) (λ joins.
-      begun (all_right joins.table && in_items) joins.begins (lower_items scope joins.table context.unit.items) (items_grow context.unit scope joins.table [] context.unit.items s real))))
+      begun (all_right joins.table && in_items) joins.begins (lower_items scope joins.table (placed_items context.path context.unit)) (own_items_grow context.unit context.path scope joins.table s real))))
     where
       in_connections : Bool
       in_connections = all_suit (flat_map (used_in_connection context.unit outside context.overrides.values context.connections) (ports_of context.unit))
 
       in_items : Bool
-      in_items = all_suit (used_by_items context.unit used_in_processes [] context.unit.items)
+      in_items = all_suit (used_by_own_processes context.unit context.path)
 
 -- ---- its own variables, in a finished design
 
@@ -264,12 +283,12 @@ module _ (path : Text) where
   ports_shaped scope (p ∷ more) made is =
       let one = then_ok (lower_port path scope p) (λ one. lower_ports path scope more >>= λ others. Ok (one ∷ others)) made is in
       let others = then_ok (lower_ports path scope more) (λ others. Ok (one.0 ∷ others)) made one.2 in
-      let bounds = then_ok (lower_bounds scope p.type.range) (λ bounds. lower_again scope p.again bounds >>= λ whole. Ok (variable_in path (form_of p.net p.type.signed whole) p.name.letters)) one.0 one.1 in
-      let whole = then_ok (lower_again scope p.again bounds.0) (λ whole. Ok (variable_in path (form_of p.net p.type.signed whole) p.name.letters)) one.0 bounds.2 in
+      let bounds = then_ok (lower_bounds scope p.type.range) (λ bounds. lower_again scope p.again bounds >>= λ whole. Ok (variable_in path (port_form p whole) p.name.letters)) one.0 one.1 in
+      let whole = then_ok (lower_again scope p.again bounds.0) (λ whole. Ok (variable_in path (port_form p whole) p.name.letters)) one.0 bounds.2 in
       let some = ap is_some (sym (again_keeps scope p.again bounds.0 whole.0 whole.1)) ∙ bounds_alike scope p.type.range bounds.0 bounds.1 in
       sym (ap (map shape) (same_value (one.0 ∷ others.0) made others.2))
-      ∙ ap (λ (v : Variable). shape v ∷ map shape others.0) (sym (same_value (variable_in path (form_of p.net p.type.signed whole.0) p.name.letters) one.0 whole.2))
-      ∙ (λ i. record { ranged = kind_has_bits (kind_of p.net) (some i); net = is_net (kind_of p.net) } ∷ ports_shaped scope more others.0 others.1 i)
+      ∙ ap (λ (v : Variable). shape v ∷ map shape others.0) (sym (same_value (variable_in path (port_form p whole.0) p.name.letters) one.0 whole.2))
+      ∙ (λ i. record { ranged = kind_has_bits (port_kind p) (some i); net = is_net (port_kind p) } ∷ ports_shaped scope more others.0 others.1 i)
 
   all_shaped : (form : Form) (kind : Kind) (signed : Bool) (range : Option RangeTree) (list : List DeclaredTree) → kind_has_bits form.kind (is_some form.bounds) ≡ kind_has_bits kind (is_some range) → is_net form.kind ≡ is_net kind →
       map shape (variables_in path form list) ≡ map declared_shape (all_declared kind signed range list)
@@ -283,8 +302,8 @@ module _ (path : Text) where
       all_shaped form (kind_of word) type.signed type.range list
       (ap (λ (f : Form). kind_has_bits f.kind (is_some f.bounds)) (sym same) ∙ ap (kind_has_bits (kind_of word)) (bounds_alike scope type.range bounds.0 bounds.1)) (ap (λ (f : Form). is_net f.kind) (sym same))
   kind_shaped scope form (integers long) list is =
-      let same = same_value (record { kind = counted_kind long; signed = not long; bounds = None }) form is in
-      all_shaped form (counted_kind long) (not long) None list (ap (λ (f : Form). kind_has_bits f.kind (is_some f.bounds)) (sym same)) (ap (λ (f : Form). is_net f.kind) (sym same))
+      let same = same_value (record { kind = integer_kind long; signed = not long; bounds = None }) form is in
+      all_shaped form (integer_kind long) (not long) None list (ap (λ (f : Form). kind_has_bits f.kind (is_some f.bounds)) (sym same)) (ap (λ (f : Form). is_net f.kind) (sym same))
   kind_shaped scope form (directed direction) list is = refl
 
   item_shaped : (scope : Scope) (item : ItemTree) (made : List Variable) → lower_declaration path scope item ≡ Ok made → map shape made ≡ map declared_shape (declarations_of item)

@@ -121,7 +121,7 @@ module _ (vs : List Variable) (place : Place) (scope : Scope) (h : IsAt place sc
   -- ---- lines
 
   abbrev argument_bits : Argument → Bool
-  argument_bits (string letters) = true
+  argument_bits (string path letters) = true
   argument_bits (value watched e) = bits_in vs e
 
   argument_says : (argument : ArgumentTree) → Says argument_bits (hold (used_in_argument argument)) (lower_argument scope argument)
@@ -173,11 +173,11 @@ module _ (vs : List Variable) (place : Place) (scope : Scope) (h : IsAt place sc
       list_all-append (piece_bits vs) (text_piece front.letters) (text_piece (letters_in width letters))
       ∙ λ i. text_bits front.letters i && text_bits (letters_in width letters) i
 
-  string_bits : (front : Option FormatFront) (letters : List ℕ) → TakenBits true (string_taken front letters)
-  string_bits None letters = tt
-  string_bits (Some front) letters = by front.form
+  string_bits : (path : List ℕ) (front : Option FormatFront) (letters : List ℕ) → TakenBits true (string_taken path front letters)
+  string_bits path None letters = tt
+  string_bits path (Some front) letters = by front.form
     where
-      by : (form : Option Form) → TakenBits true (string_by front form letters)
+      by : (form : Option Form) → TakenBits true (string_by path front form letters)
       by None = text_bits front.letters
       by (Some form) = shown_bits front form.width form.notation letters
 
@@ -188,9 +188,9 @@ module _ (vs : List Variable) (place : Place) (scope : Scope) (h : IsAt place sc
 
   pieces_are : (usual : Form) (format : List ℕ) (all : List Argument) → Pieces (list_all argument_bits all) (pieces_by usual format all)
   pieces_are usual format [] = last_bits (front_of format)
-  pieces_are usual format (string letters ∷ more) =
-      let taken = string_taken (front_of format) (letters_of Plain letters) in
-      both_bits true (list_all argument_bits more) taken (pieces_by usual (format_left taken) more) (string_bits (front_of format) (letters_of Plain letters))
+  pieces_are usual format (string path letters ∷ more) =
+      let taken = string_taken path (front_of format) (letters_of Plain letters) in
+      both_bits true (list_all argument_bits more) taken (pieces_by usual (format_left taken) more) (string_bits path (front_of format) (letters_of Plain letters))
       (pieces_are usual (format_left taken) more)
   pieces_are usual format (value watched e ∷ more) =
       let taken = value_taken usual (front_of format) watched e in

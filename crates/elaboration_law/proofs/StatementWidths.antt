@@ -207,7 +207,7 @@ module _ (now : Environment) where
   -- ---- lines
 
   abbrev argument_flaw : Argument → Option Flaw
-  argument_flaw (string letters) = None
+  argument_flaw (string path letters) = None
   argument_flaw (value watched e) = flaw_of now e
 
   text_flawless : (letters : List ℕ) → first_flaw (piece_flaw now) (text_piece letters) ≡ None
@@ -248,11 +248,11 @@ module _ (now : Environment) where
       flaws_joined (piece_flaw now) (text_piece front.letters) (text_piece (letters_in width letters))
       ∙ λ i. option_or (text_flawless front.letters i) (text_flawless (letters_in width letters) i)
 
-  string_flawless : (front : Option FormatFront) (letters : List ℕ) → TakenHave None (string_taken front letters)
-  string_flawless None letters = tt
-  string_flawless (Some front) letters = by front.form
+  string_flawless : (path : List ℕ) (front : Option FormatFront) (letters : List ℕ) → TakenHave None (string_taken path front letters)
+  string_flawless path None letters = tt
+  string_flawless path (Some front) letters = by front.form
     where
-      by : (form : Option Form) → TakenHave None (string_by front form letters)
+      by : (form : Option Form) → TakenHave None (string_by path front form letters)
       by None = text_flawless front.letters
       by (Some form) = shown_flawless front form.width form.notation letters
 
@@ -263,9 +263,9 @@ module _ (now : Environment) where
 
   pieces_have : (usual : Form) (format : List ℕ) (all : List Argument) → Have (first_flaw argument_flaw all) (pieces_by usual format all)
   pieces_have usual format [] = last_flawless (front_of format)
-  pieces_have usual format (string letters ∷ more) =
-      let taken = string_taken (front_of format) (letters_of Plain letters) in
-      both_have None (first_flaw argument_flaw more) taken (pieces_by usual (format_left taken) more) (string_flawless (front_of format) (letters_of Plain letters))
+  pieces_have usual format (string path letters ∷ more) =
+      let taken = string_taken path (front_of format) (letters_of Plain letters) in
+      both_have None (first_flaw argument_flaw more) taken (pieces_by usual (format_left taken) more) (string_flawless path (front_of format) (letters_of Plain letters))
       (pieces_have usual (format_left taken) more)
   pieces_have usual format (value watched e ∷ more) =
       let taken = value_taken usual (front_of format) watched e in

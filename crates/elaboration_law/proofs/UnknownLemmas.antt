@@ -10,6 +10,7 @@ use Rattle.vast.specs.NumberedModules.{ModuleTree, SourceTree}
 use Rattle.vdesign.specs.Design.{Design}
 use Rattle.vmodules.specs.Names.{has_double}
 use Rattle.vmodules.specs.Ports.{ports_of}
+use Rattle.vmodules.specs.Placed.{placed_items}
 use Rattle.velab_expr.specs.declared.fault.Rule.TheVariants.{Doubled, Unknown}
 use Rattle.velab_expr.specs.declared.fault.ElabFault.{ElabFault}
 use Rattle.velab_expr.specs.Rules.{broken_if}
@@ -23,7 +24,7 @@ use Rattle.elaboration_law.proofs.ToldLemmas.{untold_fault}
 use Rattle.elaboration_law.proofs.DesignRules.{broken_tells, broken_table_tells}
 use Rattle.vmodules.specs.declared.misdeclared.PortFlaw.{PortFlaw}
 use Rattle.vmodules.specs.declared.misdeclared.PortFlaw.TheVariants as flaw
-use Rattle.elaboration_law.proofs.PortLemmas.{IsWrong, port_doubled, block_doubled, port_alone, variable_input, one_wrong, all_untold, no_port_alone}
+use Rattle.elaboration_law.proofs.PortLemmas.{IsWrong, port_doubled, block_doubled, port_alone, variable_input, valued_net, one_wrong, all_untold, no_port_alone}
 use Rattle.elaboration_law.proofs.HierarchyLemmas.{instance_at, Told, in_modules, in_ports, unknown_port, in_top, in_hierarchy, in_design, all_elaborated, fault_told}
 use Rattle.elaboration_law.proofs.OwnLemmas.{own_steps}
 use Rattle.elaboration_law.proofs.GatherLemmas.{Gathers, top_gathered}
@@ -49,7 +50,7 @@ dumps_gather top modules = record {
       let same = scope_keeps (λ (x : Scope). x.top) (λ x one meaning. refl) (λ x known. refl) (base_of part context) context.unit own.scope (item_scope_of part context own.scope own.names_are) ∙ named in
       sym (ap dumped_of s.whole_is)
       ∙ own_dumps context (ports_of context.unit) own.scope part.table s.processes s.processes_made
-      ∙ ap (λ (t : Text). dumped part.table ++ flat_map (paths_by_item t) context.unit.items) same
+      ∙ ap (λ (t : Text). dumped part.table ++ flat_map (paths_by_item t) (placed_items context.path context.unit)) same
       ∙ ap (λ (l : List Text). dumped part.table ++ l) (sym (append-nil (paths_in_instance top (instance_at context))));
 }
 
@@ -108,6 +109,7 @@ module _ (modules : SourceTree) (top : Option Text) where
   port_told f undeclared m inside (block_doubled e twice) = absurd cc
   port_told f undeclared m inside (port_alone e alone) = of_port m inside alone
   port_told f undeclared m inside (variable_input e one) = absurd cc
+  port_told f undeclared m inside (valued_net e one) = absurd cc
 
   names_unknown : (fault : ElabFault) → fault.rule ≡ Unknown → Told modules top fault → HasUnknown modules top
   names_unknown fault rule (in_modules w again other) = absurd cc

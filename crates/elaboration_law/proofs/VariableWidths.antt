@@ -19,7 +19,7 @@ use Rattle.velab_expr.specs.Constants.{nothing}
 use Rattle.velab_expr.specs.Ranges.{lower_bounds}
 use Rattle.velab_expr.specs.Symbols.{behind_item}
 use Rattle.velab_declaration.specs.ActionFlaws.{blank, blank_environment}
-use Rattle.velab_declaration.specs.Variables.{Declaration, all_declared, kind_of, declared_as, declarations_of, port_declaration, form_of, variable_in, variables_in, variables_as, lower_again, lower_ports, lower_kind, lower_declaration, lower_variables, counted_kind}
+use Rattle.velab_declaration.specs.Variables.{Declaration, all_declared, kind_of, declared_as, declarations_of, port_declaration, form_of, port_form, variable_in, variables_in, variables_as, lower_again, lower_ports, lower_kind, lower_declaration, lower_variables, integer_kind}
 use Rattle.elaboration_law.specs.Widths.{Worth, is_range}
 use Rattle.elaboration_law.specs.Worths.{bounds_by, declared_worth}
 use Rattle.elaboration_law.proofs.AgainLemmas.{again_keeps}
@@ -57,14 +57,14 @@ module _ (named : Text → Worth) (path : Text) where
         whole : (bounds : Option Bounds) → bounds ≡ bounds_by named p.type.range → (w : Result (Option Bounds) ElabFault) → ((x : Option Bounds) → w ≡ Ok x → bounds ≡ x) →
             (b : Result (List Variable) ElabFault) → AreDeclared (map port_declaration more) b →
             AreDeclared (map port_declaration (p ∷ more))
-            ((w >>= λ same. Ok (variable_in path (form_of p.net p.type.signed same) p.name.letters)) >>= λ one. b >>= λ others. Ok (one ∷ others))
-        whole bounds is (Ok x) keeps (Ok others) e = λ i. variable_in path (form_of p.net p.type.signed ((sym (keeps x refl) ∙ is) i)) p.name.letters ∷ e i
+            ((w >>= λ same. Ok (variable_in path (port_form p same) p.name.letters)) >>= λ one. b >>= λ others. Ok (one ∷ others))
+        whole bounds is (Ok x) keeps (Ok others) e = λ i. variable_in path (port_form p ((sym (keeps x refl) ∙ is) i)) p.name.letters ∷ e i
         whole bounds is (Ok x) keeps (Err fault) e = tt
         whole bounds is (Err fault) keeps b e = tt
 
         by : (a : Result (Option Bounds) ElabFault) (b : Result (List Variable) ElabFault) → IsRange named p.type.range (is_range named p.type.range) a → AreDeclared (map port_declaration more) b →
             AreDeclared (map port_declaration (p ∷ more))
-            ((a >>= λ bounds. lower_again scope p.again bounds >>= λ same. Ok (variable_in path (form_of p.net p.type.signed same) p.name.letters)) >>= λ one. b >>= λ others. Ok (one ∷ others))
+            ((a >>= λ bounds. lower_again scope p.again bounds >>= λ same. Ok (variable_in path (port_form p same) p.name.letters)) >>= λ one. b >>= λ others. Ok (one ∷ others))
         by (Ok bounds) b r e = whole bounds r.0 (lower_again scope p.again bounds) (again_keeps scope p.again bounds) b e
         by (Err fault) b r e = tt
 
@@ -76,7 +76,7 @@ module _ (named : Text → Worth) (path : Text) where
             AreDeclared (declared_as (variables word type) list) ((a >>= λ bounds. Ok (form_of word type.signed bounds)) >>= λ form. Ok (variables_in path form list))
         by (Ok bounds) r = list_declared (kind_of word) type.signed type.range bounds r.0 list
         by (Err fault) r = tt
-    kind_declared scope h (integers long) list = list_declared (counted_kind long) (not long) None None refl list
+    kind_declared scope h (integers long) list = list_declared (integer_kind long) (not long) None None refl list
     kind_declared scope h (directed direction) list = by (lower_bounds scope (type_in direction).range)
       where
         by : (a : Result (Option Bounds) ElabFault) → AreDeclared [] ((a >>= λ bounds. Ok (form_of net.Wire (type_in direction).signed bounds)) >>= λ form. Ok (variables_as path form (directed direction) list))

@@ -9,6 +9,7 @@ use Rattle.module_size.specs.Sizes.{size_of, module_size}
 use Rattle.vmodules.specs.Names.{letters_of}
 use Rattle.vmodules.specs.Hierarchy.{top_of}
 use Rattle.vmodules.specs.Ports.{ports_of}
+use Rattle.vmodules.specs.Placed.{placed_items}
 use Rattle.vmodules.specs.Connected.{value_for}
 use Rattle.velab_declaration.specs.Variables.{declared_names}
 use Rattle.velab_process.specs.Processes.{process_trees_by}
@@ -53,11 +54,11 @@ letters_in one = length one.path + size_of (λ name. length one.path + (1 + leng
 -- how many an instance has
 abbrev pub count_in : Counted → Instance → ℕ
 count_in Variables one = length (declared_names one.unit)
-count_in Processes one = length (connected one) + length (flat_map process_trees_by one.unit.items)
+count_in Processes one = length (connected one) + length (flat_map process_trees_by (placed_items one.path one.unit))
 count_in Instances one = 1
 count_in NamedEvents one = length (flat_map events_by one.unit.items)
 count_in Letters one = letters_in one
-count_in Sizes one = module_size one.unit
+count_in Sizes one = module_size (length one.path) one.unit
 
 -- The top and all instances below it have too many together. Down to 16 levels they are counted: deeper ones are E308.
 pub record HasTooMany (modules : SourceTree) (top : Option Text) : Type 0 where

@@ -1,14 +1,15 @@
--- *trusted*: What is wrong with ports that items declare, and with the names of blocks, whatever is told first (IEEE 1364-2005, 4.11, 9.8.3,
--- 12.3.2, 12.3.3).
-use Rattle.std.specs.Prelude.{◌≡◌, true, false, List, ◌++◌}
+-- *trusted*: What is wrong with ports that items declare, with values of ports, and with the names of blocks, whatever is told first (IEEE 1364-2005,
+-- 4.11, 9.8.3, 12.3.2 to 12.3.4, A.2.1.2).
+use Rattle.std.specs.Prelude.{◌≡◌, Bool, true, false, not, List, [], ◌∷◌, ◌++◌, Option, Some, None, is_some}
 use Rattle.std.specs.List.{Contains, flat_map}
+use Rattle.std.specs.Option.{option_or}
 use Rattle.vast.specs.Words.{Text}
 use Rattle.vast.specs.NumberedWords.{Word}
-use Rattle.vast.specs.NumberedModules.{ModuleTree}
+use Rattle.vast.specs.NumberedModules.{DirectionTree, PortTree, DeclaredTree, declaration, directed, ModuleTree}
 use Rattle.vmodules.specs.Names.{is_declared, has_double, letters_of}
 use Rattle.vmodules.specs.Ports.{listed_names, plain_names, is_plain_list}
 use Rattle.vmodules.specs.Blocks.{blocks_by, named_in}
-use Rattle.vmodules.specs.Misdeclared.{words_as, among}
+use Rattle.vmodules.specs.Misdeclared.{words_as, among, is_variable}
 use Rattle.vmodules.specs.declared.misdeclared.Declaring.{Declaring}
 use Rattle.vmodules.specs.declared.misdeclared.Declaring.TheVariants as how
 
@@ -48,6 +49,26 @@ pub data HasPortAlone (m : ModuleTree) : Type 0 where
 -- an input is declared a variable (12.3.3)
 abbrev pub HasVariableInput : ModuleTree → Type 0
 HasVariableInput m = HasOneOf (letters_of (seconds_as how.Registers m)) (words_as how.Inputs m.items)
+
+-- 12.3.4: which way a port goes that says none behind these
+abbrev pub way_behind : Option DirectionTree → List PortTree → Option DirectionTree
+way_behind before [] = before
+way_behind before (port ∷ more) = way_behind (option_or port.direction before) more
+
+-- A.2.1.2: no output that is a variable goes this way
+abbrev pub goes_as_net : Option DirectionTree → Bool
+goes_as_net None = true
+goes_as_net (Some direction) = not (is_variable direction)
+
+-- A port with a value isn't an output that is a variable (A.2.1.2):
+pub data HasValuedNet (m : ModuleTree) : Type 0 where
+  -- one of the list, behind those in front of it;
+  valued_in_list : (front : List PortTree) (port : PortTree) (after : List PortTree) → m.ports ≡ Some (front ++ port ∷ after) →
+      is_some port.value ≡ true → goes_as_net (option_or port.direction (way_behind None front)) ≡ true → HasValuedNet m
+  -- one that an item declares
+  valued_in_item : (direction : DirectionTree) (list : List DeclaredTree) (one : DeclaredTree) →
+      Contains m.items (declaration (directed direction) list) → Contains list one → is_some one.value ≡ true →
+      goes_as_net (Some direction) ≡ true → HasValuedNet m
 
 -- The name of a block is declared twice:
 pub data HasBlockTwice (m : ModuleTree) : Type 0 where

@@ -1,5 +1,5 @@
 -- *trusted*: E310: names of another kind than their use asks for, bits of what has none, formats that don't fit, and paths of `$dumpvars` to
--- variables (IEEE 1364-2005, 4.2, 4.8, 4.10, 5.2.1, 6.1, 6.2, 9.7.2, 9.7.3, 12.1.2, 12.5, 17.1.1, 18.1.2).
+-- variables (IEEE 1364-2005, 4.2, 4.8, 4.10, 5.2.1, 6.1, 6.2, 9.7.2, 9.7.3, 12.1.2, 12.5, 17.1.1, 18.1.2, A.2.1.2).
 use Rattle.std.specs.Prelude.{◌≡◌, ℕ, Bool, true, false, not, ◌&&◌, ◌||◌, if◌then◌else◌, List, [], ◌∷◌, Option, None, Some, is_some, codes}
 use Rattle.std.specs.List.{Contains, flat_map, list_all}
 use Rattle.vast.specs.Words.{Text}
@@ -15,13 +15,14 @@ use Rattle.vdesign.specs.declared.print.Notation.{Notation}
 use Rattle.vdesign.specs.declared.print.Notation.TheVariants.{Binary, Octal, Hexadecimal, Decimal, Time, Character, Letters}
 use Rattle.format_text.specs.declared.letters.Escape.TheVariants.{Plain}
 use Rattle.format_text.specs.Formats.{FormatFront, letters_of, front_of}
+use Rattle.format_text.specs.Pieces.{with_path}
 use Rattle.velab_expr.specs.Selections.{levels_in}
 use Rattle.velab_declaration.specs.Right.{is_net}
 use Rattle.velab_declaration.specs.Variables.{Declaration}
 use Rattle.velab_process.specs.Prints.{between_quotes}
 use Rattle.elaboration_law.specs.Doubles.{variable_paths_in, path_in}
 use Rattle.elaboration_law.specs.Hierarchy.{Instance}
-use Rattle.elaboration_law.specs.ItemPorts.{HasVariableInput}
+use Rattle.elaboration_law.specs.ItemPorts.{HasVariableInput, HasValuedNet}
 use Rattle.elaboration_law.specs.Uses.{Way, Read, ReadIn, Written, WrittenIn, Driven, DrivenIn, Triggered, Awaited, Use, use_of, use_of_time, use_of_formats, use_of_levels}
 use Rattle.elaboration_law.specs.Places.{Thing, a_variable, a_parameter, an_event, an_instance, Place, thing_of, HasMisuse}
 use Rattle.elaboration_law.specs.Selected.{paths_in_instance}
@@ -105,14 +106,14 @@ abbrev pub takes_string : Option FormatFront → Bool
 takes_string None = false
 takes_string (Some front) = string_fits front.form
 
--- what is left of the format then
-abbrev pub left_by : Option Form → List ℕ → List ℕ → List ℕ
-left_by None rest letters = letters
-left_by (Some form) rest letters = if shows_letters form.notation then rest else []
+-- what is left of the format then: of the string, where it is one, with the path in the place of each `%m` (17.1.1.1)
+abbrev pub left_by : List ℕ → Option Form → List ℕ → List ℕ → List ℕ
+left_by path None rest letters = with_path path letters
+left_by path (Some form) rest letters = if shows_letters form.notation then rest else []
 
-abbrev pub left_by_string : Option FormatFront → List ℕ → List ℕ
-left_by_string None letters = []
-left_by_string (Some front) letters = left_by front.form front.rest letters
+abbrev pub left_by_string : List ℕ → Option FormatFront → List ℕ → List ℕ
+left_by_string path None letters = []
+left_by_string path (Some front) letters = left_by path front.form front.rest letters
 
 abbrev pub left_by_value : Option FormatFront → List ℕ
 left_by_value None = []
@@ -123,8 +124,8 @@ left_by_value (Some front) = front.rest
 abbrev pub formats_fit : List ℕ → List ArgumentTree → Bool
 formats_fit format [] = is_ended (front_of format)
 formats_fit format (quoted letters ∷ more) =
-    takes_string (front_of format) && formats_fit (left_by_string (front_of format) (letters_of Plain (between_quotes letters.letters))) more
-formats_fit format (left_out ∷ more) = takes_string (front_of format) && formats_fit (left_by_string (front_of format) (codes " ")) more
+    takes_string (front_of format) && formats_fit (left_by_string letters.path (front_of format) (letters_of Plain (between_quotes letters.letters))) more
+formats_fit format (left_out ∷ more) = takes_string (front_of format) && formats_fit (left_by_string [] (front_of format) (codes " ")) more
 formats_fit format (printed tree ∷ more) = is_some (front_of format) && formats_fit (left_by_value (front_of format)) more
 
 -- ---- the rule
@@ -148,5 +149,7 @@ pub data HasMiskind (modules : SourceTree) (top : Option Text) : Type 0 where
   of_use : HasMisuse is_suited modules top → HasMiskind modules top
   -- in a module, reached or not, an input that is a variable (12.3.3);
   of_input : (m : ModuleTree) → Contains modules m → HasVariableInput m → HasMiskind modules top
+  -- in a module, reached or not, a port with a value that isn't an output that is a variable (A.2.1.2);
+  of_value : (m : ModuleTree) → Contains modules m → HasValuedNet m → HasMiskind modules top
   -- a path to a variable
   of_variable_path : (m : ModuleTree) → top_of modules top ≡ Some m → selects_no_variable m.name.letters (all_below modules m) ≡ false → HasMiskind modules top

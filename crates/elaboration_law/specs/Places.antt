@@ -8,7 +8,8 @@ use Rattle.vast.specs.NumberedExpressions.{ExpressionTree}
 use Rattle.vast.specs.NumberedModules.{ConnectionsTree, InstanceTree, ParameterType, integer, typed, DeclarationKind, variables, integers, directed, ItemTree, parameters, declaration, events, assignments, initial, always, instances, ModuleTree, SourceTree}
 use Rattle.vmodules.specs.Names.{letters_of}
 use Rattle.vmodules.specs.Hierarchy.{module_of, top_of}
-use Rattle.vmodules.specs.Ports.{Second, Port, type_in, is_plain_list, ports_of}
+use Rattle.vmodules.specs.Ports.{Second, Port, type_in, is_plain_list, ports_of, port_values}
+use Rattle.vmodules.specs.Placed.{placed_item}
 use Rattle.vmodules.specs.Connected.{NamedConnection, open_names, named_connections, named_connections_if, value_for}
 use Rattle.velab_expr.specs.Symbols.{Symbol, parameter_symbol, event_symbol, instance_symbol, name_in, valueless_by, symbols_in_head, symbols_by}
 use Rattle.velab_declaration.specs.Variables.{Declaration, port_declaration, declarations, port_names, declared_names}
@@ -85,7 +86,7 @@ at_place place list = map (λ one. record { place = place; one = one }) list
 
 abbrev pub used_in_type : Option ParameterType → List Use
 used_in_type None = []
-used_in_type (Some integer) = []
+used_in_type (Some (integer long)) = []
 used_in_type (Some (typed type)) = used_in_range type.range
 
 abbrev pub used_outside : Option ExpressionTree → List Use
@@ -109,6 +110,10 @@ used_in_declaration (instances name overrides list) = []
 abbrev pub used_in_processes : ItemTree → List Use
 used_in_processes item = used_by_processes (process_trees_by item)
 
+-- in an instance of this path, which formats show (17.1.1.1)
+abbrev pub used_in_placed : Text → ItemTree → List Use
+used_in_placed path item = used_in_processes (placed_item path item)
+
 -- 12.3.3: of a port that is declared again its second range
 abbrev pub used_again : Option Second → List Use
 used_again None = []
@@ -126,6 +131,10 @@ module _ (m : ModuleTree) where
   abbrev pub used_by_items : (ItemTree → List Use) → List ItemTree → List ItemTree → List UseAt
   used_by_items used before [] = []
   used_by_items used before (item ∷ more) = at_place (place_behind m before) (used item) ++ used_by_items used (before ++ item ∷ []) more
+
+  -- 6.2.1: the processes of the values of ports, which stand in front of all items, and those of items, in an instance of this path
+  abbrev pub used_by_own_processes : Text → List UseAt
+  used_by_own_processes path = at_place (place_behind m []) (used_in_processes (port_values m)) ++ used_by_items (used_in_placed path) [] m.items
 
 -- of an instance of this module, which stands at this place: what is said of its parameters there, and what its ports are connected to
 module _ (m : ModuleTree) (outside : Place) (values connections : List NamedConnection) where
@@ -158,12 +167,13 @@ module _ (m : ModuleTree) (outside : Place) (values connections : List NamedConn
   abbrev pub used_in_connection : Port → List UseAt
   used_in_connection p = used_if_connected p (value_for connections p.name.letters)
 
-  -- its parameters (named events and instances use nothing), its ports, its declarations, what its ports are connected to, its processes
-  abbrev pub used_in_instance : List UseAt
-  used_in_instance =
+  -- its parameters (named events and instances use nothing), its ports, its declarations, what its ports are connected to, its processes; its path
+  -- is this one
+  abbrev pub used_in_instance : Text → List UseAt
+  used_in_instance path =
       used_in_symbols (variables_of m) (symbols_of m)
       ++ ((flat_map (used_in_port m) (ports_of m) ++ used_by_items m used_in_declaration [] m.items)
-      ++ (flat_map used_in_connection (ports_of m) ++ used_by_items m used_in_processes [] m.items))
+      ++ (flat_map used_in_connection (ports_of m) ++ used_by_own_processes m path))
 
 -- ---- in a hierarchy
 
@@ -173,12 +183,12 @@ all_fit fits list = list_all (λ it. fits it.place it.one) list
 -- something is used that doesn't fit its place:
 pub data HasMisuse (fits : Place → Use → Bool) (modules : SourceTree) (top : Option Text) : Type 0 where
   -- by the top;
-  of_top : (m : ModuleTree) → top_of modules top ≡ Some m → all_fit fits (used_in_instance m no_place [] []) ≡ false → HasMisuse fits modules top
+  of_top : (m : ModuleTree) → top_of modules top ≡ Some m → all_fit fits (used_in_instance m no_place [] [] m.name.letters) ≡ false → HasMisuse fits modules top
   -- by an instance that an item of the hierarchy lists, behind those before it
   of_instance : (levels : ℕ) (one : Instance) (before : List ItemTree) (name : Word) (overrides : Option ConnectionsTree) (list : List InstanceTree)
       (after : List ItemTree) (child : ModuleTree) (made : InstanceTree) →
       StandsAt modules top levels one → before ++ instances name overrides list ∷ after ≡ one.unit.items → module_of modules name.letters ≡ Some child →
       Contains list made →
       all_fit fits (used_in_instance child (place_behind one.unit before) (named_connections_if (letters_of (open_names child)) overrides)
-      (named_connections (letters_of (port_names child)) made.connections)) ≡ false →
+      (named_connections (letters_of (port_names child)) made.connections) (one.path ++ 46 ∷ made.name.letters)) ≡ false →
       HasMisuse fits modules top

@@ -5,6 +5,7 @@ use Rattle.vast.specs.Words.{Text}
 use Rattle.vast.specs.NumberedWords.{Word}
 use Rattle.vast.specs.NumberedStatements.{SelectionTree, TaskTree, print, idle, dump_file, dump_vars, dump, end_run, StatementTree, StatementTrees, empty, block, assign, nonblocking, trigger, if_true, if_else, case_of, while_true, repeat_times, forever, for_loop, wait_for, delay, event, task, no_statement, first_statement, BranchTree, BranchTrees, labelled, default, no_branch, first_branch}
 use Rattle.vast.specs.NumberedModules.{ItemTree}
+use Rattle.vmodules.specs.Placed.{placed_items}
 use Rattle.velab_expr.specs.Selections.{dotted_path}
 use Rattle.velab_process.specs.Processes.{ProcessTree, procedural, continuous, process_trees_by}
 use Rattle.elaboration_law.specs.Hierarchy.{Instance}
@@ -68,4 +69,4 @@ paths_by_item top item = flat_map (paths_by_process top) (process_trees_by item)
 
 -- those of an instance, where the top has this name
 abbrev pub paths_in_instance : Text → Instance → List Text
-paths_in_instance top one = flat_map (paths_by_item top) one.unit.items
+paths_in_instance top one = flat_map (paths_by_item top) (placed_items one.path one.unit)

@@ -32,7 +32,7 @@ with_name named name worth letters = if bytes_eq letters name then worth else na
 
 abbrev pub range_of : Option ParameterType → Option RangeTree
 range_of None = None
-range_of (Some integer) = None
+range_of (Some (integer long)) = None
 range_of (Some (typed type)) = type.range
 
 abbrev pub bounds_by : (Text → Worth) → Option RangeTree → Option Bounds

@@ -7,7 +7,7 @@ use Rattle.vast.specs.NumberedStatements.{TargetTree, ArgumentTree, quoted, prin
 use Rattle.vast.specs.NumberedModules.{ConnectionsTree, InstanceTree, ItemTree, parameters, declaration, events, assignments, initial, always, instances, ModuleTree, SourceTree}
 use Rattle.vmodules.specs.Names.{letters_of}
 use Rattle.vmodules.specs.Hierarchy.{module_of, top_of}
-use Rattle.vmodules.specs.Ports.{Port, ports_of}
+use Rattle.vmodules.specs.Ports.{Port, ports_of, process_items}
 use Rattle.vmodules.specs.Connected.{NamedConnection, open_names, named_connections, named_connections_if, value_for}
 use Rattle.velab_declaration.specs.Variables.{Declaration, port_declaration, declarations, port_names}
 use Rattle.velab_expr.specs.Written.{target_of}
@@ -127,7 +127,7 @@ module _ (one : Instantiated) where
   abbrev pub has_right_widths : Bool
   has_right_widths =
       are_set_in one.outside one.values one.unit
-      && (are_ranged constants_in one.unit && (list_all is_connected (ports_of one.unit) && list_all (is_sized_item worth_in) one.unit.items))
+      && (are_ranged constants_in one.unit && (list_all is_connected (ports_of one.unit) && list_all (is_sized_item worth_in) (process_items one.unit)))
 
 -- ---- in a hierarchy
 

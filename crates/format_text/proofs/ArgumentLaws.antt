@@ -24,11 +24,11 @@ before_both front next None = refl
 before_both front next (Some pieces) = ap Some (append_assoc front next pieces)
 
 -- a string that a form waits for
-pub shown_string : (old : PrintedText) (front : FormatFront) (form : Form) (letters format : List ℕ) (one both : List Piece) (arguments : List Argument)
+pub shown_string : (old : PrintedText) (front : FormatFront) (form : Form) (path letters format : List ℕ) (one both : List Piece) (arguments : List Argument)
     → front_of old.format ≡ Some front → front.form ≡ Some form → form.notation ≡ Letters → one ≡ old.pieces ++ text_piece front.letters
     → both ≡ one ++ text_piece (letters_in form.width (letters_of Plain letters)) → format ≡ front.rest
-    → pieces_with (record { pieces = both; format = format; default = old.default }) arguments ≡ pieces_with old (string letters ∷ arguments)
-shown_string old front form letters format one both arguments front_is form_is letters_is one_is both_is format_is =
+    → pieces_with (record { pieces = both; format = format; default = old.default }) arguments ≡ pieces_with old (string path letters ∷ arguments)
+shown_string old front form path letters format one both arguments front_is form_is letters_is one_is both_is format_is =
     ap (λ xs. pieces_before xs (pieces_by old.default format arguments)) (both_is ∙ ap (λ xs. xs ++ second) one_is ∙ append_assoc old.pieces first second)
     ∙ ap (λ xs. pieces_before (old.pieces ++ (first ++ second)) (pieces_by old.default xs arguments)) format_is
     ∙ before_both old.pieces (first ++ second) (pieces_by old.default front.rest arguments)
@@ -40,10 +40,10 @@ shown_string old front form letters format one both arguments front_is form_is l
     second : List Piece
     second = text_piece (letters_in form.width (letters_of Plain letters))
 
-    taken_is : argument_taken old.default (front_of old.format) (string letters) ≡ Some (record { pieces = first ++ second; format = front.rest })
+    taken_is : argument_taken old.default (front_of old.format) (string path letters) ≡ Some (record { pieces = first ++ second; format = front.rest })
     taken_is =
-        ap (λ f. string_taken f (letters_of Plain letters)) front_is
-        ∙ ap (λ f. string_by front f (letters_of Plain letters)) form_is
+        ap (λ f. string_taken path f (letters_of Plain letters)) front_is
+        ∙ ap (λ f. string_by path front f (letters_of Plain letters)) form_is
         ∙ ap (λ n. string_shown front form.width n (letters_of Plain letters)) letters_is
 
 apart : (P : Type 0) → false ≡ true → P

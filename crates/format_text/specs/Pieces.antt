@@ -1,5 +1,7 @@
 -- *trusted*: The pieces of a printed text (IEEE 1364-2005, 17.1.1): strings are formats that take the arguments after them.
-use Rattle.std.specs.Prelude.{◌≡◌, ℕ, Bool, true, false, List, [], ◌∷◌, ◌++◌, Option, Some, None, unwrap_or}
+use Rattle.std.specs.Prelude.{◌≡◌, ◌==◌, ℕ, Bool, true, false, if◌then◌else◌, List, [], ◌∷◌, ◌++◌, Option, Some, None, unwrap_or}
+use Rattle.std.specs.Char.{is_ascii_digit}
+use Rattle.std.specs.List.{flat_map}
 use Rattle.value_text.specs.ValueText.{right_in}
 use Rattle.vdesign.specs.Expressions.{ExpressionTree}
 use Rattle.vdesign.specs.declared.print.Form.{Form}
@@ -10,11 +12,12 @@ use Rattle.vdesign.specs.declared.print.Width.TheVariants.{Natural, Least, Place
 use Rattle.vdesign.specs.declared.print.Piece.{Piece}
 use Rattle.vdesign.specs.declared.print.Piece.TheVariants.{Text, Value}
 use Rattle.format_text.specs.declared.letters.Escape.TheVariants.{Plain}
-use Rattle.format_text.specs.Formats.{FormatFront, letters_of, front_of}
+use Rattle.format_text.specs.Formats.{FormatFront, letters_of, front_of, is_letter, width_of}
 
--- a string as it stands between its quotes, or an expression, and whether a monitor watches it (17.1.3)
+-- a string as it stands between its quotes, with the path of the scope that its task stands in, or an expression, and whether a monitor
+-- watches it (17.1.3)
 pub data Argument : Type 0 where
-  string : List ℕ → Argument
+  string : List ℕ → List ℕ → Argument
   value : Bool → ExpressionTree → Argument
 
 abbrev pub text_piece : List ℕ → List Piece
@@ -36,6 +39,52 @@ letters_in Least letters = letters
 letters_in (Places places) letters = right_in places letters
 letters_in (Zeros places) letters = right_in places letters
 
+-- ---- `%m` shows the path of the scope, and takes no argument (17.1.1.1)
+
+-- a letter in a format that prints it
+abbrev pub as_format : ℕ → List ℕ
+as_format c = if c == 37 then 37 ∷ 37 ∷ [] else c ∷ []
+
+-- a form as it stands: its digits and its letter
+abbrev pub form_letters : List ℕ → ℕ → List ℕ
+form_letters digits c = 37 ∷ (digits ++ c ∷ [])
+
+-- the path in a width, which digits say as they do of a string
+abbrev pub path_in : Option Width → List ℕ → List ℕ → ℕ → List ℕ
+path_in None path digits c = form_letters digits c
+path_in (Some width) path digits c = flat_map as_format (letters_in width path)
+
+abbrev pub path_or_form : List ℕ → List ℕ → ℕ → List ℕ
+path_or_form path digits c = if is_letter 109 77 c then path_in (width_of digits) path digits c else form_letters digits c
+
+-- one letter more of a format, outside of forms or after a `%` and these digits
+abbrev pub letters_with_path : List ℕ → Bool → List ℕ → ℕ → List ℕ
+letters_with_path path false digits c = if c == 37 then [] else c ∷ []
+letters_with_path path true digits c = if is_ascii_digit c then [] else path_or_form path digits c
+
+abbrev pub is_in_form : Bool → ℕ → Bool
+is_in_form false c = c == 37
+is_in_form true c = is_ascii_digit c
+
+abbrev pub digits_in_form : Bool → List ℕ → ℕ → List ℕ
+digits_in_form false digits c = digits
+digits_in_form true digits c = if is_ascii_digit c then digits ++ c ∷ [] else []
+
+abbrev pub form_at_end : Bool → List ℕ → List ℕ
+form_at_end false digits = []
+form_at_end true digits = 37 ∷ digits
+
+abbrev pub with_path_behind : List ℕ → Bool → List ℕ → List ℕ → List ℕ
+with_path_behind path in_form digits [] = form_at_end in_form digits
+with_path_behind path in_form digits (c ∷ cs) =
+    letters_with_path path in_form digits c ++ with_path_behind path (is_in_form in_form c) (digits_in_form in_form digits c) cs
+
+-- a format with the path in the place of each `%m`
+abbrev pub with_path : List ℕ → List ℕ → List ℕ
+with_path path format = with_path_behind path false [] format
+
+-- ---- what a string gives
+
 -- pieces, and what is left of the format
 pub record Taken : Type 0 where
   pub pieces : List Piece
@@ -53,13 +102,13 @@ string_shown front width Time letters = None
 string_shown front width Character letters = None
 
 -- where no form waits for it, it is a format
-abbrev pub string_by : FormatFront → Option Form → List ℕ → Option Taken
-string_by front None letters = Some (record { pieces = text_piece front.letters; format = letters })
-string_by front (Some form) letters = string_shown front form.width form.notation letters
+abbrev pub string_by : List ℕ → FormatFront → Option Form → List ℕ → Option Taken
+string_by path front None letters = Some (record { pieces = text_piece front.letters; format = with_path path letters })
+string_by path front (Some form) letters = string_shown front form.width form.notation letters
 
-abbrev pub string_taken : Option FormatFront → List ℕ → Option Taken
-string_taken None letters = None
-string_taken (Some front) letters = string_by front front.form letters
+abbrev pub string_taken : List ℕ → Option FormatFront → List ℕ → Option Taken
+string_taken path None letters = None
+string_taken path (Some front) letters = string_by path front front.form letters
 
 -- ---- an expression: it is shown in the next form, or as the task shows what no format takes
 
@@ -69,7 +118,7 @@ value_taken default (Some front) is_watched e =
     Some (record { pieces = text_piece front.letters ++ Value (unwrap_or front.form default) is_watched e ∷ []; format = front.rest })
 
 abbrev pub argument_taken : Form → Option FormatFront → Argument → Option Taken
-argument_taken default front (string letters) = string_taken front (letters_of Plain letters)
+argument_taken default front (string path letters) = string_taken path front (letters_of Plain letters)
 argument_taken default front (value is_watched e) = value_taken default front is_watched e
 
 -- ---- all arguments

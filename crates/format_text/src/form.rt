@@ -6,8 +6,8 @@ ghost use Rattle.format_text.specs.Formats as spec;
 use basis::digits_len;
 use vdesign::print::{Form, Notation, Width};
 
-// Whether it is this letter, in either case.
-fn is_letter(letter: u8, small: u8, large: u8) -> bool
+/// Whether it is this letter, in either case.
+pub(crate) fn is_letter(letter: u8, small: u8, large: u8) -> bool
     ensures { result ≡ spec.is_letter small large letter }
 {
     letter == small || letter == large
@@ -81,8 +81,8 @@ fn zeros_of(digits: &[u8]) -> Option<Width>
     }
 }
 
-// What the digits before the letter say.
-fn width_of(digits: &[u8]) -> Option<Width>
+/// What the digits before the letter say.
+pub(crate) fn width_of(digits: &[u8]) -> Option<Width>
     ensures { result ≡ spec.width_of digits.now }
 {
     let Some((first, rest)) = digits.split_first() else {

@@ -6,6 +6,7 @@
 mod form;
 mod front;
 mod letters;
+mod path;
 mod printer;
 
 pub use printer::Printer;

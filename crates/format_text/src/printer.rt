@@ -7,6 +7,7 @@ ghost use Rattle.format_text.specs.Reading.{Adds, IsEndOf};
 
 use crate::front::{FormatFront, front_of};
 use crate::letters::letters_of;
+use crate::path::with_path;
 use basis::NoMemory;
 use std::alloc::Global;
 use std::marker::Model;
@@ -107,8 +108,8 @@ fn align_right(alloc: Global, places: u32, letters: &[u8]) -> Result<Vec<u8>, No
     Ok(text)
 }
 
-// Letters in a width.
-fn letters_in(width: Width, letters: Vec<u8>) -> Result<Vec<u8>, NoMemory>
+/// Letters in a width.
+pub(crate) fn letters_in(width: Width, letters: Vec<u8>) -> Result<Vec<u8>, NoMemory>
     ensures { IfOk result (λ text. text.items ≡ spec.letters_in width letters.items) }
 {
     let alloc = *letters.allocator();
@@ -133,11 +134,12 @@ impl Printer {
         }
     }
 
-    /// Takes a string, of which what stands between its quotes is given: it is shown by a form that waits for it, or else a format.
-    /// False where what is left of the one before isn't well formed, or has a form that shows no string. E901 is the only refusal.
-    pub fn string(&mut self, string: &[u8]) -> Result<bool, NoMemory>
+    /// Takes a string, of which what stands between its quotes is given: it is shown by a form that waits for it, or else a format, in
+    /// which `%m` shows the path. False where what is left of the one before isn't well formed, or has a form that shows no string. E901
+    /// is the only refusal.
+    pub fn string(&mut self, path: &[u8], string: &[u8]) -> Result<bool, NoMemory>
         ensures { IfOk result (λ is_done.
-            TakesArgument self.old (string_argument string.now) is_done self.new) }
+            TakesArgument self.old (string_argument path.now string.now) is_done self.new) }
     {
         let alloc = *self.format.allocator();
         let format = self.format.as_slice();
@@ -150,7 +152,7 @@ impl Printer {
         match form {
             None => {
                 put_text(&mut self.pieces, letters)?;
-                self.format = string;
+                self.format = with_path(alloc, path, &string)?;
                 self.at = 0;
                 Ok(true)
             }

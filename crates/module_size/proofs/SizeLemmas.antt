@@ -1,8 +1,10 @@
 -- What is left behind lists, and behind the trees whose parts stand in a list.
-use Rattle.std.proofs.Common.{◌≡◌, ◌<◌, ℕ, ◌+◌, ◌-◌, List, ◌∷◌, length, drop, get_or, Vec, Global, Box, sym, ap, ◌∙◌, arith, Option}
+use Rattle.std.proofs.Common.{◌≡◌, ◌<◌, ℕ, ◌+◌, ◌-◌, ◌^◌, min, List, ◌∷◌, length, drop, get_or, Vec, Global, Box, refl, sym, ap, ◌∙◌, arith, Option}
+use Rattle.std.specs.Option.{option_map}
 use Rattle.basis.proofs.Lists.{left_from}
 use Rattle.vast.specs.Words.{Text}
 use Rattle.vast.specs.NumberedWords.{numbered}
+use Rattle.vast.specs.NumberedStatements.{StatementTree, empty, block, assign, nonblocking, trigger, if_true, if_else, case_of, while_true, repeat_times, forever, for_loop, wait_for, delay, event, task}
 use Rattle.vast.specs.NumberedTrees.{tree_of, trees_of, target_tree, target_trees, statement_tree, statement_trees, branch_trees}
 use Rattle.vast.specs.declared.expression.Expression.{Expression, Concatenation, Replication}
 use Rattle.vast.specs.declared.statement.Target.{Target, Joined}
@@ -10,7 +12,9 @@ use Rattle.vast.specs.declared.statement.CaseKind.{CaseKind}
 use Rattle.vast.specs.declared.statement.Branch.{Branch}
 use Rattle.vast.specs.declared.statement.Statement.{Statement, Block, Case}
 use Rattle.vast.proofs.ToldTrees.{told_concatenation, told_replication, told_joined, told_block, told_case}
-use Rattle.module_size.specs.Sizes.{expression_size, expressions_size, target_size, targets_size, statement_size, statements_size, branches_size}
+use Rattle.module_size.specs.Sizes.{expression_size, expressions_size, target_size, targets_size, size_inside, statement_size, statements_size, branches_size}
+use Rattle.module_size.specs.Inner.{own_size, inner_size}
+use Rattle.module_size.proofs.PathLemmas.{saturated, statements_same}
 use Rattle.vast.specs.declared.token.Token.{Token}
 
 -- a loop over a list: what this one leaves, the others take from
@@ -48,18 +52,54 @@ module _ (words : List Text) (left result : ℕ) where
       ap target_size (ap (target_tree words) is ∙ told_joined (numbered words) at targets) ∙ ap (λ (ts : List Target). 1 + targets_size (target_trees words ts)) (sym same) in
       omega (arith, g, h, size)
 
-  pub block_left : (s : Statement) (label : Option Token) (list : Vec Statement Global) (items : List Statement) → s ≡ Block label list → items ≡ list.items →
-      result ≡ (left - 1) - statements_size (statement_trees words items) → result ≡ left - statement_size (statement_tree words s)
-  block_left s label list items is same h =
-      let size : statement_size (statement_tree words s) ≡ 1 + statements_size (statement_trees words items) =
-      ap statement_size (ap (statement_tree words) is ∙ told_block (numbered words) label list) ∙ ap (λ (ss : List Statement). 1 + statements_size (statement_trees words ss)) (sym same) in
+  pub block_left : (path inner : ℕ) (s : Statement) (label : Option Token) (list : Vec Statement Global) (items : List Statement) → s ≡ Block label list → items ≡ list.items →
+      left < 2 ^ 64 → inner ≡ min (size_inside path (option_map (numbered words) label)) (2 ^ 64 - 1) →
+      result ≡ left - statements_size inner (statement_trees words items) → result ≡ left - inner_size path (statement_tree words s)
+  block_left path inner s label list items is same small counted h =
+      let whole : ℕ = size_inside path (option_map (numbered words) label) in
+      let size : inner_size path (statement_tree words s) ≡ statements_size whole (statement_trees words items) =
+      ap (inner_size path) (ap (statement_tree words) is ∙ told_block (numbered words) label list) ∙ ap (λ (ss : List Statement). statements_size whole (statement_trees words ss)) (sym same) in
+      let alike : left - statements_size inner (statement_trees words items) ≡ left - statements_size whole (statement_trees words items) =
+      statements_same left inner whole (saturated left inner whole small counted) (statement_trees words items) left (omega arith) in
+      omega (arith, h, size, alike)
+
+  pub case_left : (path : ℕ) (s : Statement) (at : ℕ) (kind : CaseKind) (value : Box Expression Global) (branches : Vec Branch Global) (items : List Branch) →
+      s ≡ Case at kind value branches → items ≡ branches.items →
+      result ≡ left - branches_size path (branch_trees words items) → result ≡ left - inner_size path (statement_tree words s)
+  case_left path s at kind value branches items is same h =
+      let size : inner_size path (statement_tree words s) ≡ branches_size path (branch_trees words items) =
+      ap (inner_size path) (ap (statement_tree words) is ∙ told_case (numbered words) at kind value branches)
+      ∙ ap (λ (bs : List Branch). branches_size path (branch_trees words bs)) (sym same) in
       omega (arith, h, size)
 
-  pub case_left : (s : Statement) (at : ℕ) (kind : CaseKind) (value : Box Expression Global) (branches : Vec Branch Global) (amount : Expression) (items : List Branch) (between : ℕ) →
-      s ≡ Case at kind value branches → amount ≡ value.value → items ≡ branches.items →
-      between ≡ (left - 1) - expression_size (tree_of words amount) → result ≡ between - branches_size (branch_trees words items) → result ≡ left - statement_size (statement_tree words s)
-  case_left s at kind value branches amount items between is counted same h g =
-      let size : statement_size (statement_tree words s) ≡ 1 + (expression_size (tree_of words amount) + branches_size (branch_trees words items)) =
-      ap statement_size (ap (statement_tree words) is ∙ told_case (numbered words) at kind value branches)
-      ∙ (λ i. 1 + (expression_size (tree_of words (sym counted i)) + branches_size (branch_trees words (sym same i)))) in
-      omega (arith, h, g, size)
+  pub case_value_left : (path : ℕ) (s : Statement) (at : ℕ) (kind : CaseKind) (value : Box Expression Global) (branches : Vec Branch Global) (amount : Expression) →
+      s ≡ Case at kind value branches → amount ≡ value.value →
+      result ≡ left - expression_size (tree_of words amount) → result ≡ left - own_size path (statement_tree words s)
+  case_value_left path s at kind value branches amount is counted h =
+      let size : own_size path (statement_tree words s) ≡ expression_size (tree_of words amount) =
+      ap (own_size path) (ap (statement_tree words) is ∙ told_case (numbered words) at kind value branches)
+      ∙ ap (λ (e : Expression). expression_size (tree_of words e)) (sym counted) in
+      omega (arith, h, size)
+
+-- a statement is itself, and then the statements in it
+both_sizes : (path : ℕ) (s : StatementTree) → 1 + (own_size path s + inner_size path s) ≡ statement_size path s
+both_sizes path empty = refl
+both_sizes path (block label list) = omega arith
+both_sizes path (assign target amount value) = omega arith
+both_sizes path (nonblocking target amount value) = omega arith
+both_sizes path (trigger letters) = refl
+both_sizes path (if_true condition body) = refl
+both_sizes path (if_else condition body other) = refl
+both_sizes path (case_of kind value branches) = refl
+both_sizes path (while_true condition body) = refl
+both_sizes path (repeat_times count body) = refl
+both_sizes path (forever body) = omega arith
+both_sizes path (for_loop target value condition next_target next_value body) = omega arith
+both_sizes path (wait_for condition body) = refl
+both_sizes path (delay amount body) = refl
+both_sizes path (event control body) = refl
+both_sizes path (task call) = omega arith
+
+pub both_left : (path : ℕ) (s : StatementTree) (left between result : ℕ) → between ≡ (left - 1) - own_size path s → result ≡ between - inner_size path s →
+    result ≡ left - statement_size path s
+both_left path s left between result h g = let parts = both_sizes path s in omega (arith, h, g, parts)

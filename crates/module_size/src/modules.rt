@@ -36,7 +36,7 @@ fn take_parameter_type(kind: &ParameterType, left: usize) -> usize
         result ≡ left - parameter_type_size (parameter_type words kind.now) }
 {
     match kind {
-        ParameterType::Integer => left,
+        ParameterType::Integer { .. } => left,
         ParameterType::Typed(kind) => take_type(kind, left),
     }
 }
@@ -101,17 +101,35 @@ fn take_direction(direction: &Direction, left: usize) -> usize
     match direction {
         Direction::Input { kind, .. } => take_type(kind, left),
         Direction::Output { kind, .. } => take_type(kind, left),
+        Direction::OutputInteger { .. } => left,
+    }
+}
+
+fn take_port_direction(direction: &Option<Direction>, left: usize) -> usize
+    ensures { (words : List Text) → result ≡
+        left - size_if direction_size (option_map (direction_tree words) direction.now) }
+{
+    match direction {
+        None => left,
+        Some(direction) => take_direction(direction, left),
+    }
+}
+
+fn take_port_value(value: &Option<Box<Expression>>, left: usize) -> usize
+    ensures { (words : List Text) → result ≡ left - size_if expression_size
+        (option_map (λ value. tree_of words value.value) value.now) }
+{
+    match value {
+        None => left,
+        Some(value) => take_expression(value, left),
     }
 }
 
 fn take_port(port: &Port, left: usize) -> usize
     ensures { (words : List Text) → result ≡ left - port_size (port_tree words port.now) }
 {
-    let left = left.saturating_sub(1);
-    match &port.direction {
-        None => left,
-        Some(direction) => take_direction(direction, left),
-    }
+    let left = take_port_direction(&port.direction, left.saturating_sub(1));
+    take_port_value(&port.value, left)
 }
 
 fn take_ports(ports: &[Port], mut left: usize) -> usize
@@ -228,8 +246,8 @@ fn take_kind(kind: &DeclarationKind, left: usize) -> usize
     }
 }
 
-fn take_item(tokens: &Tokens<'_>, item: &ModuleItem, left: usize) -> usize
-    ensures { result ≡ left - item_size (item_tree (words_of tokens.now) item.now) }
+fn take_item(tokens: &Tokens<'_>, item: &ModuleItem, path: usize, left: usize) -> usize
+    ensures { result ≡ left - item_size path (item_tree (words_of tokens.now) item.now) }
 {
     match item {
         ModuleItem::Parameters { kind, settings, .. } => {
@@ -240,8 +258,8 @@ fn take_item(tokens: &Tokens<'_>, item: &ModuleItem, left: usize) -> usize
         }
         ModuleItem::Events { names, .. } => left.saturating_sub(names.len()),
         ModuleItem::Assignments { list, .. } => take_net_assignments(list, left),
-        ModuleItem::Initial { statement, .. } => take_statement(tokens, statement, left),
-        ModuleItem::Always { statement, .. } => take_statement(tokens, statement, left),
+        ModuleItem::Initial { statement, .. } => take_statement(tokens, statement, path, left),
+        ModuleItem::Always { statement, .. } => take_statement(tokens, statement, path, left),
         ModuleItem::Instances {
             overrides,
             instances,
@@ -250,12 +268,12 @@ fn take_item(tokens: &Tokens<'_>, item: &ModuleItem, left: usize) -> usize
     }
 }
 
-fn take_items(tokens: &Tokens<'_>, items: &[ModuleItem], mut left: usize) -> usize
+fn take_items(tokens: &Tokens<'_>, items: &[ModuleItem], path: usize, mut left: usize) -> usize
     ensures { result ≡
-        left - size_of item_size (map (item_tree (words_of tokens.now)) items.now) }
+        left - size_of (item_size path) (map (item_tree (words_of tokens.now)) items.now) }
 {
     for one in items {
-        left = take_item(tokens, one, left);
+        left = take_item(tokens, one, path, left);
     }
     left
 }
@@ -280,10 +298,10 @@ fn take_all_ports(ports: &Option<Vec<Port>>, left: usize) -> usize
     }
 }
 
-/// What is left behind a module; 0, where it has at least as much as was left.
-pub fn take_module(tokens: &Tokens<'_>, unit: &ModuleTree, left: usize) -> usize
-    ensures { result ≡ left - module_size (module_tree (words_of tokens.now) unit.now) }
+/// What is left behind a module, as an instance whose path has so many letters; 0, where it has at least as much as was left.
+pub fn take_module(tokens: &Tokens<'_>, unit: &ModuleTree, path: usize, left: usize) -> usize
+    ensures { result ≡ left - module_size path (module_tree (words_of tokens.now) unit.now) }
 {
     let left = take_all_ports(&unit.ports, take_head_parameters(&unit.parameters, left));
-    take_items(tokens, &unit.items, left)
+    take_items(tokens, &unit.items, path, left)
 }

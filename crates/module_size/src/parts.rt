@@ -5,7 +5,7 @@ ghost use Rattle.vast.specs.NumberedTrees.{argument_tree, delay_tree, event_tree
 ghost use Rattle.vast.specs.NumberedWords.{numbered};
 ghost use Rattle.vast.specs.Words.{Text};
 ghost use Rattle.vexpr_parse.specs.Texts.{words_of};
-ghost use Rattle.module_size.specs.Sizes.{argument_size, assignment_size, delay_size, event_size, pair_size, path_size, selection_size, size_if, size_of, target_size, targets_size, task_size, word_size};
+ghost use Rattle.module_size.specs.Sizes.{argument_size, assignment_size, delay_size, event_size, letter_size, pair_size, path_size, selection_size, size_if, size_of, string_size, target_size, targets_size, task_size, word_size};
 
 use crate::expressions::take_expression;
 use vast::expression::Expression;
@@ -105,22 +105,54 @@ fn take_word(tokens: &Tokens<'_>, word: Token, left: usize) -> usize
         .saturating_sub(letters(tokens, word).len())
 }
 
-fn take_argument(tokens: &Tokens<'_>, argument: &Argument, left: usize) -> usize
-    ensures { result ≡ left - argument_size (argument_tree (words_of tokens.now) argument.now) }
+fn take_letter(letter: u8, path: usize, left: usize) -> usize
+    ensures { result ≡ left - letter_size path letter }
+{
+    let left = left.saturating_sub(1);
+    if letter == b'%' || letter == b'\\' {
+        left.saturating_sub(path)
+    } else {
+        left
+    }
+}
+
+fn take_letters(string: &[u8], path: usize, mut left: usize) -> usize
+    ensures { result ≡ left - size_of (letter_size path) string.now }
+{
+    for one in string {
+        left = take_letter(*one, path, left);
+    }
+    left
+}
+
+fn take_string(tokens: &Tokens<'_>, word: Token, path: usize, left: usize) -> usize
+    ensures { result ≡ left - string_size path (numbered (words_of tokens.now) word) }
+{
+    take_letters(letters(tokens, word), path, left.saturating_sub(1))
+}
+
+fn take_argument(tokens: &Tokens<'_>, argument: &Argument, path: usize, left: usize) -> usize
+    ensures { result ≡
+        left - argument_size path (argument_tree (words_of tokens.now) argument.now) }
 {
     match argument {
-        Argument::Text(word) => take_word(tokens, *word, left),
+        Argument::Text(word) => take_string(tokens, *word, path, left),
         Argument::Value(value) => take_expression(value, left),
         Argument::LeftOut => left.saturating_sub(2),
     }
 }
 
-fn take_arguments(tokens: &Tokens<'_>, arguments: &[Argument], mut left: usize) -> usize
-    ensures { result ≡ left - size_of argument_size
+fn take_arguments(
+    tokens: &Tokens<'_>,
+    arguments: &[Argument],
+    path: usize,
+    mut left: usize,
+) -> usize
+    ensures { result ≡ left - size_of (argument_size path)
         (map (argument_tree (words_of tokens.now)) arguments.now) }
 {
     for one in arguments {
-        left = take_argument(tokens, one, left);
+        left = take_argument(tokens, one, path, left);
     }
     left
 }
@@ -154,12 +186,12 @@ fn take_selection(tokens: &Tokens<'_>, selection: &Option<Selection>, left: usiz
     }
 }
 
-/// What is left behind a system task.
-pub fn take_task(tokens: &Tokens<'_>, task: &Task, left: usize) -> usize
-    ensures { result ≡ left - task_size (task_tree (words_of tokens.now) task.now) }
+/// What is left behind a system task in a scope whose path has so many letters.
+pub fn take_task(tokens: &Tokens<'_>, task: &Task, path: usize, left: usize) -> usize
+    ensures { result ≡ left - task_size path (task_tree (words_of tokens.now) task.now) }
 {
     match task {
-        Task::Print { arguments, .. } => take_arguments(tokens, arguments, left),
+        Task::Print { arguments, .. } => take_arguments(tokens, arguments, path, left),
         Task::Idle { .. } => left,
         Task::DumpFile(_) => left,
         Task::DumpVars(selection) => take_selection(tokens, selection, left),

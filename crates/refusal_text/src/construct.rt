@@ -32,7 +32,6 @@ pub(crate) enum Construct {
     Foreach,
     Fork,
     Format,
-    FormatPath,
     Function,
     Gate,
     Generate,
@@ -43,6 +42,7 @@ pub(crate) enum Construct {
     IndexedPart,
     IndexedTarget,
     Inout,
+    InputType,
     Inside,
     InstanceArray,
     Interface,
@@ -89,7 +89,6 @@ pub(crate) enum Construct {
     SystemTask,
     Task,
     ThreeState,
-    Time,
     TimeLiteral,
     TimeUnit,
     TwoValued,
@@ -110,7 +109,7 @@ pub(crate) struct Row {
     pub(crate) instead: &'static str,
 }
 
-const ROWS: [Row; 62] = [
+const ROWS: [Row; 61] = [
     Row {
         construct: Construct::Attribute,
         names_word: false,
@@ -213,14 +212,7 @@ const ROWS: [Row; 62] = [
         construct: Construct::Format,
         names_word: true,
         what: "the format",
-        instead: "write `%b`, `%o`, `%h`, `%d`, `%t`, `%c` or `%s`, with at most three digits before the letter, or `%%`",
-    },
-    Row {
-        construct: Construct::FormatPath,
-        names_word: true,
-        what: "the format",
-        instead: "write the path into the string, as `tb.u`; where a module has several instances, give each a number by a \
-            parameter, and print that",
+        instead: "write `%b`, `%o`, `%h`, `%d`, `%t`, `%c`, `%s` or `%m`, with at most three digits before the letter, or `%%`",
     },
     Row {
         construct: Construct::Function,
@@ -274,6 +266,12 @@ const ROWS: [Row; 62] = [
         what: "`inout`",
         instead: "write an input and an output, and join the drivers outside in one `assign`: `assign bus = oe1 ? o1 : oe2 ? o2 \
             : 1'bz;`",
+    },
+    Row {
+        construct: Construct::InputType,
+        names_word: false,
+        what: "an input of `integer` or `time`",
+        instead: "write `input signed [31:0]` for `integer`, and `input [63:0]` for `time`: an input is a net",
     },
     Row {
         construct: Construct::InstanceArray,
@@ -387,8 +385,8 @@ const ROWS: [Row; 62] = [
     Row {
         construct: Construct::PortValue,
         names_word: false,
-        what: "a port with a value, or of `integer`",
-        instead: "write `output reg q` and `initial q = ..;` in the body; for `integer` write `reg signed [31:0]`",
+        what: "a value in a list of ports without directions",
+        instead: "write it where the port is declared: `output reg q = 1;`",
     },
     Row {
         construct: Construct::Power,
@@ -484,12 +482,6 @@ const ROWS: [Row; 62] = [
         what: "gates and switches that give z",
         instead: "write an `assign` that chooses, `assign w = en ? a : 1'bz;`, with all drivers of the net in one: `en1 ? a : \
             en2 ? b : 1'bz`. For `tran`, which goes both ways, nothing serves",
-    },
-    Row {
-        construct: Construct::Time,
-        names_word: false,
-        what: "a port or a parameter of `time`",
-        instead: "write `[63:0]` in its place",
     },
     Row {
         construct: Construct::UnnamedPort,

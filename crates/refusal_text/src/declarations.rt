@@ -4,9 +4,6 @@ use crate::construct::Construct;
 use crate::walk::{Group, Level, NETS, Opening, Walk};
 use crate::words::{Words, is, is_one_of};
 
-// Behind these `time` stands nowhere here.
-const TYPED: [&str; 4] = ["input", "output", "parameter", "localparam"];
-
 // With these a declaration begins, beside those that a keyword tells.
 const DECLARATIONS: [&str; 7] = [
     "reg",
@@ -35,11 +32,6 @@ const FAR: usize = 4_096;
 // Whether the word stands in the list of ports.
 fn is_in_list(walk: Walk) -> bool {
     walk.level == Level::Head && walk.group == Group::Plain && walk.open == 1
-}
-
-// Whether the word stands in an item that declares ports.
-fn is_in_port_item(walk: Walk) -> bool {
-    walk.level == Level::Items && walk.opening == Opening::Port && walk.open == 0
 }
 
 // Whether all words before this one, up to the parenthesis that opens the list of ports, are names and commas.
@@ -95,11 +87,9 @@ pub(crate) fn by_name(words: Words<'_>, walk: Walk) -> Option<Construct> {
     if is_one_of(word, &DECLARATIONS) && walk.is_in_block() {
         return Some(Construct::BlockDeclaration);
     }
-    if is(word, "time") && is_one_of(words.before(1), &TYPED) {
-        return Some(Construct::Time);
-    }
-    if is(word, "integer") && (is_in_list(walk) || is_in_port_item(walk)) {
-        return Some(Construct::PortValue);
+    let is_routine = walk.level == Level::Routine;
+    if is_one_of(word, &["integer", "time"]) && is(words.before(1), "input") && !is_routine {
+        return Some(Construct::InputType);
     }
     if is_one_of(word, &["input", "output"]) && is_in_list(walk) && is_behind_names(words) {
         return Some(Construct::MixedPorts);
@@ -123,11 +113,11 @@ pub(crate) fn by_symbol(words: Words<'_>, walk: Walk) -> Option<Construct> {
     let is_driven = is_before_value(walk, Opening::Assign) || is_before_value(walk, Opening::Net);
     let is_port = is_in_list(walk);
     match words.word() {
-        word if is(word, "=") && (is_port || is_in_port_item(walk)) => Some(Construct::PortValue),
+        word if is(word, "=") && is_port && is_behind_names(words) => Some(Construct::PortValue),
         word if is_one_of(word, &[",", ")"]) && is_port && ends_no_port(words) => {
             Some(Construct::UnnamedPort)
         }
-        word if is(word, "{") && is_port => Some(Construct::PortExpression),
+        word if is(word, "{") && is_port && !walk.assigned => Some(Construct::PortExpression),
         word if is(word, "#") && is_driven => Some(Construct::NetDelay),
         word if is(word, "(") && is_driven => Some(Construct::Strength),
         _ => None,

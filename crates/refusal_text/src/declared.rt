@@ -49,8 +49,8 @@ fn is_in_item(walk: Walk) -> bool {
 fn is_port(words: Words<'_>, walk: Walk) -> bool {
     let next = words.after(1);
     let is_listed = is_in_ports(walk) && is_one_of(next, &[",", ")", "="]);
-    let is_declared = is_in_item(walk) && is_one_of(next, &[",", ";"]);
-    words.is_name_after(0) && (is_listed || is_declared)
+    let is_declared = is_in_item(walk) && is_one_of(next, &[",", ";", "="]);
+    words.is_name_after(0) && !walk.assigned && (is_listed || is_declared)
 }
 
 impl<'a> Head<'a> {

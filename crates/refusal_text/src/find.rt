@@ -7,7 +7,7 @@ use crate::mistakes::{Mistake, rule_for};
 use crate::modules::begins_instances;
 use crate::walk::{Level, Walk};
 use crate::words::{Words, is_one_of};
-use crate::{bounds, declarations, expressions, formats, keywords, statements, system_verilog};
+use crate::{bounds, declarations, expressions, keywords, statements, system_verilog};
 use basis::NoMemory;
 use std::alloc::Global;
 use vast::words::unescaped;
@@ -158,8 +158,7 @@ fn keep_formats<'a>(all: &mut Vec<Found<'a>>, words: Words<'a>) -> Result<(), No
         let Some(format) = bad_format(rest) else {
             return Ok(());
         };
-        let construct = formats::construct_of(format.word);
-        keep(all, found_at(words, construct, format.word))?;
+        keep(all, found_at(words, Construct::Format, format.word))?;
         rest = format.behind;
     }
     Ok(())

@@ -1,6 +1,5 @@
 // Formats of printed lines (docs/LANGUAGE.md, "Printed lines").
 
-use crate::construct::Construct;
 use crate::lines::front;
 
 // The most digits that a width has, beside a 0 in front of them.
@@ -107,7 +106,7 @@ impl Digits {
 // Whether it is the letter of a form.
 fn is_letter(letter: u8) -> bool {
     match letter.to_ascii_lowercase() {
-        b'b' | b'o' | b'h' | b'x' | b'd' | b't' | b'c' | b's' => true,
+        b'b' | b'o' | b'h' | b'x' | b'd' | b't' | b'c' | b's' | b'm' => true,
         _ => false,
     }
 }
@@ -177,18 +176,29 @@ fn behind_percent(after: &[u8]) -> Option<&[u8]> {
     }
 }
 
-/// The first format of the letters.
+// What stands behind a letter, behind `%%` or behind a format that takes no argument, which the letters begin with; or else their format.
+fn passed(letters: &[u8]) -> Option<Result<&[u8], Format<'_>>> {
+    let next = letter_of(letters)?;
+    if next.letter != b'%' {
+        return Some(Ok(next.behind));
+    }
+    if let Some(behind) = behind_percent(next.behind) {
+        return Some(Ok(behind));
+    }
+    let format = format_at(letters, next.behind);
+    if format.form == Some(b'm') {
+        return Some(Ok(format.behind));
+    }
+    Some(Err(format))
+}
+
+/// The first format of the letters that takes an argument, or that the profile leaves out.
 pub(crate) fn next_format(letters: &[u8]) -> Option<Format<'_>> {
     let mut rest = letters;
     for _ in 0..letters.len() {
-        let next = letter_of(rest)?;
-        if next.letter != b'%' {
-            rest = next.behind;
-        } else {
-            match behind_percent(next.behind) {
-                Some(behind) => rest = behind,
-                None => return Some(format_at(rest, next.behind)),
-            }
+        match passed(rest)? {
+            Ok(behind) => rest = behind,
+            Err(format) => return Some(format),
         }
     }
     None
@@ -205,14 +215,6 @@ pub(crate) fn bad_format(letters: &[u8]) -> Option<Format<'_>> {
         rest = format.behind;
     }
     None
-}
-
-/// The construct that a format is which the profile leaves out.
-pub(crate) fn construct_of(format: &[u8]) -> Construct {
-    match format.last() {
-        Some(b'm') | Some(b'M') => Construct::FormatPath,
-        _ => Construct::Format,
-    }
 }
 
 /// The letters of a string, without its quotes.

@@ -27,6 +27,7 @@ pub(crate) enum Mistake {
     TimescaleOrder,
     UndirectedPort,
     UnlistedPort,
+    ValuedPort,
 }
 
 // A mistake, and what is told of it.
@@ -35,7 +36,7 @@ struct Row {
     rule: Rule,
 }
 
-static ROWS: [Row; 22] = [
+static ROWS: [Row; 23] = [
     Row {
         mistake: Mistake::Escape,
         rule: Rule {
@@ -151,8 +152,8 @@ static ROWS: [Row; 22] = [
         rule: Rule {
             number: 302,
             names_word: true,
-            what: "is a port, and no port is an `integer`",
-            instead: "write `output reg signed [31:0] y` in place of both declarations",
+            what: "is a port that is declared again as an `integer` or a `time`",
+            instead: "write `output integer y`, or `output time y`, in place of both declarations",
         },
     },
     Row {
@@ -235,6 +236,16 @@ static ROWS: [Row; 22] = [
             names_word: true,
             what: "has no argument left",
             instead: "write an argument for each format behind its string, in their order; a percent sign is `%%`",
+        },
+    },
+    Row {
+        mistake: Mistake::ValuedPort,
+        rule: Rule {
+            number: 310,
+            names_word: true,
+            what: "is given a value, and is no output that is a variable",
+            instead: "write `output reg y = 1`, `output integer` or `output time`; a net is driven by an `assign`, and an input \
+                from outside",
         },
     },
 ];

@@ -144,10 +144,11 @@ fn are_alike<'a>(tokens: &'a Tokens<'a>, direction: Option<usize>, item: usize) 
 }
 
 // What is wrong with a name of the list of ports.
-fn of_listed(number: u16) -> Option<Mistake> {
+fn of_listed(words: Words<'_>, number: u16) -> Option<Mistake> {
     match number {
         302 => Some(Mistake::SamePort),
         303 => Some(Mistake::UndirectedPort),
+        310 if is(words.after(1), "=") => Some(Mistake::ValuedPort),
         _ => None,
     }
 }
@@ -156,12 +157,16 @@ fn of_listed(number: u16) -> Option<Mistake> {
 fn of_item<'a>(tokens: &'a Tokens<'a>, number: u16, item: usize, ways: Ways) -> Option<Mistake> {
     let first = Words::new(tokens, item).word();
     let is_second = is_one_of(first, &["reg", "wire"]);
+    let is_integer = is_one_of(first, &["integer", "time"]);
+    let is_port = is_one_of(first, &["input", "output"]);
     match number {
-        302 if ways.is_listed && is(first, "integer") => Some(Mistake::IntegerPort),
+        302 if ways.is_listed && is_integer => Some(Mistake::IntegerPort),
         302 if ways.is_listed && is_one_of(first, &DECLARING) => Some(Mistake::DeclaredPort),
-        303 if is_one_of(first, &["input", "output"]) => Some(Mistake::UnlistedPort),
+        303 if is_port => Some(Mistake::UnlistedPort),
         306 if is_second && !are_alike(tokens, ways.direction, item) => Some(Mistake::OtherRange),
         310 if is(first, "reg") && ways.is_input => Some(Mistake::InputVariable),
+        // told at the name of a port alone where it has a value that it may not have
+        310 if is_port => Some(Mistake::ValuedPort),
         _ => None,
     }
 }
@@ -184,7 +189,7 @@ pub(crate) fn mistake_of<'a>(tokens: &'a Tokens<'a>, at: usize, number: u16) -> 
         };
     }
     match walk.level {
-        Level::Head if walk.group == Group::Plain => of_listed(number),
+        Level::Head if walk.group == Group::Plain => of_listed(words, number),
         Level::Items => of_item(tokens, number, standing.item, ways),
         _ => None,
     }

@@ -1,7 +1,8 @@
 // What is wrong with the arguments of a task that prints: a format takes what stands behind its string (IEEE 1364-2005, 17.1.1).
 
+use crate::construct::Construct;
 use crate::find::{Found, What};
-use crate::formats::{Format, construct_of, letters_of, next_format};
+use crate::formats::{Format, letters_of, next_format};
 use crate::mistakes::Mistake;
 use crate::walk::PRINTS;
 use crate::words::{Words, is, is_one_of};
@@ -74,7 +75,7 @@ impl<'a> Printed<'a> {
 
     // What is wrong with a format that the profile leaves out.
     fn left_out(&self, format: Format<'a>) -> Found<'a> {
-        self.told(What::LeftOut(construct_of(format.word)), format)
+        self.told(What::LeftOut(Construct::Format), format)
     }
 
     // What is wrong with the next format where no argument is left.

@@ -36,7 +36,7 @@ fn is_in_head(words: Words<'_>, walk: Walk) -> bool {
     let next = words.after(1);
     match walk.group {
         Group::Delay => is(next, "="),
-        _ => is_one_of(next, &[",", ")", "="]),
+        _ => !walk.assigned && is_one_of(next, &[",", ")", "="]),
     }
 }
 

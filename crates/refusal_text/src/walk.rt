@@ -483,7 +483,19 @@ impl Walk {
         if self.open == 1 && self.group == Group::Delay {
             next.chosen = self.chosen_after(word);
         }
+        if self.open == 1 && self.group == Group::Plain && self.level == Level::Head {
+            next.assigned = self.assigned_after(word);
+        }
         next
+    }
+
+    // Whether the value of a port has begun behind the word, in a list of ports.
+    fn assigned_after(&self, word: &[u8]) -> bool {
+        match word {
+            word if is(word, "=") => true,
+            word if is(word, ",") => false,
+            _ => self.assigned,
+        }
     }
 
     // How many `?` wait for their `:` behind the word.

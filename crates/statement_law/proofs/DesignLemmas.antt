@@ -11,6 +11,7 @@ use Rattle.vast.specs.NumberedModules.{ModuleTree, SourceTree}
 use Rattle.vmodules.specs.Names.{first_again}
 use Rattle.vmodules.specs.Hierarchy.{module_names, top_of}
 use Rattle.vmodules.specs.Ports.{Port, ports_of}
+use Rattle.vmodules.specs.Placed.{placed_items}
 use Rattle.vmodules.specs.Connected.{NamedConnection, value_for}
 use Rattle.vdesign.specs.Design.{Design}
 use Rattle.vdesign.specs.declared.action.Action.{Action}
@@ -133,14 +134,14 @@ module _ (actions : List Action) where
   own_stands context scope table =
       let ports : List Port = ports_of context.unit in
       let ones : List Begin = joins_begin context.overrides.scope scope context.connections ports in
-      let others : List Begin = begins_in scope context.unit.items in
+      let others : List Begin = begins_in scope (placed_items context.path context.unit) in
       let P : Processes → Type 0 = Joined table (ones ++ others) in
       told_then (Joined table ones) P (lower_joins context.name context.overrides.scope scope context.connections table ports) _
       (joins_stand context.name context.overrides.scope scope context.connections table ports) (λ joins first.
-      told_begins P joins.begins (lower_items scope joins.table context.unit.items)
-      (told_by (GrownProcesses joins.table) (λ all. P (record { table = all.table; begins = joins.begins ++ all.begins })) (lower_items scope joins.table context.unit.items)
-      (grown_items scope joins.table context.unit.items) (λ all is grows.
-      both_joined table ones others joins all first (record { grows = grows; stand = items_stand actions scope joins.table context.unit.items all is }))))
+      told_begins P joins.begins (lower_items scope joins.table (placed_items context.path context.unit))
+      (told_by (GrownProcesses joins.table) (λ all. P (record { table = all.table; begins = joins.begins ++ all.begins })) (lower_items scope joins.table (placed_items context.path context.unit))
+      (grown_items scope joins.table (placed_items context.path context.unit)) (λ all is grows.
+      both_joined table ones others joins all first (record { grows = grows; stand = items_stand actions scope joins.table (placed_items context.path context.unit) all is }))))
 
   -- ---- what an instance adds
 

@@ -8,6 +8,7 @@ use Rattle.vast.specs.NumberedStatements.{TargetTree, whole}
 use Rattle.vast.specs.NumberedModules.{ModuleTree, SourceTree}
 use Rattle.vmodules.specs.Hierarchy.{top_of}
 use Rattle.vmodules.specs.Ports.{Port, ports_of}
+use Rattle.vmodules.specs.Placed.{placed_items}
 use Rattle.vmodules.specs.Connected.{NamedConnection, value_for}
 use Rattle.vdesign.specs.Design.{Design}
 use Rattle.velab_expr.specs.declared.fault.ElabFault.{ElabFault}
@@ -42,10 +43,10 @@ joins_begin outer inner connections (p ∷ more) =
 
 -- ---- instances (12.1)
 
--- those of its port connections, and those of its items
+-- those of its port connections, those of its ports' values (6.2.1), and those of its items
 abbrev pub own_begins : Context → Scope → List Begin
 own_begins context scope =
-    joins_begin context.overrides.scope scope context.connections (ports_of context.unit) ++ begins_in scope context.unit.items
+    joins_begin context.overrides.scope scope context.connections (ports_of context.unit) ++ begins_in scope (placed_items context.path context.unit)
 
 -- of one instance after another, each behind what stands before
 abbrev pub begins_each : (Part → Instantiation → Result Part ElabFault) → (Part → Instantiation → List Begin) → Part → List Instantiation → List Begin

@@ -18,6 +18,11 @@ fn net_word(net: NetKind) -> &'static [u8] {
     }
 }
 
+// The word of an integer, or of a longer one.
+fn integer_word(long: bool) -> &'static [u8] {
+    if long { b"time" } else { b"integer" }
+}
+
 fn range(page: &mut Page<'_>, value: &Option<Bounds>) -> Result<(), NoMemory> {
     match value {
         None => page.word(b"-"),
@@ -41,7 +46,7 @@ pub fn sign_and_range(page: &mut Page<'_>, value: &SignAndRange) -> Result<(), N
 /// The type of a parameter.
 pub fn parameter_type(page: &mut Page<'_>, value: &ParameterType) -> Result<(), NoMemory> {
     match value {
-        ParameterType::Integer => page.empty(b"integer"),
+        ParameterType::Integer { long } => page.empty(integer_word(*long)),
         ParameterType::Typed(kind) => sign_and_range(page, kind),
     }
 }
@@ -93,13 +98,18 @@ pub fn direction(page: &mut Page<'_>, value: &Direction) -> Result<(), NoMemory>
             sign_and_range(page, kind)?;
             page.close()
         }
+        Direction::OutputInteger { long } => {
+            page.open(b"output")?;
+            net(page, None)?;
+            page.empty(integer_word(*long))?;
+            page.close()
+        }
     }
 }
 
 fn declaration_kind(page: &mut Page<'_>, value: &DeclarationKind) -> Result<(), NoMemory> {
     match value {
-        DeclarationKind::Integers { long: false } => page.empty(b"integer"),
-        DeclarationKind::Integers { long: true } => page.empty(b"time"),
+        DeclarationKind::Integers { long } => page.empty(integer_word(*long)),
         DeclarationKind::Directed { direction: way } => direction(page, way),
         DeclarationKind::Variables { net, kind } => {
             page.open(net_word(*net))?;

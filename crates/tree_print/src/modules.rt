@@ -1,5 +1,6 @@
 // Modules, and texts of them.
 
+use crate::expressions::optional;
 use crate::items::{direction, item, parameter_type, setting};
 use crate::page::Page;
 use basis::NoMemory;
@@ -47,6 +48,7 @@ fn port_list(page: &mut Page<'_>, list: &[Port]) -> Result<(), NoMemory> {
         page.open(b"port")?;
         optional_direction(page, &port.direction)?;
         page.token(port.name)?;
+        optional(page, &port.value)?;
         page.close()?;
     }
     Ok(())

@@ -5,7 +5,7 @@ use Rattle.vast.specs.Modules.{typed, input, output, by_order, variables, direct
 use Rattle.vast.specs.Modules as written
 use Rattle.vast.specs.ExpressionTrees.{expression_told, boxed_told}
 use Rattle.vast.specs.ModuleTrees.{range_told, type_told, parameter_type_told, setting_told, net_assignment_told, declared_told, direction_told, port_told, head_told, connection_told, connections_told, instance_told, declaration_kind_told, item_told, module_told, source_told}
-use Rattle.vast.specs.Leaves.{leaves_of, boxed_leaves, range_leaves, type_leaves, parameter_type_leaves, setting_leaves, net_assignment_leaves, declared_leaves, direction_leaves, port_leaves, head_leaves, connection_leaves, connections_leaves, instance_leaves, declaration_kind_leaves, item_leaves, module_leaves, text_leaves}
+use Rattle.vast.specs.Leaves.{if_some, leaves_of, boxed_leaves, range_leaves, type_leaves, parameter_type_leaves, setting_leaves, net_assignment_leaves, declared_leaves, direction_leaves, port_leaves, head_leaves, connection_leaves, connections_leaves, instance_leaves, declaration_kind_leaves, item_leaves, module_leaves, text_leaves}
 use Rattle.vast.specs.TreeWords.{expression_with, expression_words, range_with, range_words, type_with, type_words, parameter_type_with, parameter_type_words, setting_with, setting_words, net_assignment_with, net_assignment_words, declared_with, declared_words, direction_with, direction_words, port_with, port_words, head_with, head_words, connection_with, connection_words, connections_with, connections_words, instance_with, instance_words, declaration_kind_with, declaration_kind_words, item_with, item_words, module_with, module_words, source_with, source_words}
 use Rattle.vast.specs.declared.token.Token.{Token}
 use Rattle.vast.specs.declared.module.Bounds.{Bounds}
@@ -49,7 +49,7 @@ module _ {V W : Type 0} (f : V → W) (told : Token → V) where
   -- types of parameters
   pub parameter_type_with_told : (type : ParameterType) →
       parameter_type_with f (parameter_type_told told type) ≡ parameter_type_told (λ x. f (told x)) type
-  parameter_type_with_told kinds.Integer = refl
+  parameter_type_with_told (kinds.Integer long) = refl
   parameter_type_with_told (kinds.Typed type) = λ i. typed (type_with_told type i)
 
   -- name = value
@@ -73,12 +73,14 @@ module _ {V W : Type 0} (f : V → W) (told : Token → V) where
       direction_with f (direction_told told direction) ≡ direction_told (λ x. f (told x)) direction
   direction_with_told (directions.Input wire type) = λ i. input wire (type_with_told type i)
   direction_with_told (directions.Output net type) = λ i. output net (type_with_told type i)
+  direction_with_told (directions.OutputInteger long) = refl
 
   -- ports
   pub port_with_told : (port : Port) → port_with f (port_told told port) ≡ port_told (λ x. f (told x)) port
   port_with_told port = λ i. record {
     direction = option_same (direction_with f) (direction_told told) (direction_told (λ x. f (told x))) direction_with_told port.direction i;
     name = f (told port.name);
+    value = option_same (expression_with f) (boxed_told told) (boxed_told (λ x. f (told x))) (boxed_with_told f told) port.value i;
   }
 
   -- parameters of a head
@@ -161,7 +163,7 @@ module _ {W : Type 0} (told : Token → W) where
   -- types of parameters
   pub parameter_type_words_told : (type : ParameterType) →
       parameter_type_words (parameter_type_told told type) ≡ map told (parameter_type_leaves type)
-  parameter_type_words_told kinds.Integer = refl
+  parameter_type_words_told (kinds.Integer long) = refl
   parameter_type_words_told (kinds.Typed type) = type_words_told type
 
   -- name = value
@@ -181,11 +183,13 @@ module _ {W : Type 0} (told : Token → W) where
   pub direction_words_told : (direction : Direction) → direction_words (direction_told told direction) ≡ map told (direction_leaves direction)
   direction_words_told (directions.Input wire type) = type_words_told type
   direction_words_told (directions.Output net type) = type_words_told type
+  direction_words_told (directions.OutputInteger long) = refl
 
   -- ports
   pub port_words_told : (port : Port) → port_words (port_told told port) ≡ map told (port_leaves port)
-  port_words_told port = joined_words told _ (port.name ∷ [])
-      (words_if_some told direction_words (direction_told told) direction_leaves direction_words_told port.direction) refl
+  port_words_told port = joined_words told _ (port.name ∷ if_some boxed_leaves port.value)
+      (words_if_some told direction_words (direction_told told) direction_leaves direction_words_told port.direction)
+      (λ i. told port.name ∷ words_if_some told expression_words (boxed_told told) boxed_leaves (boxed_words_told told) port.value i)
 
   -- parameters of a head
   pub head_words_told : (head : HeadParameter) → head_words (head_told told head) ≡ map told (head_leaves head)

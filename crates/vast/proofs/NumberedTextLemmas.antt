@@ -29,8 +29,8 @@ module _ (words : List Text) where
       let at : n ≡ n + 0 = omega arith in
       let word_at = ap (λ found. unescaped (letters found)) (ap (slice_get words) at ∙ here 0) in
       let after : (i : ℕ) → suc n + i ≡ n + suc i = λ i. omega arith in
-      one_leaf (is_leaf word) (record { number = n }) (record { letters = unescaped word; number = n }) (leaves_from (suc n) rest) (words_from (suc n) rest)
-      (λ i. record { letters = word_at i; number = n })
+      one_leaf (is_leaf word) (record { number = n }) (record { letters = unescaped word; number = n; path = [] }) (leaves_from (suc n) rest) (words_from (suc n) rest)
+      (λ i. record { letters = word_at i; number = n; path = [] })
       (numbered_rest (suc n) rest (λ i. ap (slice_get words) (after i) ∙ here (suc i)))
 
   -- the tokens that trees keep are those words, with their letters and numbers
@@ -56,4 +56,4 @@ numbered_text words text same = record {
 pub numbered_once : (words : List Text) (tree : SourceTree) (m n : SourceOf Word) →
     IsNumbered words tree m → IsNumbered words tree n → m ≡ n
 numbered_once words tree m n one other =
-    source_once (λ word. word.letters) (record { letters = []; number = 0 }) m n (one.is_tree ∙ sym other.is_tree) (one.are_words ∙ sym other.are_words)
+    source_once (λ word. word.letters) (record { letters = []; number = 0; path = [] }) m n (one.is_tree ∙ sym other.is_tree) (one.are_words ∙ sym other.are_words)

@@ -1,7 +1,7 @@
 -- Modules are told by their words and by what they are without them.
 use Rattle.std.proofs.Common.{◌≡◌, map}
 use Rattle.std.specs.List.{flat_map}
-use Rattle.vast.specs.Modules.{RangeOf, TypeOf, ParameterTypeOf, integer, typed, SettingOf, NetAssignmentOf, DeclaredOf, DirectionOf, input, output, PortOf, HeadParameterOf, ConnectionOf, ConnectionsOf, by_order, by_name, InstanceOf, DeclarationKindOf, variables, integers, directed, ItemOf, parameters, declaration, events, assignments, initial, always, instances, ModuleOf, SourceOf}
+use Rattle.vast.specs.Modules.{RangeOf, TypeOf, ParameterTypeOf, integer, typed, SettingOf, NetAssignmentOf, DeclaredOf, DirectionOf, input, output, output_integer, PortOf, HeadParameterOf, ConnectionOf, ConnectionsOf, by_order, by_name, InstanceOf, DeclarationKindOf, variables, integers, directed, ItemOf, parameters, declaration, events, assignments, initial, always, instances, ModuleOf, SourceOf}
 use Rattle.vast.specs.TreeWords.{expression_with, expression_words, range_with, range_words, type_with, type_words, parameter_type_with, parameter_type_words, setting_with, setting_words, net_assignment_with, net_assignment_words, declared_with, declared_words, direction_with, direction_words, port_with, port_words, head_with, head_words, connection_with, connection_words, connections_with, connections_words, instance_with, instance_words, declaration_kind_with, declaration_kind_words, item_with, item_words, module_with, module_words, source_with, source_words}
 use Rattle.vast.proofs.Refilling.{Filling, pure, word, both, made_to, fill_list, fill_option, two, three, four, Fills, pure_fills, word_fills, both_fills, made_fills, list_fills, words_fill, option_fills, filled_once}
 use Rattle.vast.proofs.RefilledExpressions.{fill_expression, expression_fills}
@@ -17,7 +17,7 @@ module _ {V W : Type 0} (spare : V) where
   fill_type type = made_to (λ a. record { signed = type.signed; range = a }) (fill_option fill_range type.range)
 
   abbrev pub fill_parameter_type : ParameterTypeOf W → Filling V (ParameterTypeOf V)
-  fill_parameter_type integer = pure integer
+  fill_parameter_type (integer long) = pure (integer long)
   fill_parameter_type (typed type) = made_to typed (fill_type type)
 
   abbrev pub fill_setting : SettingOf W → Filling V (SettingOf V)
@@ -34,9 +34,12 @@ module _ {V W : Type 0} (spare : V) where
   abbrev pub fill_direction : DirectionOf W → Filling V (DirectionOf V)
   fill_direction (input wire type) = made_to (input wire) (fill_type type)
   fill_direction (output net type) = made_to (output net) (fill_type type)
+  fill_direction (output_integer long) = pure (output_integer long)
 
   abbrev pub fill_port : PortOf W → Filling V (PortOf V)
-  fill_port port = made_to (two (λ a b. record { direction = a; name = b })) (both (fill_option fill_direction port.direction) (word spare))
+  fill_port port =
+      made_to (three (λ a b c. record { direction = a; name = b; value = c })) (both (fill_option fill_direction port.direction)
+      (both (word spare) (fill_option (fill_expression spare) port.value)))
 
   abbrev pub fill_head : HeadParameterOf W → Filling V (HeadParameterOf V)
   fill_head head =
@@ -93,7 +96,7 @@ module _ {V W : Type 0} (f : V → W) (spare : V) where
 
   -- types of parameters
   pub parameter_type_fills : (m : ParameterTypeOf V) → Fills (fill_parameter_type spare (parameter_type_with f m)) (parameter_type_words m) m
-  parameter_type_fills integer = pure_fills integer
+  parameter_type_fills (integer long) = pure_fills (integer long)
   parameter_type_fills (typed type) = made_fills typed (type_fills type)
 
   -- name = value
@@ -118,12 +121,15 @@ module _ {V W : Type 0} (f : V → W) (spare : V) where
   pub direction_fills : (m : DirectionOf V) → Fills (fill_direction spare (direction_with f m)) (direction_words m) m
   direction_fills (input wire type) = made_fills (input wire) (type_fills type)
   direction_fills (output net type) = made_fills (output net) (type_fills type)
+  direction_fills (output_integer long) = pure_fills (output_integer long)
 
   -- ports
   pub port_fills : (m : PortOf V) → Fills (fill_port spare (port_with f m)) (port_words m) m
   port_fills port =
-      made_fills (two (λ a b. record { direction = a; name = b })) (both_fills
-      (option_fills (fill_direction spare) (direction_with f) direction_words direction_fills port.direction) (word_fills spare port.name))
+      made_fills (three (λ a b c. record { direction = a; name = b; value = c })) (both_fills
+      (option_fills (fill_direction spare) (direction_with f) direction_words direction_fills port.direction)
+      (both_fills (word_fills spare port.name)
+      (option_fills (fill_expression spare) (expression_with f) expression_words (expression_fills f spare) port.value)))
 
   -- parameters of a head
   pub head_fills : (m : HeadParameterOf V) → Fills (fill_head spare (head_with f m)) (head_words m) m

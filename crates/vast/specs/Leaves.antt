@@ -170,7 +170,7 @@ abbrev pub type_leaves : SignAndRange → List Token
 type_leaves type = if_some range_leaves type.range
 
 abbrev pub parameter_type_leaves : ParameterType → List Token
-parameter_type_leaves kinds.Integer = []
+parameter_type_leaves (kinds.Integer long) = []
 parameter_type_leaves (kinds.Typed type) = type_leaves type
 
 abbrev pub setting_leaves : Setting → List Token
@@ -185,9 +185,10 @@ declared_leaves declared = declared.name ∷ if_some boxed_leaves declared.value
 abbrev pub direction_leaves : Direction → List Token
 direction_leaves (directions.Input wire type) = type_leaves type
 direction_leaves (directions.Output net type) = type_leaves type
+direction_leaves (directions.OutputInteger long) = []
 
 abbrev pub port_leaves : Port → List Token
-port_leaves port = if_some direction_leaves port.direction ++ port.name ∷ []
+port_leaves port = if_some direction_leaves port.direction ++ port.name ∷ if_some boxed_leaves port.value
 
 abbrev pub head_leaves : HeadParameter → List Token
 head_leaves head = if_some parameter_type_leaves head.kind ++ setting_leaves head.setting

@@ -5,7 +5,7 @@ use Rattle.vast.specs.TokenTexts.{token_text}
 use Rattle.vast.specs.declared.token.Token.{Token}
 use Rattle.vast.specs.ExpressionTrees.{expression_told, boxed_told}
 use Rattle.vast.specs.StatementTrees.{target_told, statement_told}
-use Rattle.vast.specs.Modules.{RangeOf, TypeOf, ParameterTypeOf, SettingOf, NetAssignmentOf, DeclaredOf, DirectionOf, PortOf, HeadParameterOf, ConnectionOf, ConnectionsOf, InstanceOf, DeclarationKindOf, ItemOf, ModuleOf, SourceOf, RangeTree, TypeTree, ParameterType, integer, typed, SettingTree, NetAssignment, DeclaredTree, DirectionTree, input, output, PortTree, HeadParameter, ConnectionTree, ConnectionsTree, by_order, by_name, InstanceTree, DeclarationKind, variables, integers, directed, ItemTree, parameters, declaration, events, assignments, initial, always, instances, ModuleTree, SourceTree}
+use Rattle.vast.specs.Modules.{RangeOf, TypeOf, ParameterTypeOf, SettingOf, NetAssignmentOf, DeclaredOf, DirectionOf, PortOf, HeadParameterOf, ConnectionOf, ConnectionsOf, InstanceOf, DeclarationKindOf, ItemOf, ModuleOf, SourceOf, RangeTree, TypeTree, ParameterType, integer, typed, SettingTree, NetAssignment, DeclaredTree, DirectionTree, input, output, output_integer, PortTree, HeadParameter, ConnectionTree, ConnectionsTree, by_order, by_name, InstanceTree, DeclarationKind, variables, integers, directed, ItemTree, parameters, declaration, events, assignments, initial, always, instances, ModuleTree, SourceTree}
 use Rattle.vast.specs.declared.module.Bounds.{Bounds}
 use Rattle.vast.specs.declared.module.SignAndRange.{SignAndRange}
 use Rattle.vast.specs.declared.module.ParameterType.{ParameterType as ParameterWords}
@@ -37,7 +37,7 @@ module _ {W : Type 0} (told : Token → W) where
   type_told type = record { signed = type.signed; range = option_map range_told type.range }
 
   abbrev pub parameter_type_told : ParameterWords → ParameterTypeOf W
-  parameter_type_told kinds.Integer = integer
+  parameter_type_told (kinds.Integer long) = integer long
   parameter_type_told (kinds.Typed type) = typed (type_told type)
 
   abbrev pub setting_told : Setting → SettingOf W
@@ -52,9 +52,14 @@ module _ {W : Type 0} (told : Token → W) where
   abbrev pub direction_told : Direction → DirectionOf W
   direction_told (directions.Input wire type) = input wire (type_told type)
   direction_told (directions.Output net type) = output net (type_told type)
+  direction_told (directions.OutputInteger long) = output_integer long
 
   abbrev pub port_told : Port → PortOf W
-  port_told port = record { direction = option_map direction_told port.direction; name = told port.name }
+  port_told port = record {
+    direction = option_map direction_told port.direction;
+    name = told port.name;
+    value = option_map (boxed_told told) port.value;
+  }
 
   abbrev pub head_told : HeadWords → HeadParameterOf W
   head_told head = record { kind = option_map parameter_type_told head.kind; setting = setting_told head.setting }

@@ -20,7 +20,7 @@ pub record TypeOf (W : Type 0) : Type 0 where
 
 -- 4.10.1: the type of a parameter
 pub data ParameterTypeOf (W : Type 0) : Type 0 where
-  integer : ParameterTypeOf W
+  integer : Bool → ParameterTypeOf W  -- integer, or time
   typed : TypeOf W → ParameterTypeOf W
 
 -- name = value
@@ -42,11 +42,14 @@ pub record DeclaredOf (W : Type 0) : Type 0 where
 pub data DirectionOf (W : Type 0) : Type 0 where
   input : Bool → TypeOf W → DirectionOf W  -- input type, or input wire type
   output : Option NetKind → TypeOf W → DirectionOf W  -- output type, output wire type or output reg type
+  output_integer : Bool → DirectionOf W  -- output integer, or output time
 
--- a port; without a direction it has that of the one before it, or, where none has a direction, that of the item which declares it
+-- a port; without a direction it has that of the one before it, or, where none has a direction, that of the item which declares it;
+-- A.2.1.2: and the value of an output that is a variable
 pub record PortOf (W : Type 0) : Type 0 where
   pub direction : Option (DirectionOf W)
   pub name : W
+  pub value : Option (ExpressionOf W)
 
 -- 12.2: a parameter of a module's head; without a type of its own it has that of the one before it
 pub record HeadParameterOf (W : Type 0) : Type 0 where
@@ -157,8 +160,11 @@ spell_signed signed = if signed then codes "signed" ∷ [] else []
 abbrev pub spell_type : TypeTree → List Text
 spell_type type = spell_signed type.signed ++ spell_range type.range
 
+abbrev pub integer_word : Bool → Text
+integer_word long = if long then codes "time" else codes "integer"
+
 abbrev pub spell_parameter_type : ParameterType → List Text
-spell_parameter_type integer = codes "integer" ∷ []
+spell_parameter_type (integer long) = integer_word long ∷ []
 spell_parameter_type (typed type) = spell_type type
 
 abbrev pub spell_setting : SettingTree → List Text
@@ -189,9 +195,10 @@ abbrev pub spell_direction : Option DirectionTree → List Text
 spell_direction None = []
 spell_direction (Some (input wire type)) = codes "input" ∷ (spell_wire wire ++ spell_type type)
 spell_direction (Some (output kind type)) = codes "output" ∷ (spell_net kind ++ spell_type type)
+spell_direction (Some (output_integer long)) = codes "output" ∷ integer_word long ∷ []
 
 abbrev pub spell_port : PortTree → List Text
-spell_port port = spell_direction port.direction ++ port.name ∷ []
+spell_port port = spell_direction port.direction ++ spell_value port.name port.value
 
 abbrev pub spell_kind : Option ParameterType → List Text
 spell_kind None = []
@@ -218,12 +225,9 @@ spell_overrides (Some connections) = codes "#" ∷ spell_connections connections
 abbrev pub spell_instance : InstanceTree → List Text
 spell_instance instance = instance.name ∷ spell_connections instance.connections
 
-abbrev pub counted_word : Bool → Text
-counted_word long = if long then codes "time" else codes "integer"
-
 abbrev pub spell_declaration_kind : DeclarationKind → List Text
 spell_declaration_kind (variables kind type) = net_word kind ∷ spell_type type
-spell_declaration_kind (integers long) = counted_word long ∷ []
+spell_declaration_kind (integers long) = integer_word long ∷ []
 spell_declaration_kind (directed direction) = spell_direction (Some direction)
 
 abbrev pub parameter_word : Bool → Text
@@ -275,7 +279,7 @@ abbrev pub fits_type : ℕ → TypeTree → Bool
 fits_type levels type = fits_range levels type.range
 
 abbrev pub fits_parameter_type : ℕ → ParameterType → Bool
-fits_parameter_type levels integer = true
+fits_parameter_type levels (integer long) = true
 fits_parameter_type levels (typed type) = fits_type levels type
 
 abbrev pub fits_setting : ℕ → SettingTree → Bool
@@ -291,9 +295,10 @@ abbrev pub fits_direction : ℕ → Option DirectionTree → Bool
 fits_direction levels None = true
 fits_direction levels (Some (input wire type)) = fits_type levels type
 fits_direction levels (Some (output kind type)) = fits_type levels type
+fits_direction levels (Some (output_integer long)) = true
 
 abbrev pub fits_port : ℕ → PortTree → Bool
-fits_port levels port = fits_direction levels port.direction && is_name port.name
+fits_port levels port = fits_direction levels port.direction && (is_name port.name && fits_optional levels port.value)
 
 abbrev pub is_directed : Option DirectionTree → Bool
 is_directed None = false
@@ -301,7 +306,7 @@ is_directed (Some direction) = true
 
 -- a port that is a name alone
 abbrev pub is_named_port : PortTree → Bool
-is_named_port port = not (is_directed port.direction) && is_name port.name
+is_named_port port = not (is_directed port.direction) && (is_name port.name && not (is_some port.value))
 
 -- 12.3.3: where the first port says which way it goes, each may; 12.3.2: else all are names alone, which items declare
 abbrev pub fits_behind : ℕ → Option DirectionTree → List PortTree → Bool
@@ -352,23 +357,13 @@ fits_declaration_kind levels (directed direction) = fits_direction levels (Some 
 abbrev pub are_some : {A : Type 0} → (A → Bool) → List A → Bool
 are_some test list = nat_le 1 (length list) && list_all test list
 
--- a name that is declared without a value
-abbrev pub stands_alone : DeclaredTree → Bool
-stands_alone declared = is_name declared.name && not (is_some declared.value)
-
--- the names of a declaration: of ports they stand alone (12.3.3)
-abbrev pub fits_names : ℕ → DeclarationKind → List DeclaredTree → Bool
-fits_names levels (variables kind type) list = are_some (fits_declared levels) list
-fits_names levels (integers long) list = are_some (fits_declared levels) list
-fits_names levels (directed direction) list = are_some stands_alone list
-
 abbrev pub fits_body : ℕ → StatementTree → Bool
 fits_body levels statement = fits_statement statement && nat_le (statement_depth statement) levels
 
 abbrev pub fits_item : ℕ → ItemTree → Bool
 fits_item levels (parameters local type settings) = fits_parameter_type levels type && are_some (fits_setting levels) settings
--- names with and without a value may stand in one declaration, of nets, too (own)
-fits_item levels (declaration kind declared) = fits_declaration_kind levels kind && fits_names levels kind declared
+-- names with and without a value may stand in one declaration, of nets, too, and of ports, of which a rule says which may have one (own)
+fits_item levels (declaration kind declared) = fits_declaration_kind levels kind && are_some (fits_declared levels) declared
 fits_item levels (events names) = are_some is_name names
 fits_item levels (assignments list) = are_some (fits_net_assignment levels) list
 fits_item levels (initial statement) = fits_body levels statement

@@ -1,5 +1,5 @@
 -- *product rule*: Modules whose words keep their numbers.
-pub use Rattle.vast.specs.Modules.{integer, typed, input, output, by_order, by_name, variables, integers, directed, parameters, declaration, events, assignments, initial, always, instances}
+pub use Rattle.vast.specs.Modules.{integer, typed, input, output, output_integer, by_order, by_name, variables, integers, directed, parameters, declaration, events, assignments, initial, always, instances}
 use Rattle.vast.specs.Modules.{RangeOf, TypeOf, ParameterTypeOf, SettingOf, NetAssignmentOf, DeclaredOf, DirectionOf, PortOf, HeadParameterOf, ConnectionOf, ConnectionsOf, InstanceOf, DeclarationKindOf, ItemOf, ModuleOf, SourceOf}
 use Rattle.vast.specs.NumberedWords.{Word}
 

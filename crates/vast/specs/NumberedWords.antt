@@ -1,5 +1,5 @@
 -- *product rule*: A word as elaboration reads it: its letters, which of an escaped name are those behind the backslash (3.7.1), and its number among the words of the text, by which a fault tells its
--- place.
+-- place; and of a string that a task prints the path of the scope that the task stands in (17.1.1.1), once its instance is known.
 use Rattle.std.specs.Prelude.{ℕ, suc, if◌then◌else◌, List, [], ◌∷◌}
 use Rattle.vast.specs.Words.{Text, is_leaf, unescaped}
 use Rattle.vast.specs.TokenTexts.{token_text}
@@ -8,14 +8,15 @@ use Rattle.vast.specs.declared.token.Token.{Token}
 pub record Word : Type 0 where
   pub letters : Text
   pub number : ℕ
+  pub path : Text
 
 -- that of a token, among the words of the text
 abbrev pub numbered : List Text → Token → Word
-numbered words token = record { letters = unescaped (token_text words token); number = token.number }
+numbered words token = record { letters = unescaped (token_text words token); number = token.number; path = [] }
 
 -- the words of a text that trees keep, with their numbers, the first of which is this one
 abbrev pub words_from : ℕ → List Text → List Word
 words_from number [] = []
 words_from number (word ∷ words) =
-    if is_leaf word then record { letters = unescaped word; number = number } ∷ words_from (suc number) words
+    if is_leaf word then record { letters = unescaped word; number = number; path = [] } ∷ words_from (suc number) words
     else words_from (suc number) words

@@ -4,7 +4,7 @@ use Rattle.std.specs.List.{flat_map}
 use Rattle.vast.specs.Expressions.{ExpressionOf, ExpressionsOf, number, name, time, bit, part, parentheses, concatenation, replication, conversion, apply, combine, conditional, none, first}
 use Rattle.vast.specs.Statements.{TargetOf, TargetsOf, DelayOf, by_number, by_name, by_value, TermOf, FurtherOf, EventOf, by_event, by_any, by_any_enclosed, by_terms, ArgumentOf, quoted, printed, left_out, SelectionOf, TaskOf, print, idle, dump_file, dump_vars, dump, end_run, StatementOf, StatementsOf, empty, block, assign, nonblocking, trigger, if_true, if_else, case_of, while_true, repeat_times, forever, for_loop, wait_for, delay, event, task, no_statement, first_statement, BranchOf, BranchesOf, labelled, default, no_branch, first_branch}
 use Rattle.vast.specs.Statements as written
-use Rattle.vast.specs.Modules.{RangeOf, TypeOf, ParameterTypeOf, integer, typed, SettingOf, NetAssignmentOf, DeclaredOf, DirectionOf, input, output, PortOf, HeadParameterOf, ConnectionOf, ConnectionsOf, by_order, InstanceOf, DeclarationKindOf, variables, integers, directed, ItemOf, parameters, declaration, events, assignments, initial, always, instances, ModuleOf, SourceOf}
+use Rattle.vast.specs.Modules.{RangeOf, TypeOf, ParameterTypeOf, integer, typed, SettingOf, NetAssignmentOf, DeclaredOf, DirectionOf, input, output, output_integer, PortOf, HeadParameterOf, ConnectionOf, ConnectionsOf, by_order, InstanceOf, DeclarationKindOf, variables, integers, directed, ItemOf, parameters, declaration, events, assignments, initial, always, instances, ModuleOf, SourceOf}
 use Rattle.vast.specs.Modules as modules
 
 -- ---- each word changed
@@ -114,7 +114,7 @@ module _ {V W : Type 0} (f : V → W) where
   type_with type = record { signed = type.signed; range = option_map range_with type.range }
 
   abbrev pub parameter_type_with : ParameterTypeOf V → ParameterTypeOf W
-  parameter_type_with integer = integer
+  parameter_type_with (integer long) = integer long
   parameter_type_with (typed type) = typed (type_with type)
 
   abbrev pub setting_with : SettingOf V → SettingOf W
@@ -129,9 +129,14 @@ module _ {V W : Type 0} (f : V → W) where
   abbrev pub direction_with : DirectionOf V → DirectionOf W
   direction_with (input wire type) = input wire (type_with type)
   direction_with (output net type) = output net (type_with type)
+  direction_with (output_integer long) = output_integer long
 
   abbrev pub port_with : PortOf V → PortOf W
-  port_with port = record { direction = option_map direction_with port.direction; name = f port.name }
+  port_with port = record {
+    direction = option_map direction_with port.direction;
+    name = f port.name;
+    value = option_map expression_with port.value;
+  }
 
   abbrev pub head_with : HeadParameterOf V → HeadParameterOf W
   head_with head = record { kind = option_map parameter_type_with head.kind; setting = setting_with head.setting }
@@ -300,7 +305,7 @@ module _ {W : Type 0} where
   type_words type = words_if range_words type.range
 
   abbrev pub parameter_type_words : ParameterTypeOf W → List W
-  parameter_type_words integer = []
+  parameter_type_words (integer long) = []
   parameter_type_words (typed type) = type_words type
 
   abbrev pub setting_words : SettingOf W → List W
@@ -315,9 +320,10 @@ module _ {W : Type 0} where
   abbrev pub direction_words : DirectionOf W → List W
   direction_words (input wire type) = type_words type
   direction_words (output net type) = type_words type
+  direction_words (output_integer long) = []
 
   abbrev pub port_words : PortOf W → List W
-  port_words port = words_if direction_words port.direction ++ port.name ∷ []
+  port_words port = words_if direction_words port.direction ++ port.name ∷ words_if expression_words port.value
 
   abbrev pub head_words : HeadParameterOf W → List W
   head_words head = words_if parameter_type_words head.kind ++ setting_words head.setting

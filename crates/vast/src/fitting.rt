@@ -3,14 +3,14 @@
 ghost use Rattle.std.specs.Prelude.{◌≡◌, map, option_map};
 ghost use Rattle.std.specs.List.{list_all};
 ghost use Rattle.vast.specs.TokenTexts.{texts};
-ghost use Rattle.vast.specs.Modules.{fits_overrides, fits_declaration_kind, fits_names, fits_item, fits_optional_parameters, fits_optional_ports, fits_module, fits as fits_tree};
-ghost use Rattle.vast.specs.ModuleTrees.{declared_tree, port_tree, head_parameter, connections_tree, declaration_kind, item_tree, module_tree, source_tree};
+ghost use Rattle.vast.specs.Modules.{fits_overrides, fits_declaration_kind, fits_item, fits_optional_parameters, fits_optional_ports, fits_module, fits as fits_tree};
+ghost use Rattle.vast.specs.ModuleTrees.{port_tree, head_parameter, connections_tree, declaration_kind, item_tree, module_tree, source_tree};
 
 use crate::module::{
-    Connections, DeclarationKind, Declared, HeadParameter, ModuleItem, ModuleTree, Port, TextTree,
+    Connections, DeclarationKind, HeadParameter, ModuleItem, ModuleTree, Port, TextTree,
 };
 use crate::module_parts_fit::{
-    are_alone, connections_fit, declared_fit, direction_fits, head_parameters_fit, instances_fit,
+    connections_fit, declared_fit, direction_fits, head_parameters_fit, instances_fit,
     net_assignments_fit, parameter_type_fits, ports_fit, settings_fit, type_fits,
 };
 use crate::statement_fits::statement_fits;
@@ -28,21 +28,6 @@ fn declaration_kind_fits(words: &[&[u8]], kind: &DeclarationKind) -> bool
         DeclarationKind::Variables { kind, .. } => type_fits(words, kind, DEPTH),
         DeclarationKind::Integers { .. } => true,
         DeclarationKind::Directed { direction } => direction_fits(words, direction, DEPTH),
-    }
-}
-
-// Whether there are names that are declared so.
-fn names_fit(words: &[&[u8]], kind: &DeclarationKind, declared: &[Declared]) -> bool
-    ensures { result ≡ fits_names 64 (declaration_kind (texts words.now) kind.now)
-        (map (declared_tree (texts words.now)) declared.now) }
-{
-    match kind {
-        DeclarationKind::Variables { .. } => {
-            !declared.is_empty() && declared_fit(words, declared, DEPTH)
-        }
-        DeclarationKind::Integers { .. } => !declared.is_empty()
-            && declared_fit(words, declared, DEPTH),
-        DeclarationKind::Directed { .. } => !declared.is_empty() && are_alone(words, declared),
     }
 }
 
@@ -66,7 +51,9 @@ fn item_fits(words: &[&[u8]], item: &ModuleItem) -> bool
                 && settings_fit(words, settings, DEPTH)
         }
         ModuleItem::Declaration { kind, declared, .. } => {
-            declaration_kind_fits(words, kind) && names_fit(words, kind, declared)
+            declaration_kind_fits(words, kind)
+                && !declared.is_empty()
+                && declared_fit(words, declared, DEPTH)
         }
         ModuleItem::Events { names, .. } => !names.is_empty() && are_names(words, names),
         ModuleItem::Assignments { list, .. } => {

@@ -30,8 +30,8 @@ pub struct SignAndRange {
 /// The type of a parameter (4.10.1).
 #[derive(Drop)]
 pub enum ParameterType {
-    /// `integer`
-    Integer,
+    /// `integer`, or where it is the longer one `time`
+    Integer { long: bool },
     /// A sign and a range, or neither.
     Typed(SignAndRange),
 }
@@ -70,14 +70,19 @@ pub enum Direction {
         net: Option<NetKind>,
         kind: SignAndRange,
     },
+    /// `output integer`, or where it is the longer one `output time`
+    OutputInteger {
+        long: bool,
+    },
 }
 
 /// A port; without a direction it has that of the one before it (12.3.4), or, where no port of the list has one, that of the item
-/// which declares it (12.3.2).
+/// which declares it (12.3.2). An output that is a variable may have a value (A.2.1.2).
 #[derive(Drop)]
 pub struct Port {
     pub direction: Option<Direction>,
     pub name: Token,
+    pub value: Option<Box<Expression>>,
 }
 
 /// A parameter of a module's head; without a type it has that of the one before it (12.2).

@@ -4,7 +4,7 @@ ghost use Rattle.std.specs.Prelude.{◌≡◌, Some, map, option_map};
 ghost use Rattle.std.specs.List.{list_all};
 ghost use Rattle.vast.specs.TokenTexts.{texts};
 ghost use Rattle.vast.specs.ExpressionTrees.{tree_of, boxed_tree};
-ghost use Rattle.vast.specs.Modules.{fits_value, fits_optional, fits_range, fits_type, fits_parameter_type, fits_setting, fits_net_assignment, fits_declared, stands_alone, fits_direction, fits_port, is_named_port, fits_ports, fits_kind, fits_head_parameter, fits_head_parameters, fits_connection, fits_connections, fits_instance};
+ghost use Rattle.vast.specs.Modules.{fits_value, fits_optional, fits_range, fits_type, fits_parameter_type, fits_setting, fits_net_assignment, fits_declared, fits_direction, fits_port, is_named_port, fits_ports, fits_kind, fits_head_parameter, fits_head_parameters, fits_connection, fits_connections, fits_instance};
 ghost use Rattle.vast.specs.ModuleTrees.{range_tree, type_tree, parameter_type, setting_tree, net_assignment, declared_tree, direction_tree, port_tree, head_parameter, connection_tree, connections_tree, instance_tree};
 
 use crate::expression::Expression;
@@ -41,7 +41,7 @@ pub fn parameter_type_fits(words: &[&[u8]], kind: &ParameterType, levels: u32) -
     ensures { result ≡ fits_parameter_type levels (parameter_type (texts words.now) kind.now) }
 {
     match kind {
-        ParameterType::Integer => true,
+        ParameterType::Integer { .. } => true,
         ParameterType::Typed(kind) => type_fits(words, kind, levels),
     }
 }
@@ -113,25 +113,6 @@ pub fn declared_fit(words: &[&[u8]], declared: &[Declared], levels: u32) -> bool
     true
 }
 
-fn is_alone(words: &[&[u8]], declared: &Declared) -> bool
-    ensures { result ≡ stands_alone (declared_tree (texts words.now) declared.now) }
-{
-    is_name(letters(words, declared.name)) && !declared.value.is_some()
-}
-
-/// Whether each is a name without a value.
-pub fn are_alone(words: &[&[u8]], declared: &[Declared]) -> bool
-    ensures { result ≡ list_all stands_alone
-        (map (declared_tree (texts words.now)) declared.now) }
-{
-    for one in declared {
-        if !is_alone(words, one) {
-            return false;
-        }
-    }
-    true
-}
-
 /// Whether the type that stands with a direction does so.
 pub fn direction_fits(words: &[&[u8]], direction: &Direction, levels: u32) -> bool
     ensures { result ≡ fits_direction levels
@@ -140,6 +121,7 @@ pub fn direction_fits(words: &[&[u8]], direction: &Direction, levels: u32) -> bo
     match direction {
         Direction::Input { kind, .. } => type_fits(words, kind, levels),
         Direction::Output { kind, .. } => type_fits(words, kind, levels),
+        Direction::OutputInteger { .. } => true,
     }
 }
 
@@ -156,7 +138,9 @@ fn optional_direction_fits(words: &[&[u8]], direction: &Option<Direction>, level
 fn port_fits(words: &[&[u8]], port: &Port, levels: u32) -> bool
     ensures { result ≡ fits_port levels (port_tree (texts words.now) port.now) }
 {
-    optional_direction_fits(words, &port.direction, levels) && is_name(letters(words, port.name))
+    optional_direction_fits(words, &port.direction, levels)
+        && is_name(letters(words, port.name))
+        && optional_fits(words, &port.value, levels)
 }
 
 fn each_port_fits(words: &[&[u8]], ports: &[Port], levels: u32) -> bool
@@ -174,7 +158,7 @@ fn each_port_fits(words: &[&[u8]], ports: &[Port], levels: u32) -> bool
 fn is_named(words: &[&[u8]], port: &Port) -> bool
     ensures { result ≡ is_named_port (port_tree (texts words.now) port.now) }
 {
-    !port.direction.is_some() && is_name(letters(words, port.name))
+    !port.direction.is_some() && is_name(letters(words, port.name)) && !port.value.is_some()
 }
 
 fn are_named(words: &[&[u8]], ports: &[Port]) -> bool

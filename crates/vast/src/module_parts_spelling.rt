@@ -5,7 +5,7 @@ ghost use Rattle.vast.specs.TokenTexts.{token_text, texts};
 ghost use Rattle.vast.specs.ExpressionTrees.{tree_of, boxed_tree};
 ghost use Rattle.vast.specs.Expressions.{spell_expression};
 ghost use Rattle.vast.specs.Statements.{listed};
-ghost use Rattle.vast.specs.Modules.{spell_range, spell_signed, spell_type, spell_parameter_type, spell_setting, spell_net_assignment, spell_declared, net_word as net_text, spell_net, spell_wire, spell_direction, spell_port, spell_kind, spell_head_parameter, spell_optional, spell_connection, spell_connections, spell_instance};
+ghost use Rattle.vast.specs.Modules.{spell_range, spell_signed, spell_type, integer_word as integer_text, spell_parameter_type, spell_setting, spell_net_assignment, spell_value, spell_declared, net_word as net_text, spell_net, spell_wire, spell_direction, spell_port, spell_kind, spell_head_parameter, spell_optional, spell_connection, spell_connections, spell_instance};
 ghost use Rattle.vast.specs.ModuleTrees.{range_tree, type_tree, parameter_type, setting_tree, net_assignment, declared_tree, direction_tree, port_tree, head_parameter, connection_tree, connections_tree, instance_tree};
 ghost use Rattle.vast.specs.Inner.{Puts};
 
@@ -17,6 +17,7 @@ use crate::module::{
 };
 use crate::spelling::{Spelling, put, put_comma, put_token};
 use crate::statement_parts_spelling::put_setting as put_assignment;
+use crate::token::Token;
 use basis::NoMemory;
 
 fn put_bounds<'t>(
@@ -55,6 +56,13 @@ pub fn put_type<'t>(
     put_bounds(out, words, &kind.range)
 }
 
+/// The word that an integer is declared by.
+pub fn integer_word(long: bool) -> &'static [u8]
+    ensures { result.now ≡ integer_text long }
+{
+    if long { b"time" } else { b"integer" }
+}
+
 /// Puts the words of the type of a parameter.
 pub fn put_parameter_type<'t>(
     out: &mut Vec<Spelling<'t>>,
@@ -65,7 +73,7 @@ pub fn put_parameter_type<'t>(
         (spell_parameter_type (parameter_type (texts words.now) kind.now)) }
 {
     match kind {
-        ParameterType::Integer => put(out, b"integer"),
+        ParameterType::Integer { long } => put(out, integer_word(*long)),
         ParameterType::Typed(kind) => put_type(out, words, kind),
     }
 }
@@ -132,6 +140,25 @@ pub fn put_net_assignments<'t>(
     Ok(())
 }
 
+fn put_name<'t>(
+    out: &mut Vec<Spelling<'t>>,
+    words: &[&'t [u8]],
+    name: Token,
+    value: &Option<Box<Expression>>,
+) -> Result<(), NoMemory>
+    ensures { Puts out.old out.new result (spell_value (token_text (texts words.now) name)
+        (option_map (boxed_tree (texts words.now)) value.now)) }
+{
+    put_token(out, words, name)?;
+    match value {
+        None => Ok(()),
+        Some(value) => {
+            put(out, b"=")?;
+            put_expression(out, words, value)
+        }
+    }
+}
+
 fn put_one_declared<'t>(
     out: &mut Vec<Spelling<'t>>,
     words: &[&'t [u8]],
@@ -140,14 +167,7 @@ fn put_one_declared<'t>(
     ensures { Puts out.old out.new result
         (spell_declared (declared_tree (texts words.now) declared.now)) }
 {
-    put_token(out, words, declared.name)?;
-    match &declared.value {
-        None => Ok(()),
-        Some(value) => {
-            put(out, b"=")?;
-            put_expression(out, words, value)
-        }
-    }
+    put_name(out, words, declared.name, &declared.value)
 }
 
 /// Puts declared names with commas between them.
@@ -217,6 +237,10 @@ pub fn put_direction<'t>(
             put_net(out, *net)?;
             put_type(out, words, kind)
         }
+        Direction::OutputInteger { long } => {
+            put(out, b"output")?;
+            put(out, integer_word(*long))
+        }
     }
 }
 
@@ -243,7 +267,7 @@ fn put_port<'t>(
         (spell_port (port_tree (texts words.now) port.now)) }
 {
     put_optional_direction(out, words, &port.direction)?;
-    put_token(out, words, port.name)
+    put_name(out, words, port.name, &port.value)
 }
 
 /// Puts ports with commas between them.

@@ -3,7 +3,7 @@
 ghost use Rattle.std.specs.Prelude.{◌≡◌, ◌∷◌, [], IfOk, flat_map, map, option_map};
 ghost use Rattle.vast.specs.TokenTexts.{token_text, texts};
 ghost use Rattle.vast.specs.Statements.{listed};
-ghost use Rattle.vast.specs.Modules.{spell_overrides, spell_declaration_kind, parameter_word as parameter_text, spell_item, spell_head_parameters, spell_ports, spell_module, spell as spell_tree, counted_word as counted_text};
+ghost use Rattle.vast.specs.Modules.{spell_overrides, spell_declaration_kind, parameter_word as parameter_text, spell_item, spell_head_parameters, spell_ports, spell_module, spell as spell_tree};
 ghost use Rattle.vast.specs.ModuleTrees.{port_tree, head_parameter, connections_tree, declaration_kind, item_tree, module_tree, source_tree};
 ghost use Rattle.vast.specs.Spellings.{texts_of};
 ghost use Rattle.vast.specs.Inner.{Puts, alone};
@@ -12,8 +12,8 @@ use crate::module::{
     Connections, DeclarationKind, HeadParameter, ModuleItem, ModuleTree, Port, TextTree,
 };
 use crate::module_parts_spelling::{
-    net_word, put_connections, put_declared, put_direction, put_head_parameters, put_instances,
-    put_net_assignments, put_parameter_type, put_ports, put_settings, put_type,
+    integer_word, net_word, put_connections, put_declared, put_direction, put_head_parameters,
+    put_instances, put_net_assignments, put_parameter_type, put_ports, put_settings, put_type,
 };
 use crate::spelling::{Spelling, put, put_comma, put_token};
 use crate::statement_spelling::put_statement;
@@ -39,12 +39,6 @@ fn put_names<'t>(
     Ok(())
 }
 
-fn counted_word(long: bool) -> &'static [u8]
-    ensures { result.now ≡ counted_text long }
-{
-    if long { b"time" } else { b"integer" }
-}
-
 fn put_declaration_kind<'t>(
     out: &mut Vec<Spelling<'t>>,
     words: &[&'t [u8]],
@@ -58,7 +52,7 @@ fn put_declaration_kind<'t>(
             put(out, net_word(*net))?;
             put_type(out, words, kind)
         }
-        DeclarationKind::Integers { long } => put(out, counted_word(*long)),
+        DeclarationKind::Integers { long } => put(out, integer_word(*long)),
         DeclarationKind::Directed { direction } => put_direction(out, words, direction),
     }
 }

@@ -50,7 +50,7 @@ other_variable n m a b e = ap (λ t. t && a == b) e
 
 -- ---- bits one after another
 
-again_both : (before xs ys : List Place) → drives_again before (xs ++ ys) ≡ (drives_again before xs || drives_again (before ++ xs) ys)
+pub again_both : (before xs ys : List Place) → drives_again before (xs ++ ys) ≡ (drives_again before xs || drives_again (before ++ xs) ys)
 again_both before [] ys = ap (λ (l : List Place). drives_again l ys) (sym (append-nil before))
 again_both before (x ∷ xs) ys =
     (λ i. is_driven before x || again_both (before ++ x ∷ []) xs ys i)

@@ -28,7 +28,7 @@ use Rattle.vmodules.specs.Ports.{Port, own_item, own_items, plain_names}
 use Rattle.vmodules.specs.declared.ports.PortForm.{PortForm}
 use Rattle.vast.specs.declared.module.ModuleTree.{ModuleTree as Parsed}
 use Rattle.vmodules.specs.Inner.{own_in, HoldSame}
-use Rattle.velab_declaration.specs.Variables.{Declaration as Declared_as, declared, all_declared, declarations_of, kind_of, variable_in, variables_in, lower_port, lower_ports, lower_declaration, lower_variables, counted_kind}
+use Rattle.velab_declaration.specs.Variables.{Declaration as Declared_as, declared, all_declared, declarations_of, kind_of, variable_in, variables_in, lower_port, lower_ports, lower_declaration, lower_variables, integer_kind}
 use Rattle.velab_declaration.specs.declared.variable.Form.{Form}
 use Rattle.velab_declaration.specs.Inner.{names_of, declared_in, texts_of, own_texts, own_trees, own_tree, own_kind, own_variables, port_texts, names_before, names_declared}
 
@@ -69,7 +69,7 @@ module _ (words made : List Text) (list : List Declared) (kind : DeclarationWord
       ∙ sym (ap (λ (k : DeclarationWords). names_of (own_kind words made k list)) is)
 
   pub integers_names : (long : Bool) → kind ≡ declaring.Integers long → texts_of words list ≡ names_of (own_kind words made kind list)
-  integers_names long is = item_names (counted_kind long) (not long) None words list ∙ sym (ap (λ (k : DeclarationWords). names_of (own_kind words made k list)) is)
+  integers_names long is = item_names (integer_kind long) (not long) None words list ∙ sym (ap (λ (k : DeclarationWords). names_of (own_kind words made k list)) is)
 
 pub item_of_names : (words made : List Text) (item : ModuleItem) (place : ℕ) (kind : DeclarationWords) (declared : Vec Declared Global) (list : List Declared) →
     item ≡ Declaration place kind declared → list ≡ declared.items → names_of (own_kind words made kind list) ≡ names_of (own_tree words made item)

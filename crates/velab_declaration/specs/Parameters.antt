@@ -1,5 +1,5 @@
 -- *trusted*: The parameters of an instance (IEEE 1364-2005, 4.10, 12.2), and what its names stand for.
-use Rattle.std.specs.Prelude.{ℕ, ◌+◌, nat_lt, not, Bool, true, false, List, [], ◌∷◌, ◌++◌, length, Option, None, Some, Result, Ok}
+use Rattle.std.specs.Prelude.{ℕ, ◌+◌, nat_lt, not, Bool, true, false, if◌then◌else◌, List, [], ◌∷◌, ◌++◌, length, Option, None, Some, Result, Ok}
 use Rattle.std.specs.List.{flat_map}
 use Rattle.vast.specs.Words.{Text}
 use Rattle.vast.specs.NumberedExpressions as text
@@ -36,12 +36,16 @@ typed_value false None value = worth value
 -- the bounds that a parameter is declared with, where it is
 abbrev pub lower_type : Scope → Option ParameterType → Result (Option Bounds) ElabFault
 lower_type scope None = Ok None
-lower_type scope (Some integer) = Ok None
+lower_type scope (Some (integer long)) = Ok None
 lower_type scope (Some (typed type)) = lower_bounds scope type.range
+
+-- 4.8: an integer has 32 bits and a sign, a time 64 and none
+abbrev pub integer_length : Bool → ℕ
+integer_length long = if long then 64 else 32
 
 abbrev pub parameter_by : Option ParameterType → Option Bounds → ExpressionTree → Vector
 parameter_by None bounds value = worth value
-parameter_by (Some integer) bounds value = with_sign (right_side nothing 32 value) true
+parameter_by (Some (integer long)) bounds value = with_sign (right_side nothing (integer_length long) value) (not long)
 parameter_by (Some (typed type)) bounds value = typed_value type.signed bounds value
 
 -- 12.2.2: a value from outside stands in the place of the one that a parameter is set to, which is a constant all the same

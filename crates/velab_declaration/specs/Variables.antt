@@ -40,12 +40,12 @@ kind_of net.Wire = Wire
 kind_of net.Reg = Reg
 
 -- 4.8: an integer has a sign, a time has none
-abbrev pub counted_kind : Bool → Kind
-counted_kind long = if long then Time else Integer
+abbrev pub integer_kind : Bool → Kind
+integer_kind long = if long then Time else Integer
 
 abbrev pub declared_as : DeclarationKind → List DeclaredTree → List Declaration
 declared_as (variables word type) list = all_declared (kind_of word) type.signed type.range list
-declared_as (integers long) list = all_declared (counted_kind long) (not long) None list
+declared_as (integers long) list = all_declared (integer_kind long) (not long) None list
 declared_as (directed direction) list = []  -- 12.3.3: these stand with the ports
 
 abbrev pub declarations_of : ItemTree → List Declaration
@@ -68,9 +68,24 @@ port_names m = map (λ p. p.name) (ports_of m)
 abbrev pub declared_names : ModuleTree → List Word
 declared_names m = port_names m ++ map (λ d. d.name) (declarations m)
 
+-- A.2.1.2: what a port is declared as: by its net, or as an `integer` or a `time`, which has its own sign and no range (4.8)
+abbrev pub kind_with : NetKind → Option Bool → Kind
+kind_with word None = kind_of word
+kind_with word (Some long) = integer_kind long
+
+abbrev pub signed_with : Bool → Option Bool → Bool
+signed_with signed None = signed
+signed_with signed (Some long) = not long
+
+abbrev pub port_kind : Port → Kind
+port_kind p = kind_with p.net p.long
+
+abbrev pub port_signed : Port → Bool
+port_signed p = signed_with p.type.signed p.long
+
 -- 12.3.3: a port is declared where it stands
 abbrev pub port_declaration : Port → Declaration
-port_declaration p = declared (kind_of p.net) p.type.signed p.type.range p.name
+port_declaration p = declared (port_kind p) (port_signed p) p.type.range p.name
 
 -- without a range a `reg` or a `wire` has 1 bit, an `integer` 32, a `time` 64 (4.8)
 abbrev pub length_of : Kind → Option Bounds → ℕ
@@ -96,10 +111,14 @@ variable_in path form text = record {
 abbrev pub form_of : NetKind → Bool → Option Bounds → Form
 form_of word signed bounds = record { kind = kind_of word; signed = signed; bounds = bounds }
 
+-- what a port is, within these bounds
+abbrev pub port_form : Port → Option Bounds → Form
+port_form p bounds = record { kind = port_kind p; signed = port_signed p; bounds = bounds }
+
 -- what a declaration says of each of its names
 abbrev pub lower_kind : Scope → DeclarationKind → Result Form ElabFault
 lower_kind scope (variables word type) = lower_bounds scope type.range >>= λ bounds. Ok (form_of word type.signed bounds)
-lower_kind scope (integers long) = Ok (record { kind = counted_kind long; signed = not long; bounds = None })
+lower_kind scope (integers long) = Ok (record { kind = integer_kind long; signed = not long; bounds = None })
 lower_kind scope (directed direction) = lower_bounds scope (type_in direction).range >>= λ bounds. Ok (form_of net.Wire (type_in direction).signed bounds)
 
 -- a variable for each name
@@ -146,7 +165,7 @@ abbrev pub lower_port : Text → Scope → Port → Result design.Variable ElabF
 lower_port path scope p =
     lower_bounds scope p.type.range >>= λ bounds.
     lower_again scope p.again bounds >>= λ whole.
-    Ok (variable_in path (form_of p.net p.type.signed whole) p.name.letters)
+    Ok (variable_in path (port_form p whole) p.name.letters)
 
 abbrev pub lower_ports : Text → Scope → List Port → Result (List design.Variable) ElabFault
 lower_ports path scope [] = Ok []

@@ -117,7 +117,7 @@ fn bounds_of(
 {
     match kind {
         None => Ok(None),
-        Some(ParameterType::Integer) => Ok(None),
+        Some(ParameterType::Integer { .. }) => Ok(None),
         Some(ParameterType::Typed(kind)) => range_bounds(alloc, scope, tokens, &kind.range),
     }
 }
@@ -136,6 +136,14 @@ fn typed_value(signed: bool, bounds: Option<Bounds>, value: &Expression) -> Vec4
     }
 }
 
+// How many bits an integer has, or where it is the longer one a time.
+fn integer_length(long: bool) -> u32
+    ensures same { result ≡ spec.integer_length long }
+    ensures few { (1 ≤ result) × (result ≤ 64) }
+{
+    if long { 64 } else { 32 }
+}
+
 // The value of a parameter of this type.
 fn parameter_by(kind: Option<&ParameterType>, bounds: Option<Bounds>, value: &Expression) -> Vec4
     requires { IsNarrow bounds }
@@ -144,7 +152,9 @@ fn parameter_by(kind: Option<&ParameterType>, bounds: Option<Bounds>, value: &Ex
 {
     match kind {
         None => by_itself(value, &nothing()),
-        Some(ParameterType::Integer) => right_side(value, 32, &nothing()).with_sign(true),
+        Some(ParameterType::Integer { long }) => {
+            right_side(value, integer_length(*long), &nothing()).with_sign(!*long)
+        }
         Some(ParameterType::Typed(kind)) => typed_value(kind.signed, bounds, value),
     }
 }

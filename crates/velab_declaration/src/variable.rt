@@ -4,7 +4,7 @@ ghost use Rattle.vast.specs.NumberedTrees.{declaration_kind, module_tree};
 ghost use Rattle.vexpr_parse.specs.Texts.{words_of};
 ghost use Rattle.velab_declaration.specs.Variables as variables;
 ghost use Rattle.velab_declaration.specs.Variables.{lower_kind, lower_declaration, lower_variables, lower_ports, variable_in};
-ghost use Rattle.vmodules.specs.Inner.{own_in, port_form, second_form};
+ghost use Rattle.vmodules.specs.Inner.{own_in, port_form, second_form, type_for};
 ghost use Rattle.vmodules.specs.Ports.{own_items};
 ghost use Rattle.vast.specs.Words.{Text};
 ghost use Rattle.velab_expr.specs.Answers.{Gives, Makes, behind};
@@ -14,7 +14,7 @@ ghost use Rattle.velab_declaration.specs.Inner.{own_kind, own_tree, own_variable
 
 use basis::{NoMemory, OrMemory};
 use std::alloc::Global;
-use vast::module::{DeclarationKind, Declared, ModuleItem, ModuleTree, NetKind};
+use vast::module::{DeclarationKind, Declared, ModuleItem, ModuleTree, NetKind, SignAndRange};
 use vbits::Vec4;
 use vdesign::design::{Kind, Variable};
 use vdesign::expression::Bounds;
@@ -149,10 +149,37 @@ fn kind_of(net: NetKind) -> Kind
     }
 }
 
-fn counted_kind(long: bool) -> Kind
-    ensures { result ≡ variables.counted_kind long }
+fn integer_kind(long: bool) -> Kind
+    ensures { result ≡ variables.integer_kind long }
 {
     if long { Kind::Time } else { Kind::Integer }
+}
+
+// The bounds of a type, where one is written. E303, E306 or E307 where its range is none.
+fn type_bounds(
+    alloc: Global,
+    scope: &Scope<'_, '_>,
+    tokens: &Tokens<'_>,
+    kind: Option<&SignAndRange>,
+) -> Result<Option<Bounds>, OrMemory<ElabFault>>
+    ensures gives { Gives result
+        (lower_bounds scope.now (type_for (words_of tokens.now) kind.entry).range) }
+    ensures few { IfOk result IsNarrow }
+{
+    match kind {
+        None => Ok(None),
+        Some(kind) => range_bounds(alloc, scope, tokens, &kind.range),
+    }
+}
+
+// Whether a type is signed, where one is written.
+fn is_signed(kind: Option<&SignAndRange>) -> bool
+    ensures { (words : List Text) → result ≡ (type_for words kind.entry).signed }
+{
+    match kind {
+        None => false,
+        Some(kind) => kind.signed,
+    }
 }
 
 // What a declaration says of each of its names. E303, E306 or E307 where its range is none.
@@ -176,16 +203,16 @@ fn form_of(
             })
         }
         DeclarationKind::Integers { long } => Ok(Form {
-            kind: counted_kind(*long),
+            kind: integer_kind(*long),
             signed: !*long,
             bounds: None,
         }),
         DeclarationKind::Directed { direction } => {
             let kind = type_in(direction);
-            let bounds = range_bounds(alloc, scope, tokens, &kind.range)?;
+            let bounds = type_bounds(alloc, scope, tokens, kind)?;
             Ok(Form {
                 kind: Kind::Wire,
-                signed: kind.signed,
+                signed: is_signed(kind),
                 bounds,
             })
         }
@@ -278,8 +305,18 @@ fn port_bounds(
     }
 }
 
-// Whether a port is signed: where it says so, or where it is declared again.
-fn port_signed(port: &PortForm<'_>) -> bool
+// What a port is: as its net, or as an integer or a time.
+fn port_kind(port: &PortForm<'_>) -> Kind
+    ensures { result ≡ variables.kind_with port.now.net port.now.long }
+{
+    match port.long {
+        None => kind_of(port.net),
+        Some(long) => integer_kind(long),
+    }
+}
+
+// Whether a port is signed where no word says `integer` or `time`: where it says so, or where it is declared again.
+fn type_signed(port: &PortForm<'_>) -> bool
     ensures { (words : List Text) → result ≡ (port_form words port.now).type.signed }
 {
     let signed = match port.kind {
@@ -289,6 +326,16 @@ fn port_signed(port: &PortForm<'_>) -> bool
     match port.again {
         None => signed,
         Some(second) => signed || second.kind.signed,
+    }
+}
+
+// Whether a port is signed.
+fn port_signed(port: &PortForm<'_>) -> bool
+    ensures { (words : List Text) → result ≡ variables.port_signed (port_form words port.now) }
+{
+    match port.long {
+        None => type_signed(port),
+        Some(long) => !long,
     }
 }
 
@@ -346,7 +393,7 @@ fn put_port(
     let own = port_bounds(alloc, tokens, scope, port)?;
     let bounds = whole_bounds(alloc, tokens, scope, port.again, own)?;
     let form = Form {
-        kind: kind_of(port.net),
+        kind: port_kind(port),
         signed: port_signed(port),
         bounds,
     };

@@ -1,25 +1,34 @@
 -- *internal*: What the steps of elaboration are told by and answer.
-use Rattle.std.specs.Prelude.{◌≡◌, ℕ, List, [], ◌∷◌, ◌++◌, Vec, map, Option, None, option_map, Result, Ok, Err, OnOk, Bool, true, false}
+use Rattle.std.specs.Prelude.{◌≡◌, ℕ, List, [], ◌∷◌, ◌++◌, Vec, map, Option, None, Result, Ok, Err, Bool, true, false}
 use Rattle.std.specs.List.{filter_map}
 use Rattle.basis.specs.declared.memory.OrMemory.{OrMemory}
 use Rattle.vast.specs.Words.{Text}
 use Rattle.vast.specs.NumberedWords.{Word, numbered}
-use Rattle.vast.specs.NumberedTrees.{declared_tree, net_assignment, item_tree}
+use Rattle.vast.specs.NumberedModules.{ItemTree, variables}
+use Rattle.vast.specs.NumberedTrees.{argument_tree, task_tree, statement_tree, statement_trees, branch_tree, branch_trees, declared_tree, net_assignment, item_tree, port_tree}
+use Rattle.vast.specs.declared.statement.Argument.{Argument as Written}
+use Rattle.vast.specs.declared.statement.Task.{Task}
+use Rattle.vast.specs.declared.statement.Statement.{Statement}
+use Rattle.vast.specs.declared.statement.Branch.{Branch}
 use Rattle.vast.specs.declared.module.NetKind.{NetKind}
+use Rattle.vast.specs.declared.module.NetKind.TheVariants as net
+use Rattle.vast.specs.declared.module.Port.{Port}
 use Rattle.vast.specs.declared.module.ModuleItem.{ModuleItem}
 use Rattle.vast.specs.declared.module.Declared.{Declared}
 use Rattle.vast.specs.declared.module.NetAssignment.{NetAssignment}
 use Rattle.vast.specs.declared.token.Token.{Token}
 use Rattle.vdesign.specs.declared.print.Piece.{Piece}
 use Rattle.vmodules.specs.Connected.{value_for}
-use Rattle.vmodules.specs.Inner.{ConnectionEntry, entries_tree, port_form}
+use Rattle.vmodules.specs.Inner.{ConnectionEntry, entries_tree, port_form, optional_ports}
+use Rattle.vmodules.specs.Ports.{bare, port_declared, ports_declared}
+use Rattle.vmodules.specs.Placed.{placed_argument, placed_task, placed, placed_all, placed_branch, placed_branches, placed_item}
 use Rattle.vmodules.specs.declared.ports.PortForm.{PortForm}
 use Rattle.format_text.specs.Pieces.{Argument, PrintedText, pieces_with}
 use Rattle.velab_expr.specs.declared.fault.ElabFault.{ElabFault}
 use Rattle.velab_expr.specs.Answers.{◌>>=◌, Refuses}
 use Rattle.velab_expr.specs.Scopes.{Scope}
 use Rattle.vast.specs.NumberedExpressions as text
-use Rattle.vast.specs.NumberedStatements.{StatementTree, TargetTree, empty, block, assign, nonblocking, trigger, if_true, if_else, case_of, while_true, repeat_times, forever, for_loop, wait_for, delay, event, task}
+use Rattle.vast.specs.NumberedStatements.{ArgumentTree, TaskTree, StatementTree, StatementTrees, BranchTree, BranchTrees, TargetTree, empty, block, assign, nonblocking, trigger, if_true, if_else, case_of, while_true, repeat_times, forever, for_loop, wait_for, delay, event, task}
 use Rattle.vdesign.specs.declared.action.Action.{Action}
 use Rattle.vdesign.specs.declared.action.Action.TheVariants.{While, ContinuousAssign}
 use Rattle.velab_expr.specs.FirstWords.{first_in}
@@ -27,7 +36,7 @@ use Rattle.velab_expr.specs.Resolved.{lower_expression}
 use Rattle.velab_expr.specs.InnerTargets.{lower_connected}
 use Rattle.velab_process.specs.Waits.{any_of, names_in, read_by_delay, read_by_assignment, read_by_task, read_by, read_by_all, read_by_branches}
 use Rattle.velab_process.specs.Statements.{Table, Lowered, lowered_action, with_places_before, lower_assignment, lower_statement}
-use Rattle.velab_process.specs.Processes.{Processes, lower_processes, lower_items, process_trees_by, ProcessTree, process_of, driven_by}
+use Rattle.velab_process.specs.Processes.{Processes, lower_processes, lower_items, process_trees_by, ProcessTree, process_of, starts_of, driven_by}
 use Rattle.velab_process.specs.Connections.{lower_join, lower_joins}
 
 -- ---- what a call says of places
@@ -88,19 +97,53 @@ inner_read (task call) = []
 
 -- ---- the trees of program's values
 
+-- what stands in the scope of a path
+module _ (words : List Text) (path : Text) where
+  abbrev pub statement_at : Statement → StatementTree
+  statement_at statement = placed path (statement_tree words statement)
+
+  abbrev pub statements_at : List Statement → StatementTrees
+  statements_at list = placed_all path (statement_trees words list)
+
+  abbrev pub branch_at : Branch → BranchTree
+  branch_at branch = placed_branch path (branch_tree words branch)
+
+  abbrev pub branches_at : List Branch → BranchTrees
+  branches_at list = placed_branches path (branch_trees words list)
+
+  abbrev pub task_at : Task → TaskTree
+  task_at call = placed_task path (task_tree words call)
+
+  abbrev pub argument_at : Written → ArgumentTree
+  argument_at argument = placed_argument path (argument_tree words argument)
+
+  abbrev pub arguments_at : List Written → List ArgumentTree
+  arguments_at list = map (placed_argument path) (map (argument_tree words) list)
+
+  abbrev pub item_at : ModuleItem → ItemTree
+  item_at item = placed_item path (item_tree words item)
+
 -- the processes by which names are declared with a value, and those of an `assign`
 abbrev pub starts_in : List Text → NetKind → List Declared → List ProcessTree
 starts_in words word list = filter_map (process_of word) (map (declared_tree words) list)
+
+-- those of the values of ports (6.2.1, A.2.1.2)
+abbrev pub values_in : List Text → List Port → List ProcessTree
+values_in words list = filter_map (process_of net.Reg) (map port_declared (map (port_tree words) list))
 
 abbrev pub drives_in : List Text → List NetAssignment → List ProcessTree
 drives_in words list = map driven_by (map (net_assignment words) list)
 
 -- the processes of an item, and of items
-abbrev pub processes_of_item : List Text → Scope → Table → ModuleItem → Result Processes ElabFault
-processes_of_item words scope table item = lower_processes scope table (process_trees_by (item_tree words item))
+abbrev pub processes_of_item : List Text → Text → Scope → Table → ModuleItem → Result Processes ElabFault
+processes_of_item words path scope table item = lower_processes scope table (process_trees_by (item_at words path item))
 
-abbrev pub processes_of : List Text → Scope → Table → List ModuleItem → Result Processes ElabFault
-processes_of words scope table items = lower_items scope table (map (item_tree words) items)
+abbrev pub processes_of : List Text → Text → Scope → Table → List ModuleItem → Result Processes ElabFault
+processes_of words path scope table items = lower_items scope table (map (placed_item path) (map (item_tree words) items))
+
+-- of the ports of a module's list, where it has one: those of their values
+abbrev pub values_of : {X : Type 0} → List Text → Scope → Table → Option (Vec Port X) → Result Processes ElabFault
+values_of words scope table ports = lower_processes scope table (starts_of (variables net.Reg bare) (ports_declared (optional_ports words ports)))
 
 -- those of port connections
 abbrev pub joins_of : List Text → Token → Scope → Scope → List ConnectionEntry → Table → List PortForm → Result Processes ElabFault

@@ -62,10 +62,10 @@ is_watched (text.time word) = false
 is_watched _ = true
 
 abbrev pub lower_argument : Scope → ArgumentTree → Result Argument ElabFault
-lower_argument scope (quoted letters) = Ok (string (between_quotes letters.letters))
+lower_argument scope (quoted word) = Ok (string word.path (between_quotes word.letters))
 lower_argument scope (printed tree) = lower_expression scope tree >>= λ e. Ok (value (is_watched tree) e)
 -- 17.1.1: a blank is printed in the place of an argument that is left out
-lower_argument scope left_out = Ok (string (codes " "))
+lower_argument scope left_out = Ok (string [] (codes " "))
 
 abbrev pub lower_arguments : Scope → List ArgumentTree → Result (List Argument) ElabFault
 lower_arguments scope [] = Ok []

@@ -1,5 +1,6 @@
--- *trusted*: The processes of a module (IEEE 1364-2005, 6.1, 9.9): those of its items, in the order of the text.
-use Rattle.std.specs.Prelude.{ℕ, List, [], ◌∷◌, ◌++◌, map, Option, None, Some, option_map, Result, Ok}
+-- *trusted*: The processes of items (IEEE 1364-2005, 6.1, 9.9), in the order of the text. A module's are those of its `process_items`
+-- (`Ports` of `vmodules`): of the values of its ports, and then of its items.
+use Rattle.std.specs.Prelude.{ℕ, List, [], ◌∷◌, ◌++◌, map, Option, None, option_map, Result, Ok}
 use Rattle.std.specs.List.{filter_map}
 use Rattle.vast.specs.NumberedWords.{Word}
 use Rattle.vast.specs.NumberedExpressions as text
@@ -50,7 +51,8 @@ lower_processes scope table [] = Ok (record { table = table; begins = [] })
 lower_processes scope table (process ∷ rest) =
     lower_process scope table process >>= λ front. with_begins_before (front.places ∷ []) (lower_processes scope front.table rest)
 
--- `reg a = e` is an `initial a = e` at its place (6.2.1; that e may name variables is own), and `wire a = e` drives a (6.1.1)
+-- `reg a = e` is an `initial a = e` at its place (6.2.1; that e may name variables is own), and `wire a = e` drives a (6.1.1); a port with a
+-- value is a variable (A.2.1.2)
 abbrev pub process_by : NetKind → Word → text.ExpressionTree → ProcessTree
 process_by net.Wire letters value = continuous (written.whole letters) value
 process_by net.Reg letters value = procedural (assign (written.whole letters) None value)
@@ -61,7 +63,7 @@ process_of word declared = option_map (process_by word declared.name) declared.v
 abbrev pub starts_of : DeclarationKind → List DeclaredTree → List ProcessTree
 starts_of (variables word type) list = filter_map (process_of word) list
 starts_of (integers long) list = filter_map (process_of net.Reg) list
-starts_of (directed direction) list = []
+starts_of (directed direction) list = filter_map (process_of net.Reg) list
 
 -- 6.1.2
 abbrev pub driven_by : NetAssignment → ProcessTree

@@ -7,7 +7,7 @@ ghost use Rattle.vast.specs.Words.{Text};
 ghost use Rattle.vexpr_parse.specs.Texts.{words_of};
 ghost use Rattle.format_text.specs.Pieces.{TakesArgument};
 ghost use Rattle.velab_expr.specs.Answers.{Gives};
-ghost use Rattle.velab_process.specs.Inner.{Prints, TakesAnswer, right_pieces as only_right};
+ghost use Rattle.velab_process.specs.Inner.{Prints, TakesAnswer, argument_at, arguments_at, right_pieces as only_right};
 ghost use Rattle.velab_process.specs.Prints.{lower_argument, lower_arguments, lower_line};
 ghost use Rattle.velab_process.specs.Prints as spec;
 
@@ -141,19 +141,19 @@ impl<'a> Elaborator<'a> {
         argument: &Argument,
     ) -> Result<bool, OrMemory<ElabFault>>
         ensures { TakesAnswer result (lower_argument self.now.scope.now
-            (argument_tree (words_of self.now.tokens.now) argument.now))
+            (argument_at (words_of self.now.tokens.now) self.now.path.now argument.now))
             (λ argument is_right. TakesArgument printer.old argument is_right printer.new) }
     {
         match argument {
             Argument::Text(word) => {
                 let string = between_quotes(letters(self.tokens, *word));
-                Ok(printer.string(string)?)
+                Ok(printer.string(self.path, string)?)
             }
             Argument::Value(value) => {
                 let shown = self.expression(value)?;
                 Ok(printer.value(is_watched(value), shown)?)
             }
-            Argument::LeftOut => Ok(printer.string(b" ")?),
+            Argument::LeftOut => Ok(printer.string(b"", b" ")?),
         }
     }
 
@@ -164,7 +164,7 @@ impl<'a> Elaborator<'a> {
         arguments: &[Argument],
     ) -> Result<bool, OrMemory<ElabFault>>
         ensures { TakesAnswer result (lower_arguments self.now.scope.now
-            (map (argument_tree (words_of self.now.tokens.now)) arguments.now))
+            (arguments_at (words_of self.now.tokens.now) self.now.path.now arguments.now))
             (λ all is_right. Prints printer.old all is_right printer.new) }
     {
         let mut is_right = true;
@@ -181,8 +181,8 @@ impl<'a> Elaborator<'a> {
         kind: Printing,
         arguments: &[Argument],
     ) -> Result<Pieces, OrMemory<ElabFault>>
-        ensures { Gives result
-            (lower_line self.now.scope.now kind (map (argument_tree (words_of self.now.tokens.now)) arguments.now)) }
+        ensures { Gives result (lower_line self.now.scope.now kind
+            (arguments_at (words_of self.now.tokens.now) self.now.path.now arguments.now)) }
     {
         let mut printer = Printer::new(self.alloc, default_form(kind));
         let is_right = self.put_arguments(&mut printer, given(arguments))?;

@@ -7,10 +7,11 @@ ghost use Rattle.velab_process.specs.Statements as spec;
 ghost use Rattle.velab_process.specs.Statements.{at_next, with_places_before, with_branches_before, lower_label, lower_labels, lower_statement};
 ghost use Rattle.velab_process.specs.Processes as processes;
 ghost use Rattle.velab_process.specs.Processes.{procedural, continuous, with_begins_before, lower_processes};
-ghost use Rattle.velab_process.specs.Inner.{Begins, lower_loop as spec_loop, starts_in, drives_in, processes_of_item, processes_of};
+ghost use Rattle.vmodules.specs.Placed.{inside};
+ghost use Rattle.velab_process.specs.Inner.{Begins, statement_at, statements_at, branch_at, branches_at, task_at, arguments_at, lower_loop as spec_loop, starts_in, values_in, drives_in, processes_of_item, processes_of, values_of};
 ghost use Rattle.vast.specs.Words.{Text};
 ghost use Rattle.vast.specs.NumberedTrees.{tree_of as text_tree, trees_of};
-ghost use Rattle.vast.specs.NumberedTrees.{target_tree, delay_tree, argument_tree, task_tree, event_tree, statement_tree, statement_trees, branch_tree, branch_trees};
+ghost use Rattle.vast.specs.NumberedTrees.{target_tree, delay_tree, event_tree};
 ghost use Rattle.vast.specs.NumberedWords.{numbered};
 ghost use Rattle.vexpr_parse.specs.Texts.{words_of};
 ghost use Rattle.vast.specs.NumberedStatements.{case_of, assign, whole, print};
@@ -18,12 +19,12 @@ ghost use Rattle.vast.specs.NumberedStatements as written;
 
 use crate::elaborator::Elaborator;
 use crate::print::when_of;
-use crate::wait::{condition_terms, event_terms};
+use crate::wait::condition_terms;
 use basis::OrMemory;
 use std::alloc::Global;
 use std::marker::Model;
 use vast::expression::Expression as Value;
-use vast::module::{DeclarationKind, Declared, ModuleItem, NetAssignment, NetKind};
+use vast::module::{DeclarationKind, Declared, ModuleItem, NetAssignment, NetKind, Port};
 use vast::statement::{
     Argument, Branch, CaseKind, Delay, Dumping, Event, Printing, Statement, Target as Written, Task,
 };
@@ -269,7 +270,7 @@ impl<'a> Elaborator<'a> {
     ) -> Result<(), OrMemory<ElabFault>>
         ensures { Makes result (record { table = table.new; places = into.new.items })
             (with_places_before into.old.items (spec.lower_task self.now.scope.now table.old
-            (print kind (map (argument_tree (words_of self.now.tokens.now)) arguments.now)))) }
+            (print kind (arguments_at (words_of self.now.tokens.now) self.now.path.now arguments.now)))) }
     {
         let pieces = self.pieces(kind, arguments)?;
         let action = print_action(kind, pieces);
@@ -285,7 +286,7 @@ impl<'a> Elaborator<'a> {
     ) -> Result<(), OrMemory<ElabFault>>
         ensures { Makes result (record { table = table.new; places = into.new.items })
             (with_places_before into.old.items (spec.lower_task self.now.scope.now table.old
-            (task_tree (words_of self.now.tokens.now) task.now))) }
+            (task_at (words_of self.now.tokens.now) self.now.path.now task.now))) }
     {
         match task {
             Task::Print { kind, arguments } => self.lower_print(*kind, arguments, table, into),
@@ -326,11 +327,13 @@ impl<'a> Elaborator<'a> {
     ) -> Result<(), OrMemory<ElabFault>>
         ensures { Makes result (record { table = table.new; places = into.new.items })
             (with_places_before into.old.items (lower_statement self.now.scope.now table.old
-            (statement_tree (words_of self.now.tokens.now) statement.now))) }
+            (statement_at (words_of self.now.tokens.now) self.now.path.now statement.now))) }
     {
         match statement {
             Statement::Empty => Ok(()),
-            Statement::Block { statements, .. } => self.lower_all(statements, table, into),
+            Statement::Block { name, statements } => {
+                self.lower_block(statements, *name, table, into)
+            }
             Statement::Assign {
                 target,
                 delay,
@@ -407,7 +410,7 @@ impl<'a> Elaborator<'a> {
         table: &mut Table,
     ) -> Result<Vec<usize>, OrMemory<ElabFault>>
         ensures { Begins result table.new (lower_statement self.now.scope.now table.old
-            (statement_tree (words_of self.now.tokens.now) statement.now)) }
+            (statement_at (words_of self.now.tokens.now) self.now.path.now statement.now)) }
     {
         let mut places = Vec::new(self.alloc);
         self.lower(statement, table, &mut places)?;
@@ -426,7 +429,7 @@ impl<'a> Elaborator<'a> {
         ensures { Makes result (record { table = table.new; places = into.new.items })
             (with_places_before into.old.items (lower_statement self.now.scope.now table.old
             (written.delay (delay_tree (words_of self.now.tokens.now) amount.now)
-            (statement_tree (words_of self.now.tokens.now) body.now)))) }
+            (statement_at (words_of self.now.tokens.now) self.now.path.now body.now)))) }
     {
         let word = first_delay(amount);
         let amount = self.amount(amount)?;
@@ -447,7 +450,7 @@ impl<'a> Elaborator<'a> {
         ensures { Makes result (record { table = table.new; places = into.new.items })
             (with_places_before into.old.items (lower_statement self.now.scope.now table.old
             (written.if_true (text_tree (words_of self.now.tokens.now) condition.now)
-            (statement_tree (words_of self.now.tokens.now) body.now)))) }
+            (statement_at (words_of self.now.tokens.now) self.now.path.now body.now)))) }
     {
         let tested = self.expression(condition)?;
         let inner = self.lower_body(body, table)?;
@@ -467,7 +470,7 @@ impl<'a> Elaborator<'a> {
         ensures { Makes result (record { table = table.new; places = into.new.items })
             (with_places_before into.old.items (lower_statement self.now.scope.now table.old
             (written.while_true (text_tree (words_of self.now.tokens.now) condition.now)
-            (statement_tree (words_of self.now.tokens.now) body.now)))) }
+            (statement_at (words_of self.now.tokens.now) self.now.path.now body.now)))) }
     {
         let tested = self.expression(condition)?;
         let inner = self.lower_body(body, table)?;
@@ -491,7 +494,7 @@ impl<'a> Elaborator<'a> {
         ensures { Makes result (record { table = table.new; places = into.new.items })
             (with_places_before into.old.items (lower_statement self.now.scope.now table.old
             (written.repeat_times (text_tree (words_of self.now.tokens.now) count.now)
-            (statement_tree (words_of self.now.tokens.now) body.now)))) }
+            (statement_at (words_of self.now.tokens.now) self.now.path.now body.now)))) }
     {
         let word = first_in(count);
         let count = self.expression(count)?;
@@ -510,7 +513,7 @@ impl<'a> Elaborator<'a> {
     ) -> Result<(), OrMemory<ElabFault>>
         ensures { Makes result (record { table = table.new; places = into.new.items })
             (with_places_before into.old.items (lower_statement self.now.scope.now table.old
-            (written.forever (statement_tree (words_of self.now.tokens.now) body.now)))) }
+            (written.forever (statement_at (words_of self.now.tokens.now) self.now.path.now body.now)))) }
     {
         let inner = self.lower_body(body, table)?;
         let body = Places::new(inner);
@@ -529,7 +532,7 @@ impl<'a> Elaborator<'a> {
         ensures { Makes result (record { table = table.new; places = into.new.items })
             (with_places_before into.old.items (lower_statement self.now.scope.now table.old
             (written.wait_for (text_tree (words_of self.now.tokens.now) condition.now)
-            (statement_tree (words_of self.now.tokens.now) body.now)))) }
+            (statement_at (words_of self.now.tokens.now) self.now.path.now body.now)))) }
     {
         let awaited = self.expression(condition)?;
         let terms = condition_terms(self.alloc, self.scope, self.tokens, condition)?;
@@ -554,9 +557,9 @@ impl<'a> Elaborator<'a> {
         ensures { Makes result (record { table = table.new; places = into.new.items })
             (with_places_before into.old.items (lower_statement self.now.scope.now table.old
             (written.event (event_tree (words_of self.now.tokens.now) control.now)
-            (statement_tree (words_of self.now.tokens.now) body.now)))) }
+            (statement_at (words_of self.now.tokens.now) self.now.path.now body.now)))) }
     {
-        let terms = event_terms(self.alloc, self.scope, self.tokens, control, body)?;
+        let terms = self.terms(control, body)?;
         let inner = self.lower_body(body, table)?;
         let body = Places::new(inner);
         put(table, into, None, Action::EventControl { terms, body })
@@ -576,7 +579,7 @@ impl<'a> Elaborator<'a> {
         ensures { Makes result (record { table = table.new; places = into.new.items })
             (with_places_before into.old.items (spec_loop self.now.scope.now table.old
             (text_tree (words_of self.now.tokens.now) condition.now)
-            (statement_tree (words_of self.now.tokens.now) body.now)
+            (statement_at (words_of self.now.tokens.now) self.now.path.now body.now)
             (target_tree (words_of self.now.tokens.now) next_target.now)
             (text_tree (words_of self.now.tokens.now) next_value.now))) }
     {
@@ -591,6 +594,33 @@ impl<'a> Elaborator<'a> {
         )
     }
 
+    // The statements of a block, which is a scope of its own where it has a name (9.8.1, 9.8.3).
+    #[cycle(statements)]
+    fn lower_block(
+        &self,
+        statements: &[Statement],
+        name: Option<Token>,
+        table: &mut Table,
+        into: &mut Vec<usize>,
+    ) -> Result<(), OrMemory<ElabFault>>
+        ensures { Makes result (record { table = table.new; places = into.new.items })
+            (with_places_before into.old.items (spec.lower_all self.now.scope.now table.old
+            (statements_at (words_of self.now.tokens.now)
+            (inside self.now.path.now (option_map (numbered (words_of self.now.tokens.now)) name)) statements.now))) }
+    {
+        let Some(name) = name else {
+            return self.lower_all(statements, table, into);
+        };
+        let path = self.path_inside(name)?;
+        let inner = Elaborator {
+            alloc: self.alloc,
+            scope: self.scope,
+            tokens: self.tokens,
+            path: &path,
+        };
+        inner.lower_all(statements, table, into)
+    }
+
     // Statements, one after the other.
     #[cycle(statements)]
     fn lower_all(
@@ -601,7 +631,7 @@ impl<'a> Elaborator<'a> {
     ) -> Result<(), OrMemory<ElabFault>>
         ensures { Makes result (record { table = table.new; places = into.new.items })
             (with_places_before into.old.items (spec.lower_all self.now.scope.now table.old
-            (statement_trees (words_of self.now.tokens.now) statements.now))) }
+            (statements_at (words_of self.now.tokens.now) self.now.path.now statements.now))) }
     {
         for statement in statements {
             self.lower(statement, table, into)?;
@@ -622,7 +652,7 @@ impl<'a> Elaborator<'a> {
         ensures { Makes result (record { table = table.new; places = into.new.items })
             (with_places_before into.old.items (lower_statement self.now.scope.now table.old
             (case_of kind (text_tree (words_of self.now.tokens.now) value.now)
-            (branch_trees (words_of self.now.tokens.now) branches.now)))) }
+            (branches_at (words_of self.now.tokens.now) self.now.path.now branches.now)))) }
     {
         let chosen_of = self.expression(value)?;
         let mut choices = Vec::new(self.alloc);
@@ -651,7 +681,7 @@ impl<'a> Elaborator<'a> {
           otherwise = otherwise.new.items;
         }) (with_branches_before into.old.items otherwise.old.items
             (spec.lower_branches self.now.scope.now table.old
-            (branch_trees (words_of self.now.tokens.now) branches.now))) }
+            (branches_at (words_of self.now.tokens.now) self.now.path.now branches.now))) }
     {
         for branch in branches {
             self.lower_branch(branch, table, into, otherwise)?;
@@ -674,7 +704,7 @@ impl<'a> Elaborator<'a> {
           otherwise = otherwise.new.items;
         }) (with_branches_before into.old.items otherwise.old.items
             (spec.lower_branch self.now.scope.now table.old
-            (branch_tree (words_of self.now.tokens.now) branch.now))) }
+            (branch_at (words_of self.now.tokens.now) self.now.path.now branch.now))) }
     {
         match branch {
             Branch::Labelled { labels, body } => {
@@ -790,6 +820,40 @@ impl<'a> Elaborator<'a> {
         Ok(())
     }
 
+    // The process of a port with a value, if it has one.
+    fn lower_port(
+        &self,
+        port: &Port,
+        table: &mut Table,
+        into: &mut Vec<Places>,
+    ) -> Result<(), OrMemory<ElabFault>>
+        ensures { Makes result (record { table = table.new; begins = into.new.items })
+            (with_begins_before into.old.items (lower_processes self.now.scope.now table.old
+            (values_in (words_of self.now.tokens.now) (port.now ∷ [])))) }
+    {
+        match &port.value {
+            None => Ok(()),
+            Some(value) => self.lower_variable(port.name, value, table, into),
+        }
+    }
+
+    // The processes of the values of ports.
+    fn lower_ports(
+        &self,
+        list: &[Port],
+        table: &mut Table,
+        into: &mut Vec<Places>,
+    ) -> Result<(), OrMemory<ElabFault>>
+        ensures { Makes result (record { table = table.new; begins = into.new.items })
+            (with_begins_before into.old.items (lower_processes self.now.scope.now table.old
+            (values_in (words_of self.now.tokens.now) list.now))) }
+    {
+        for one in list {
+            self.lower_port(one, table, into)?;
+        }
+        Ok(())
+    }
+
     // The process of one part of an `assign`.
     fn lower_net_assignment(
         &self,
@@ -830,7 +894,7 @@ impl<'a> Elaborator<'a> {
     ) -> Result<(), OrMemory<ElabFault>>
         ensures { Makes result (record { table = table.new; begins = into.new.items })
             (with_begins_before into.old.items (processes_of_item (words_of self.now.tokens.now)
-            self.now.scope.now table.old item.now)) }
+            self.now.path.now self.now.scope.now table.old item.now)) }
     {
         match item {
             ModuleItem::Initial { statement, .. } => {
@@ -846,7 +910,9 @@ impl<'a> Elaborator<'a> {
                 DeclarationKind::Integers { .. } => {
                     self.lower_starts(NetKind::Reg, declared, table, into)
                 }
-                DeclarationKind::Directed { .. } => Ok(()),
+                DeclarationKind::Directed { .. } => {
+                    self.lower_starts(NetKind::Reg, declared, table, into)
+                }
             },
             ModuleItem::Events { .. } => Ok(()),
             ModuleItem::Assignments { list, .. } => self.lower_drives(list, table, into),
@@ -865,6 +931,7 @@ impl<'a> Elaborator<'a> {
 fn lower_items(
     alloc: Global,
     tokens: &Tokens<'_>,
+    path: &[u8],
     scope: &Scope<'_, '_>,
     items: &[ModuleItem],
     table: &mut Table,
@@ -873,7 +940,7 @@ fn lower_items(
     requires small { scope.now.known + length (symbols_in (words_of tokens.now) items.now) < 2 ^ 64 }
     ensures { Makes result (record { table = table.new; begins = into.new.items })
         (with_begins_before into.old.items
-        (processes_of (words_of tokens.now) scope.now table.old items.now)) }
+        (processes_of (words_of tokens.now) path.now scope.now table.old items.now)) }
 {
     let mut known = scope.known;
     for item in items {
@@ -882,6 +949,7 @@ fn lower_items(
             alloc,
             scope: &here,
             tokens: &*tokens,
+            path,
         };
         elaborator.lower_item(item, table, into)?;
         known += symbol_count(item);
@@ -889,11 +957,40 @@ fn lower_items(
     Ok(())
 }
 
+/// An `initial` for each port of a module's list that has a value, in their order, after the processes that there are. `scope` is that of the
+/// first item. Errors: E303, E306, E307, E310, E901.
+pub fn put_port_values(
+    alloc: Global,
+    tokens: &Tokens<'_>,
+    scope: &Scope<'_, '_>,
+    ports: &Option<Vec<Port>>,
+    table: &mut Table,
+    into: &mut Vec<Places>,
+) -> Result<(), OrMemory<ElabFault>>
+    ensures makes { Makes result (record { table = table.new; begins = into.new.items })
+        (with_begins_before into.old.items
+        (values_of (words_of tokens.now) scope.now table.old ports.now)) }
+{
+    match ports {
+        None => Ok(()),
+        Some(list) => {
+            let elaborator = Elaborator {
+                alloc,
+                scope: &*scope,
+                tokens: &*tokens,
+                path: b"",
+            };
+            elaborator.lower_ports(list, table, into)
+        }
+    }
+}
+
 /// A process for each `initial`, each `always`, each net that an `assign` drives and each name that is declared with a value, in the order of the
-/// text, after those that there are. `scope` is that of the first item. Errors: E303, E306, E307, E310, E901.
+/// text, after those that there are. `path` is that of the instance, `scope` that of the first item. Errors: E303, E306, E307, E310, E901.
 pub fn put_processes(
     alloc: Global,
     tokens: &Tokens<'_>,
+    path: &[u8],
     scope: &Scope<'_, '_>,
     items: &[ModuleItem],
     table: &mut Table,
@@ -902,7 +999,7 @@ pub fn put_processes(
     requires small { scope.now.known + length (symbols_in (words_of tokens.now) items.now) < 2 ^ 64 }
     ensures makes { Makes result (record { table = table.new; begins = into.new.items })
         (with_begins_before into.old.items
-        (processes_of (words_of tokens.now) scope.now table.old items.now)) }
+        (processes_of (words_of tokens.now) path.now scope.now table.old items.now)) }
 {
-    lower_items(alloc, tokens, scope, items, table, into)
+    lower_items(alloc, tokens, path, scope, items, table, into)
 }

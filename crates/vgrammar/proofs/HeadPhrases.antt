@@ -1,5 +1,5 @@
 -- Types, settings, connections and other parts of modules.
-use Rattle.std.proofs.Common.{◌≡◌, ℕ, suc, Bool, true, false, ◌&&◌, not, List, [], ◌∷◌, ◌++◌, Option, None, Some, length, refl, sym, ap, ◌∙◌, codes, zero-lt-suc}
+use Rattle.std.proofs.Common.{◌≡◌, ℕ, suc, ◌<◌, Bool, true, false, ◌&&◌, not, List, [], ◌∷◌, ◌++◌, Option, None, Some, length, refl, sym, ap, ◌∙◌, codes, zero-lt-suc}
 use Rattle.std.specs.List.{list_all}
 use Rattle.std.specs.Str.{bytes_eq}
 use Rattle.std.proofs.lemmas.Bool.{false_from_ne_true}
@@ -8,17 +8,17 @@ use Rattle.basis.proofs.Numbers.{one_within}
 use Rattle.vast.specs.Words.{Text, is_name, reserved_words}
 use Rattle.vast.specs.Expressions.{ExpressionTree}
 use Rattle.vast.specs.Statements.{TargetTree}
-use Rattle.vast.specs.Modules.{RangeTree, TypeTree, ParameterType, integer, typed, SettingTree, DeclaredTree, spell_range, spell_signed, spell_type, spell_parameter_type, spell_setting, spell_declared, fits_value, fits_range, fits_type, fits_parameter_type, fits_setting, fits_declared, are_some, NetAssignment, spell_net_assignment, fits_net_assignment}
+use Rattle.vast.specs.Modules.{RangeTree, TypeTree, ParameterType, integer, typed, SettingTree, DeclaredTree, spell_range, spell_signed, spell_type, integer_word, spell_parameter_type, spell_setting, spell_value, spell_declared, fits_value, fits_range, fits_type, fits_parameter_type, fits_setting, fits_declared, are_some, NetAssignment, spell_net_assignment, fits_net_assignment}
 use Rattle.vexpr_parse.specs.Readers.{Reader, front, is_front}
 use Rattle.vexpr_parse.specs.Words.{binary_of, written, ends}
 use Rattle.vexpr_parse.specs.Lawful.{Ends}
 use Rattle.vexpr_parse.proofs.ReaderRules.{same_text}
-use Rattle.vgrammar.specs.Parts.{Both, both, Either, one_way, other_way, paired}
-use Rattle.vgrammar.specs.Starts.{is_some_meaning}
+use Rattle.vgrammar.specs.Parts.{Both, both, Either, one_way, other_way, paired, worded}
+use Rattle.vgrammar.specs.Starts.{is_meant, is_some_meaning}
 use Rattle.vgrammar.specs.Statements.{word_only, List_of}
-use Rattle.vgrammar.specs.Modules.{free_value, range_of, range, type_of, type, parameter_type_of, parameter_type, setting_of, setting, declared_of, declared, ended, net_assignment_of, net_assignment}
-use Rattle.vgrammar.proofs.Phrases.{Shape, Phrase, Example, Opens, Makes, From, always, phrase_within, made_phrase, past_shape, past_phrase, past_example, nothing_phrase, paired_shape, paired_phrase, before_phrase, paired_example, free_phrase}
-use Rattle.vgrammar.proofs.PhraseChoices.{ends_maybe, maybe_shape, maybe_phrase, either_shape, either_open_phrase, allows_all}
+use Rattle.vgrammar.specs.Modules.{free_value, range_of, range, type_of, type, integer_of, parameter_type_of, parameter_type, setting_of, setting, declared_of, declared, ended, net_assignment_of, net_assignment}
+use Rattle.vgrammar.proofs.Phrases.{Shape, Phrase, Example, Worded, Opens, Makes, From, always, phrase_within, made_phrase, past_shape, past_phrase, past_example, nothing_phrase, worded_shape, worded_phrase, paired_shape, paired_phrase, before_phrase, paired_example, free_phrase}
+use Rattle.vgrammar.proofs.PhraseChoices.{ends_maybe, maybe_shape, maybe_phrase, either_shape, either_open_phrase, Tested, allows_all}
 use Rattle.vgrammar.proofs.LevelFacts.{and_true}
 use Rattle.vgrammar.proofs.ValuePhrases.{value_shape, value_phrase, value_example, nothing_example, only_shape, only_phrase, only_example, comma_shape, comma_phrase, allows_each}
 use Rattle.vgrammar.proofs.TargetPhrases.{target_shape, target_phrase, target_example}
@@ -65,20 +65,41 @@ abbrev pub ends_type : Ends
 ends_type next = not_signed next && not (bracket next)
 
 -- what may follow the type of a parameter
-abbrev integer_next : Option Text → Bool
-integer_next = is_front (codes "integer")
+abbrev pub integer_next : Option Text → Bool
+integer_next = is_meant integer_of
 
 abbrev pub ends_parameter_type : Ends
 ends_parameter_type next = ends_type next && not (integer_next next)
+
+-- integer, or time
+abbrev pub integer_shape : Shape Bool
+integer_shape = worded_shape integer_word (λ long. true) always
+
+pub integer_phrase : Phrase (worded integer_of) always integer_shape
+integer_phrase = worded_phrase integer_of integer_word (λ long. true) always
+    (λ text long e. (as_written integer_word (false ∷ true ∷ []) text long e, refl)) meant
+  where
+    meant : (long : Bool) → true ≡ true → integer_of (integer_word long) ≡ Some long
+    meant true e = refl
+    meant false e = refl
+
+pub integer_begins : Tested integer_next true integer_shape
+integer_begins true v rest = refl
+integer_begins false v rest = refl
+
+no_integer_name : (long : Bool) → is_name (integer_word long) ≡ false
+unfolding reserved_words
+no_integer_name true = refl
+no_integer_name false = refl
 
 -- a name ends a type
 pub name_ends_type : (letters : Text) → is_name letters ≡ true → ends_parameter_type (Some letters) ≡ true
 unfolding reserved_words
 name_ends_type letters is =
-    and_both (ends_type (Some letters)) (not (bytes_eq (codes "integer") letters))
+    and_both (ends_type (Some letters)) (not (integer_next (Some letters)))
     (and_both (not (bytes_eq (codes "signed") letters)) (not (bytes_eq (codes "[") letters))
     (ap not (name_isnt (codes "signed") refl letters is)) (ap not (name_isnt (codes "[") refl letters is)))
-    (ap not (name_isnt (codes "integer") refl letters is))
+    (ap not (name_means_not integer_word (false ∷ true ∷ []) no_integer_name letters is))
 
 abbrev equals : Option Text → Bool
 equals = is_front (codes "=")
@@ -236,12 +257,12 @@ module _ (below : ℕ) where
   pub parameter_type_phrase : Phrase (parameter_type levels) ends_parameter_type parameter_type_shape
   parameter_type_phrase =
       made_phrase parameter_type_of parameter_type_shape back makes (λ tree next e. e)
-      (either_open_phrase integer_next (phrase_within ends_parameter_type (only_phrase (codes "integer")) (λ next e. refl))
+      (either_open_phrase integer_next (phrase_within ends_parameter_type integer_phrase (λ next e. refl))
       (phrase_closing (λ tree. ends_parameter_type)
       (phrase_within ends_parameter_type type_phrase (λ next e. and_left (ends_type next) _ e))
       (λ tree next e. and_left (ends_type next) _ e)
       (λ tree next e. e))
-      (λ tree v. zero-lt-suc _) (λ tree words is e. no_integer (front words) e) (λ tree v rest. refl) fails)
+      (λ tree v. zero-lt-suc _) (λ tree words is e. no_integer (front words) e) integer_begins fails)
     where
       no_integer : (next : Option Text) → ends_parameter_type next ≡ true → integer_next next ≡ false
       no_integer next e = false_from_ne_true (integer_next next)
@@ -258,26 +279,25 @@ module _ (below : ℕ) where
       fails tree v rest c = by_parts tree.signed tree.range rest c
 
       back : (tree : ParameterType) → fits_parameter_type levels tree ≡ true → From parameter_type_of tree
-      back integer v = record { parts = one_way tt; is = refl }
+      back (integer long) v = record { parts = one_way long; is = refl }
       back (typed tree) v = record { parts = other_way tree; is = refl }
 
-      makes : Makes parameter_type_of (either_shape (only_shape (codes "integer")) ClosingType) parameter_type_shape []
+      makes : Makes parameter_type_of (either_shape integer_shape ClosingType) parameter_type_shape []
       makes = record { spelled = spelled; valid = valid; closes = closes; stops = λ tree next e. refl }
         where
-          spelled : (tree : Either (Unit {0}) TypeTree) →
-              spell_parameter_type (parameter_type_of tree) ≡ (either_shape (only_shape (codes "integer")) ClosingType).spell tree
-          spelled (one_way end) = refl
+          spelled : (tree : Either Bool TypeTree) →
+              spell_parameter_type (parameter_type_of tree) ≡ (either_shape integer_shape ClosingType).spell tree
+          spelled (one_way long) = refl
           spelled (other_way tree) = refl
 
-          valid : (tree : Either (Unit {0}) TypeTree) →
-              fits_parameter_type levels (parameter_type_of tree)
-              ≡ (either_shape (only_shape (codes "integer")) ClosingType).valid tree
-          valid (one_way end) = refl
+          valid : (tree : Either Bool TypeTree) →
+              fits_parameter_type levels (parameter_type_of tree) ≡ (either_shape integer_shape ClosingType).valid tree
+          valid (one_way long) = refl
           valid (other_way tree) = refl
 
-          closes : (tree : Either (Unit {0}) TypeTree) (next : Option Text) → ends_parameter_type next ≡ true →
-              (either_shape (only_shape (codes "integer")) ClosingType).closes tree next ≡ true
-          closes (one_way end) next e = refl
+          closes : (tree : Either Bool TypeTree) (next : Option Text) → ends_parameter_type next ≡ true →
+              (either_shape integer_shape ClosingType).closes tree next ≡ true
+          closes (one_way long) next e = refl
           closes (other_way tree) next e = e
 
   -- Settings
@@ -396,6 +416,21 @@ module _ (below : ℕ) where
               DeclaredParts.closes tree next ≡ true
           closes (both letters None) next e = e
           closes (both letters (Some tree)) next e = and_left (ends 0 next) _ e
+
+  pub declared_worded : Worded declared_shape
+  declared_worded tree v = by_value tree.value
+    where
+      by_value : (o : Option ExpressionTree) → 0 < length (spell_value tree.name o)
+      by_value None = zero-lt-suc _
+      by_value (Some one) = zero-lt-suc _
+
+  -- what is declared begins with a name
+  pub declared_opens : (here : Ends) → ((letters : Text) → is_name letters ≡ true → here (Some letters) ≡ true) → Opens here declared_shape
+  declared_opens here named tree v rest c = by_value tree.value
+    where
+      by_value : (o : Option ExpressionTree) → here (front (spell_value tree.name o ++ rest)) ≡ true
+      by_value None = named tree.name (and_left (is_name tree.name) _ v)
+      by_value (Some one) = named tree.name (and_left (is_name tree.name) _ v)
 
   pub a_declared : Example declared_shape
   a_declared = record { tree = record { name = a_name.tree; value = None }; valid = and_both _ true a_name.valid refl }

@@ -1,12 +1,12 @@
 -- Connections, instances and the items of modules.
-use Rattle.std.proofs.Common.{◌≡◌, ℕ, suc, ◌<◌, Bool, true, false, ◌&&◌, not, List, [], ◌∷◌, ◌++◌, Option, None, Some, is_some, length, flat_map, refl, sym, ap, ◌∙◌, subst, codes, zero-lt-suc}
+use Rattle.std.proofs.Common.{◌≡◌, ℕ, suc, ◌<◌, Bool, true, false, ◌&&◌, not, List, [], ◌∷◌, ◌++◌, Option, None, Some, length, flat_map, refl, sym, ap, ◌∙◌, subst, codes, zero-lt-suc}
 use Rattle.basis.proofs.Bools.{and_left, and_right, and_both, and_assoc}
 use Rattle.basis.proofs.Numbers.{one_within}
 use Rattle.basis.proofs.Lists.{longer}
 use Rattle.vast.specs.Words.{Text, is_name, reserved_words}
 use Rattle.vast.specs.Expressions.{ExpressionTree, spell_expression}
 use Rattle.vast.specs.Statements.{StatementTree, empty}
-use Rattle.vast.specs.Modules.{SettingTree, DeclaredTree, ConnectionTree, ConnectionsTree, by_order, by_name, InstanceTree, variables, integers, directed, ItemTree, parameters, declaration, events, assignments, initial, always as always_item, instances, integer, spell_value, spell_declared, spell_connection, spell_connections, spell_instance, spell_item, parameter_word, net_word, fits_value, fits_type, fits_parameter_type, fits_setting, fits_declared, fits_connection, fits_connections, fits_overrides, fits_instance, fits_item, fits_direction, stands_alone, are_some, input, output, NetAssignment, fits_net_assignment}
+use Rattle.vast.specs.Modules.{SettingTree, DeclaredTree, ConnectionTree, ConnectionsTree, by_order, by_name, InstanceTree, variables, integers, directed, ItemTree, parameters, declaration, events, assignments, initial, always as always_item, instances, integer, spell_value, spell_declared, spell_connection, spell_connections, spell_instance, spell_item, parameter_word, net_word, fits_value, fits_type, fits_parameter_type, fits_setting, fits_declared, fits_connection, fits_connections, fits_overrides, fits_instance, fits_item, fits_direction, are_some, input, output, output_integer, NetAssignment, fits_net_assignment}
 use Rattle.vast.specs.declared.module.NetKind.{NetKind}
 use Rattle.vast.specs.declared.module.NetKind.TheVariants as net
 use Rattle.vexpr_parse.specs.declared.beginning.Beginning.TheVariants as start
@@ -17,7 +17,7 @@ use Rattle.vexpr_parse.proofs.ReaderRules.{same_text, parts_of}
 use Rattle.vgrammar.specs.Parts.{Both, both, Either, one_way, other_way, made, paired, worded, many}
 use Rattle.vgrammar.specs.Starts.{is_meant}
 use Rattle.vgrammar.specs.Statements.{named, word_only, List_of, comma_list, statement, ends_statement}
-use Rattle.vgrammar.specs.Modules.{free_value, type, parameter_type, setting, declared, direction, is_direction, alone_of, alone, Directed, Value, value_in, connection_of, connection, Connections, connections_of, connections, instance_of, instance_behind, overrides, ended, net_of, local_of, Parameters, Variables, Instances, Item, item_of, item_parts, item, net_assignment}
+use Rattle.vgrammar.specs.Modules.{free_value, type, parameter_type, setting, declared, direction, is_direction, Directed, Value, value_in, connection_of, connection, Connections, connections_of, connections, instance_of, instance_behind, overrides, ended, net_of, local_of, Parameters, Variables, Instances, Item, item_of, item_parts, item, net_assignment}
 use Rattle.vgrammar.proofs.Phrases.{Shape, Phrase, Example, Worded, Opens, Makes, From, always, phrase_within, made_phrase, past_shape, past_phrase, past_example, nothing_phrase, worded_shape, worded_phrase, paired_shape, before_phrase, paired_example, free_phrase, next_phrase}
 use Rattle.vgrammar.proofs.PhraseChoices.{ends_maybe, maybe_shape, maybe_phrase, either_shape, either_phrase, either_tested, either_worded, Tested, allows_all}
 use Rattle.vgrammar.proofs.LevelFacts.{and_true}
@@ -120,39 +120,6 @@ item_closed (assignments list) next e = refl
 item_closed (initial body) next e = statement_closed body next e
 item_closed (always_item body) next e = statement_closed body next e
 item_closed (instances letters tree list) next e = refl
-
-abbrev pub alone_shape : Shape DeclaredTree
-alone_shape = record { spell = spell_declared; valid = stands_alone; closes = λ tree. always; stops = λ tree next. true }
-
-pub alone_phrase : Phrase alone always alone_shape
-alone_phrase = made_phrase alone_of alone_shape back makes (λ tree next e. refl) named_phrase
-  where
-    by_value : (tree : DeclaredTree) (o : Option ExpressionTree) → tree.value ≡ o → not (is_some o) ≡ true → From alone_of tree
-    by_value tree None e v = record { parts = tree.name; is = λ i. record { name = tree.name; value = sym e i } }
-    by_value tree (Some one) e v = let none : false ≡ true = v in absurd cc
-
-    back : (tree : DeclaredTree) → stands_alone tree ≡ true → From alone_of tree
-    back tree v = by_value tree tree.value refl (and_right (is_name tree.name) _ v)
-
-    makes : Makes alone_of (text_shape is_name) alone_shape []
-    makes = record {
-      spelled = λ letters. refl;
-      valid = λ letters. and_true (is_name letters);
-      closes = λ letters next e. refl;
-      stops = λ letters next e. refl;
-    }
-
-an_alone : Example alone_shape
-an_alone = record { tree = alone_of a_name.tree; valid = and_both _ true a_name.valid refl }
-
-abbrev AloneList : Shape (Both (List_of DeclaredTree) (Unit {0}))
-AloneList = ended_shape always alone_shape
-
-alone_list_phrase : Phrase (ended alone) always AloneList
-alone_list_phrase = ended_phrase alone_phrase an_alone refl refl
-
-alone_list_example : Example AloneList
-alone_list_example = ended_example always an_alone
 
 module _ (below : ℕ) where
   abbrev levels : ℕ
@@ -428,7 +395,7 @@ module _ (below : ℕ) where
   VariablesShape = paired_shape net_shape (paired_shape (type_shape below) Declared)
 
   abbrev DirectedShape : Shape Directed
-  DirectedShape = paired_shape (direction_shape below) AloneList
+  DirectedShape = paired_shape (direction_shape below) Declared
 
   abbrev InstancesShape : Shape Instances
   InstancesShape = paired_shape (text_shape is_name) (paired_shape Overrides InstanceList)
@@ -451,7 +418,7 @@ module _ (below : ℕ) where
   a_type = record { tree = record { signed = false; range = None }; valid = refl }
 
   a_parameter_type : Example (parameter_type_shape below)
-  a_parameter_type = record { tree = integer; valid = refl }
+  a_parameter_type = record { tree = integer false; valid = refl }
 
   no_overrides : Example Overrides
   no_overrides = record { tree = None; valid = refl }
@@ -475,47 +442,28 @@ module _ (below : ℕ) where
       opens (both (both tree more) end) v rest c =
           name_ends_type tree.name (and_left (is_name tree.name) _ (and_left (fits_setting levels tree) _ (and_left _ true v)))
 
+  -- the names that are declared begin with one
+  declared_begins : (here : Ends) → ((letters : Text) → is_name letters ≡ true → here (Some letters) ≡ true) → Opens here Declared
+  declared_begins here named (both (both tree more) end) v rest c = by_value tree.value
+    where
+      is_named : is_name tree.name ≡ true
+      is_named = and_left (is_name tree.name) _ (and_left (fits_declared levels tree) _ (and_left _ true v))
+
+      by_value : (o : Option ExpressionTree) → here (front (((spell_value tree.name o
+          ++ flat_map (λ other. codes "," ∷ spell_declared other) more) ++ codes ";" ∷ []) ++ rest)) ≡ true
+      by_value None = named tree.name is_named
+      by_value (Some one) = named tree.name is_named
+
   variables_phrase : Phrase (paired (worded net_of) (paired (type levels) (ended (declared levels)))) always VariablesShape
   variables_phrase =
       free_phrase net_phrase
-      (next_phrase (type_phrase below) declared_list_phrase declared_example declared_worded opens) typed_declared_example
-    where
-      opens : Opens ends_type Declared
-      opens (both (both tree more) end) v rest c = by_value tree.value
-        where
-          ends_here : ends_type (Some tree.name) ≡ true
-          ends_here =
-              and_left (ends_type (Some tree.name)) _
-              (name_ends_type tree.name (and_left (is_name tree.name) _
-              (and_left (fits_declared levels tree) _ (and_left _ true v))))
+      (next_phrase (type_phrase below) declared_list_phrase declared_example declared_worded
+      (declared_begins ends_type (λ letters is. and_left (ends_type (Some letters)) _ (name_ends_type letters is))))
+      typed_declared_example
 
-          by_value : (o : Option ExpressionTree) → ends_type (front (((spell_value tree.name o
-              ++ flat_map (λ other. codes "," ∷ spell_declared other) more) ++ codes ";" ∷ []) ++ rest)) ≡ true
-          by_value None = ends_here
-          by_value (Some one) = ends_here
-
-  alone_list_worded : Worded AloneList
-  alone_list_worded (both (both tree more) end) v = by_value tree.value
-    where
-      by_value : (o : Option ExpressionTree) → 0 < length ((spell_value tree.name o
-          ++ flat_map (λ other. codes "," ∷ spell_declared other) more) ++ codes ";" ∷ [])
-      by_value None = zero-lt-suc _
-      by_value (Some one) = zero-lt-suc _
-
-  directed_phrase : Phrase (paired (direction levels) (ended alone)) always DirectedShape
-  directed_phrase = next_phrase (direction_phrase below) alone_list_phrase alone_list_example alone_list_worded opens
-    where
-      opens : Opens ends_direction AloneList
-      opens (both (both tree more) end) v rest c = by_value tree.value
-        where
-          ends_here : ends_direction (Some tree.name) ≡ true
-          ends_here =
-              name_ends_direction tree.name (and_left (is_name tree.name) _ (and_left (stands_alone tree) _ (and_left _ true v)))
-
-          by_value : (o : Option ExpressionTree) → ends_direction (front (((spell_value tree.name o
-              ++ flat_map (λ other. codes "," ∷ spell_declared other) more) ++ codes ";" ∷ []) ++ rest)) ≡ true
-          by_value None = ends_here
-          by_value (Some one) = ends_here
+  directed_phrase : Phrase (paired (direction levels) (ended (declared levels))) always DirectedShape
+  directed_phrase =
+      next_phrase (direction_phrase below) declared_list_phrase declared_example declared_worded (declared_begins ends_direction name_ends_direction)
 
   instances_phrase : Phrase (paired named (paired (overrides levels) (ended (instance_behind levels)))) always InstancesShape
   unfolding reserved_words
@@ -609,6 +557,7 @@ module _ (below : ℕ) where
   directed_worded : Worded DirectedShape
   directed_worded (both (input wire kind) more) v = zero-lt-suc _
   directed_worded (both (output net kind) more) v = zero-lt-suc _
+  directed_worded (both (output_integer long) more) v = zero-lt-suc _
 
   from_directed_worded : Worded FromDirected
   from_directed_worded = either_worded DirectedShape FromInteger directed_worded from_integer_worded
@@ -650,6 +599,7 @@ module _ (below : ℕ) where
       test (Some (codes "output")) ≡ answer → Tested test answer DirectedShape
   directed_begins test answer a b (both (input wire kind) more) v rest = a
   directed_begins test answer a b (both (output net kind) more) v rest = b
+  directed_begins test answer a b (both (output_integer long) more) v rest = b
 
   from_directed_not : (test : Option Text → Bool) → test (Some (codes "input")) ≡ false → test (Some (codes "output")) ≡ false →
       Tested test false FromInteger → Tested test false FromDirected
@@ -727,6 +677,7 @@ module _ (below : ℕ) where
       spelled (other_way (one_way (both kind (both tree (both (both one more) end))))) = refl
       spelled (other_way (other_way (one_way (both (input wire tree) (both (both one more) end))))) = refl
       spelled (other_way (other_way (one_way (both (output net tree) (both (both one more) end))))) = refl
+      spelled (other_way (other_way (one_way (both (output_integer long) (both (both one more) end))))) = refl
       spelled (other_way (other_way (other_way (one_way (both (both one more) end))))) = refl
       spelled (other_way (other_way (other_way (other_way (one_way (both (both one more) end)))))) = refl
       spelled (other_way (other_way (other_way (other_way (other_way (one_way (both (both one more) end))))))) = refl
@@ -753,7 +704,7 @@ module _ (below : ℕ) where
       valid (other_way (one_way (both kind (both tree (both (both one more) end))))) =
           ap (λ b. fits_type levels tree && b) (some_valid (fits_declared levels) one more)
       valid (other_way (other_way (one_way (both tree (both (both one more) end))))) =
-          ap (λ b. fits_direction levels (Some tree) && b) (some_valid stands_alone one more)
+          ap (λ b. fits_direction levels (Some tree) && b) (some_valid (fits_declared levels) one more)
       valid (other_way (other_way (other_way (one_way (both (both one more) end))))) = some_valid (fits_declared levels) one more
       valid (other_way (other_way (other_way (other_way (one_way (both (both one more) end)))))) = some_valid (fits_declared levels) one more
       valid (other_way (other_way (other_way (other_way (other_way (one_way (both (both one more) end))))))) = some_valid is_name one more

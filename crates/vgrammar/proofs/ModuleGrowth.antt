@@ -5,7 +5,7 @@ use Rattle.vast.specs.Modules.{PortTree}
 use Rattle.vexpr_parse.specs.Readers.{Reader, is_front}
 use Rattle.vgrammar.specs.Starts.{is_meant}
 use Rattle.vgrammar.specs.Statements.{statement}
-use Rattle.vgrammar.specs.Modules.{free_value, range_of, range, type_of, type, parameter_type_of, parameter_type, setting_of, setting, declared_of, declared, value_in, connection_of, connection, connections_of, connections, instance_of, instance_behind, overrides, ended, net_of, local_of, alone_of, alone, item_of, item_parts, item, first_parameter_of, head_parameter_of, first_parameter, head_parameter, head_parameters, direction_of, direction, is_direction, port_of, port, named_port_of, named_port, ports_behind, port_list, ports_of, ports, head_list_of, module_of, module_tree, is_some_word, source, net_assignment_of, net_assignment}
+use Rattle.vgrammar.specs.Modules.{free_value, range_of, range, type_of, type, integer_of, parameter_type_of, parameter_type, setting_of, setting, declared_of, declared, value_in, connection_of, connection, connections_of, connections, instance_of, instance_behind, overrides, ended, net_of, output_behind, local_of, item_of, item_parts, item, first_parameter_of, head_parameter_of, first_parameter, head_parameter, head_parameters, direction_of, direction, is_direction, port_of, port, named_port_of, named_port, ports_behind, port_list, ports_of, ports, head_list_of, module_of, module_tree, is_some_word, source, net_assignment_of, net_assignment}
 use Rattle.vgrammar.proofs.Growth.{up, Growth, past_growth, made_growth, paired_growth, worded_growth, either_growth, maybe_growth, many_growth}
 use Rattle.vgrammar.proofs.PartGrowth.{value_growth, only_growth, comma_growth, named_word, target_growth}
 use Rattle.vgrammar.proofs.StatementGrowth.{statement_growth}
@@ -42,7 +42,7 @@ module _ (below : ℕ) where
 
   parameter_type_growth : Growth (parameter_type levels) (parameter_type (up levels))
   parameter_type_growth =
-      made_growth parameter_type_of (either_growth (is_front (codes "integer")) (only_growth (codes "integer")) type_growth)
+      made_growth parameter_type_of (either_growth (is_meant integer_of) (worded_growth integer_of) type_growth)
 
   setting_growth : Growth (setting levels) (setting (up levels))
   setting_growth = made_growth setting_of (paired_growth named_word (past_growth (codes "=") free_growth))
@@ -78,15 +78,17 @@ module _ (below : ℕ) where
 
   -- Items
 
+  output_growth : Growth (output_behind levels) (output_behind (up levels))
+  output_growth =
+      either_growth (is_meant integer_of) (worded_growth integer_of)
+      (paired_growth (maybe_growth (is_meant net_of) (worded_growth net_of)) type_growth)
+
   direction_growth : Growth (direction levels) (direction (up levels))
   direction_growth =
       made_growth direction_of (either_growth (is_front (codes "input"))
       (past_growth (codes "input")
       (paired_growth (maybe_growth (is_front (codes "wire")) (only_growth (codes "wire"))) type_growth))
-      (past_growth (codes "output") (paired_growth (maybe_growth (is_meant net_of) (worded_growth net_of)) type_growth)))
-
-  alone_growth : Growth alone alone
-  alone_growth = made_growth alone_of named_word
+      (past_growth (codes "output") output_growth))
 
   item_parts_growth : Growth (item_parts levels) (item_parts (up levels))
   item_parts_growth =
@@ -94,7 +96,7 @@ module _ (below : ℕ) where
       (paired_growth parameter_type_growth (ended_growth setting_growth)))
       (either_growth (is_meant net_of) (paired_growth (worded_growth net_of)
       (paired_growth type_growth (ended_growth declared_growth)))
-      (either_growth is_direction (paired_growth direction_growth (ended_growth alone_growth))
+      (either_growth is_direction (paired_growth direction_growth (ended_growth declared_growth))
       (either_growth (is_front (codes "integer")) (past_growth (codes "integer") (ended_growth declared_growth))
       (either_growth (is_front (codes "time")) (past_growth (codes "time") (ended_growth declared_growth))
       (either_growth (is_front (codes "event")) (past_growth (codes "event") (ended_growth named_word))
@@ -123,7 +125,7 @@ module _ (below : ℕ) where
       (many_growth (is_front (codes ",")) (λ list. past_growth (codes ",") head_parameter_growth))) (only_growth (codes ")")))
 
   port_growth : Growth (port levels) (port (up levels))
-  port_growth = made_growth port_of (paired_growth (maybe_growth is_direction direction_growth) named_word)
+  port_growth = made_growth port_of (paired_growth (maybe_growth is_direction direction_growth) declared_growth)
 
   named_port_growth : Growth named_port named_port
   named_port_growth = made_growth named_port_of named_word
@@ -131,7 +133,7 @@ module _ (below : ℕ) where
   port_list_growth : Growth (port_list levels) (port_list (up levels))
   port_list_growth =
       either_growth is_direction
-      (ports_behind_growth (paired_growth direction_growth named_word) port_growth) (ports_behind_growth named_word named_port_growth)
+      (ports_behind_growth (paired_growth direction_growth declared_growth) port_growth) (ports_behind_growth named_word named_port_growth)
 
   ports_growth : Growth (ports levels) (ports (up levels))
   ports_growth =

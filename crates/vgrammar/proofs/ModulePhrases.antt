@@ -1,25 +1,27 @@
 -- Heads of modules, modules and whole texts.
-use Rattle.std.proofs.Common.{◌≡◌, ℕ, suc, ◌<◌, Bool, true, false, ◌&&◌, not, List, [], ◌∷◌, ◌++◌, Option, None, Some, refl, sym, ap, ◌∙◌, codes, zero-lt-suc}
+use Rattle.std.proofs.Common.{◌≡◌, ℕ, suc, ◌<◌, Bool, true, false, ◌&&◌, not, List, [], ◌∷◌, ◌++◌, Option, None, Some, is_some, refl, sym, ap, ◌∙◌, codes, zero-lt-suc}
 use Rattle.std.specs.List.{list_all}
-use Rattle.basis.proofs.Bools.{and_left, and_both, and_assoc}
+use Rattle.basis.proofs.Bools.{and_left, and_right, and_both, and_assoc}
 use Rattle.vast.specs.Words.{Text, is_name, reserved_words}
+use Rattle.vast.specs.Expressions.{ExpressionTree}
 use Rattle.vast.specs.Statements.{listed, in_parentheses}
-use Rattle.vast.specs.Modules.{ParameterType, typed, SettingTree, DirectionTree, input, output, PortTree, HeadParameter, ItemTree, parameters, declaration, variables, integers, directed, events, assignments, initial, always as always_item, instances, ModuleTree, SourceTree, spell_port, spell_head_parameter, spell_module, fits_direction, fits_port, is_directed, is_named_port, fits_ports, fits_head_parameter, is_kind, fits_head_parameters, fits_item, fits_module}
+use Rattle.vast.specs.Modules.{ParameterType, typed, SettingTree, DeclaredTree, DirectionTree, input, output, output_integer, PortTree, HeadParameter, ItemTree, parameters, declaration, variables, integers, directed, events, assignments, initial, always as always_item, instances, ModuleTree, SourceTree, spell_port, spell_head_parameter, spell_module, fits_direction, fits_declared, fits_port, is_directed, is_named_port, fits_behind, fits_ports, fits_head_parameter, is_kind, fits_head_parameters, fits_item, fits_module}
 use Rattle.vast.specs.declared.module.NetKind.TheVariants as net
 use Rattle.vexpr_parse.specs.declared.stop.Stop.TheVariants.{NoTree}
 use Rattle.vexpr_parse.specs.Readers.{Reader, got, stop, is_front, past}
 use Rattle.vexpr_parse.specs.Words.{binary_of, ends}
+use Rattle.vexpr_parse.specs.Lawful.{Ends}
 use Rattle.vexpr_parse.proofs.ReaderRules.{same_text, stop_got}
 use Rattle.vgrammar.specs.Parts.{Both, both, Either, one_way, other_way, made, paired, many, maybe}
-use Rattle.vgrammar.specs.Statements.{word_only, List_of, ends_statement, named}
-use Rattle.vgrammar.specs.Modules.{parameter_type, setting, item, first_parameter_of, head_parameter_of, first_parameter, head_parameter, head_parameters, direction, is_direction, port_of, port, named_port_of, named_port, PortsBehind, ports_behind, PortList, port_list, ports_of, ports, head_list_of, Module, module_of, module_tree, is_some_word, source}
+use Rattle.vgrammar.specs.Statements.{word_only, List_of, ends_statement}
+use Rattle.vgrammar.specs.Modules.{parameter_type, setting, item, declared, first_parameter_of, head_parameter_of, first_parameter, head_parameter, head_parameters, direction, is_direction, port_of, port, named_port_of, named_port, PortsBehind, ports_behind, PortList, port_list, ports_of, ports, head_list_of, Module, module_of, module_tree, is_some_word, source}
 use Rattle.vgrammar.proofs.Phrases.{Shape, Phrase, Example, Worded, Opens, Makes, From, always, made_phrase, past_shape, past_phrase, past_example, nothing_phrase, paired_shape, before_phrase, paired_example, free_phrase, next_phrase}
 use Rattle.vgrammar.proofs.PhraseChoices.{ends_maybe, maybe_shape, maybe_phrase, either_shape, either_phrase, either_tested, either_worded, Tested, ends_many, allows_all, many_shape, many_phrase}
 use Rattle.vgrammar.proofs.LevelFacts.{and_true}
 use Rattle.vgrammar.proofs.ValuePhrases.{nothing_example, only_shape, only_phrase, comma, list_phrase, allows_each}
 use Rattle.vgrammar.proofs.WordPhrases.{refused_first}
 use Rattle.vgrammar.proofs.PartPhrases.{text_shape, a_name, named_phrase}
-use Rattle.vgrammar.proofs.HeadPhrases.{name_isnt, ends_parameter_type, parameter_type_shape, parameter_type_phrase, name_ends_type, setting_shape, setting_phrase, a_setting}
+use Rattle.vgrammar.proofs.HeadPhrases.{name_isnt, ends_parameter_type, parameter_type_shape, parameter_type_phrase, name_ends_type, setting_shape, setting_phrase, a_setting, declared_shape, declared_phrase, declared_worded, declared_opens, a_declared}
 use Rattle.vgrammar.proofs.DirectionPhrases.{ends_direction, name_ends_direction, no_direction, direction_shape, direction_phrase}
 use Rattle.vgrammar.proofs.ItemPhrases.{item_shape, item_phrase}
 
@@ -44,6 +46,10 @@ hash = is_front (codes "#")
 
 abbrev opening : Option Text → Bool
 opening = is_front (codes "(")
+
+-- what follows a port that has a direction
+abbrev ends_port : Ends
+ends_port = ends_maybe (is_front (codes "=")) (ends 0)
 
 module _ (below : ℕ) where
   abbrev levels : ℕ
@@ -219,52 +225,64 @@ module _ (below : ℕ) where
   PortPart = maybe_shape is_direction ends_direction (direction_shape below)
 
   abbrev pub port_shape : Shape PortTree
-  port_shape = record { spell = spell_port; valid = fits_port levels; closes = λ tree. always; stops = λ tree next. true }
+  port_shape = record { spell = spell_port; valid = fits_port levels; closes = λ tree. ends_port; stops = λ tree next. true }
 
-  abbrev FirstPort : Shape (Both DirectionTree Text)
-  FirstPort = paired_shape (direction_shape below) (text_shape is_name)
+  abbrev FirstPort : Shape (Both DirectionTree DeclaredTree)
+  FirstPort = paired_shape (direction_shape below) (declared_shape below)
 
-  first_port_phrase : Phrase (paired (direction levels) named) always FirstPort
+  first_port_phrase : Phrase (paired (direction levels) (declared levels)) ends_port FirstPort
   first_port_phrase =
-      next_phrase (direction_phrase below) named_phrase a_name (λ letters v. zero-lt-suc 0)
-      (λ letters v rest c. name_ends_direction letters v)
+      next_phrase (direction_phrase below) (declared_phrase below) (a_declared below) (declared_worded below)
+      (declared_opens below ends_direction name_ends_direction)
 
-  pub port_phrase : Phrase (port levels) always port_shape
+  pub port_phrase : Phrase (port levels) ends_port port_shape
   port_phrase =
-      made_phrase port_of port_shape (λ tree v. record { parts = both tree.direction tree.name; is = refl }) makes
-      (λ tree next e. refl)
-      (next_phrase (maybe_phrase is_direction (direction_phrase below) some begins) named_phrase a_name (λ letters v. zero-lt-suc 0)
-      (λ letters v rest c. and_both (ends_direction (Some letters)) (not (is_direction (Some letters)))
-      (name_ends_direction letters v)
-      (ap not (no_direction letters v))))
+      made_phrase port_of port_shape
+      (λ tree v. record { parts = both tree.direction (record { name = tree.name; value = tree.value }); is = refl }) makes
+      (λ tree next e. e)
+      (next_phrase (maybe_phrase is_direction (direction_phrase below) some begins) (declared_phrase below) (a_declared below)
+      (declared_worded below) (declared_opens below (ends_maybe is_direction ends_direction) ends_here))
     where
+      ends_here : (letters : Text) → is_name letters ≡ true → ends_maybe is_direction ends_direction (Some letters) ≡ true
+      ends_here letters is =
+          and_both (ends_direction (Some letters)) (not (is_direction (Some letters))) (name_ends_direction letters is)
+          (ap not (no_direction letters is))
+
       some : Worded (direction_shape below)
       some (input wire tree) v = zero-lt-suc _
       some (output kind tree) v = zero-lt-suc _
+      some (output_integer long) v = zero-lt-suc _
 
       begins : Tested is_direction true (direction_shape below)
       begins (input wire tree) v rest = refl
       begins (output kind tree) v rest = refl
+      begins (output_integer long) v rest = refl
 
-      makes : Makes port_of (paired_shape PortPart (text_shape is_name)) port_shape []
-      makes = record { spelled = spelled; valid = valid; closes = λ tree next e. closes tree next; stops = λ tree next e. refl }
+      makes : Makes port_of (paired_shape PortPart (declared_shape below)) port_shape []
+      makes = record { spelled = spelled; valid = valid; closes = closes; stops = λ tree next e. refl }
         where
-          spelled : (tree : Both (Option DirectionTree) Text) →
-              spell_port (port_of tree) ≡ (paired_shape PortPart (text_shape is_name)).spell tree
-          spelled (both None letters) = refl
-          spelled (both (Some way) letters) = refl
+          spelled : (tree : Both (Option DirectionTree) DeclaredTree) →
+              spell_port (port_of tree) ≡ (paired_shape PortPart (declared_shape below)).spell tree
+          spelled (both None one) = refl
+          spelled (both (Some way) one) = refl
 
-          valid : (tree : Both (Option DirectionTree) Text) → fits_port levels (port_of tree)
-              ≡ (paired_shape PortPart (text_shape is_name)).valid tree
-          valid (both None letters) = refl
-          valid (both (Some way) letters) = refl
+          valid : (tree : Both (Option DirectionTree) DeclaredTree) → fits_port levels (port_of tree)
+              ≡ (paired_shape PortPart (declared_shape below)).valid tree
+          valid (both None one) = refl
+          valid (both (Some way) one) = refl
 
-          closes : (tree : Both (Option DirectionTree) Text) (next : Option Text) →
-              (paired_shape PortPart (text_shape is_name)).closes tree next ≡ true
-          closes (both way letters) next = refl
+          closes : (tree : Both (Option DirectionTree) DeclaredTree) (next : Option Text) → ends_port next ≡ true →
+              (paired_shape PortPart (declared_shape below)).closes tree next ≡ true
+          closes (both way one) next e = e
 
   a_port : Example port_shape
-  a_port = record { tree = record { direction = None; name = a_name.tree }; valid = a_name.valid }
+  a_port = record {
+    tree = record { direction = None; name = a_name.tree; value = None };
+    valid = and_both _ true a_name.valid refl;
+  }
+
+  no_value : (tree : PortTree) → is_named_port tree ≡ true → not (is_some tree.value) ≡ true
+  no_value tree v = and_right (is_name tree.name) _ (and_right (not (is_directed tree.direction)) _ v)
 
   abbrev pub named_port_shape : Shape PortTree
   named_port_shape = record { spell = spell_port; valid = is_named_port; closes = λ tree. always; stops = λ tree next. true }
@@ -272,41 +290,51 @@ module _ (below : ℕ) where
   pub named_port_phrase : Phrase named_port always named_port_shape
   named_port_phrase = made_phrase named_port_of named_port_shape back makes (λ tree next e. refl) named_phrase
     where
-      by_direction : (tree : PortTree) (o : Option DirectionTree) → tree.direction ≡ o → not (is_directed o) ≡ true → From named_port_of tree
-      by_direction tree None e v = record { parts = tree.name; is = λ i. record { direction = sym e i; name = tree.name } }
-      by_direction tree (Some way) e v = let none : false ≡ true = v in absurd cc
+      by_parts : (tree : PortTree) (o : Option DirectionTree) (w : Option ExpressionTree) → tree.direction ≡ o → tree.value ≡ w →
+          not (is_directed o) ≡ true → not (is_some w) ≡ true → From named_port_of tree
+      by_parts tree None None e f v w = record {
+        parts = tree.name;
+        is = λ i. record { direction = sym e i; name = tree.name; value = sym f i };
+      }
+      by_parts tree None (Some one) e f v w = let none : false ≡ true = w in absurd cc
+      by_parts tree (Some way) value e f v w = let none : false ≡ true = v in absurd cc
 
       back : (tree : PortTree) → is_named_port tree ≡ true → From named_port_of tree
-      back tree v = by_direction tree tree.direction refl (and_left (not (is_directed tree.direction)) _ v)
+      back tree v =
+          by_parts tree tree.direction tree.value refl refl (and_left (not (is_directed tree.direction)) _ v) (no_value tree v)
 
       makes : Makes named_port_of (text_shape is_name) named_port_shape []
       makes = record {
         spelled = λ letters. refl;
-        valid = λ letters. refl;
+        valid = λ letters. and_true (is_name letters);
         closes = λ letters next e. refl;
         stops = λ letters next e. refl;
       }
 
   a_named_port : Example named_port_shape
-  a_named_port = record { tree = named_port_of a_name.tree; valid = a_name.valid }
+  a_named_port = record { tree = named_port_of a_name.tree; valid = and_both _ true a_name.valid refl }
 
-  abbrev BehindShape : {A : Type 0} → Shape A → Shape PortTree → Shape (PortsBehind A)
-  BehindShape s t =
-      paired_shape (paired_shape s (many_shape comma always (past_shape (codes ",") t) (λ list. t.valid))) (only_shape (codes ")"))
+  abbrev BehindShape : {A : Type 0} → Ends → Shape A → Shape PortTree → Shape (PortsBehind A)
+  BehindShape ends s t =
+      paired_shape (paired_shape s (many_shape comma ends (past_shape (codes ",") t) (λ list. t.valid))) (only_shape (codes ")"))
 
-  ports_behind_phrase : {A : Type 0} {first : Reader A} {read : Reader PortTree} {s : Shape A} {t : Shape PortTree} →
-      Phrase first always s → Phrase read always t → Example t → Phrase (ports_behind first read) always (BehindShape s t)
-  ports_behind_phrase p q e = before_phrase (codes ")") (list_phrase p q e refl) (nothing_phrase always) nothing_example refl
+  ports_behind_phrase : {A : Type 0} {first : Reader A} {read : Reader PortTree} {ends : Ends} {s : Shape A} {t : Shape PortTree} →
+      Phrase first ends s → Phrase read ends t → Example t → ends (Some (codes ",")) ≡ true → ends (Some (codes ")")) ≡ true →
+      Phrase (ports_behind first read) always (BehindShape ends s t)
+  ports_behind_phrase {ends = ends} p q e opens ending =
+      before_phrase (codes ")") (list_phrase p q e opens) (nothing_phrase always) nothing_example
+      (and_both (ends (Some (codes ")"))) true ending refl)
 
-  abbrev DirectedList : Shape (PortsBehind (Both DirectionTree Text))
-  DirectedList = BehindShape FirstPort port_shape
+  abbrev DirectedList : Shape (PortsBehind (Both DirectionTree DeclaredTree))
+  DirectedList = BehindShape ends_port FirstPort port_shape
 
   abbrev NamedList : Shape (PortsBehind Text)
-  NamedList = BehindShape (text_shape is_name) named_port_shape
+  NamedList = BehindShape always (text_shape is_name) named_port_shape
 
   directed_worded : Worded DirectedList
-  directed_worded (both (both (both (input wire kind) letters) more) end) v = zero-lt-suc _
-  directed_worded (both (both (both (output net kind) letters) more) end) v = zero-lt-suc _
+  directed_worded (both (both (both (input wire kind) one) more) end) v = zero-lt-suc _
+  directed_worded (both (both (both (output net kind) one) more) end) v = zero-lt-suc _
+  directed_worded (both (both (both (output_integer long) one) more) end) v = zero-lt-suc _
 
   named_worded : Worded NamedList
   named_worded (both (both letters more) end) v = zero-lt-suc _
@@ -314,8 +342,9 @@ module _ (below : ℕ) where
   -- what a list with directions begins with, and one of names
   directed_begins : (test : Option Text → Bool) (answer : Bool) → test (Some (codes "input")) ≡ answer →
       test (Some (codes "output")) ≡ answer → Tested test answer DirectedList
-  directed_begins test answer a b (both (both (both (input wire kind) letters) more) end) v rest = a
-  directed_begins test answer a b (both (both (both (output net kind) letters) more) end) v rest = b
+  directed_begins test answer a b (both (both (both (input wire kind) one) more) end) v rest = a
+  directed_begins test answer a b (both (both (both (output net kind) one) more) end) v rest = b
+  directed_begins test answer a b (both (both (both (output_integer long) one) more) end) v rest = b
 
   names_begin : (test : Option Text → Bool) → ((letters : Text) → is_name letters ≡ true → test (Some letters) ≡ false) →
       Tested test false NamedList
@@ -328,9 +357,10 @@ module _ (below : ℕ) where
   list_worded = either_worded DirectedList NamedList directed_worded named_worded
 
   port_list_phrase : Phrase (port_list levels) always ListShape
+  unfolding binary_of
   port_list_phrase =
-      either_phrase is_direction (ports_behind_phrase first_port_phrase port_phrase a_port)
-      (ports_behind_phrase named_phrase named_port_phrase a_named_port) directed_worded named_worded
+      either_phrase is_direction (ports_behind_phrase first_port_phrase port_phrase a_port refl refl)
+      (ports_behind_phrase named_phrase named_port_phrase a_named_port refl refl) directed_worded named_worded
       (directed_begins is_direction true refl refl) (names_begin is_direction no_direction)
 
   abbrev PortsParts : Shape (Either (Unit {0}) PortList)
@@ -353,35 +383,42 @@ module _ (below : ℕ) where
       (names_begin close (name_isnt (codes ")") no_close_name))))
       (record { tree = one_way tt; valid = refl }))
     where
-      by_direction : (tree : PortTree) (more : List PortTree) (o : Option DirectionTree) → tree.direction ≡ o → From ports_of (tree ∷ more)
-      by_direction tree more None e = record {
+      by_value : (tree : PortTree) (more : List PortTree) (w : Option ExpressionTree) → tree.direction ≡ None → tree.value ≡ w →
+          not (is_some w) ≡ true → From ports_of (tree ∷ more)
+      by_value tree more None e f v = record {
         parts = other_way (other_way (both (both tree.name more) tt));
-        is = λ i. record { direction = sym e i; name = tree.name } ∷ more;
+        is = λ i. record { direction = sym e i; name = tree.name; value = sym f i } ∷ more;
       }
-      by_direction tree more (Some way) e = record {
-        parts = other_way (one_way (both (both (both way tree.name) more) tt));
-        is = λ i. record { direction = sym e i; name = tree.name } ∷ more;
+      by_value tree more (Some one) e f v = let none : false ≡ true = v in absurd cc
+
+      by_direction : (tree : PortTree) (more : List PortTree) (o : Option DirectionTree) → tree.direction ≡ o →
+          fits_behind levels o (tree ∷ more) ≡ true → From ports_of (tree ∷ more)
+      by_direction tree more None e v =
+          by_value tree more tree.value e refl (no_value tree (and_left (is_named_port tree) (list_all is_named_port more) v))
+      by_direction tree more (Some way) e v = record {
+        parts = other_way (one_way (both (both (both way (record { name = tree.name; value = tree.value })) more) tt));
+        is = λ i. record { direction = sym e i; name = tree.name; value = tree.value } ∷ more;
       }
 
       back : (list : List PortTree) → fits_ports levels list ≡ true → From ports_of list
       back [] v = record { parts = one_way tt; is = refl }
-      back (tree ∷ more) v = by_direction tree more tree.direction refl
+      back (tree ∷ more) v = by_direction tree more tree.direction refl v
 
       makes : Makes ports_of PortsParts ports_shape []
       makes = record { spelled = spelled; valid = valid; closes = λ tree next e. closes tree next; stops = λ tree next e. refl }
         where
           spelled : (tree : Either (Unit {0}) PortList) → ports_shape.spell (ports_of tree) ≡ PortsParts.spell tree
           spelled (one_way end) = refl
-          spelled (other_way (one_way (both (both (both way letters) more) end))) = refl
+          spelled (other_way (one_way (both (both (both way one) more) end))) = refl
           spelled (other_way (other_way (both (both letters more) end))) = refl
 
           valid : (tree : Either (Unit {0}) PortList) → fits_ports levels (ports_of tree) ≡ PortsParts.valid tree
           valid (one_way end) = refl
-          valid (other_way (one_way (both (both (both way letters) more) end))) =
-              ap (λ b. (fits_direction levels (Some way) && is_name letters) && b) (sym (allows_each (fits_port levels) [] more))
+          valid (other_way (one_way (both (both (both way one) more) end))) =
+              ap (λ b. (fits_direction levels (Some way) && fits_declared levels one) && b) (sym (allows_each (fits_port levels) [] more))
               ∙ sym (and_true _)
           valid (other_way (other_way (both (both letters more) end))) =
-              ap (λ b. is_name letters && b) (sym (allows_each is_named_port [] more)) ∙ sym (and_true _)
+              (λ i. and_true (is_name letters) i && sym (allows_each is_named_port [] more) i) ∙ sym (and_true _)
 
           closes : (tree : Either (Unit {0}) PortList) (next : Option Text) → PortsParts.closes tree next ≡ true
           closes (one_way end) next = refl
@@ -394,6 +431,7 @@ module _ (below : ℕ) where
   item_worded (declaration (integers long) list) v = zero-lt-suc _
   item_worded (declaration (directed (input wire tree)) list) v = zero-lt-suc _
   item_worded (declaration (directed (output net tree)) list) v = zero-lt-suc _
+  item_worded (declaration (directed (output_integer long)) list) v = zero-lt-suc _
   item_worded (events list) v = zero-lt-suc _
   item_worded (assignments list) v = zero-lt-suc _
   item_worded (initial body) v = zero-lt-suc _

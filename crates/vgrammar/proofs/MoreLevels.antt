@@ -5,7 +5,7 @@ use Rattle.basis.proofs.Bools.{and_left, and_right, and_both}
 use Rattle.vast.specs.Words.{Text, is_name}
 use Rattle.vast.specs.Expressions.{ExpressionTree, depth, fits_expression}
 use Rattle.vast.specs.Statements.{StatementTree, statement_depth, fits_statement, fits_target, target_depth}
-use Rattle.vast.specs.Modules.{RangeTree, TypeTree, ParameterType, integer, typed, SettingTree, DeclaredTree, DirectionTree, input, output, PortTree, HeadParameter, ConnectionTree, ConnectionsTree, by_order, by_name, InstanceTree, DeclarationKind, variables, integers, directed, ItemTree, parameters, declaration, events, assignments, initial, always, instances, ModuleTree, SourceTree, fits_value, fits_optional, fits_range, fits_type, fits_parameter_type, fits_setting, fits_declared, fits_direction, fits_port, fits_behind, fits_ports, fits_kind, fits_head_parameter, is_kind, fits_head_parameters, fits_connection, fits_connections, fits_overrides, fits_instance, fits_declaration_kind, are_some, fits_names, fits_body, fits_item, fits_optional_parameters, fits_optional_ports, fits_module, DerivesWithin, NetAssignment, fits_net_assignment}
+use Rattle.vast.specs.Modules.{RangeTree, TypeTree, ParameterType, integer, typed, SettingTree, DeclaredTree, DirectionTree, input, output, output_integer, PortTree, HeadParameter, ConnectionTree, ConnectionsTree, by_order, by_name, InstanceTree, DeclarationKind, variables, integers, directed, ItemTree, parameters, declaration, events, assignments, initial, always, instances, ModuleTree, SourceTree, fits_value, fits_optional, fits_range, fits_type, fits_parameter_type, fits_setting, fits_declared, fits_direction, fits_port, fits_behind, fits_ports, fits_kind, fits_head_parameter, is_kind, fits_head_parameters, fits_connection, fits_connections, fits_overrides, fits_instance, fits_declaration_kind, are_some, fits_body, fits_item, fits_optional_parameters, fits_optional_ports, fits_module, DerivesWithin, NetAssignment, fits_net_assignment}
 use Rattle.vgrammar.proofs.LevelFacts.{within_more}
 
 both_more : (a b c d : Bool) → (a ≡ true → c ≡ true) → (b ≡ true → d ≡ true) → (a && b) ≡ true → (c && d) ≡ true
@@ -44,7 +44,7 @@ module _ (n m : ℕ) (fewer : n ≤ m) where
   type_more tree v = range_more tree.range v
 
   parameter_type_more : (tree : ParameterType) → fits_parameter_type n tree ≡ true → fits_parameter_type m tree ≡ true
-  parameter_type_more integer v = refl
+  parameter_type_more (integer long) v = refl
   parameter_type_more (typed tree) v = type_more tree v
 
   setting_more : (tree : SettingTree) → fits_setting n tree ≡ true → fits_setting m tree ≡ true
@@ -66,11 +66,13 @@ module _ (n m : ℕ) (fewer : n ≤ m) where
   direction_more None v = refl
   direction_more (Some (input wire tree)) v = type_more tree v
   direction_more (Some (output kind tree)) v = type_more tree v
+  direction_more (Some (output_integer long)) v = refl
 
   port_more : (tree : PortTree) → fits_port n tree ≡ true → fits_port m tree ≡ true
   port_more tree v =
-      both_more (fits_direction n tree.direction) (is_name tree.name) (fits_direction m tree.direction) (is_name tree.name)
-      (direction_more tree.direction) (λ e. e) v
+      both_more (fits_direction n tree.direction) (is_name tree.name && fits_optional n tree.value)
+      (fits_direction m tree.direction) (is_name tree.name && fits_optional m tree.value) (direction_more tree.direction)
+      (same_and (is_name tree.name) (fits_optional n tree.value) (fits_optional m tree.value) (optional_more tree.value)) v
 
   behind_more : (first : Option DirectionTree) (list : List PortTree) → fits_behind n first list ≡ true → fits_behind m first list ≡ true
   behind_more None list v = v
@@ -118,10 +120,8 @@ module _ (n m : ℕ) (fewer : n ≤ m) where
   declaration_more (integers long) v = refl
   declaration_more (directed direction) v = direction_more (Some direction) v
 
-  names_more : (kind : DeclarationKind) (list : List DeclaredTree) → fits_names n kind list ≡ true → fits_names m kind list ≡ true
-  names_more (variables kind tree) list v = some_more (fits_declared n) (fits_declared m) declared_more list v
-  names_more (integers long) list v = some_more (fits_declared n) (fits_declared m) declared_more list v
-  names_more (directed direction) list v = v
+  names_more : (list : List DeclaredTree) → are_some (fits_declared n) list ≡ true → are_some (fits_declared m) list ≡ true
+  names_more list v = some_more (fits_declared n) (fits_declared m) declared_more list v
 
   body_more : (tree : StatementTree) → fits_body n tree ≡ true → fits_body m tree ≡ true
   body_more tree v =
@@ -136,8 +136,8 @@ module _ (n m : ℕ) (fewer : n ≤ m) where
       both_more (fits_parameter_type n kind) (are_some (fits_setting n) list) (fits_parameter_type m kind)
       (are_some (fits_setting m) list) (parameter_type_more kind) (settings_more list) v
   item_more (declaration kind list) v =
-      both_more (fits_declaration_kind n kind) (fits_names n kind list) (fits_declaration_kind m kind)
-      (fits_names m kind list) (declaration_more kind) (names_more kind list) v
+      both_more (fits_declaration_kind n kind) (are_some (fits_declared n) list) (fits_declaration_kind m kind)
+      (are_some (fits_declared m) list) (declaration_more kind) (names_more list) v
   item_more (events names) v = v
   item_more (assignments list) v = some_more (fits_net_assignment n) (fits_net_assignment m) net_assignment_more list v
   item_more (initial body) v = body_more body v

@@ -4,7 +4,7 @@ use Rattle.std.specs.Prelude.{ℕ, Bool, true, false, not, List, [], ◌∷◌, 
 use Rattle.vast.specs.Words.{Text}
 use Rattle.vast.specs.Expressions.{ExpressionTree}
 use Rattle.vast.specs.Statements.{StatementTree, TargetTree}
-use Rattle.vast.specs.Modules.{RangeTree, TypeTree, ParameterType, integer, typed, SettingTree, DeclaredTree, DirectionTree, input, output, PortTree, HeadParameter, ConnectionTree, ConnectionsTree, by_order, by_name, InstanceTree, variables, integers, directed, ItemTree, parameters, declaration, events, assignments, initial, always, instances, ModuleTree, SourceTree, net_word, parameter_word, NetAssignment}
+use Rattle.vast.specs.Modules.{RangeTree, TypeTree, ParameterType, integer, typed, SettingTree, DeclaredTree, DirectionTree, input, output, output_integer, PortTree, HeadParameter, ConnectionTree, ConnectionsTree, by_order, by_name, InstanceTree, variables, integers, directed, ItemTree, parameters, declaration, events, assignments, initial, always, instances, ModuleTree, SourceTree, net_word, integer_word, parameter_word, NetAssignment}
 use Rattle.vast.specs.declared.module.NetKind.{NetKind}
 use Rattle.vast.specs.declared.module.NetKind.TheVariants as net
 use Rattle.vexpr_parse.specs.Readers.{Reader, past, is_front}
@@ -42,13 +42,15 @@ type levels =
     made type_of (paired (maybe (is_front (codes "signed")) (word_only (codes "signed")))
     (maybe (is_front (codes "[")) (range levels)))
 
-abbrev pub parameter_type_of : Either (Unit {0}) TypeTree → ParameterType
-parameter_type_of (one_way end) = integer
+abbrev pub integer_of : Text → Option Bool
+integer_of word = written integer_word (false ∷ true ∷ []) word
+
+abbrev pub parameter_type_of : Either Bool TypeTree → ParameterType
+parameter_type_of (one_way long) = integer long
 parameter_type_of (other_way tree) = typed tree
 
 abbrev pub parameter_type : ℕ → Reader ParameterType
-parameter_type levels =
-    made parameter_type_of (either (is_front (codes "integer")) (word_only (codes "integer")) (type levels))
+parameter_type levels = made parameter_type_of (either (is_meant integer_of) (worded integer_of) (type levels))
 
 -- name = value, and name alone
 
@@ -116,18 +118,27 @@ overrides levels = maybe (is_front (codes "#")) (past (codes "#") (connections l
 abbrev pub net_of : Text → Option NetKind
 net_of word = written net_word (net.Wire ∷ net.Reg ∷ []) word
 
+-- behind output
+abbrev pub Output : Type 0
+Output = Either Bool (Both (Option NetKind) TypeTree)
+
+abbrev pub output_behind : ℕ → Reader Output
+output_behind levels =
+    either (is_meant integer_of) (worded integer_of) (paired (maybe (is_meant net_of) (worded net_of)) (type levels))
+
 abbrev pub Direction : Type 0
-Direction = Either (Both (Option (Unit {0})) TypeTree) (Both (Option NetKind) TypeTree)
+Direction = Either (Both (Option (Unit {0})) TypeTree) Output
 
 abbrev pub direction_of : Direction → DirectionTree
 direction_of (one_way (both wire tree)) = input (is_there wire) tree
-direction_of (other_way (both kind tree)) = output kind tree
+direction_of (other_way (one_way long)) = output_integer long
+direction_of (other_way (other_way (both kind tree))) = output kind tree
 
 abbrev pub direction : ℕ → Reader DirectionTree
 direction levels =
     made direction_of (either (is_front (codes "input"))
     (past (codes "input") (paired (maybe (is_front (codes "wire")) (word_only (codes "wire"))) (type levels)))
-    (past (codes "output") (paired (maybe (is_meant net_of) (worded net_of)) (type levels))))
+    (past (codes "output") (output_behind levels)))
 
 abbrev pub is_direction : Option Text → Bool
 is_direction = is_meant (λ word. written (λ text. text) (codes "input" ∷ codes "output" ∷ []) word)
@@ -151,13 +162,6 @@ Variables = Both NetKind (Both TypeTree (Both (List_of DeclaredTree) (Unit {0}))
 
 abbrev pub variables_of : Variables → ItemTree
 variables_of (both kind (both tree (both list end))) = declaration (variables kind tree) (listed_of list)
-
-abbrev pub alone_of : Text → DeclaredTree
-alone_of letters = record { name = letters; value = None }
-
--- a name without a value
-abbrev pub alone : Reader DeclaredTree
-alone = made alone_of named
 
 abbrev pub Directed : Type 0
 Directed = Both DirectionTree (Both (List_of DeclaredTree) (Unit {0}))
@@ -202,7 +206,7 @@ abbrev pub item_parts : ℕ → Reader Item
 item_parts levels =
     either (is_meant local_of) (paired (worded local_of) (paired (parameter_type levels) (ended (setting levels))))
     (either (is_meant net_of) (paired (worded net_of) (paired (type levels) (ended (declared levels))))
-    (either is_direction (paired (direction levels) (ended alone))
+    (either is_direction (paired (direction levels) (ended (declared levels)))
     (either (is_front (codes "integer")) (past (codes "integer") (ended (declared levels)))
     (either (is_front (codes "time")) (past (codes "time") (ended (declared levels)))
     (either (is_front (codes "event")) (past (codes "event") (ended named))
@@ -235,17 +239,17 @@ head_parameters levels =
     past (codes "(") (paired (paired (first_parameter levels)
     (many (is_front (codes ",")) (λ list. past (codes ",") (head_parameter levels)))) (word_only (codes ")")))
 
-abbrev pub first_port_of : Both DirectionTree Text → PortTree
-first_port_of (both tree letters) = record { direction = Some tree; name = letters }
+abbrev pub first_port_of : Both DirectionTree DeclaredTree → PortTree
+first_port_of (both tree one) = record { direction = Some tree; name = one.name; value = one.value }
 
-abbrev pub port_of : Both (Option DirectionTree) Text → PortTree
-port_of (both tree letters) = record { direction = tree; name = letters }
+abbrev pub port_of : Both (Option DirectionTree) DeclaredTree → PortTree
+port_of (both tree one) = record { direction = tree; name = one.name; value = one.value }
 
 abbrev pub port : ℕ → Reader PortTree
-port levels = made port_of (paired (maybe is_direction (direction levels)) named)
+port levels = made port_of (paired (maybe is_direction (direction levels)) (declared levels))
 
 abbrev pub named_port_of : Text → PortTree
-named_port_of letters = record { direction = None; name = letters }
+named_port_of letters = record { direction = None; name = letters; value = None }
 
 -- a port that an item declares
 abbrev pub named_port : Reader PortTree
@@ -259,11 +263,12 @@ abbrev pub ports_behind : {A : Type 0} → Reader A → Reader PortTree → Read
 ports_behind first read = paired (paired first (many (is_front (codes ",")) (λ list. past (codes ",") read))) (word_only (codes ")"))
 
 abbrev pub PortList : Type 0
-PortList = Either (PortsBehind (Both DirectionTree Text)) (PortsBehind Text)
+PortList = Either (PortsBehind (Both DirectionTree DeclaredTree)) (PortsBehind Text)
 
 -- ports with their directions, or names alone
 abbrev pub port_list : ℕ → Reader PortList
-port_list levels = either is_direction (ports_behind (paired (direction levels) named) (port levels)) (ports_behind named named_port)
+port_list levels =
+    either is_direction (ports_behind (paired (direction levels) (declared levels)) (port levels)) (ports_behind named named_port)
 
 abbrev pub ports_of : Either (Unit {0}) PortList → List PortTree
 ports_of (one_way end) = []

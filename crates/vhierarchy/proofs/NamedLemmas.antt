@@ -10,10 +10,10 @@ use Rattle.basis.proofs.Bools.{and_left, and_right, and_both, or_left, or_right,
 use Rattle.basis.specs.declared.timescale.Timescale.{Timescale}
 use Rattle.vast.specs.Words.{Text, is_name, unescaped, is_printable, are_printable}
 use Rattle.vast.specs.Names.{is_path}
-use Rattle.vast.specs.Modules.{DerivesText, SourceTree as PlainTree, fits, fits_module, fits_item, fits_declared, fits_optional, fits_optional_parameters, fits_optional_ports, fits_port, fits_direction, fits_declaration_kind, fits_overrides, fits_instance, fits_connections, fits_names, fits_behind, is_named_port, is_directed, are_some, stands_alone}
+use Rattle.vast.specs.Modules.{DerivesText, SourceTree as PlainTree, fits, fits_module, fits_item, fits_declared, fits_optional, fits_optional_parameters, fits_optional_ports, fits_port, fits_direction, fits_declaration_kind, fits_overrides, fits_instance, fits_connections, fits_behind, is_named_port, is_directed, are_some}
 use Rattle.vast.specs.Modules as plain
 use Rattle.vast.specs.NumberedWords.{Word}
-use Rattle.vast.specs.NumberedModules.{ConnectionsTree, InstanceTree, ItemTree, parameters, declaration, variables, integers, directed, events, assignments, initial, always, instances, DeclarationKind, DirectionTree, input, output, PortTree, ModuleTree, SourceTree, RangeTree, DeclaredTree}
+use Rattle.vast.specs.NumberedModules.{ConnectionsTree, InstanceTree, ItemTree, parameters, declaration, variables, integers, directed, events, assignments, initial, always, instances, DeclarationKind, DirectionTree, input, output, output_integer, PortTree, ModuleTree, SourceTree, RangeTree, DeclaredTree}
 use Rattle.vast.specs.NumberedTexts.{IsNumbered}
 use Rattle.vast.specs.TreeWords.{declared_with, instance_with, item_with, port_with, module_with, source_with}
 use Rattle.vast.proofs.NameLemmas.{name_printable}
@@ -26,7 +26,7 @@ use Rattle.vdesign.specs.Design.{Variable, Design}
 use Rattle.vdesign.specs.declared.design.Kind.{Kind}
 use Rattle.velab_expr.specs.Scopes.{Scope}
 use Rattle.velab_expr.specs.Symbols.{behind_item, symbols_by}
-use Rattle.velab_declaration.specs.Variables.{port_names, Declaration, all_declared, kind_of, declared_as, declarations_of, port_declaration, variable_in, form_of, variables_in, variables_as, lower_kind, lower_declaration, lower_variables, lower_again, port_scope, lower_ports, counted_kind}
+use Rattle.velab_declaration.specs.Variables.{port_names, Declaration, all_declared, kind_of, declared_as, declarations_of, port_declaration, variable_in, port_form, variables_in, variables_as, lower_kind, lower_declaration, lower_variables, lower_again, port_scope, lower_ports, integer_kind}
 use Rattle.velab_declaration.specs.declared.variable.Form.{Form}
 use Rattle.velab_declaration.specs.Drives.{Place, started}
 use Rattle.velab_expr.specs.Answers.{◌>>=◌, provided, required, found}
@@ -125,30 +125,22 @@ changed f p q step (one ∷ more) all =
 declared_shows : (one : plain.DeclaredTree) → fits_declared 64 one ≡ true → shows_declared (declared_with unescaped one) ≡ true
 declared_shows one fit = name_printable one.name (and_left (is_name one.name) (fits_optional 64 one.value) fit)
 
-alone_shows : (one : plain.DeclaredTree) → stands_alone one ≡ true → shows_declared (declared_with unescaped one) ≡ true
-alone_shows one fit = name_printable one.name (and_left (is_name one.name) (not (is_some one.value)) fit)
-
 instance_shows : (one : plain.InstanceTree) → fits_instance 64 one ≡ true → shows_instance (instance_with unescaped one) ≡ true
 instance_shows one fit = name_printable one.name (and_left (is_name one.name) (fits_connections 64 one.connections) fit)
 
 port_shows : (one : plain.PortTree) → fits_port 64 one ≡ true → shows_port (port_with unescaped one) ≡ true
-port_shows one fit = name_printable one.name (and_right (fits_direction 64 one.direction) (is_name one.name) fit)
+port_shows one fit =
+    name_printable one.name (and_left (is_name one.name) (fits_optional 64 one.value) (and_right (fits_direction 64 one.direction) (is_name one.name && fits_optional 64 one.value) fit))
 
 named_port_shows : (one : plain.PortTree) → is_named_port one ≡ true → shows_port (port_with unescaped one) ≡ true
-named_port_shows one fit = name_printable one.name (and_right (not (is_directed one.direction)) (is_name one.name) fit)
-
-names_show : (kind : plain.DeclarationKind) (list : List plain.DeclaredTree) → fits_names 64 kind list ≡ true →
-    list_all shows_declared (map (declared_with unescaped) list) ≡ true
-names_show (variables word type) list fit =
-    changed (declared_with unescaped) (fits_declared 64) shows_declared declared_shows list (and_right (nat_le 1 (length list)) (list_all (fits_declared 64) list) fit)
-names_show (integers long) list fit =
-    changed (declared_with unescaped) (fits_declared 64) shows_declared declared_shows list (and_right (nat_le 1 (length list)) (list_all (fits_declared 64) list) fit)
-names_show (directed direction) list fit =
-    changed (declared_with unescaped) stands_alone shows_declared alone_shows list (and_right (nat_le 1 (length list)) (list_all stands_alone list) fit)
+named_port_shows one fit =
+    name_printable one.name (and_left (is_name one.name) (not (is_some one.value)) (and_right (not (is_directed one.direction)) (is_name one.name && not (is_some one.value)) fit))
 
 item_shows : (item : plain.ItemTree) → fits_item 64 item ≡ true → shows_item (item_with unescaped item) ≡ true
 item_shows (parameters local type settings) fit = refl
-item_shows (declaration kind list) fit = names_show kind list (and_right (fits_declaration_kind 64 kind) (fits_names 64 kind list) fit)
+item_shows (declaration kind list) fit =
+    changed (declared_with unescaped) (fits_declared 64) shows_declared declared_shows list
+    (and_right (nat_le 1 (length list)) (list_all (fits_declared 64) list) (and_right (fits_declaration_kind 64 kind) (are_some (fits_declared 64) list) fit))
 item_shows (events list) fit = refl
 item_shows (assignments settings) fit = refl
 item_shows (initial statement) fit = refl
@@ -194,7 +186,7 @@ all_declared_named kind signed range (one ∷ more) fit =
 kind_named : (kind : DeclarationKind) (list : List DeclaredTree) → list_all shows_declared (map (declared_with letters_in) list) ≡ true →
     list_all are_printable (names (declared_as kind list)) ≡ true
 kind_named (variables word type) list fit = all_declared_named (kind_of word) type.signed type.range list fit
-kind_named (integers long) list fit = all_declared_named (counted_kind long) (not long) None list fit
+kind_named (integers long) list fit = all_declared_named (integer_kind long) (not long) None list fit
 kind_named (directed direction) list fit = refl
 
 instances_named : (list : List InstanceTree) → list_all shows_instance (map (instance_with letters_in) list) ≡ true →
@@ -218,6 +210,7 @@ port_name : (direction : Option DirectionTree) (text : Word) → (port_by direct
 port_name None text = refl
 port_name (Some (input wire type)) text = refl
 port_name (Some (output net type)) text = refl
+port_name (Some (output_integer long)) text = refl
 
 ports_named : (before : Option DirectionTree) (list : List PortTree) → list_all shows_port (map (port_with letters_in) list) ≡ true →
     list_all are_printable (names (map port_declaration (ports_behind before list))) ≡ true
@@ -393,7 +386,7 @@ module _ (path : Text) (e : is_path path ≡ true) where
 
   kind_paths : (form : Form) (kind : DeclarationKind) (list : List DeclaredTree) → list_all are_printable (names (declared_as kind list)) ≡ true → all_paths (variables_as path form kind list) ≡ true
   kind_paths form (variables word type) list all = declared_paths form (kind_of word) type.signed type.range list all
-  kind_paths form (integers long) list all = declared_paths form (counted_kind long) (not long) None list all
+  kind_paths form (integers long) list all = declared_paths form (integer_kind long) (not long) None list all
   kind_paths form (directed direction) list all = refl
 
   item_paths : (scope : Scope) (item : ItemTree) → list_all are_printable (names (declarations_of item)) ≡ true → have_paths (lower_declaration path scope item) ≡ true
@@ -424,7 +417,7 @@ module _ (path : Text) (e : is_path path ≡ true) where
       (port_paths scope ps (and_right (are_printable p.name.letters) (list_all are_printable (names (map port_declaration ps))) all))
     where
       whole : (a : Result (Option Bounds) ElabFault) (b : Result (List Variable) ElabFault) → have_paths b ≡ true →
-          have_paths ((a >>= λ bounds. Ok (variable_in path (form_of p.net p.type.signed bounds) p.name.letters)) >>= λ one. b >>= λ others. Ok (one ∷ others)) ≡ true
+          have_paths ((a >>= λ bounds. Ok (variable_in path (port_form p bounds) p.name.letters)) >>= λ one. b >>= λ others. Ok (one ∷ others)) ≡ true
       whole (Ok bounds) (Ok others) rest =
           and_both (is_path (path ++ 46 ∷ p.name.letters)) (all_paths others)
           (dotted_is_path path p.name.letters e (and_left (are_printable p.name.letters) (list_all are_printable (names (map port_declaration ps))) all)) rest
@@ -432,7 +425,7 @@ module _ (path : Text) (e : is_path path ≡ true) where
       whole (Err fault) b rest = refl
 
       by : (a : Result (Option Bounds) ElabFault) (again : Option Bounds → Result (Option Bounds) ElabFault) (b : Result (List Variable) ElabFault) → have_paths b ≡ true →
-          have_paths ((a >>= λ bounds. again bounds >>= λ same. Ok (variable_in path (form_of p.net p.type.signed same) p.name.letters)) >>= λ one. b >>= λ others. Ok (one ∷ others)) ≡ true
+          have_paths ((a >>= λ bounds. again bounds >>= λ same. Ok (variable_in path (port_form p same) p.name.letters)) >>= λ one. b >>= λ others. Ok (one ∷ others)) ≡ true
       by (Ok bounds) again b rest = whole (again bounds) b rest
       by (Err fault) again b rest = refl
 

@@ -107,12 +107,12 @@ module _ (part : Part) (name : Word) (context : Context) (scope : Scope) (variab
         by (Err other) b first then = absurd cc
 
     pub own_is : (after : Part) → behind part.variables variables ≡ Ok after.variables → with_begins_before part.begins processes ≡ Ok (record { table = after.table; begins = after.begins }) →
-        after.scopes ≡ part.scopes ++ scope_of context scope.variables ∷ [] → after.events ≡ scope.events → after.size ≡ part.size + module_size context.unit → few_enough name after ≡ own
+        after.scopes ≡ part.scopes ++ scope_of context scope.variables ∷ [] → after.events ≡ scope.events → after.size ≡ part.size + module_size (length context.path) context.unit → few_enough name after ≡ own
     own_is after = by variables processes
       where
         by : (a : Result (List Variable) ElabFault) (b : Result Processes ElabFault) → behind part.variables a ≡ Ok after.variables →
             with_begins_before part.begins b ≡ Ok (record { table = after.table; begins = after.begins }) →
-            after.scopes ≡ part.scopes ++ scope_of context scope.variables ∷ [] → after.events ≡ scope.events → after.size ≡ part.size + module_size context.unit →
+            after.scopes ≡ part.scopes ++ scope_of context scope.variables ∷ [] → after.events ≡ scope.events → after.size ≡ part.size + module_size (length context.path) context.unit →
             few_enough name after ≡ (a >>= λ v. b >>= λ p. few_enough name (with_own context scope part v p))
         by (Ok v) (Ok p) first then scopes events sizes =
             let variables_are : after.variables ≡ part.variables ++ v = cc in

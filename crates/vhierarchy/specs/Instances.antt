@@ -10,6 +10,7 @@ use Rattle.module_size.specs.Sizes.{size_of, module_size}
 use Rattle.vmodules.specs.Names.{has_double, is_declared, letters_of, first_again}
 use Rattle.vmodules.specs.Hierarchy.{module_names, module_of, top_of, rival_of}
 use Rattle.vmodules.specs.Ports.{Port, ports_of, own_items}
+use Rattle.vmodules.specs.Placed.{placed_items}
 use Rattle.vmodules.specs.Misdeclared.{misdeclared}
 use Rattle.vmodules.specs.declared.misdeclared.PortFlaw.{PortFlaw}
 use Rattle.vmodules.specs.declared.misdeclared.PortFlaw.TheVariants as flaw
@@ -154,7 +155,7 @@ letters_added context = length context.path + size_of (dotted_size context.path)
 abbrev pub has_room : Part → Context → Bool
 has_room part context =
     nat_le part.events 4294967295
-    && (nat_le (letters_held part + letters_added context) 1048576 && nat_le (part.size + module_size context.unit) 4194304)
+    && (nat_le (letters_held part + letters_added context) 1048576 && nat_le (part.size + module_size (length context.path) context.unit) 4194304)
 
 -- its names, as they are known at its first item; a design has at most 1,024 variables
 abbrev pub lower_names : Part → Context → Result Scope ElabFault
@@ -164,11 +165,11 @@ lower_names part context =
     (provided (has_room part context) rule.TooMany (Some context.name)
     (item_scope (base_of part context) context.unit)))
 
--- the processes of its port connections, and then its own
+-- the processes of its port connections, those of its ports' values, and then those of its items, whose print tasks know its path (17.1.1.1)
 abbrev pub lower_own_processes : Context → List Port → Scope → Table → Result Processes ElabFault
 lower_own_processes context ports scope table =
     lower_joins context.name context.overrides.scope scope context.connections table ports >>= λ joins.
-    with_begins_before joins.begins (lower_items scope joins.table context.unit.items)
+    with_begins_before joins.begins (lower_items scope joins.table (placed_items context.path context.unit))
 
 abbrev pub with_own : Context → Scope → Part → List design.Variable → Processes → Part
 with_own context scope part variables processes = record {
@@ -177,7 +178,7 @@ with_own context scope part variables processes = record {
   table = processes.table;
   begins = part.begins ++ processes.begins;
   events = scope.events;
-  size = part.size + module_size context.unit;
+  size = part.size + module_size (length context.path) context.unit;
 }
 
 -- a design has at most 256 processes, and 1,024 instances below the top
@@ -339,11 +340,12 @@ checked m part = faultless (broken_design m.name part) (record { unit = m; part 
 abbrev pub whole_of : SourceTree → ModuleTree → Result Whole ElabFault
 whole_of modules m = elaborate_top modules m >>= λ part. checked m part
 
--- 12.3.2, 12.3.3, 9.8.3: the rule that is broken by how items declare ports, or by the name of a block
+-- A.2.1.2, 12.3.2, 12.3.3, 9.8.3: the rule that is broken by how ports are declared, or by the name of a block
 abbrev pub rule_of_port : PortFlaw → Rule
 rule_of_port flaw.Undeclared = rule.Unknown
 rule_of_port flaw.Doubled = rule.Doubled
 rule_of_port flaw.Input = rule.Kind
+rule_of_port flaw.Valued = rule.Kind
 
 abbrev pub broken_ports : SourceTree → Option ElabFault
 broken_ports modules = option_map (λ m. told (rule_of_port m.flaw) (Some m.word)) (misdeclared modules)

@@ -265,6 +265,7 @@ fn rule_of_port(flaw: PortFlaw) -> Rule
         PortFlaw::Undeclared => Rule::Unknown,
         PortFlaw::Doubled => Rule::Doubled,
         PortFlaw::Input => Rule::Kind,
+        PortFlaw::Valued => Rule::Kind,
     }
 }
 

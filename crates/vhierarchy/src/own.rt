@@ -7,10 +7,11 @@ ghost use Rattle.vast.specs.NumberedWords.{numbered};
 ghost use Rattle.vast.specs.Words.{Text};
 ghost use Rattle.vexpr_parse.specs.Texts.{words_of};
 ghost use Rattle.module_size.specs.Sizes.{module_size};
+ghost use Rattle.vmodules.specs.Placed.{placed_items};
 ghost use Rattle.vmodules.specs.Ports.{ports_of};
 ghost use Rattle.vmodules.specs.Inner.{port_form};
 ghost use Rattle.velab_expr.specs.Inner.{symbols_in};
-ghost use Rattle.velab_process.specs.Processes.{with_begins_before};
+ghost use Rattle.velab_process.specs.Processes.{lower_items, with_begins_before};
 ghost use Rattle.velab_expr.specs.Answers.{Makes, behind};
 ghost use Rattle.vhierarchy.specs.Instances as spec;
 ghost use Rattle.vhierarchy.specs.Instances.{lower_names};
@@ -21,6 +22,7 @@ use crate::part::Part;
 use crate::room::room_for;
 use basis::{NoMemory, OrMemory};
 use std::alloc::Global;
+use vast::module::ModuleTree;
 use vast::token::Token;
 use vdesign::action::Places;
 use vdesign::design::{Scope as Room, Variable};
@@ -31,7 +33,7 @@ use velab_expr::fault::{ElabFault, Rule};
 use velab_expr::refusal::refused;
 use velab_expr::scope::Scope;
 use velab_process::join::put_joins;
-use velab_process::statement::{Table, put_processes};
+use velab_process::statement::{Table, put_port_values, put_processes};
 use vlex::Tokens;
 use vmodules::letters::letters;
 use vmodules::ports::PortForm;
@@ -67,7 +69,8 @@ pub fn known_names<'t>(
     ensures small { IfOk result (λ known. known.head
         + length (symbols_in (words_of tokens.now) context.now.unit.now.items.items) < 2 ^ 64) }
     ensures whole { IfOk result (λ known. known.size ≡
-        part.now.size + module_size (module_tree (words_of tokens.now) context.now.unit.now)) }
+        part.now.size + module_size (length context.now.path.now)
+        (module_tree (words_of tokens.now) context.now.unit.now)) }
 {
     let first = part.variables.len();
     let names = declared(alloc, tokens, ports, context.unit)?;
@@ -132,6 +135,27 @@ fn put_own_variables(
     put_variables(alloc, tokens, context.path, scope, context.unit, into)
 }
 
+// The processes that a module makes in an instance of this path: those of its ports' values, and those of its items. Errors: E303, E306, E307,
+// E310, E901.
+fn put_own_items(
+    alloc: Global,
+    tokens: &Tokens<'_>,
+    path: &[u8],
+    unit: &ModuleTree,
+    scope: &Scope<'_, '_>,
+    table: &mut Table,
+    into: &mut Vec<Places>,
+) -> Result<(), OrMemory<ElabFault>>
+    requires small { scope.now.known
+        + length (symbols_in (words_of tokens.now) unit.now.items.items) < 2 ^ 64 }
+    ensures { Makes result (record { table = table.new; begins = into.new.items })
+        (with_begins_before into.old.items (lower_items scope.now table.old
+        (placed_items path.now (module_tree (words_of tokens.now) unit.now)))) }
+{
+    put_port_values(alloc, tokens, scope, &unit.ports, table, into)?;
+    put_processes(alloc, tokens, path, scope, &unit.items, table, into)
+}
+
 // The processes of an instance: those of its port connections, and its own. Errors: E303, E305, E306, E307, E310, E901.
 fn put_own_processes(
     alloc: Global,
@@ -160,7 +184,15 @@ fn put_own_processes(
         table,
         into,
     )?;
-    put_processes(alloc, tokens, scope, &context.unit.items, table, into)
+    put_own_items(
+        alloc,
+        tokens,
+        context.path,
+        context.unit,
+        scope,
+        table,
+        into,
+    )
 }
 
 // The scope of an instance.
@@ -216,7 +248,8 @@ pub fn put_own(
     requires small { scope.now.known
         + length (symbols_in (words_of tokens.now) context.now.unit.now.items.items) < 2 ^ 64 }
     requires whole { size ≡
-        part.old.size + module_size (module_tree (words_of tokens.now) context.now.unit.now) }
+        part.old.size + module_size (length context.now.path.now)
+        (module_tree (words_of tokens.now) context.now.unit.now) }
     ensures { Makes result part.new
         (own_part (words_of tokens.now) context.now ports.now scope.now part.old) }
 {

@@ -98,13 +98,15 @@ pub fn room_for(
     ensures room { is_some result ≡
         has_room part.now (context_tree (words_of tokens.now) context.now) }
     ensures size { IfSome result (λ size. size ≡
-        part.now.size + module_size (module_tree (words_of tokens.now) context.now.unit.now)) }
+        part.now.size + module_size (length context.now.path.now)
+        (module_tree (words_of tokens.now) context.now.unit.now)) }
     ensures events { IfSome result (λ _. part.now.events ≤ 4294967295) }
 {
     let letters = names_left(part, context.path, names);
     let left = take_module(
         tokens,
         context.unit,
+        context.path.len(),
         (MOST_SIZE + 1).saturating_sub(part.size),
     );
     if all_fit(part.events, letters, left) {

@@ -1,5 +1,5 @@
 -- A loop over a list that builds another: what was done and what is left to do make the whole. And faults that `?` hands on.
-use Rattle.std.proofs.Common.{◌≡◌, ◌<◌, ◌≤◌, ℕ, zero, suc, ◌+◌, arith, true, false, List, [], ◌∷◌, ◌++◌, Option, None, Some, option_map, refl, length, drop, get_or, Result, Ok, Err, IsErrAnd, sym, ap, subst, ◌∙◌, append_assoc}
+use Rattle.std.proofs.Common.{◌≡◌, ◌<◌, ◌≤◌, ℕ, zero, suc, ◌+◌, arith, true, false, List, [], ◌∷◌, ◌++◌, Option, None, Some, is_some, option_map, refl, length, drop, get_or, Result, Ok, Err, IsErrAnd, sym, ap, subst, ◌∙◌, append_assoc}
 use Rattle.basis.proofs.Lists.{left_from}
 use Rattle.vast.specs.Words.{Text}
 use Rattle.std.specs.Option.{option_or}
@@ -59,6 +59,19 @@ module _ {A : Type 0} (xs : List A) (i : ℕ) (x : A) (within : i < length xs) (
         ap (option_map (λ (w : Word). w.number)) (sym same ∙ ap (again_behind names) (ap F drop_at ∙ opens x (drop (i + 1) xs)) ∙ again_here names (g x) (F (drop (i + 1) xs)) (ap (is_declared names) (sym is_text) ∙ there))
         ∙ ap Some (sym is)
 
+  -- the first word that one of them tells: T is what a call found
+  module _ (F : List A → Option Word) (g : A → Option Word) (opens : (y : A) (ys : List A) → F (y ∷ ys) ≡ option_or (g y) (F ys)) {T : Type 0} (f : T → Word) where
+    first_opened : (told : Option Word) → F (drop i xs) ≡ told → option_or (g x) (F (drop (i + 1) xs)) ≡ told
+    first_opened told same = sym (ap F drop_at ∙ opens x (drop (i + 1) xs)) ∙ same
+
+    pub first_here : (found : Option T) (told : Option Word) → is_some found ≡ true → option_map f found ≡ g x → F (drop i xs) ≡ told → option_map f found ≡ told
+    first_here None told some is same = absurd cc
+    first_here (Some t) told some is same = ap (λ o. option_or o (F (drop (i + 1) xs))) is ∙ first_opened told same
+
+    pub first_later : (found : Option T) (told : Option Word) → is_some found ≡ false → option_map f found ≡ g x → F (drop i xs) ≡ told → F (drop (i + 1) xs) ≡ told
+    first_later None told none is same = ap (λ o. option_or o (F (drop (i + 1) xs))) is ∙ first_opened told same
+    first_later (Some t) told none is same = absurd cc
+
   -- words, several for each
   module _ (F : List A → List Word) (h : A → List Word) (opens : (y : A) (ys : List A) → F (y ∷ ys) ≡ h y ++ F ys) (names : List Text) where
     pub opened_again : (told : Option Word) → again_behind names (F (drop i xs)) ≡ told →
@@ -99,6 +112,9 @@ module _ {A : Type 0} (xs : List A) (i : ℕ) (done : length xs ≤ i) (F : List
 
   pub none_again : (told : Option Word) → again_behind names (F (drop i xs)) ≡ told → told ≡ None
   none_again told same = sym same ∙ ap (again_behind names) (ap F (drop_all i xs done) ∙ empty)
+
+pub no_first : {A : Type 0} (xs : List A) (i : ℕ) → length xs ≤ i → (F : List A → Option Word) → F [] ≡ None → (told : Option Word) → F (drop i xs) ≡ told → None ≡ told
+no_first xs i done F empty told same = sym (ap F (drop_all i xs done) ∙ empty) ∙ same
 
 -- a fault that `?` hands on
 pub handed_on : {T F : Type 0} (P Q : F → Type 0) (result : Result T (OrMemory F)) (e : OrMemory F) → IsErrAnd result (λ y. y ≡ e) →

@@ -22,7 +22,7 @@ use Rattle.vmodules.specs.Names.{is_declared, letters_of, first_again}
 use Rattle.vmodules.specs.Hierarchy.{module_names, second_of}
 use Rattle.vmodules.specs.Connected.{NamedConnection, open_by}
 use Rattle.vmodules.specs.Ports.{Port, Second, bare, type_with, declared_port, listed_names, plain_names, is_plain, own_item}
-use Rattle.vmodules.specs.Misdeclared.{Misdeclared, flawed, words_as, stray}
+use Rattle.vmodules.specs.Misdeclared.{Misdeclared, flawed, words_as, stray, valued_behind, valued_in, valued_listed, valued_items, valued_port}
 use Rattle.vmodules.specs.declared.misdeclared.PortFlaw.{PortFlaw}
 use Rattle.vmodules.specs.declared.misdeclared.PortFlaw.TheVariants as flaw
 use Rattle.vmodules.specs.declared.misdeclared.Declaring.{Declaring}
@@ -92,6 +92,7 @@ port_form words form = record {
   output = form.output;
   net = form.net;
   type = type_with (type_for words form.kind) (option_map (second_form words) form.again);
+  long = form.long;
   again = option_map (second_form words) form.again;
 }
 
@@ -214,6 +215,22 @@ items_told words names plain unit =
     (option_or (flawed flaw.Doubled (first_again (told_as words how.Ports unit.items.items)))
     (option_or (flawed flaw.Undeclared (first_not (letters_of (told_as words how.Ports unit.items.items)) (words_told words plain)))
     (besides_told words names unit.items.items)))
+
+-- a value of a port that may have none: in a list, in an item, in items, in a module
+abbrev pub listed_valued : List Text → Option (Bor Direction) → List ParsedPort → Option Word
+listed_valued words before list = valued_behind (direction_of words before) (port_trees words list)
+
+abbrev pub declared_valued : List Text → Direction → List Declared → Option Word
+declared_valued words direction list = valued_in (Some (direction_tree words direction)) (map (declared_tree words) list)
+
+abbrev pub optional_valued : {X : Type 0} → List Text → Option (Vec ParsedPort X) → Option Word
+optional_valued words ports = valued_listed (optional_ports words ports)
+
+abbrev pub items_valued : List Text → List ModuleItem → Option Word
+items_valued words items = valued_items (map (item_tree words) items)
+
+abbrev pub values_told : List Text → Parsed → Option Misdeclared
+values_told words unit = flawed flaw.Valued (valued_port (module_tree words unit))
 
 -- a name that stands again as that of a block
 abbrev pub blocks_told : List Text → Parsed → Option Misdeclared

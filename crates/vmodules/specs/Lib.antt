@@ -5,4 +5,5 @@ pub mod Hierarchy
 pub mod Inner
 pub mod Misdeclared
 pub mod Names
+pub mod Placed
 pub mod Ports

@@ -1,9 +1,10 @@
--- *trusted*: What is wrong with the ports that items declare (IEEE 1364-2005, 12.3.2, 12.3.3).
+-- *trusted*: What is wrong with the ports that items declare (IEEE 1364-2005, 12.3.2, 12.3.3), and with values of ports (A.2.1.2).
 use Rattle.std.specs.Prelude.{Bool, true, false, not, if◌then◌else◌, List, [], ◌∷◌, ◌++◌, map, Option, None, Some, is_some, option_map}
 use Rattle.std.specs.List.{filter, find, flat_map}
 use Rattle.std.specs.Option.{option_or}
 use Rattle.vast.specs.NumberedWords.{Word}
-use Rattle.vast.specs.NumberedModules.{DirectionTree, input, output, DeclarationKind, variables, integers, directed, ItemTree, parameters, declaration, events, assignments, initial, always, instances, ModuleTree, SourceTree}
+use Rattle.vast.specs.NumberedExpressions.{ExpressionTree}
+use Rattle.vast.specs.NumberedModules.{DirectionTree, input, output, output_integer, PortTree, DeclarationKind, variables, integers, directed, DeclaredTree, ItemTree, parameters, declaration, events, assignments, initial, always, instances, ModuleTree, SourceTree}
 use Rattle.vast.specs.declared.module.NetKind.{NetKind}
 use Rattle.vast.specs.declared.module.NetKind.TheVariants as net
 use Rattle.vmodules.specs.Names.{is_declared, letters_of, first_again}
@@ -26,10 +27,12 @@ flawed flaw = option_map (λ word. record { flaw = flaw; word = word })
 abbrev pub is_whole : DirectionTree → Bool
 is_whole (input wire type) = wire
 is_whole (output net type) = is_some net
+is_whole (output_integer long) = true
 
 abbrev pub is_input : DirectionTree → Bool
 is_input (input wire type) = true
 is_input (output net type) = false
+is_input (output_integer long) = false
 
 abbrev pub is_reg : NetKind → Bool
 is_reg net.Wire = false
@@ -94,9 +97,59 @@ flaw_in plain listed items =
 abbrev pub port_flaw : ModuleTree → Option Misdeclared
 port_flaw m = flaw_in (plain_names m.ports) (listed_names m.ports) m.items
 
--- the first flaw of a module, and of a text: of its ports, or else a name that stands again as that of a block (4.11)
+-- ---- A.2.1.2: a port with a value is an output that is a variable
+
+abbrev pub is_variable : DirectionTree → Bool
+is_variable (input wire type) = false
+is_variable (output None type) = false
+is_variable (output (Some word) type) = is_reg word
+is_variable (output_integer long) = true
+
+-- the name of a port that goes this way, where it has a value that it may not have
+abbrev pub valued_net : Option DirectionTree → Word → Option ExpressionTree → Option Word
+valued_net direction name None = None
+valued_net None name (Some value) = Some name
+valued_net (Some direction) name (Some value) = if is_variable direction then None else Some name
+
+-- the first of a list of ports; 12.3.4: one without a direction has that of the one before it
+abbrev pub valued_behind : Option DirectionTree → List PortTree → Option Word
+valued_behind before [] = None
+valued_behind before (port ∷ more) =
+    option_or (valued_net (option_or port.direction before) port.name port.value) (valued_behind (option_or port.direction before) more)
+
+abbrev pub valued_listed : Option (List PortTree) → Option Word
+valued_listed None = None
+valued_listed (Some list) = valued_behind None list
+
+-- the first of the names that an item declares as ports, and of items
+abbrev pub valued_in : Option DirectionTree → List DeclaredTree → Option Word
+valued_in direction [] = None
+valued_in direction (one ∷ more) = option_or (valued_net direction one.name one.value) (valued_in direction more)
+
+abbrev pub valued_as : DeclarationKind → List DeclaredTree → Option Word
+valued_as (variables net type) list = None
+valued_as (integers long) list = None
+valued_as (directed direction) list = valued_in (Some direction) list
+
+abbrev pub valued_by : ItemTree → Option Word
+valued_by (parameters local type settings) = None
+valued_by (declaration kind list) = valued_as kind list
+valued_by (events names) = None
+valued_by (assignments settings) = None
+valued_by (initial statement) = None
+valued_by (always statement) = None
+valued_by (instances letters overrides list) = None
+
+abbrev pub valued_items : List ItemTree → Option Word
+valued_items [] = None
+valued_items (item ∷ more) = option_or (valued_by item) (valued_items more)
+
+abbrev pub valued_port : ModuleTree → Option Word
+valued_port m = option_or (valued_listed m.ports) (valued_items m.items)
+
+-- the first flaw of a module, and of a text: of its ports, then of their values, or else a name that stands again as that of a block (4.11)
 abbrev pub flaw_of : ModuleTree → Option Misdeclared
-flaw_of m = option_or (port_flaw m) (flawed flaw.Doubled (doubled_block m))
+flaw_of m = option_or (port_flaw m) (option_or (flawed flaw.Valued (valued_port m)) (flawed flaw.Doubled (doubled_block m)))
 
 abbrev pub misdeclared : SourceTree → Option Misdeclared
 misdeclared [] = None

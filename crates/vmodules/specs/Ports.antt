@@ -5,9 +5,9 @@ use Rattle.std.specs.Option.{option_or}
 use Rattle.std.specs.Str.{bytes_eq}
 use Rattle.vast.specs.Words.{Text}
 use Rattle.vast.specs.NumberedWords.{Word}
-use Rattle.vast.specs.NumberedModules.{TypeTree, DirectionTree, input, output, PortTree, DeclarationKind, variables, integers, directed, DeclaredTree, ItemTree, parameters, declaration, events, assignments, initial, always, instances, ModuleTree}
+use Rattle.vast.specs.NumberedModules.{TypeTree, DirectionTree, input, output, output_integer, PortTree, DeclarationKind, variables, integers, directed, DeclaredTree, ItemTree, parameters, declaration, events, assignments, initial, always, instances, ModuleTree}
 use Rattle.vast.specs.declared.module.NetKind.{NetKind}
-use Rattle.vast.specs.declared.module.NetKind.TheVariants.{Wire}
+use Rattle.vast.specs.declared.module.NetKind.TheVariants.{Wire, Reg}
 use Rattle.vmodules.specs.Names.{is_declared, letters_of}
 
 -- 12.3.3: a net or a variable that an item declares besides a port of its name
@@ -21,6 +21,7 @@ pub record Port : Type 0 where
   pub output : Bool
   pub net : NetKind
   pub type : TypeTree
+  pub long : Option Bool  -- of an `integer` or a `time`: whether it is the longer one
   pub again : Option Second
 
 -- no sign and no range
@@ -31,12 +32,16 @@ bare = record { signed = false; range = None }
 abbrev pub type_in : DirectionTree → TypeTree
 type_in (input wire type) = type
 type_in (output net type) = type
+type_in (output_integer long) = bare
 
--- 12.3.3: a port that goes this way is a net, save where a word says `reg`; without any direction it is an input
+-- 12.3.3: a port that goes this way is a net, save where a word says `reg`, `integer` or `time`; without any direction it is an input
 abbrev pub port_by : Option DirectionTree → Word → Port
-port_by None name = record { name = name; output = false; net = Wire; type = bare; again = None }
-port_by (Some (input wire type)) name = record { name = name; output = false; net = Wire; type = type; again = None }
-port_by (Some (output net type)) name = record { name = name; output = true; net = unwrap_or net Wire; type = type; again = None }
+port_by None name = record { name = name; output = false; net = Wire; type = bare; long = None; again = None }
+port_by (Some (input wire type)) name = record { name = name; output = false; net = Wire; type = type; long = None; again = None }
+port_by (Some (output net type)) name =
+    record { name = name; output = true; net = unwrap_or net Wire; type = type; long = None; again = None }
+port_by (Some (output_integer long)) name =
+    record { name = name; output = true; net = Reg; type = bare; long = Some long; again = None }
 
 -- 12.3.4: a port without a direction has the whole direction of the one before it
 abbrev pub ports_behind : Option DirectionTree → List PortTree → List Port
@@ -111,7 +116,7 @@ type_with type (Some second) = record { signed = type.signed || second.type.sign
 
 abbrev pub with_second : Port → Option Second → Port
 with_second p second =
-    record { name = p.name; output = p.output; net = net_with p.net second; type = type_with p.type second; again = second }
+    record { name = p.name; output = p.output; net = net_with p.net second; type = type_with p.type second; long = p.long; again = second }
 
 abbrev pub declared_port : List ItemTree → Word → Port
 declared_port items name = with_second (port_by (direction_for items name.letters) name) (second_for items name.letters)
@@ -151,6 +156,22 @@ own_item is_port (instances letters overrides list) = instances letters override
 
 abbrev pub own_items : ModuleTree → List ItemTree
 own_items m = map (own_item (is_declared (letters_of (plain_names m.ports)))) m.items
+
+-- ---- 6.2.1, 12.3.4: the ports of the list with their values, as a declaration of variables in front of the items
+
+abbrev pub port_declared : PortTree → DeclaredTree
+port_declared port = record { name = port.name; value = port.value }
+
+abbrev pub ports_declared : Option (List PortTree) → List DeclaredTree
+ports_declared None = []
+ports_declared (Some list) = map port_declared list
+
+abbrev pub port_values : ModuleTree → ItemTree
+port_values m = declaration (variables Reg bare) (ports_declared m.ports)
+
+-- the items that make processes: those values, and then its items
+abbrev pub process_items : ModuleTree → List ItemTree
+process_items m = port_values m ∷ m.items
 
 -- whether the list has names alone
 abbrev pub is_plain_list : Option (List PortTree) → Bool

@@ -1,23 +1,25 @@
-// What is wrong with the ports that items declare (IEEE 1364-2005, 12.3.2, 12.3.3), or with the names of blocks (9.8.3).
+// What is wrong with the ports that items declare (IEEE 1364-2005, 12.3.2, 12.3.3), with values of ports (A.2.1.2), or with the names of blocks
+// (9.8.3).
 
-ghost use Rattle.std.specs.Prelude.{◌≡◌, ◌++◌, ◌∷◌, List, [], None, true, false, map, option_map, IfOk, OnOk};
+ghost use Rattle.std.specs.Prelude.{◌≡◌, ◌++◌, ◌∷◌, List, [], None, Some, true, false, map, option_map, IfOk, OnOk};
 ghost use Rattle.basis.specs.Reasons.{IfFault};
 ghost use Rattle.vast.specs.Words.{Text};
 ghost use Rattle.vast.specs.NumberedWords.{numbered};
-ghost use Rattle.vast.specs.NumberedTrees.{declaration_kind, declared_tree, direction_tree, item_tree, module_tree};
+ghost use Rattle.vast.specs.NumberedTrees.{declaration_kind, declared_tree, direction_tree, item_tree, module_tree, tree_of};
 ghost use Rattle.vexpr_parse.specs.Texts.{words_of};
 ghost use Rattle.vmodules.specs.Names.{is_declared, first_again, letters_of};
 ghost use Rattle.vmodules.specs.Ports.{listed_names};
 ghost use Rattle.vmodules.specs.Misdeclared as spec;
-ghost use Rattle.vmodules.specs.Inner.{units_tree, port_trees, optional_ports, words_told, told_as, listed_words, plain_words as plain_told, again_told, first_not, all_in, stray_told, strays_told, unlisted_told, seconds_told, besides_told, items_told, IsFlaw, IsTold, blocks_told};
+ghost use Rattle.vmodules.specs.Inner.{units_tree, port_trees, direction_of as way_of, optional_ports, words_told, told_as, listed_words, plain_words as plain_told, again_told, first_not, all_in, stray_told, strays_told, unlisted_told, seconds_told, besides_told, items_told, listed_valued, declared_valued, optional_valued, items_valued, values_told, IsFlaw, IsTold, blocks_told};
 
 use crate::blocks::check_blocks;
 use crate::hierarchy::Modules;
 use crate::letters::letters;
 use crate::names::{Doubled, Names};
-use crate::ports::is_plain;
+use crate::ports::{direction_of, is_plain};
 use basis::{NoMemory, OrMemory};
 use std::alloc::Global;
+use vast::expression::Expression;
 use vast::module::{DeclarationKind, Declared, Direction, ModuleItem, ModuleTree, NetKind, Port};
 use vast::token::Token;
 use vlex::Tokens;
@@ -31,6 +33,8 @@ pub enum PortFlaw {
     Doubled,
     /// It is an input, and a variable.
     Input,
+    /// It has a value, and is no variable that is an output.
+    Valued,
 }
 
 /// What is wrong, and the number of the token where that shows.
@@ -60,6 +64,7 @@ fn is_whole(direction: &Direction) -> bool
     match direction {
         Direction::Input { wire, .. } => *wire,
         Direction::Output { net, .. } => net.is_some(),
+        Direction::OutputInteger { .. } => true,
     }
 }
 
@@ -70,6 +75,7 @@ fn is_input(direction: &Direction) -> bool
     match direction {
         Direction::Input { .. } => true,
         Direction::Output { .. } => false,
+        Direction::OutputInteger { .. } => false,
     }
 }
 
@@ -453,6 +459,150 @@ fn check_module_ports(
     check_items(alloc, tokens, &names, &plain, unit)
 }
 
+// ---- values of ports
+
+// An output that is a variable.
+fn is_variable(direction: &Direction) -> bool
+    ensures { (words : List Text) →
+        result ≡ spec.is_variable (direction_tree words direction.now) }
+{
+    match direction {
+        Direction::Input { .. } => false,
+        Direction::Output { net, .. } => match net {
+            None => false,
+            Some(word) => is_reg(*word),
+        },
+        Direction::OutputInteger { .. } => true,
+    }
+}
+
+// The name of a port that goes this way, where it has a value that it may not have.
+fn valued_net(
+    direction: Option<&Direction>,
+    name: Token,
+    value: &Option<Box<Expression>>,
+) -> Option<Token>
+    ensures { (words : List Text) → option_map (numbered words) result ≡ spec.valued_net
+        (way_of words direction.entry) (numbered words name)
+        (option_map (λ value. tree_of words value.value) value.now) }
+{
+    match value {
+        None => None,
+        Some(_) => match direction {
+            None => Some(name),
+            Some(direction) => {
+                if is_variable(direction) {
+                    None
+                } else {
+                    Some(name)
+                }
+            }
+        },
+    }
+}
+
+// The first port of a list that has a value and may have none.
+fn first_listed(list: &[Port]) -> Option<Token>
+    ensures { (words : List Text) → option_map (numbered words) result ≡
+        listed_valued words None list.now }
+{
+    let mut direction: Option<&Direction> = None;
+    for port in list {
+        direction = direction_of(port, direction);
+        let found = valued_net(direction, port.name, &port.value);
+        if found.is_some() {
+            return found;
+        }
+    }
+    None
+}
+
+// The first port that an item declares so and gives a value that it may not have.
+fn first_declared(direction: &Direction, list: &[Declared]) -> Option<Token>
+    ensures { (words : List Text) → option_map (numbered words) result ≡
+        declared_valued words direction.now list.now }
+{
+    for one in list {
+        let found = valued_net(Some(direction), one.name, &one.value);
+        if found.is_some() {
+            return found;
+        }
+    }
+    None
+}
+
+// The same of an item.
+fn first_by(item: &ModuleItem) -> Option<Token>
+    ensures { (words : List Text) → option_map (numbered words) result ≡
+        spec.valued_by (item_tree words item.now) }
+{
+    match item {
+        ModuleItem::Parameters { .. } => None,
+        ModuleItem::Declaration { kind, declared, .. } => match kind {
+            DeclarationKind::Variables { .. } => None,
+            DeclarationKind::Integers { .. } => None,
+            DeclarationKind::Directed { direction } => first_declared(direction, declared),
+        },
+        ModuleItem::Events { .. } => None,
+        ModuleItem::Assignments { .. } => None,
+        ModuleItem::Initial { .. } => None,
+        ModuleItem::Always { .. } => None,
+        ModuleItem::Instances { .. } => None,
+    }
+}
+
+// The same of items.
+fn first_valued(items: &[ModuleItem]) -> Option<Token>
+    ensures { (words : List Text) → option_map (numbered words) result ≡
+        items_valued words items.now }
+{
+    for item in items {
+        let found = first_by(item);
+        if found.is_some() {
+            return found;
+        }
+    }
+    None
+}
+
+// The same of the ports of a module's list.
+fn first_in_list(ports: &Option<Vec<Port>>) -> Option<Token>
+    ensures { (words : List Text) → option_map (numbered words) result ≡
+        optional_valued words ports.now }
+{
+    match ports {
+        None => None,
+        Some(list) => first_listed(list),
+    }
+}
+
+// The same of a module.
+fn first_of(unit: &ModuleTree) -> Option<Token>
+    ensures { (words : List Text) → option_map (numbered words) result ≡
+        spec.valued_port (module_tree words unit.now) }
+{
+    match first_in_list(&unit.ports) {
+        Some(token) => Some(token),
+        None => first_valued(&unit.items),
+    }
+}
+
+// The values of its ports.
+fn check_module_values(tokens: &Tokens<'_>, unit: &ModuleTree) -> Result<(), OrMemory<Misdeclared>>
+    ensures ok { OnOk result (values_told (words_of tokens.now) unit.now ≡ None) }
+    ensures err { IfFault result (IsFlaw (values_told (words_of tokens.now) unit.now)) }
+{
+    match first_of(unit) {
+        None => Ok(()),
+        Some(token) => Err(OrMemory::Fault(Misdeclared {
+            flaw: PortFlaw::Valued,
+            at: token.number,
+        })),
+    }
+}
+
+// ---- names of blocks, and all of a module
+
 // The names of its blocks.
 fn check_module_blocks(
     alloc: Global,
@@ -483,6 +633,7 @@ fn check_unit(
         (IsFlaw (spec.flaw_of (module_tree (words_of tokens.now) unit.now))) }
 {
     check_module_ports(alloc, tokens, unit)?;
+    check_module_values(tokens, unit)?;
     check_module_blocks(alloc, tokens, unit)
 }
 

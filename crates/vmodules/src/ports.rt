@@ -8,7 +8,7 @@ ghost use Rattle.vast.specs.NumberedTrees.{declaration_kind, declared_tree, dire
 ghost use Rattle.vexpr_parse.specs.Texts.{words_of};
 ghost use Rattle.vmodules.specs.Ports as spec;
 ghost use Rattle.vmodules.specs.Ports.{port_by, ports_behind};
-ghost use Rattle.vmodules.specs.Inner.{port_form, direction_of, second_form, ports_as, port_trees, listed_words, alone_words, HoldSame};
+ghost use Rattle.vmodules.specs.Inner.{port_form, direction_of, second_form, ports_as, port_trees, listed_words, alone_words, type_for, HoldSame};
 ghost use Rattle.vmodules.specs.Names.{letters_of};
 
 use crate::letters::letters;
@@ -29,19 +29,23 @@ pub struct SecondForm<'u> {
     pub kind: &'u SignAndRange,
 }
 
-/// A port: its name, which way it goes, whether a word says `reg`, and its sign and range where they are written; and as what an item declares
-/// it again.
+/// A port: its name, which way it goes, whether it is a variable, and its sign and range where they are written; of an `integer` or a `time`
+/// whether it is the longer one; and as what an item declares it again.
 #[derive(Clone, Copy)]
 pub struct PortForm<'u> {
     pub name: Token,
     pub output: bool,
     pub net: NetKind,
     pub kind: Option<&'u SignAndRange>,
+    pub long: Option<bool>,
     pub again: Option<SecondForm<'u>>,
 }
 
 // Which way a port goes: as it says, or as the one before it.
-fn direction_of<'u>(port: &'u Port, before: Option<&'u Direction>) -> Option<&'u Direction>
+pub(crate) fn direction_of<'u>(
+    port: &'u Port,
+    before: Option<&'u Direction>,
+) -> Option<&'u Direction>
     ensures { (words : List Text) → direction_of words result ≡
         option_or (port_tree words port.now).direction (direction_of words before.entry) }
 {
@@ -61,14 +65,15 @@ fn net_of(net: Option<NetKind>) -> NetKind
     }
 }
 
-/// The type that stands with a direction.
-pub fn type_in(direction: &Direction) -> &SignAndRange
-    ensures { (words : List Text) → type_tree words result.now ≡
+/// The type that stands with a direction: `integer` and `time` have no sign and no range that are written.
+pub fn type_in(direction: &Direction) -> Option<&SignAndRange>
+    ensures { (words : List Text) → type_for words result ≡
         spec.type_in (direction_tree words direction.now) }
 {
     match direction {
-        Direction::Input { kind, .. } => kind,
-        Direction::Output { kind, .. } => kind,
+        Direction::Input { kind, .. } => Some(kind),
+        Direction::Output { kind, .. } => Some(kind),
+        Direction::OutputInteger { .. } => None,
     }
 }
 
@@ -84,6 +89,7 @@ fn form_by<'u>(direction: Option<&'u Direction>, name: Token) -> PortForm<'u>
             output: false,
             net: NetKind::Wire,
             kind: None,
+            long: None,
             again: None,
         },
         Some(Direction::Input { kind, .. }) => PortForm {
@@ -91,6 +97,7 @@ fn form_by<'u>(direction: Option<&'u Direction>, name: Token) -> PortForm<'u>
             output: false,
             net: NetKind::Wire,
             kind: Some(kind),
+            long: None,
             again: None,
         },
         Some(Direction::Output { net, kind }) => PortForm {
@@ -98,6 +105,15 @@ fn form_by<'u>(direction: Option<&'u Direction>, name: Token) -> PortForm<'u>
             output: true,
             net: net_of(*net),
             kind: Some(kind),
+            long: None,
+            again: None,
+        },
+        Some(Direction::OutputInteger { long }) => PortForm {
+            name,
+            output: true,
+            net: NetKind::Reg,
+            kind: None,
+            long: Some(*long),
             again: None,
         },
     }
@@ -278,6 +294,7 @@ fn with_second<'u>(form: PortForm<'u>, again: Option<SecondForm<'u>>) -> PortFor
         output: form.output,
         net: net_with(form.net, again),
         kind: form.kind,
+        long: form.long,
         again,
     }
 }

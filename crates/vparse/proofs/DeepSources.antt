@@ -12,7 +12,7 @@ use Rattle.vgrammar.specs.declared.start.StatementStart.TheVariants as start
 use Rattle.vgrammar.specs.Parts.{made, paired, maybe, roomy}
 use Rattle.vgrammar.specs.Starts.{start_of, start_word, statement_starts, begins_target, is_target, is_some_meaning, is_meant, meant_if, is_word, sign_of, edge_of, comma_of}
 use Rattle.vgrammar.specs.Statements.{value, named, numbered, word_only, comma_list, select, target_of, named_target, joined_of, joined_targets, target, delay_of, amount, assignment_of, assignment, guarded, if_of, guarded_of, setting, for_of, delayed_of, term_of, term, further_of, event_of, control, event_body_of, block_of, has_default, branch_of, default_branch, branch, case_parts_of, case_parts, begins_argument, argument_of, arguments, print_of, optional_print_of, idle_of, dump_file_of, path_of, selection_of, selection, dump_vars_of, end_of, dump_of, trigger_of, statement_by, lead_by, begins_statement, statement}
-use Rattle.vgrammar.specs.Modules.{range_of, type_of, parameter_type_of, setting_of, declared_of, connection_of, connections_of, instance_of, ended, net_of, local_of, item_of, first_parameter_of, head_parameter_of, direction_of, is_direction, alone_of, port_of, named_port_of, ports_behind, ports_of, head_list_of, module_of, is_some_word, net_assignment_of}
+use Rattle.vgrammar.specs.Modules.{range_of, type_of, integer_of, parameter_type_of, setting_of, declared_of, connection_of, connections_of, instance_of, ended, net_of, local_of, item_of, first_parameter_of, head_parameter_of, direction_of, is_direction, port_of, named_port_of, ports_behind, ports_of, head_list_of, module_of, is_some_word, net_assignment_of}
 use Rattle.vgrammar.specs.Modules as with_levels
 use Rattle.vparse.specs.TextReaders.{free_value, range, type, parameter_type, setting as module_setting, declared, connection, connections, item, head_parameters, direction, ports, module_tree, source, net_assignment}
 use Rattle.vparse.specs.Profile.{keywords, system_names, left_out, is_any_outside}
@@ -216,7 +216,7 @@ type_safe =
     (maybe_safe (is_front (codes "[")) range_safe))
 
 parameter_safe : Safe parameter_type
-parameter_safe = made_safe parameter_type_of (either_safe (is_front (codes "integer")) (only_safe (codes "integer")) type_safe)
+parameter_safe = made_safe parameter_type_of (either_safe (is_meant integer_of) (worded_safe integer_of) type_safe)
 
 setting_safe : Safe module_setting
 setting_safe = made_safe setting_of (paired_safe named_word (past_safe (codes "=") free_safe))
@@ -246,13 +246,14 @@ direction_safe : Safe direction
 direction_safe =
     made_safe direction_of (either_safe (is_front (codes "input"))
     (past_safe (codes "input") (paired_safe (maybe_safe (is_front (codes "wire")) (only_safe (codes "wire"))) type_safe))
-    (past_safe (codes "output") (paired_safe (maybe_safe (is_meant net_of) (worded_safe net_of)) type_safe)))
+    (past_safe (codes "output") (either_safe (is_meant integer_of) (worded_safe integer_of)
+    (paired_safe (maybe_safe (is_meant net_of) (worded_safe net_of)) type_safe))))
 
 item_safe : Safe item
 item_safe =
     made_safe item_of (either_safe (is_meant local_of) (paired_safe (worded_safe local_of) (paired_safe parameter_safe (list_safe setting_safe)))
     (either_safe (is_meant net_of) (paired_safe (worded_safe net_of) (paired_safe type_safe (list_safe declared_safe)))
-    (either_safe is_direction (paired_safe direction_safe (list_safe (made_safe alone_of named_word)))
+    (either_safe is_direction (paired_safe direction_safe (list_safe declared_safe))
     (either_safe (is_front (codes "integer")) (past_safe (codes "integer") (list_safe declared_safe))
     (either_safe (is_front (codes "time")) (past_safe (codes "time") (list_safe declared_safe))
     (either_safe (is_front (codes "event")) (past_safe (codes "event") (list_safe named_word))
@@ -277,8 +278,8 @@ behind_safe f s =
 ports_safe : Safe ports
 ports_safe =
     made_safe ports_of (past_safe (codes "(") (either_safe (is_front (codes ")")) (only_safe (codes ")"))
-    (either_safe is_direction (behind_safe (paired_safe direction_safe named_word)
-    (made_safe port_of (paired_safe (maybe_safe is_direction direction_safe) named_word)))
+    (either_safe is_direction (behind_safe (paired_safe direction_safe declared_safe)
+    (made_safe port_of (paired_safe (maybe_safe is_direction direction_safe) declared_safe)))
     (behind_safe named_word (made_safe named_port_of named_word)))))
 
 module_safe : Safe module_tree

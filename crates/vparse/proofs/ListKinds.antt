@@ -1,5 +1,5 @@
 -- What stands in the lists of modules leaves fewer words where it is read.
-use Rattle.std.proofs.Common.{◌≡◌, ℕ, ◌<◌, ◌≤◌, Option, None, Some, List, [], length, codes, arith, zero-lt-suc}
+use Rattle.std.proofs.Common.{◌≡◌, ℕ, ◌<◌, ◌≤◌, Option, None, Some, List, [], ◌++◌, length, codes, arith, zero-lt-suc}
 use Rattle.basis.proofs.Lists.{longer}
 use Rattle.vast.specs.Words.{Text, is_name}
 use Rattle.vast.specs.TokenTexts.{token_text}
@@ -20,13 +20,13 @@ use Rattle.vast.specs.declared.module.Port.{Port}
 use Rattle.vexpr_parse.specs.Readers.{Reader, got}
 use Rattle.vexpr_parse.proofs.ReaderRules.{Eats}
 use Rattle.vgrammar.specs.Statements.{named}
-use Rattle.vgrammar.specs.Modules.{alone, named_port}
+use Rattle.vgrammar.specs.Modules.{named_port}
 use Rattle.vparse.specs.TextReaders.{free_value, setting, declared, connection, instance_behind, head_parameter, port, net_assignment}
 use Rattle.vgrammar.proofs.Phrases.{sound_eats}
 use Rattle.vgrammar.proofs.ValuePhrases.{value_worded}
 use Rattle.vgrammar.proofs.PartPhrases.{text_shape, named_phrase}
-use Rattle.vgrammar.proofs.HeadPhrases.{Free, free_phrase_value, setting_shape, setting_phrase, declared_shape, declared_phrase, net_assignment_shape, net_assignment_phrase}
-use Rattle.vgrammar.proofs.ItemPhrases.{connection_shape, connection_phrase, instance_shape, instance_phrase, alone_shape, alone_phrase}
+use Rattle.vgrammar.proofs.HeadPhrases.{Free, free_phrase_value, setting_shape, setting_phrase, declared_shape, declared_phrase, declared_worded, net_assignment_shape, net_assignment_phrase}
+use Rattle.vgrammar.proofs.ItemPhrases.{connection_shape, connection_phrase, instance_shape, instance_phrase}
 use Rattle.vgrammar.proofs.ModulePhrases.{head_shape, head_parameter_phrase, port_shape, port_phrase, named_port_shape, named_port_phrase}
 
 no_more_words : {A : Type 0} (read : Reader A) → Eats read → (words left : List Text) (tree : A) → read words ≡ got tree left → length left ≤ length words
@@ -43,22 +43,17 @@ net_assignment_eats =
     sound_eats net_assignment (net_assignment_shape 63) (net_assignment_phrase 63).sound (λ tree v. longer (targets.spell_target tree.target) (codes "=") _)
 
 pub declared_eats : Eats declared
-declared_eats = sound_eats declared (declared_shape 63) (declared_phrase 63).sound (λ tree v. some tree.name tree.value)
-  where
-    some : (letters : Text) (value : Option ExpressionTree) → 0 < length (trees.spell_value letters value)
-    some letters None = zero-lt-suc _
-    some letters (Some value) = zero-lt-suc _
+declared_eats = sound_eats declared (declared_shape 63) (declared_phrase 63).sound (declared_worded 63)
 
-pub alone_eats : Eats alone
-alone_eats = sound_eats alone alone_shape alone_phrase.sound (λ tree v. some tree.name tree.value)
-  where
-    some : (letters : Text) (value : Option ExpressionTree) → 0 < length (trees.spell_value letters value)
-    some letters None = zero-lt-suc _
-    some letters (Some value) = zero-lt-suc _
+-- a port has a word at least, its name
+port_words : (before : List Text) (letters : Text) (value : Option ExpressionTree) → 0 < length (before ++ trees.spell_value letters value)
+port_words before letters None = longer before letters []
+port_words before letters (Some value) = longer before letters _
 
 pub named_port_eats : Eats named_port
 named_port_eats =
-    sound_eats named_port (named_port_shape 63) (named_port_phrase 63).sound (λ tree v. longer (trees.spell_direction tree.direction) tree.name [])
+    sound_eats named_port (named_port_shape 63) (named_port_phrase 63).sound
+    (λ tree v. port_words (trees.spell_direction tree.direction) tree.name tree.value)
 
 pub named_eats : Eats named
 named_eats = sound_eats named (text_shape is_name) named_phrase.sound (λ tree v. zero-lt-suc _)
@@ -73,7 +68,8 @@ pub head_eats : Eats head_parameter
 head_eats = sound_eats head_parameter (head_shape 63) (head_parameter_phrase 63).sound (λ tree v. longer (trees.spell_kind tree.kind) tree.setting.name _)
 
 pub port_eats : Eats port
-port_eats = sound_eats port (port_shape 63) (port_phrase 63).sound (λ tree v. longer (trees.spell_direction tree.direction) tree.name [])
+port_eats =
+    sound_eats port (port_shape 63) (port_phrase 63).sound (λ tree v. port_words (trees.spell_direction tree.direction) tree.name tree.value)
 
 pub value_eats : Eats free_value
 value_eats = sound_eats free_value (Free 63) (free_phrase_value 63).sound (λ tree v. value_worded 64 tree v)
@@ -89,10 +85,6 @@ net_assignment_fewer text words left one e = no_more_words net_assignment net_as
 pub declared_fewer : (text words left : List Text) (one : Declared) → declared words ≡ got (declared_tree text one) left →
     length left ≤ length words
 declared_fewer text words left one e = no_more_words declared declared_eats words left (declared_tree text one) e
-
-pub alone_fewer : (text words left : List Text) (one : Declared) → alone words ≡ got (declared_tree text one) left →
-    length left ≤ length words
-alone_fewer text words left one e = no_more_words alone alone_eats words left (declared_tree text one) e
 
 pub named_port_fewer : (text words left : List Text) (one : Port) → named_port words ≡ got (port_tree text one) left →
     length left ≤ length words

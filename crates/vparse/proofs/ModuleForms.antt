@@ -4,14 +4,14 @@ use Rattle.std.specs.Str.{bytes_eq}
 use Rattle.vast.specs.Words.{Text}
 use Rattle.vast.specs.Statements.{StatementTree}
 use Rattle.vast.specs.Expressions.{ExpressionTree}
-use Rattle.vast.specs.Modules.{HeadParameter, SettingTree, DeclaredTree, ConnectionTree, ConnectionsTree, initial, always, PortTree, by_order, by_name, ItemTree, parameters, declaration, variables, integers, directed, DirectionTree, events, assignments, instances, ModuleTree, NetAssignment}
+use Rattle.vast.specs.Modules.{HeadParameter, SettingTree, DeclaredTree, integer, typed, ConnectionTree, ConnectionsTree, initial, always, PortTree, by_order, by_name, ItemTree, parameters, declaration, variables, integers, directed, DirectionTree, output_integer, events, assignments, instances, ModuleTree, NetAssignment}
 use Rattle.vexpr_parse.specs.Readers.{Answer, got, stop, Reader, front, is_front, and_then, past, follow, goes, refused, choose}
 use Rattle.vgrammar.specs.Parts.{Both, both, Either, one_way, other_way, made, paired, worded, many, maybe, either}
 use Rattle.vgrammar.specs.Starts.{is_meant}
 use Rattle.vgrammar.specs.Statements.{named, word_only, List_of, comma_list, statement}
-use Rattle.vgrammar.specs.Modules.{Parameters, Variables, Directed, Instances, listed_of, connections_of, ended, net_of, local_of, alone, is_direction, first_port_of, named_port_of, named_port, PortsBehind, ports_behind, parameters_of, variables_of, directed_of, integers_of, events_of, assignments_of, instances_of, item_of, head_list_of, ports_of, module_of}
+use Rattle.vgrammar.specs.Modules.{Parameters, Variables, Directed, Instances, listed_of, connections_of, ended, integer_of, net_of, local_of, output_behind, parameter_type_of, direction_of, is_direction, first_port_of, named_port_of, named_port, PortsBehind, ports_behind, parameters_of, variables_of, directed_of, integers_of, events_of, assignments_of, instances_of, item_of, head_list_of, ports_of, module_of}
 use Rattle.vparse.specs.TextReaders.{free_value, type, parameter_type, setting, declared, connection, connections, instance_behind, overrides, item, first_parameter, head_parameter, head_parameters, direction, port, ports, module_tree as module_reader, net_assignment}
-use Rattle.vparse.specs.ModuleGives.{connections_in, heads_in, some_ports, named_ports, listed_ports, ports_in, found_or, parameters_at, variables_at, directed_at, directed_item, integers_at, events_at, assignments_at, instances_at, instances_item, process_item, listed_item, variables_item, any_item, optional_heads, optional_ports, all_items, items_in, module_with, module_headed, module_named, module_at}
+use Rattle.vparse.specs.ModuleGives.{any_parameter_type, optional_net, output_parts, typed_output, any_output, connections_in, heads_in, some_ports, named_ports, listed_ports, ports_in, found_or, parameters_at, variables_at, directed_at, directed_item, integers_at, events_at, assignments_at, instances_at, instances_item, process_item, listed_item, variables_item, any_item, optional_heads, optional_ports, all_items, items_in, module_with, module_headed, module_named, module_at}
 use Rattle.vgrammar.proofs.ManyTurns.{until_is, first_until_is}
 use Rattle.vgrammar.specs.Lists.{all_until, rest_until}
 
@@ -81,6 +81,35 @@ either_rule make test read other one two words p q =
 past_rule : {A B : Type 0} (make : A → B) (text : Text) (read : Reader A) (one : Reader B) → ((words : List Text) → made make read words ≡ one words) →
     (words : List Text) → made make (past text read) words ≡ past text one words
 past_rule make text read one same words = made_past make text read words ∙ past_same text (made make read) one same words
+
+-- what begins with words that may be left out
+
+found_choice : {A B : Type 0} (test : Option Text → Bool) (read : Reader A) (next : A → Reader B) (other : Reader B) (words : List Text) →
+    choose test (λ ws. and_then (read ws) next) other words ≡ and_then (maybe test read words) (found_or next other)
+found_choice test read next other words = by_test (test (front words))
+  where
+    by_answer : (a : Answer _) → and_then a next ≡ and_then (and_then a (λ tree. got (Some tree))) (found_or next other)
+    by_answer (got tree left) = refl
+    by_answer (stop why left) = refl
+
+    by_test : (b : Bool) → (if b then and_then (read words) next else other words)
+        ≡ and_then (if b then made Some read words else got None words) (found_or next other)
+    by_test true = by_answer (read words)
+    by_test false = refl
+
+pub parameter_type_is : (words : List Text) → parameter_type words ≡ any_parameter_type words
+parameter_type_is words =
+    either_rule parameter_type_of (is_meant integer_of) (worded integer_of) type
+    (λ ws. and_then (worded integer_of ws) (λ long. got (integer long))) (made typed type) words refl refl
+    ∙ found_choice (is_meant integer_of) (worded integer_of) (λ long. got (integer long)) (made typed type) words
+
+pub output_is : (words : List Text) → made direction_of output_parts words ≡ any_output words
+output_is words =
+    made_twice other_way direction_of (output_behind 64 words)
+    ∙ either_rule (λ tree. direction_of (other_way tree)) (is_meant integer_of) (worded integer_of) (paired optional_net type)
+    (λ ws. and_then (worded integer_of ws) (λ long. got (output_integer long))) typed_output words refl
+    (made_paired (λ tree. direction_of (other_way (other_way tree))) optional_net type words)
+    ∙ found_choice (is_meant integer_of) (worded integer_of) (λ long. got (output_integer long)) typed_output words
 
 -- connections
 
@@ -163,8 +192,8 @@ behind_is begin first read make same words =
     (λ list. list) (λ one list. refl) (made begin first) words
     ∙ then_got (and_then (made begin first words) (rest_until (codes ")") read))
 
-abbrev directed_ports : Reader (PortsBehind (Both DirectionTree Text))
-directed_ports = ports_behind (paired direction named) port
+abbrev directed_ports : Reader (PortsBehind (Both DirectionTree DeclaredTree))
+directed_ports = ports_behind (paired direction declared) port
 
 abbrev port_names : Reader (PortsBehind Text)
 port_names = ports_behind named named_port
@@ -172,7 +201,7 @@ port_names = ports_behind named named_port
 listed_ports_is : (words : List Text) → made (λ tree. ports_of (other_way tree)) (either is_direction directed_ports port_names) words ≡ listed_ports words
 listed_ports_is words =
     either_rule (λ tree. ports_of (other_way tree)) is_direction directed_ports port_names some_ports named_ports words
-    (behind_is first_port_of (paired direction named) port (λ tree. ports_of (other_way (one_way tree))) (λ one list end. refl) words)
+    (behind_is first_port_of (paired direction declared) port (λ tree. ports_of (other_way (one_way tree))) (λ one list end. refl) words)
     (behind_is named_port_of named named_port (λ tree. ports_of (other_way (other_way tree))) (λ one list end. refl) words)
 
 pub ports_is : (words : List Text) → ports words ≡ past (codes "(") ports_in words
@@ -184,19 +213,6 @@ ports_is = past_rule ports_of (codes "(") (either (is_front (codes ")")) close (
         (listed_ports_is words)
 
 -- items
-
-found_choice : {A B : Type 0} (test : Option Text → Bool) (read : Reader A) (next : A → Reader B) (other : Reader B) (words : List Text) →
-    choose test (λ ws. and_then (read ws) next) other words ≡ and_then (maybe test read words) (found_or next other)
-found_choice test read next other words = by_test (test (front words))
-  where
-    by_answer : (a : Answer _) → and_then a next ≡ and_then (and_then a (λ tree. got (Some tree))) (found_or next other)
-    by_answer (got tree left) = refl
-    by_answer (stop why left) = refl
-
-    by_test : (b : Bool) → (if b then and_then (read words) next else other words)
-        ≡ and_then (if b then made Some read words else got None words) (found_or next other)
-    by_test true = by_answer (read words)
-    by_test false = refl
 
 parameters_is : (words : List Text) → made parameters_of (paired (worded local_of) (paired parameter_type (ended setting))) words ≡ and_then (worded local_of words) parameters_at
 parameters_is words =
@@ -216,12 +232,12 @@ variables_is words =
     (λ kind. made (declaration (variables net kind)) (all_until (codes ";") declared))
     (λ kind left. until_is (codes ";") declared (λ tree. variables_of (both net (both kind tree))) (declaration (variables net kind)) (λ one list. refl) left))
 
-directed_is : (words : List Text) → made directed_of (paired direction (ended alone)) words ≡ directed_at words
+directed_is : (words : List Text) → made directed_of (paired direction (ended declared)) words ≡ directed_at words
 directed_is words =
-    made_paired directed_of direction (ended alone) words
-    ∙ then_same (direction words) (λ tree. made (λ p. directed_of (both tree p)) (ended alone))
-    (λ tree. made (declaration (directed tree)) (all_until (codes ";") alone))
-    (λ tree left. until_is (codes ";") alone (λ p. directed_of (both tree p)) (declaration (directed tree)) (λ one list. refl) left)
+    made_paired directed_of direction (ended declared) words
+    ∙ then_same (direction words) (λ tree. made (λ p. directed_of (both tree p)) (ended declared))
+    (λ tree. made (declaration (directed tree)) (all_until (codes ";") declared))
+    (λ tree left. until_is (codes ";") declared (λ p. directed_of (both tree p)) (declaration (directed tree)) (λ one list. refl) left)
 
 instances_is : (words : List Text) → made instances_of (paired named (paired overrides (ended instance_behind))) words ≡ instances_item words
 instances_is words =
@@ -278,7 +294,7 @@ abbrev DirectedOrLater : Type 0
 DirectedOrLater = Either Directed Listed
 
 abbrev directed_parts : Reader DirectedOrLater
-directed_parts = either is_direction (paired direction (ended alone)) listed_parts
+directed_parts = either is_direction (paired direction (ended declared)) listed_parts
 
 abbrev variable_parts : Reader (Either Variables DirectedOrLater)
 variable_parts = either (is_meant net_of) read_variables directed_parts
@@ -349,7 +365,7 @@ listed_is words =
 
 directed_item_is : (words : List Text) → made of_directed directed_parts words ≡ directed_item words
 directed_item_is words =
-    either_rule of_directed is_direction (paired direction (ended alone)) listed_parts directed_at listed_item words (directed_is words) (listed_is words)
+    either_rule of_directed is_direction (paired direction (ended declared)) listed_parts directed_at listed_item words (directed_is words) (listed_is words)
 
 variables_item_is : (words : List Text) → made of_variables variable_parts words ≡ variables_item words
 variables_item_is words =

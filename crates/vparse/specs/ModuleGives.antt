@@ -8,7 +8,7 @@ use Rattle.basis.specs.Reasons.{Because}
 use Rattle.vast.specs.Words.{Text}
 use Rattle.vast.specs.Expressions.{ExpressionTree}
 use Rattle.vast.specs.ExpressionTrees.{boxed_tree}
-use Rattle.vast.specs.Modules.{RangeTree, ParameterType, DirectionTree, PortTree, HeadParameter, ConnectionsTree, by_order, by_name, variables, integers, directed, ItemTree, parameters, declaration, events, assignments, initial, always, instances, ModuleTree}
+use Rattle.vast.specs.Modules.{RangeTree, ParameterType, integer, typed, DirectionTree, output, output_integer, PortTree, HeadParameter, ConnectionsTree, by_order, by_name, variables, integers, directed, ItemTree, parameters, declaration, events, assignments, initial, always, instances, ModuleTree}
 use Rattle.vast.specs.Leaves.{head_leaves, if_some, port_leaves}
 use Rattle.vast.specs.ModuleTrees.{head_parameter as head_tree, port_tree, module_tree as tree_of_module}
 use Rattle.vast.specs.TokenTexts.{token_text}
@@ -29,7 +29,7 @@ use Rattle.vstatement_parse.specs.Gives.{Gives}
 use Rattle.vgrammar.specs.Parts.{both, one_way, other_way, made, paired, maybe, many, worded, one_behind}
 use Rattle.vgrammar.specs.Starts.{is_meant}
 use Rattle.vgrammar.specs.Statements.{named, word_only, statement}
-use Rattle.vgrammar.specs.Modules.{Value, net_of, local_of, alone, head_list_of, Direction, is_direction, named_port, is_some_word}
+use Rattle.vgrammar.specs.Modules.{Value, integer_of, net_of, local_of, output_behind, head_list_of, Direction, is_direction, named_port, is_some_word}
 use Rattle.vparse.specs.TextReaders.{range, type, parameter_type, setting, declared, free_value, connection, instance_behind, overrides, item, first_parameter, head_parameter, head_parameters, direction, first_port, port, ports, module_tree, net_assignment}
 use Rattle.vgrammar.specs.Lists.{all_until, rest_until}
 
@@ -53,6 +53,25 @@ optional_range = maybe (is_front (codes "[")) range
 -- a value behind its sign, if one stands there
 abbrev pub optional_value : Reader (Option ExpressionTree)
 optional_value = maybe (is_front (codes "=")) (past (codes "=") free_value)
+
+-- what is read behind what was found, or else
+abbrev pub found_or : {A B : Type 0} → (A → Reader B) → Reader B → Option A → Reader B
+found_or next other None = other
+found_or next other (Some tree) = next tree
+
+-- the words that types, directions and items begin with, where they stand
+abbrev pub optional_integer : Reader (Option Bool)
+optional_integer = maybe (is_meant integer_of) (worded integer_of)
+
+abbrev pub optional_net : Reader (Option NetKind)
+optional_net = maybe (is_meant net_of) (worded net_of)
+
+abbrev pub optional_local : Reader (Option Bool)
+optional_local = maybe (is_meant local_of) (worded local_of)
+
+-- the type of a parameter
+abbrev pub any_parameter_type : Reader ParameterType
+any_parameter_type words = and_then (optional_integer words) (found_or (λ long. got (integer long)) (made typed type))
 
 -- Lists with commas, by the calls that read their members
 
@@ -192,7 +211,14 @@ abbrev pub input_parts : Reader Direction
 input_parts = made one_way (paired (maybe (is_front (codes "wire")) (word_only (codes "wire"))) type)
 
 abbrev pub output_parts : Reader Direction
-output_parts = made other_way (paired (maybe (is_meant net_of) (worded net_of)) type)
+output_parts = made other_way (output_behind 64)
+
+-- the direction of an output, behind its first word
+abbrev pub typed_output : Reader DirectionTree
+typed_output words = and_then (optional_net words) (λ net. made (output net) type)
+
+abbrev pub any_output : Reader DirectionTree
+any_output words = and_then (optional_integer words) (found_or (λ long. got (output_integer long)) typed_output)
 
 -- ports behind (
 abbrev pub some_ports : Reader (List PortTree)
@@ -207,18 +233,6 @@ listed_ports = choose is_direction some_ports named_ports
 abbrev pub ports_in : Reader (List PortTree)
 ports_in = choose (is_front (codes ")")) (made (λ end. []) (word_only (codes ")"))) listed_ports
 
--- what is read behind what was found, or else
-abbrev pub found_or : {A B : Type 0} → (A → Reader B) → Reader B → Option A → Reader B
-found_or next other None = other
-found_or next other (Some tree) = next tree
-
--- the words that items begin with, where they stand
-abbrev pub optional_local : Reader (Option Bool)
-optional_local = maybe (is_meant local_of) (worded local_of)
-
-abbrev pub optional_net : Reader (Option NetKind)
-optional_net = maybe (is_meant net_of) (worded net_of)
-
 -- items behind the words that they begin with
 abbrev pub parameters_at : Bool → Reader ItemTree
 parameters_at local words = and_then (parameter_type words) (λ kind. made (parameters local kind) (all_until (codes ";") setting))
@@ -227,7 +241,7 @@ abbrev pub variables_at : NetKind → Reader ItemTree
 variables_at net words = and_then (type words) (λ kind. made (declaration (variables net kind)) (all_until (codes ";") declared))
 
 abbrev pub directed_at : Reader ItemTree
-directed_at words = and_then (direction words) (λ tree. made (declaration (directed tree)) (all_until (codes ";") alone))
+directed_at words = and_then (direction words) (λ tree. made (declaration (directed tree)) (all_until (codes ";") declared))
 
 abbrev pub integers_at : Bool → Reader ItemTree
 integers_at long = made (declaration (integers long)) (all_until (codes ";") declared)

@@ -4,7 +4,7 @@ use Rattle.vast.specs.Expressions.{ExpressionTree}
 use Rattle.vast.specs.Modules.{RangeTree, TypeTree, ParameterType, SettingTree, DeclaredTree, DirectionTree, PortTree, HeadParameter, ConnectionTree, ConnectionsTree, InstanceTree, ItemTree, ModuleTree, SourceTree, NetAssignment}
 use Rattle.vexpr_parse.specs.Readers.{Reader}
 use Rattle.vgrammar.specs.Parts.{Both, made, paired}
-use Rattle.vgrammar.specs.Statements.{List_of, named}
+use Rattle.vgrammar.specs.Statements.{List_of}
 use Rattle.vgrammar.specs.Modules.{Value, first_port_of}
 use Rattle.vgrammar.specs.Modules as with_levels
 
@@ -60,7 +60,7 @@ abbrev pub direction : Reader DirectionTree
 direction = with_levels.direction 64
 
 abbrev pub first_port : Reader PortTree
-first_port = made first_port_of (paired direction named)
+first_port = made first_port_of (paired direction declared)
 
 abbrev pub port : Reader PortTree
 port = with_levels.port 64

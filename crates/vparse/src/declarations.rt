@@ -7,7 +7,6 @@ ghost use Rattle.vexpr_parse.specs.Answers.{Keeps};
 ghost use Rattle.vstatement_parse.specs.Gives.{Gives, value_tree};
 ghost use Rattle.vparse.specs.ModuleGives.{optional_of, optional_value};
 ghost use Rattle.vparse.specs.TextReaders as reading;
-ghost use Rattle.vgrammar.specs.Modules as parts;
 
 use crate::types::LEVELS;
 use basis::OrMemory;
@@ -50,8 +49,8 @@ pub fn net_assignment(
     Ok(NetAssignment { target, value })
 }
 
-// `= value`, if it stands there.
-fn optional_value(
+/// `= value`, if it stands there.
+pub fn optional_value(
     alloc: Global,
     tokens: &Tokens<'_>,
     cursor: &mut Cursor,
@@ -80,13 +79,4 @@ pub fn declared_name(
     let name = name_word(tokens, cursor)?;
     let value = optional_value(alloc, tokens, cursor)?;
     Ok(Declared { name, value })
-}
-
-/// `name`, of a port
-pub fn alone(tokens: &Tokens<'_>, cursor: &mut Cursor) -> Result<Declared, OrMemory<Stop>>
-    ensures gives { Gives declared_tree parts.alone tokens.now cursor.old cursor.new result }
-    ensures kept { IfOk result (Keeps declared_leaves tokens.now cursor.old cursor.new) }
-{
-    let name = name_word(tokens, cursor)?;
-    Ok(Declared { name, value: None })
 }

@@ -11,7 +11,7 @@ ghost use Rattle.vparse.specs.ModuleGives.{ReadsAt, any_item, assignments_at, di
 ghost use Rattle.vparse.specs.TextReaders as reading;
 
 use crate::connections::{instances, overrides};
-use crate::module_lists::{all_alone, declared_names, names, net_assignments, settings};
+use crate::module_lists::{declared_names, names, net_assignments, settings};
 use crate::ports::{direction, is_direction, optional_net};
 use crate::types::{parameter_type, sign_and_range};
 use basis::OrMemory;
@@ -75,7 +75,7 @@ fn port_directions(
     ensures kept { IfOk result (Keeps item_leaves tokens.now cursor.old cursor.new) }
 {
     let direction = direction(alloc, tokens, cursor)?;
-    let declared = all_alone(alloc, tokens, cursor)?;
+    let declared = declared_names(alloc, tokens, cursor)?;
     Ok(ModuleItem::Declaration {
         at,
         kind: DeclarationKind::Directed { direction },

@@ -11,9 +11,8 @@ ghost use Rattle.vparse.specs.ModuleGives.{all_leaves, all_of};
 ghost use Rattle.vparse.specs.TextReaders as reading;
 ghost use Rattle.vgrammar.specs.Statements as reading_words;
 ghost use Rattle.vgrammar.specs.Lists.{all_until};
-ghost use Rattle.vgrammar.specs.Modules as parts;
 
-use crate::declarations::{alone, declared_name, net_assignment, setting};
+use crate::declarations::{declared_name, net_assignment, setting};
 use crate::lists::list_until;
 use crate::types::LEVELS;
 use basis::OrMemory;
@@ -114,34 +113,6 @@ pub fn declared_names(
             ensures kept { IfOk result (Keeps declared_leaves
                 tokens.entry.now cursor.entry.now cursor.exit.now) }
         { declared_name(alloc, tokens, cursor) },
-        tokens,
-        cursor,
-        first,
-        b";",
-    )
-}
-
-/// Names of ports, up to `;`.
-#[tactic(auto, using(crate::proofs::ListKinds::alone_fewer))]
-pub fn all_alone(
-    alloc: Global,
-    tokens: &Tokens<'_>,
-    cursor: &mut Cursor,
-) -> Result<Vec<Declared>, OrMemory<Stop>>
-    ensures gives { Gives (all_of declared_tree) (all_until (codes ";") parts.alone)
-        tokens.now cursor.old cursor.new result }
-    ensures kept { IfOk result (Keeps (all_leaves declared_leaves)
-        tokens.now cursor.old cursor.new) }
-{
-    let first = alone(tokens, cursor)?;
-    list_until(
-        alloc,
-        &|cursor|
-            ensures gives { Gives declared_tree parts.alone
-                tokens.entry.now cursor.entry.now cursor.exit.now result }
-            ensures kept { IfOk result (Keeps declared_leaves
-                tokens.entry.now cursor.entry.now cursor.exit.now) }
-        { alone(tokens, cursor) },
         tokens,
         cursor,
         first,

@@ -6,13 +6,14 @@ ghost use Rattle.vast.specs.ModuleTrees.{direction_tree, port_tree};
 ghost use Rattle.vexpr_parse.specs.Readers.{front};
 ghost use Rattle.vexpr_parse.specs.Answers.{Keeps, ahead, leaves_ahead};
 ghost use Rattle.vstatement_parse.specs.Gives.{Gives};
-ghost use Rattle.vparse.specs.ModuleGives.{ReadsAt, all_leaves, all_of, input_parts, optional_direction, optional_net as net_reader, optional_of, optional_ports, listed_ports, named_ports, output_parts, ports_in, some_ports};
+ghost use Rattle.vparse.specs.ModuleGives.{ReadsAt, all_leaves, all_of, any_output as any_reader, input_parts, optional_direction, optional_net as net_reader, optional_of, optional_ports, listed_ports, named_ports, output_parts, ports_in, some_ports, typed_output as typed_reader};
 ghost use Rattle.vgrammar.specs.Modules as parts;
 ghost use Rattle.vparse.specs.TextReaders as reading;
 ghost use Rattle.vgrammar.specs.Parts.{made};
 
+use crate::declarations::optional_value;
 use crate::lists::list_until;
-use crate::types::{optional, sign_and_range};
+use crate::types::{optional, optional_integer, sign_and_range};
 use basis::OrMemory;
 use std::alloc::Global;
 use vast::module::{Direction, NetKind, Port};
@@ -53,7 +54,36 @@ fn input(
     Ok(Direction::Input { wire, kind })
 }
 
+// What stands behind `output`, but for an integer.
+fn typed_output(
+    alloc: Global,
+    tokens: &Tokens<'_>,
+    cursor: &mut Cursor,
+) -> Result<Direction, OrMemory<Stop>>
+    ensures gives { Gives direction_tree typed_reader tokens.now cursor.old cursor.new result }
+    ensures kept { IfOk result (Keeps direction_leaves tokens.now cursor.old cursor.new) }
+{
+    let net = optional_net(tokens, cursor);
+    let kind = sign_and_range(alloc, tokens, cursor)?;
+    Ok(Direction::Output { net, kind })
+}
+
+fn any_output(
+    alloc: Global,
+    tokens: &Tokens<'_>,
+    cursor: &mut Cursor,
+) -> Result<Direction, OrMemory<Stop>>
+    ensures gives { Gives direction_tree any_reader tokens.now cursor.old cursor.new result }
+    ensures kept { IfOk result (Keeps direction_leaves tokens.now cursor.old cursor.new) }
+{
+    match optional_integer(tokens, cursor) {
+        Some(long) => Ok(Direction::OutputInteger { long }),
+        None => typed_output(alloc, tokens, cursor),
+    }
+}
+
 // What stands behind `output`.
+#[tactic(auto, using(crate::proofs::ModuleForms::output_is))]
 fn output(
     alloc: Global,
     tokens: &Tokens<'_>,
@@ -63,9 +93,7 @@ fn output(
         tokens.now cursor.old cursor.new result }
     ensures kept { IfOk result (Keeps direction_leaves tokens.now cursor.old cursor.new) }
 {
-    let net = optional_net(tokens, cursor);
-    let kind = sign_and_range(alloc, tokens, cursor)?;
-    Ok(Direction::Output { net, kind })
+    any_output(alloc, tokens, cursor)
 }
 
 /// Which way ports go.
@@ -122,9 +150,11 @@ fn first_port(
 {
     let direction = direction(alloc, tokens, cursor)?;
     let name = name_word(tokens, cursor)?;
+    let value = optional_value(alloc, tokens, cursor)?;
     Ok(Port {
         direction: Some(direction),
         name,
+        value,
     })
 }
 
@@ -135,7 +165,12 @@ fn port(alloc: Global, tokens: &Tokens<'_>, cursor: &mut Cursor) -> Result<Port,
 {
     let direction = optional_direction(alloc, tokens, cursor)?;
     let name = name_word(tokens, cursor)?;
-    Ok(Port { direction, name })
+    let value = optional_value(alloc, tokens, cursor)?;
+    Ok(Port {
+        direction,
+        name,
+        value,
+    })
 }
 
 // One port or more, up to `)`.
@@ -173,6 +208,7 @@ fn named_port(tokens: &Tokens<'_>, cursor: &mut Cursor) -> Result<Port, OrMemory
     Ok(Port {
         direction: None,
         name,
+        value: None,
     })
 }
 

@@ -6,7 +6,7 @@ ghost use Rattle.vast.specs.Leaves.{if_some, range_leaves, type_leaves, paramete
 ghost use Rattle.vast.specs.ModuleTrees.{range_tree, type_tree, parameter_type};
 ghost use Rattle.vexpr_parse.specs.Answers.{Keeps, leaves_ahead};
 ghost use Rattle.vstatement_parse.specs.Gives.{Gives};
-ghost use Rattle.vparse.specs.ModuleGives.{TellsAt, optional_of, optional_range};
+ghost use Rattle.vparse.specs.ModuleGives.{ReadsAt, TellsAt, any_parameter_type, optional_integer as integer_reader, optional_of, optional_range};
 ghost use Rattle.vparse.specs.TextReaders as reading;
 
 use basis::OrMemory;
@@ -75,8 +75,39 @@ pub fn sign_and_range(
     Ok(SignAndRange { signed, range })
 }
 
+/// `integer` or `time`, if one stands there: whether it is the latter.
+#[tactic(auto, using(crate::proofs::PlainWords::integer_plain, crate::proofs::PlainWords::time_plain))]
+pub fn optional_integer(tokens: &Tokens<'_>, cursor: &mut Cursor) -> Option<bool>
+    ensures reads { ReadsAt integer_reader tokens.now cursor.old cursor.new result }
+    ensures kept { leaves_ahead tokens.now cursor.old ≡ leaves_ahead tokens.now cursor.new }
+{
+    if cursor.begins(tokens, b"integer") {
+        cursor.pass(tokens);
+        Some(false)
+    } else if cursor.begins(tokens, b"time") {
+        cursor.pass(tokens);
+        Some(true)
+    } else {
+        None
+    }
+}
+
+fn any_parameter_type(
+    alloc: Global,
+    tokens: &Tokens<'_>,
+    cursor: &mut Cursor,
+) -> Result<ParameterType, OrMemory<Stop>>
+    ensures gives { Gives parameter_type any_parameter_type tokens.now cursor.old cursor.new result }
+    ensures kept { IfOk result (Keeps parameter_type_leaves tokens.now cursor.old cursor.new) }
+{
+    match optional_integer(tokens, cursor) {
+        Some(long) => Ok(ParameterType::Integer { long }),
+        None => Ok(ParameterType::Typed(sign_and_range(alloc, tokens, cursor)?)),
+    }
+}
+
 /// The type of a parameter.
-#[tactic(auto, using(crate::proofs::PlainWords::integer_plain))]
+#[tactic(auto, using(crate::proofs::ModuleForms::parameter_type_is))]
 pub fn parameter_type(
     alloc: Global,
     tokens: &Tokens<'_>,
@@ -86,10 +117,5 @@ pub fn parameter_type(
         tokens.now cursor.old cursor.new result }
     ensures kept { IfOk result (Keeps parameter_type_leaves tokens.now cursor.old cursor.new) }
 {
-    if cursor.begins(tokens, b"integer") {
-        cursor.pass(tokens);
-        Ok(ParameterType::Integer)
-    } else {
-        Ok(ParameterType::Typed(sign_and_range(alloc, tokens, cursor)?))
-    }
+    any_parameter_type(alloc, tokens, cursor)
 }

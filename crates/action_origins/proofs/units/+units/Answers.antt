@@ -16,16 +16,17 @@ put_module-returns t c =
     let modules = units_tree c.args.modules.now in
     let unit = c.args.unit.now in
     let old = c.args.into.now.items in
+    let first = c.put_ports.new.into.items in
     let between = c.put_items.new.into.items in
     let told : List Text = words_of c.tokens-tokens.result.now in
-    let own : between ≡ old ++ items_origins words (items_left words (module_tree words unit)) (map (item_tree words) unit.items.items) =
+    let own : between ≡ first ++ items_origins words (items_left words (module_tree words unit)) (map (item_tree words) unit.items.items) =
     c.in_ok-put_items.ensures
-    ∙ ap (λ (n : ℕ). old ++ items_origins told n (map (item_tree told) c.deref.result.now)) c.items_left.ensures
-    ∙ (λ i. old ++ items_origins (c.tokens-tokens.ensures i) (items_left (c.tokens-tokens.ensures i) (module_tree (c.tokens-tokens.ensures i) unit))
+    ∙ ap (λ (n : ℕ). first ++ items_origins told n (map (item_tree told) c.deref.result.now)) c.items_left.ensures
+    ∙ (λ i. first ++ items_origins (c.tokens-tokens.ensures i) (items_left (c.tokens-tokens.ensures i) (module_tree (c.tokens-tokens.ensures i) unit))
     (map (item_tree (c.tokens-tokens.ensures i)) (c.deref.ensures.value i))) in
     let below : List ModuleItem → List ℕ = λ items.
     flat_map (origins_below (module_origins words (c.args.levels - 1) modules) modules) (map (item_tree words) items) in
     on_ok c.put_below.result
-    (λ e. module_put words modules (module_tree words unit) c.args.levels (c.args.levels - 1) old between c.put_below.new.into.items (omega arith) own
+    (λ e. module_put words modules (module_tree words unit) c.args.levels (c.args.levels - 1) old first between c.put_below.new.into.items (omega arith) (c.in_ok-put_ports.ensures words) own
     (e ∙ ap (λ (items : List ModuleItem). between ++ below items) c.deref-2.ensures.value))
     c.put_below.ensures

@@ -6,4 +6,4 @@ use Rattle.module_size.proofs.modules.take_items.Given as goal
 
 abbrev pub invariant-loop-one : goal.invariant-loop-one
 invariant-loop-one l =
-    l.left - size_of item_size (map (item_tree (words_of l.tokens)) (drop l.one-index l.items)) ≡ l.initial.left - size_of item_size (map (item_tree (words_of l.tokens)) l.items)
+    l.left - size_of (item_size l.path) (map (item_tree (words_of l.tokens)) (drop l.one-index l.items)) ≡ l.initial.left - size_of (item_size l.path) (map (item_tree (words_of l.tokens)) l.items)

@@ -12,4 +12,4 @@ returns c =
     let ports = c.take_all_ports-left.result in
     in_turn c.args.left c.take_head_parameters.result ports c.take_items.result _ _ _
     (c.take_head_parameters.ensures words) (c.take_all_ports-left.ensures words)
-    (c.take_items.ensures ∙ ap (λ (items : List ModuleItem). ports - size_of item_size (map (item_tree words) items)) c.deref.ensures.value)
+    (c.take_items.ensures ∙ ap (λ (items : List ModuleItem). ports - size_of (item_size c.args.path) (map (item_tree words) items)) c.deref.ensures.value)

@@ -6,12 +6,12 @@ use Rattle.module_size.proofs.statements.+statements.Given as goal
 
 abbrev pub invariant-take_statements-loop-one : goal.invariant-take_statements-loop-one
 invariant-take_statements-loop-one l =
-    l.left - statements_size (statement_trees (words_of l.tokens) (drop l.one-index l.statements)) ≡ l.initial.left - statements_size (statement_trees (words_of l.tokens) l.statements)
+    l.left - statements_size l.path (statement_trees (words_of l.tokens) (drop l.one-index l.statements)) ≡ l.initial.left - statements_size l.path (statement_trees (words_of l.tokens) l.statements)
 
 abbrev pub invariant-take_branches-loop-one : goal.invariant-take_branches-loop-one
 invariant-take_branches-loop-one l =
-    l.left - branches_size (branch_trees (words_of l.tokens) (drop l.one-index l.branches)) ≡ l.initial.left - branches_size (branch_trees (words_of l.tokens) l.branches)
+    l.left - branches_size l.path (branch_trees (words_of l.tokens) (drop l.one-index l.branches)) ≡ l.initial.left - branches_size l.path (branch_trees (words_of l.tokens) l.branches)
 
 abbrev pub invariant-take_labels-loop-one : goal.invariant-take_labels-loop-one
 invariant-take_labels-loop-one l =
-    l.left - labels_size (statement_size (statement_tree (words_of l.tokens) l.body)) (trees_of (words_of l.tokens) (drop l.one-index l.labels)) ≡ l.initial.left - labels_size (statement_size (statement_tree (words_of l.tokens) l.body)) (trees_of (words_of l.tokens) l.labels)
+    l.left - labels_size (statement_size l.path (statement_tree (words_of l.tokens) l.body)) (trees_of (words_of l.tokens) (drop l.one-index l.labels)) ≡ l.initial.left - labels_size (statement_size l.path (statement_tree (words_of l.tokens) l.body)) (trees_of (words_of l.tokens) l.labels)

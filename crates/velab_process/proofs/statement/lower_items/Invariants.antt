@@ -10,7 +10,7 @@ use Rattle.velab_process.proofs.statement.lower_items.Given as goal
 
 abbrev pub invariant-loop-item : goal.invariant-loop-item
 invariant-loop-item l = record {
-  same : with_begins_before l.into.items (processes_of (words_of l.tokens) (at l.scope l.known) l.table (drop l.item-index l.items))
-      ≡ with_begins_before l.initial.into.items (processes_of (words_of l.tokens) l.scope l.initial.table l.items);
+  same : with_begins_before l.into.items (processes_of (words_of l.tokens) l.path (at l.scope l.known) l.table (drop l.item-index l.items))
+      ≡ with_begins_before l.initial.into.items (processes_of (words_of l.tokens) l.path l.scope l.initial.table l.items);
   small : l.known + length (flat_map symbols_by (map (item_tree (words_of l.tokens)) (drop l.item-index l.items))) < 2 ^ 64;
 }

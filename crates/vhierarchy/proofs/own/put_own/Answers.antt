@@ -82,7 +82,7 @@ returns-in_err-check_counts c =
     let scopes = c.in_ok-put_scope.ensures ∙ named ∙ ap (λ (s : Scope). c.part.inside.scopes.items ++ scope_of context s.variables ∷ []) c.scope.view_is in
     let variables = lower_own_variables context ports scope in
     let processes = lower_own_processes context ports scope before.table in
-    let whole : c.args.size ≡ before.size + module_size context.unit = c.requires.whole ∙ ap (λ (p : Part). p.size + module_size context.unit) (sym c.part.view_is) in
+    let whole : c.args.size ≡ before.size + module_size (length context.path) context.unit = c.requires.whole ∙ ap (λ (p : Part). p.size + module_size (length context.path) context.unit) (sym c.part.view_is) in
     hands_on c.from_residual-in_err-check_counts.result c.in_err-check_counts.field-0.0 _ _ c.from_residual-in_err-check_counts.ensures.1
     (same_refused _ _
     ((λ i. few context.name (length (c.deref.ensures.value i)) (length (c.deref-2.ensures.value i)) after)
@@ -116,7 +116,7 @@ returns c =
     let scopes = c.in_ok-put_scope.ensures ∙ named ∙ ap (λ (s : Scope). c.part.inside.scopes.items ++ scope_of context s.variables ∷ []) c.scope.view_is in
     let variables = lower_own_variables context ports scope in
     let processes = lower_own_processes context ports scope before.table in
-    let whole : c.args.size ≡ before.size + module_size context.unit = c.requires.whole ∙ ap (λ (p : Part). p.size + module_size context.unit) (sym c.part.view_is) in
+    let whole : c.args.size ≡ before.size + module_size (length context.path) context.unit = c.requires.whole ∙ ap (λ (p : Part). p.size + module_size (length context.path) context.unit) (sym c.part.view_is) in
     sym (ap (λ (part : Part). lower_own context ports scope part) c.part.view_is)
     ∙ sym (own_is before context.name context scope variables processes after c.in_ok-put_own_variables.ensures c.in_ok-put_own_processes.ensures scopes (ap (λ (s : Scope). s.events) c.scope.view_is) whole)
     ∙ sym (λ i. few context.name (length (c.deref.ensures.value i)) (length (c.deref-2.ensures.value i)) after)

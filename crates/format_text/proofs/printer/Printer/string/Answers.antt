@@ -25,10 +25,10 @@ returns-in_ok-put_text-in-Some-form-2 c = λ arguments.
       rest = c.front.inside.rest.now;
     } in
     let is_letters : c.in-Some-form.form.notation ≡ Letters = notation_is _ c.if-ne.ensures in
-    shown_string old front c.in-Some-form.form c.args.string.now _ c.put_text-in-Some-form.new.pieces.items _ arguments
+    shown_string old front c.in-Some-form.form c.args.path.now c.args.string.now _ c.put_text-in-Some-form.new.pieces.items _ arguments
     (sym is_read ∙ c.in-Some.is ∙ ap Some (sym c.front.view_is)) c.in-Some-form.is is_letters
     c.in_ok-put_text-in-Some-form.ensures
     (c.in_ok-put_text-in-Some-form-2.ensures ∙ ap (λ text. c.put_text-in-Some-form.new.pieces.items ++ text_piece text)
     (c.in_ok-letters_in-in-Some-form.ensures ∙ ap (letters_in c.in-Some-form.form.width) c.in_ok-string.ensures))
     (ap (drop c.place_of-at.result) (sym c.as_slice-format.ensures.value) ∙ c.place_of-at.ensures)
-    ∙ ap (λ text. pieces_with text (string_argument c.args.string.now ∷ arguments)) c.self.view_is
+    ∙ ap (λ text. pieces_with text (string_argument c.args.path.now c.args.string.now ∷ arguments)) c.self.view_is

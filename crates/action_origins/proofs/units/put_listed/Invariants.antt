@@ -1,0 +1,11 @@
+use Rattle.std.proofs.Common.{◌≡◌, ◌++◌, drop, map, List}
+use Rattle.vast.specs.Words.{Text}
+use Rattle.vast.specs.NumberedTrees.{port_tree}
+use Rattle.vmodules.specs.Ports.{port_declared}
+use Rattle.action_origins.specs.Origins.{declared_origins}
+use Rattle.action_origins.proofs.units.put_listed.Given as goal
+
+abbrev pub invariant-loop-one : goal.invariant-loop-one
+invariant-loop-one l =
+    (words : List Text) → l.into.items ++ declared_origins (map port_declared (map (port_tree words) (drop l.one-index l.list)))
+    ≡ l.initial.into.items ++ declared_origins (map port_declared (map (port_tree words) l.list))
