@@ -219,8 +219,10 @@ class Texts:
         for _ in range(self.rng.choice([0, 1, 2, 3])):
             pieces.append(self.rng.choice(["", "a=", " ", "%%", "\\n", "\\t", '\\"', "\\\\", ";", "\\101", "\\7", "\\1278"]))
             if self.rng.random() < 0.1:
+                pieces.append(self.rng.choice(["%m", "%m", "%M", "%0m", "%24m", "%09m"]))
+            elif self.rng.random() < 0.1:
                 pieces.append(self.rng.choice(["%s", "%0s", "%8S", "%08s"]))
-                taken.append(self.rng.choice(['"x"', "", '""', '"a%d\\n"', '"longer than eight"']))
+                taken.append(self.rng.choice(['"x"', "", '""', '"a%d\\n"', '"%m"', '"longer than eight"']))
             else:
                 pieces.append(self.form())
                 taken.append(shown())
@@ -413,6 +415,11 @@ def parameters(rng, body):
     for n in range(rng.choice([1, 2, 3])):
         length, signed = rng.choice([4, 8, 32]), rng.random() < 0.5
         word, value = rng.choice(["parameter", "localparam"]), constant(rng, body.names.parameters)
+        if rng.random() < 0.2:
+            kind, length = rng.choice([("integer", 32), ("time", 64)])
+            body.item(f"{word} {kind} p{n} = {value};")
+            body.names.parameters.append(Object(f"p{n}", "parameter", length, kind == "integer", (length - 1, 0)))
+            continue
         body.item(f"{word}{ranged(signed, (length - 1, 0))} p{n} = {value};")
         body.names.parameters.append(Object(f"p{n}", "parameter", length, signed, (length - 1, 0)))
 
@@ -432,6 +439,8 @@ class Child:
 def port(rng, name):
     """The direction of a port, and its object: an output may be a variable."""
     word, one = rng.choice(["input", "output", "output"]), some_object(rng, name, True)
+    if word == "output" and one.kind in ("integer", "time"):
+        return word, one
     one.kind = "wire" if word == "input" else rng.choice(["wire", "reg"])
     if one.bounds is None or one.length == 64:
         one.length, one.bounds = (1, None) if one.bounds is None else (3, (0, 2))
@@ -439,23 +448,30 @@ def port(rng, name):
     return word, one
 
 
-def shown_port(word, one):
-    return f"{word}{' reg' if one.kind == 'reg' else ''}{ranged(one.signed, one.bounds)} {one.name}"
+def shown_port(rng, word, one):
+    """A port with its direction; an output that is a variable may have a value (A.2.1.2)."""
+    value = f" = {constant(rng, [])}" if one.kind != "wire" and rng.random() < 0.3 else ""
+    if one.kind in ("integer", "time"):
+        return f"{word} {one.kind} {one.name}{value}"
+    return f"{word}{' reg' if one.kind == 'reg' else ''}{ranged(one.signed, one.bounds)} {one.name}{value}"
 
 
 def shown_ports(rng, ports):
     """The list of a module's ports, and the items that declare them, where the list has names alone (12.3.2)."""
     if not ports or rng.random() < 0.6:
-        return ", ".join(shown_port(*one) for one in ports), []
+        return ", ".join(shown_port(rng, *one) for one in ports), []
     lines = []
     for word, one in ports:
+        if one.kind in ("integer", "time"):
+            lines.append(f"{shown_port(rng, word, one)};")
+            continue
         is_again = rng.random() < 0.5
         first, second = rng.choice([(True, True), (True, False), (False, True)]) if is_again and one.signed else (one.signed, one.signed)
         if is_again and (word == "output" or one.kind == "wire"):
             lines.append(f"{word}{ranged(first, one.bounds)} {one.name};")
             lines.append(f"{one.kind}{ranged(second, one.bounds)} {one.name};")
         else:
-            lines.append(f"{shown_port(word, one)};")
+            lines.append(f"{shown_port(rng, word, one)};")
     rng.shuffle(lines)
     return ", ".join(one.name for _, one in ports), lines
 
@@ -505,7 +521,7 @@ def given(rng, one, outside):
 def outlet(rng, body, inner, name):
     """A net that is declared here for an output, or bits of it, or several nets (12.3.9)."""
     chance = rng.random()
-    if chance < 0.7:
+    if chance < 0.7 or inner.length > 62:
         body.item(f"wire{ranged(inner.signed, inner.bounds)} {name};")
         return name
     if chance < 0.85:

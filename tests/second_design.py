@@ -15,7 +15,7 @@ from second_values import World, digits, extended, integer, is_known
 MOST_LEVELS, MOST_OBJECTS, MOST_PROCESSES, MOST_INSTANCES, MOST_LETTERS, MOST_SIZE = 16, 1024, 256, 1024, 1_048_576, 4_194_304
 TASKS = {"display": "line", "write": "line", "strobe": "strobe", "monitor": "monitor"}
 # letters, a form with its width and its letter, or what is none
-PIECES = re.compile(r"%(?:(%)|(0?(?:[1-9][0-9]{0,2})?)([bohxdtcsBOHXDTCS])|)|([^%]+)")
+PIECES = re.compile(r"%(?:(%)|(0?(?:[1-9][0-9]{0,2})?)([bohxdtcsmBOHXDTCSM])|)|([^%]+)")
 # what a letter behind a backslash stands for, and one to three octal digits
 ESCAPE = re.compile(r"\\(?:([0-7]{1,3})|(.))")
 ESCAPES = {"n": "\n", "t": "\t", "\\": "\\", '"': '"'}
@@ -62,25 +62,28 @@ PLAIN = {"module", "parameters", "head", "ports", "input", "output", "type", "ra
          "assigns", "initial", "always", "by-order", "by-name", "delay-value", "default"}
 
 
-def size_of(tree):
+def size_of(tree, path):
+    """Of a tree, in a scope whose path has so many letters: a string counts it where `%` or a backslash may stand for it."""
     kind, *parts = tree
     if kind == "left-out" or "$" + kind in IDLE:
         return 2 if kind == "left-out" else 0
-    inner = sum(size_of(part) for part in parts if isinstance(part, tuple))
+    if kind == "block" and parts[0] != "-":
+        path += 1 + len(parts[0])
+    inner = sum(size_of(part, path) for part in parts if isinstance(part, tuple))
     if kind == "labelled":
-        return inner - 1 + (len(parts[0]) - 2) * size_of(parts[1])
+        return inner - 1 + (len(parts[0]) - 2) * size_of(parts[1], path)
     if kind == "terms" or kind == "events":
         return len(parts)
     if kind == "set" and isinstance(parts[0], tuple):
         return inner
     if kind == "string":
-        return 1 + len(parts[0])
+        return 1 + len(parts[0]) + path * sum(parts[0].count(letter) for letter in "%\\")
     if kind == "path":
         return sum(1 + len(name) for name in parts)
     if "$" + kind in PRINTING or kind in ("dumpvars", "dumpfile", "dumpon", "dumpoff", "dumpall", "dumpflush", "finish", "stop"):
         return inner
     if kind == "instances":
-        overrides = size_of(parts[1]) if isinstance(parts[1], tuple) else 0
+        overrides = size_of(parts[1], path) if isinstance(parts[1], tuple) else 0
         return inner + (len(parts) - 3) * overrides
     return inner if kind in PLAIN else inner + 1
 
@@ -196,7 +199,7 @@ class Unit:
 
     def __init__(self, whole, tree, name, path, depth):
         self.whole, self.tree, self.name, self.path, self.depth = whole, tree, name, path, depth
-        self.scope, self.parameters, self.ports = {}, 0, []
+        self.scope, self.parameters, self.ports, self.heads, self.blocks = {}, 0, [], 0, []
 
     def refuse(self, number):
         self.whole.broken.add(number)
@@ -356,8 +359,8 @@ class Unit:
     def set_parameter(self, kind, name, value):
         """A parameter more, of this tree or of an expression that was given from outside."""
         signed, bounds, length = False, None, None
-        if kind[0] == "integer":
-            signed, length = True, 32
+        if kind[0] in LENGTHS:
+            signed, length = kind[0] == "integer", LENGTHS[kind[0]]
         else:
             signed, bounds = kind[1] == "signed", self.range(kind[2], self.parameters)
             length = abs(bounds[0] - bounds[1]) + 1 if bounds else None
@@ -410,6 +413,7 @@ class Unit:
             for kind, name, value in self.settings():
                 self.set_parameter(kind, name, given.get(name, value))
         again = self.listed(ports, items)
+        self.heads = self.parameters
         before = []
         for item in items:
             kind, *what = item
@@ -419,7 +423,7 @@ class Unit:
                     self.set_parameter(what[0], name, given.get(name, value) if can_be_given else value)
             elif kind == "declare":
                 word, *type = what[0]
-                signed, bounds = (type[-1][1] == "signed", self.range(type[-1][2], self.parameters)) if type else (word == "integer", None)
+                signed, bounds = self.typed(type[-1] if type else what[0], self.parameters)
                 for _, name, _ in what[1:]:
                     if word in ("input", "output"):
                         again[name].append(bounds)
@@ -444,19 +448,22 @@ class Unit:
         rows, direction = ports[1:] if ports != "-" else (), None
         if rows and rows[0][1] == "-":
             directed, seconds = dict(directed_names(items)), dict(reversed(second_names(items)))
-            for _, _, name in rows:
-                word, net, (_, signed, _) = directed[name]
+            for _, _, name, _ in rows:
+                word, net, type = directed[name]
                 other = seconds.get(name)
-                kind = other[0] if other else "reg" if net == "reg" else "wire"
-                is_signed = "signed" in (signed, other[1][1] if other else "-")
+                kind = other[0] if other else port_kind(net, type)
+                is_signed = "signed" in (type[1:2] + (other[1][1:2] if other else ()))
                 self.ports.append((word, name, self.declare(name, kind, is_signed, None)))
-            return {name: [] for _, _, name in rows}
-        for _, own, name in rows:
+            return {name: [] for _, _, name, _ in rows}
+        for _, own, name, _ in rows:
             direction = own if own != "-" else direction
-            word, net, (_, signed, bounds) = direction
-            kind = "reg" if net == "reg" else "wire"
-            self.ports.append((word, name, self.declare(name, kind, signed == "signed", self.range(bounds, self.parameters))))
+            word, net, type = direction
+            self.ports.append((word, name, self.declare(name, port_kind(net, type), *self.typed(type, self.parameters))))
         return {}
+
+    def typed(self, type, before):
+        """The sign and the bounds that a type says."""
+        return (type[1] == "signed", self.range(type[2], before)) if type[0] == "type" else (type[0] == "integer", None)
 
     def sized(self, name, ranges):
         """12.3.3: a port has the range that an item gives it, and where it is declared again, the same there."""
@@ -540,7 +547,7 @@ class Unit:
         if kind == "empty":
             return []
         if kind == "block":
-            return [action for one in what[1:] for action in self.statement(one, before)]
+            return self.block(what[0], what[1:], before)
         if kind in ("assign", "nonblocking"):
             targets, amount = self.left_side(what[0], before), None if what[1] == "-" else self.amount(what[1], before)
             if amount is None:
@@ -565,6 +572,13 @@ class Unit:
             body = self.body(what[1], before)
             return [("on", self.terms(what[0], body), body)]
         return [self.task(*what[0], before)]
+
+    def block(self, name, statements, before):
+        """9.8.3: one with a name is a scope."""
+        self.blocks += [name] * (name != "-")
+        actions = [action for one in statements for action in self.statement(one, before)]
+        del self.blocks[len(self.blocks) - (name != "-") :]
+        return actions
 
     def event(self, name):
         meaning = self.scope.get(name)
@@ -611,6 +625,8 @@ class Unit:
             for percent, width, letter, letters in PIECES.findall(letters_of(tree)):
                 if percent or letters:
                     pieces.append(percent or letters)
+                elif letter in ("m", "M"):
+                    pieces.append(".".join([self.path, *self.blocks]).rjust(int(width or 0)))
                 elif not letter or not arguments or (arguments[0][0] == "string" and letter not in "sS"):
                     self.refuse(310)
                 elif arguments[0][0] == "string":
@@ -634,6 +650,10 @@ class Unit:
     # processes and what stands inside
 
     def processes(self, before):
+        ports = self.tree[3]
+        for _, _, name, value in ports[1:] if ports != "-" else ():
+            if value != "-":
+                self.starts("reg", name, value, self.heads)
         for count, item in zip(before, self.tree[4:]):
             kind, *what = item
             if kind == "declare":
@@ -759,7 +779,7 @@ class Whole:
         own = one.declare_all(given)
         self.design.scopes.append(Scope(name, one.path, depth, first, len(self.design.objects) - first))
         self.letters += len(one.path) + sum(len(each.name) for each in self.design.objects[first:])
-        self.size += size_of(one.tree)
+        self.size += size_of(one.tree, len(one.path))
         if len(self.design.objects) > MOST_OBJECTS or self.letters > MOST_LETTERS or self.size > MOST_SIZE:
             return self.broken.add(309)
         if outside:
@@ -797,6 +817,21 @@ def second_names(items):
     return [(name, item[1]) for item in items if item[0] == "declare" and item[1][0] in ("wire", "reg") for _, name, _ in item[2:]]
 
 
+def port_kind(net, type):
+    """What holds the value of a port (12.3.3, A.2.1.2)."""
+    return type[0] if type[0] in LENGTHS else "reg" if net == "reg" else "wire"
+
+
+def values_nets(tree):
+    """A.2.1.2: whether a port has a value that is no variable."""
+    ports, items, direction, rows = tree[3], tree[4:], "-", []
+    for _, own, _, value in ports[1:] if ports != "-" else ():
+        direction = own if own != "-" else direction
+        rows.append((direction, value))
+    rows += [(item[1], value) for item in items if item[0] == "declare" and item[1][0] in ("input", "output") for _, _, value in item[2:]]
+    return any(value != "-" and (direction == "-" or port_kind(*direction[1:]) == "wire") for direction, value in rows)
+
+
 def has_twice(names):
     return len(set(names)) < len(names)
 
@@ -805,7 +840,7 @@ def port_flaw(tree):
     """12.3.2, 12.3.3: the number of what is wrong with the ports that a module's items declare."""
     ports, items = tree[3], tree[4:]
     rows = ports[1:] if ports != "-" else ()
-    listed = [name for _, _, name in rows]
+    listed = [name for _, _, name, _ in rows]
     plain = listed if rows and rows[0][1] == "-" else []
     directed = directed_names(items)
     names, seconds = [name for name, _ in directed], [(name, kind[0]) for name, kind in second_names(items) if name in plain]
@@ -818,7 +853,7 @@ def port_flaw(tree):
         return 302
     if set(plain) - set(names):
         return 303
-    if has_twice([name for name, (_, net, _) in directed if net != "-"] + [name for name, _ in seconds]):
+    if has_twice([name for name, (_, net, type) in directed if net != "-" or type[0] in LENGTHS] + [name for name, _ in seconds]):
         return 302
     if {name for name, kind in directed if kind[0] == "input"} & {name for name, word in seconds if word == "reg"}:
         return 310
@@ -879,6 +914,8 @@ def elaborated(tree, top=None):
     for module in tree[1:]:
         if flaw := port_flaw(module):
             raise Refused({flaw})
+        if values_nets(module):
+            raise Refused({310})
         if doubles_block(module):
             raise Refused({302})
     modules = {module[1]: module for module in tree[1:]}

@@ -643,7 +643,7 @@ class Reader:
         return "type", signed, ("range", left, right)
 
     def parameter_type(self):
-        return ("integer",) if self.took("integer") else self.range_type()
+        return (self.step(),) if self.stands("integer", "time") else self.range_type()
 
     def name_and_value(self):
         name = self.name()
@@ -662,17 +662,20 @@ class Reader:
 
     def direction(self):
         word = self.take("input", "output")
+        if word == "output" and self.stands("integer", "time"):
+            return word, "-", (self.step(),)
         net = self.took("wire") or (self.took("reg") if word == "output" else None) or "-"
         return word, net, self.range_type()
 
     def port(self, is_first):
-        return "port", self.direction() if self.stands("input", "output") else "-", self.name()
+        direction = self.direction() if self.stands("input", "output") else "-"
+        return "port", direction, *self.declared()[1:]
 
     def ports(self):
         """Where the first one goes no way, all are names alone (12.3.2)."""
         if self.stands("input", "output"):
             return self.rows(self.port)
-        return [("port", "-", name) for name in self.listed(self.name)]
+        return [("port", "-", name, "-") for name in self.listed(self.name)]
 
     def rows(self, read):
         """One, and more behind a comma each, where the first one is another."""
@@ -721,7 +724,7 @@ class Reader:
         if is_name(self.here):
             tree = ("instances", self.name(), self.connections() if self.took("#") else "-", *self.listed(self.instance))
         elif self.stands("input", "output"):
-            tree = ("declare", self.direction(), *self.listed(lambda: ("declared", self.name(), "-")))
+            tree = ("declare", self.direction(), *self.listed(self.declared))
         else:
             word = self.take("parameter", "localparam", "wire", "reg", "integer", "time", "event", "assign")
             if word in ("parameter", "localparam"):
@@ -810,8 +813,17 @@ def ending(word):
     return lambda number: [word, *([] if number == "-" else ["(", number, ")"])]
 
 
+def typed(kind):
+    """What is declared by it; `time` in an expression is another word."""
+    return ["time"] if kind == ("time",) else spelled(kind)
+
+
+def with_value(name, value):
+    return [name, *([] if value == "-" else ["=", *spelled(value)])]
+
+
 def setting_list(word):
-    return lambda kind, *settings: [word, *spelled(kind), *commas(settings), ";"]
+    return lambda kind, *settings: [word, *typed(kind), *commas(settings), ";"]
 
 
 def alone(word):
@@ -888,12 +900,12 @@ SPELLINGS = {
     "wire": lambda kind: ["wire", *spelled(kind)],
     "reg": lambda kind: ["reg", *spelled(kind)],
     "set": lambda target, value: [*([target] if isinstance(target, str) else spelled(target)), "=", *spelled(value)],
-    "declared": lambda name, value: [name, *([] if value == "-" else ["=", *spelled(value)])],
-    "head": lambda kind, value: [*([] if kind == "-" else ["parameter", *spelled(kind)]), *spelled(value)],
+    "declared": with_value,
+    "head": lambda kind, value: [*([] if kind == "-" else ["parameter", *typed(kind)]), *spelled(value)],
     "parameters": lambda *heads: ["#", *enclosed(commas(heads))],
     "input": lambda net, kind: ["input", *([] if net == "-" else [net]), *spelled(kind)],
-    "output": lambda net, kind: ["output", *([] if net == "-" else [net]), *spelled(kind)],
-    "port": lambda direction, name: [*unless_absent(direction), name],
+    "output": lambda net, kind: ["output", *([] if net == "-" else [net]), *typed(kind)],
+    "port": lambda direction, *parts: [*unless_absent(direction), *with_value(*parts)],
     "ports": lambda *ports: enclosed(commas(ports)),
     "connection": lambda name, value: [".", name, *enclosed(unless_absent(value))],
     "by-order": lambda *values: enclosed(commas(values)),
@@ -901,7 +913,7 @@ SPELLINGS = {
     "instance": lambda name, connections: [name, *spelled(connections)],
     "parameter": setting_list("parameter"),
     "localparam": setting_list("localparam"),
-    "declare": lambda kind, *declared: [*(kind if kind == ("time",) else spelled(kind)), *commas(declared), ";"],
+    "declare": lambda kind, *declared: [*typed(kind), *commas(declared), ";"],
     "events": lambda *names: ["event", *between(",", [[name] for name in names]), ";"],
     "assigns": lambda *settings: ["assign", *commas(settings), ";"],
     "initial": lambda statement: ["initial", *spelled(statement)],
@@ -1136,8 +1148,11 @@ class Maker:
         bounds = ("range", *(self.value(room) for room in rooms)) if deep or self.chance(0.4) else "-"
         return "type", self.rng.choice(["-", "-", "signed"]), bounds
 
+    def integer(self):
+        return (self.rng.choice(["integer", "time"]),)
+
     def parameter_type(self, deep=0):
-        return ("integer",) if not deep and self.chance(0.2) else self.range_type(deep)
+        return self.integer() if not deep and self.chance(0.2) else self.range_type(deep)
 
     def set(self, deep=0):
         return "set", self.name(), self.value(deep)
@@ -1155,11 +1170,14 @@ class Maker:
         return "head", self.parameter_type() if is_first or self.chance(0.5) else "-", self.set()
 
     def direction(self, deep=0):
+        if not deep and self.chance(0.2):
+            return "output", "-", self.integer()
         words = self.rng.choice([("input", "-"), ("input", "wire"), ("output", "-"), ("output", "wire"), ("output", "reg")])
         return (*words, self.range_type(deep))
 
     def port(self, is_first):
-        return "port", self.direction() if is_first or self.chance(0.5) else "-", self.name()
+        direction = self.direction() if is_first or self.chance(0.5) else "-"
+        return "port", direction, *self.declared()[1:]
 
     def connections(self, deep=0):
         if self.chance(0.5):
@@ -1176,7 +1194,7 @@ class Maker:
         if kind in ("parameter", "localparam"):
             return (kind, self.parameter_type(deep * first), self.set(deep * (not first)), *self.some(self.set, 0, 2))
         if kind == "declare" and self.chance(0.25):
-            return (kind, self.direction(deep), *self.some(lambda: ("declared", self.name(), "-"), 1, 3))
+            return (kind, self.direction(deep * first), *self.some(self.declared, 0, 2), self.declared(deep * (not first)))
         if kind == "declare":
             kinds = [(word, self.range_type(deep * first)) for word in ("wire", "reg")] + ([("integer",), ("time",)] if not (deep and first) else [])
             return (kind, self.rng.choice(kinds), *self.some(self.declared, 0, 2), self.declared(deep * (not first)))
@@ -1193,7 +1211,7 @@ class Maker:
         heads = ("parameters", *rows(self.head, 1)) if self.chance(0.3) else "-"
         ports = ("ports", *rows(self.port, 0)) if self.chance(0.5) else "-"
         if ports == "-" and self.chance(0.4):
-            ports = ("ports", *self.some(lambda: ("port", "-", self.name()), 1, 3))
+            ports = ("ports", *self.some(lambda: ("port", "-", self.name(), "-"), 1, 3))
         items = self.some(self.item, 0, 4)
         if levels:
             items.insert(self.rng.randint(0, len(items)), self.item(levels))
