@@ -147,7 +147,7 @@ const EXPLANATIONS: [Explanation; 34] = [
         number: 403,
         meaning: "the run takes more steps than allowed; tested before E402",
         example: "--steps 2 on three assignments",
-        advice: "allow more: --steps N",
+        advice: "allow more: --steps N, or let the run end earlier: --until N",
     },
     Explanation {
         number: 404,

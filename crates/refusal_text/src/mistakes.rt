@@ -7,6 +7,9 @@ use crate::rules::Rule;
 pub(crate) enum Mistake {
     ClosedConditional,
     ClosedKeywords,
+    ConnectedKind,
+    ConnectedPorts,
+    ConnectedSize,
     DeclaredPort,
     Escape,
     FormatOfString,
@@ -36,7 +39,7 @@ struct Row {
     rule: Rule,
 }
 
-static ROWS: [Row; 23] = [
+static ROWS: [Row; 26] = [
     Row {
         mistake: Mistake::Escape,
         rule: Rule {
@@ -202,12 +205,40 @@ static ROWS: [Row; 23] = [
         },
     },
     Row {
+        mistake: Mistake::ConnectedPorts,
+        rule: Rule {
+            number: 305,
+            names_word: true,
+            what: "is connected to more than it has ports, or has an output on an expression",
+            instead: "count the ports; an output is connected to a net, a bit or a part of one, or a concatenation of these, \
+                without parentheses round it",
+        },
+    },
+    Row {
+        mistake: Mistake::ConnectedSize,
+        rule: Rule {
+            number: 306,
+            names_word: true,
+            what: "has a connection of more than 64 bits, or with a bound out of its limits",
+            instead: "write bounds of a part in the direction of the declaration, from 0 to 65,535, and at most 64 bits",
+        },
+    },
+    Row {
         mistake: Mistake::OtherRange,
         rule: Rule {
             number: 306,
             names_word: true,
             what: "is declared with two ranges that differ",
             instead: "write the same range both times: `output [3:0] y; reg [3:0] y;`",
+        },
+    },
+    Row {
+        mistake: Mistake::ConnectedKind,
+        rule: Rule {
+            number: 310,
+            names_word: true,
+            what: "has an output on a variable, or a connection with a bit of what has no range",
+            instead: "connect an output to a `wire`; a variable can take its value by `always @* r = w;`",
         },
     },
     Row {

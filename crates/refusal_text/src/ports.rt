@@ -171,7 +171,23 @@ fn of_item<'a>(tokens: &'a Tokens<'a>, number: u16, item: usize, ways: Ways) -> 
     }
 }
 
-/// What is wrong with the port, or the parameter, that the word at this place names, where that tells a fault of this number.
+// What is wrong with what an instance is connected to, where that is told at its name.
+fn of_instance(number: u16) -> Option<Mistake> {
+    match number {
+        305 => Some(Mistake::ConnectedPorts),
+        306 => Some(Mistake::ConnectedSize),
+        310 => Some(Mistake::ConnectedKind),
+        _ => None,
+    }
+}
+
+// Whether the word names an instance where it is made.
+fn names_instance(words: Words<'_>, walk: Walk) -> bool {
+    let is_item = walk.level == Level::Items && walk.opening == Opening::Instance;
+    is_item && walk.open == 0 && is(words.after(1), "(")
+}
+
+/// What is wrong with the port, the parameter or the instance that the word at this place names, where that tells a fault of this number.
 pub(crate) fn mistake_of<'a>(tokens: &'a Tokens<'a>, at: usize, number: u16) -> Option<Mistake> {
     let words = Words::new(tokens, at);
     if !words.is_name_after(0) {
@@ -179,6 +195,9 @@ pub(crate) fn mistake_of<'a>(tokens: &'a Tokens<'a>, at: usize, number: u16) -> 
     }
     let standing = standing_of(tokens, at);
     let walk = standing.walk;
+    if names_instance(words, walk) {
+        return of_instance(number);
+    }
     let ways = ways_of(tokens, standing.module, words.name());
     if !declares(words, walk) {
         let is_late = number == 303 && ways.is_parameter;

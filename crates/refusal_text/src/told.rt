@@ -80,7 +80,7 @@ fn mistaken<'a>(words: Words<'a>, mistake: Mistake) -> Found<'a> {
     }
 }
 
-// The mistake of a port, or of a parameter, that the fault is told by, if it comes of one.
+// The mistake of a port, of a parameter or of an instance that the fault is told by, if it comes of one.
 fn declared_at<'a>(tokens: &'a Tokens<'a>, at: usize, number: u16) -> Option<Found<'a>> {
     let mistake = mistake_of(tokens, at, number)?;
     Some(mistaken(Words::new(tokens, at), mistake))
@@ -105,7 +105,7 @@ fn cause_of<'a>(tokens: &'a Tokens<'a>, at: usize, number: u16) -> Option<Found<
         }
         305 if is(words.before(1), ".") => Some(mistaken(words, Mistake::NoPort)),
         303 | 310 if is_dump_path(tokens, at) => { Some(found_at(words, Construct::DumpPath, &[])) }
-        302 | 303 => declared_at(tokens, at, number),
+        302 | 303 | 305 => declared_at(tokens, at, number),
         306 => first_of(range_at(tokens, at), declared_at(tokens, at, number)),
         310 => first_of(format_near(words), declared_at(tokens, at, number)),
         _ => None,
