@@ -13,7 +13,7 @@ use Rattle.action_origins.specs.Lengths.{length_if, parts_length, delay_length, 
 
 -- ---- what begins at a name
 
--- 6.2.1, 6.1.1, A.2.1.2: what is declared with a value begins at its name
+-- 6.2.1, 6.1.1, A.2.3: what is declared with a value begins at its name
 abbrev pub declared_origins : List DeclaredTree → List ℕ
 declared_origins list = filter_map (λ one. option_map (λ value. one.name.number) one.value) list
 

@@ -60,7 +60,7 @@ abbrev pub goes_as_net : Option DirectionTree → Bool
 goes_as_net None = true
 goes_as_net (Some direction) = not (is_variable direction)
 
--- A port with a value isn't an output that is a variable (A.2.1.2):
+-- The direction of a port with a value says neither `reg` nor `integer` nor `time` (A.2.1.2, A.2.3):
 pub data HasValuedNet (m : ModuleTree) : Type 0 where
   -- one of the list, behind those in front of it;
   valued_in_list : (front : List PortTree) (port : PortTree) (after : List PortTree) → m.ports ≡ Some (front ++ port ∷ after) →

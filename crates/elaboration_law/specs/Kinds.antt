@@ -106,7 +106,7 @@ abbrev pub takes_string : Option FormatFront → Bool
 takes_string None = false
 takes_string (Some front) = string_fits front.form
 
--- what is left of the format then: of the string, where it is one, with the path in the place of each `%m` (17.1.1.1)
+-- what is left of the format then: of the string, where it is one, with the path in the place of each `%m` (17.1.1.6)
 abbrev pub left_by : List ℕ → Option Form → List ℕ → List ℕ → List ℕ
 left_by path None rest letters = with_path path letters
 left_by path (Some form) rest letters = if shows_letters form.notation then rest else []
@@ -149,7 +149,7 @@ pub data HasMiskind (modules : SourceTree) (top : Option Text) : Type 0 where
   of_use : HasMisuse is_suited modules top → HasMiskind modules top
   -- in a module, reached or not, an input that is a variable (12.3.3);
   of_input : (m : ModuleTree) → Contains modules m → HasVariableInput m → HasMiskind modules top
-  -- in a module, reached or not, a port with a value that isn't an output that is a variable (A.2.1.2);
+  -- in a module, reached or not, a port with a value whose direction says neither `reg` nor `integer` nor `time` (A.2.1.2, A.2.3);
   of_value : (m : ModuleTree) → Contains modules m → HasValuedNet m → HasMiskind modules top
   -- a path to a variable
   of_variable_path : (m : ModuleTree) → top_of modules top ≡ Some m → selects_no_variable m.name.letters (all_below modules m) ≡ false → HasMiskind modules top

@@ -110,7 +110,7 @@ used_in_declaration (instances name overrides list) = []
 abbrev pub used_in_processes : ItemTree → List Use
 used_in_processes item = used_by_processes (process_trees_by item)
 
--- in an instance of this path, which formats show (17.1.1.1)
+-- in an instance of this path, which formats show (17.1.1.6)
 abbrev pub used_in_placed : Text → ItemTree → List Use
 used_in_placed path item = used_in_processes (placed_item path item)
 

@@ -14,8 +14,8 @@ use Rattle.vdesign.specs.declared.print.Piece.TheVariants.{Text, Value}
 use Rattle.format_text.specs.declared.letters.Escape.TheVariants.{Plain}
 use Rattle.format_text.specs.Formats.{FormatFront, letters_of, front_of, is_letter, width_of}
 
--- a string as it stands between its quotes, with the path of the scope that its task stands in, or an expression, and whether a monitor
--- watches it (17.1.3)
+-- the path of the scope that the task stands in, and a string as it stands between its quotes; or whether a monitor watches an expression, and
+-- that (17.1.3)
 pub data Argument : Type 0 where
   string : List ℕ → List ℕ → Argument
   value : Bool → ExpressionTree → Argument
@@ -39,7 +39,7 @@ letters_in Least letters = letters
 letters_in (Places places) letters = right_in places letters
 letters_in (Zeros places) letters = right_in places letters
 
--- ---- `%m` shows the path of the scope, and takes no argument (17.1.1.1)
+-- ---- `%m` shows the path of the scope, and takes no argument (17.1.1.6)
 
 -- a letter in a format that prints it
 abbrev pub as_format : ℕ → List ℕ
@@ -49,7 +49,7 @@ as_format c = if c == 37 then 37 ∷ 37 ∷ [] else c ∷ []
 abbrev pub form_letters : List ℕ → ℕ → List ℕ
 form_letters digits c = 37 ∷ (digits ++ c ∷ [])
 
--- the path in a width, which digits say as they do of a string
+-- the path in a width, which digits say as they do of a string (own)
 abbrev pub path_in : Option Width → List ℕ → List ℕ → ℕ → List ℕ
 path_in None path digits c = form_letters digits c
 path_in (Some width) path digits c = flat_map as_format (letters_in width path)
@@ -79,7 +79,7 @@ with_path_behind path in_form digits [] = form_at_end in_form digits
 with_path_behind path in_form digits (c ∷ cs) =
     letters_with_path path in_form digits c ++ with_path_behind path (is_in_form in_form c) (digits_in_form in_form digits c) cs
 
--- a format with the path in the place of each `%m`
+-- a format with the path in the place of each `%m`. `front_of` reads it then: so a `%` of the path is doubled, and all other forms stay as they are
 abbrev pub with_path : List ℕ → List ℕ → List ℕ
 with_path path format = with_path_behind path false [] format
 

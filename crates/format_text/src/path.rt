@@ -1,4 +1,4 @@
-// `%m` in formats: the path of the scope that a task stands in (17.1.1.1).
+// `%m` in formats: the path of the scope that a task stands in (17.1.1.6).
 
 ghost use Rattle.std.specs.Prelude.{◌≡◌, ◌++◌, [], false, IfOk, OnOk};
 ghost use Rattle.std.specs.List.{flat_map};

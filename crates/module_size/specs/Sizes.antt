@@ -70,7 +70,7 @@ event_size (by_terms term further) = 1 + length further
 abbrev pub word_size : Word → ℕ
 word_size word = 1 + length word.letters
 
--- A letter of a string that is printed. The path of the scope may be shown in the place of a `%` (17.1.1.1), and a backslash may begin the number of
+-- A letter of a string that is printed. The path of the scope may be shown in the place of a `%` (17.1.1.6), and a backslash may begin the number of
 -- one, so both count that path (own).
 abbrev pub letter_size : ℕ → ℕ → ℕ
 letter_size path c = if (c == 37) || (c == 92) then 1 + path else 1
@@ -113,7 +113,7 @@ abbrev pub labels_size : ℕ → ExpressionTrees → ℕ
 labels_size body text.none = 0
 labels_size body (text.first item more) = (expression_size item + body) + labels_size body more
 
--- the letters of the path of a block's scope: with a name, a dot and that name stand behind the path of the scope round it (9.8.3, 12.4)
+-- the letters of the path of a block's scope: with a name, a dot and that name stand behind the path of the scope round it (9.8.3, 12.5)
 abbrev pub size_inside : ℕ → Option Word → ℕ
 size_inside path None = path
 size_inside path (Some name) = path + (1 + length name.letters)

@@ -45,7 +45,7 @@ pub data DirectionOf (W : Type 0) : Type 0 where
   output_integer : Bool → DirectionOf W  -- output integer, or output time
 
 -- a port; without a direction it has that of the one before it, or, where none has a direction, that of the item which declares it;
--- A.2.1.2: and the value of an output that is a variable
+-- A.2.1.2, A.2.3: and the value of an output that is a variable
 pub record PortOf (W : Type 0) : Type 0 where
   pub direction : Option (DirectionOf W)
   pub name : W

@@ -77,7 +77,7 @@ pub enum Direction {
 }
 
 /// A port; without a direction it has that of the one before it (12.3.4), or, where no port of the list has one, that of the item
-/// which declares it (12.3.2). An output that is a variable may have a value (A.2.1.2).
+/// which declares it (12.3.2). An output that is a variable may have a value (A.2.1.2, A.2.3).
 #[derive(Drop)]
 pub struct Port {
     pub direction: Option<Direction>,

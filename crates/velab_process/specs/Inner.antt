@@ -127,7 +127,7 @@ module _ (words : List Text) (path : Text) where
 abbrev pub starts_in : List Text → NetKind → List Declared → List ProcessTree
 starts_in words word list = filter_map (process_of word) (map (declared_tree words) list)
 
--- those of the values of ports (6.2.1, A.2.1.2)
+-- those of the values of ports (6.2.1, A.2.3)
 abbrev pub values_in : List Text → List Port → List ProcessTree
 values_in words list = filter_map (process_of net.Reg) (map port_declared (map (port_tree words) list))
 

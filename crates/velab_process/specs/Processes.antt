@@ -52,7 +52,7 @@ lower_processes scope table (process ∷ rest) =
     lower_process scope table process >>= λ front. with_begins_before (front.places ∷ []) (lower_processes scope front.table rest)
 
 -- `reg a = e` is an `initial a = e` at its place (6.2.1; that e may name variables is own), and `wire a = e` drives a (6.1.1); a port with a
--- value is a variable (A.2.1.2)
+-- value is a variable (A.2.1.2, A.2.3)
 abbrev pub process_by : NetKind → Word → text.ExpressionTree → ProcessTree
 process_by net.Wire letters value = continuous (written.whole letters) value
 process_by net.Reg letters value = procedural (assign (written.whole letters) None value)

@@ -73,7 +73,7 @@ impl<'a> Elaborator<'a> {
         }
     }
 
-    /// The path of a block of this name (9.8.3, 12.4).
+    /// The path of a block of this name (9.8.3, 12.5).
     pub(crate) fn path_inside(&self, name: Token) -> Result<Vec<u8>, NoMemory>
         ensures { IfOk result (λ path. path.items ≡
             inside self.now.path.now (Some (numbered (words_of self.now.tokens.now) name))) }

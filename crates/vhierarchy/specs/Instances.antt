@@ -165,7 +165,7 @@ lower_names part context =
     (provided (has_room part context) rule.TooMany (Some context.name)
     (item_scope (base_of part context) context.unit)))
 
--- the processes of its port connections, those of its ports' values, and then those of its items, whose print tasks know its path (17.1.1.1)
+-- the processes of its port connections, those of its ports' values, and then those of its items, whose print tasks know its path (17.1.1.6)
 abbrev pub lower_own_processes : Context → List Port → Scope → Table → Result Processes ElabFault
 lower_own_processes context ports scope table =
     lower_joins context.name context.overrides.scope scope context.connections table ports >>= λ joins.
@@ -340,7 +340,7 @@ checked m part = faultless (broken_design m.name part) (record { unit = m; part 
 abbrev pub whole_of : SourceTree → ModuleTree → Result Whole ElabFault
 whole_of modules m = elaborate_top modules m >>= λ part. checked m part
 
--- A.2.1.2, 12.3.2, 12.3.3, 9.8.3: the rule that is broken by how ports are declared, or by the name of a block
+-- 12.3.2, 12.3.3, A.2.3, 9.8.3: the rule that is broken by how ports are declared, by a value of one, or by the name of a block
 abbrev pub rule_of_port : PortFlaw → Rule
 rule_of_port flaw.Undeclared = rule.Unknown
 rule_of_port flaw.Doubled = rule.Doubled

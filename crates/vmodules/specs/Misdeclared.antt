@@ -1,4 +1,4 @@
--- *trusted*: What is wrong with the ports that items declare (IEEE 1364-2005, 12.3.2, 12.3.3), and with values of ports (A.2.1.2).
+-- *trusted*: What is wrong with the ports that items declare (IEEE 1364-2005, 12.3.2, 12.3.3), and with values of ports (A.2.1.2, A.2.3).
 use Rattle.std.specs.Prelude.{Bool, true, false, not, if◌then◌else◌, List, [], ◌∷◌, ◌++◌, map, Option, None, Some, is_some, option_map}
 use Rattle.std.specs.List.{filter, find, flat_map}
 use Rattle.std.specs.Option.{option_or}
@@ -97,7 +97,7 @@ flaw_in plain listed items =
 abbrev pub port_flaw : ModuleTree → Option Misdeclared
 port_flaw m = flaw_in (plain_names m.ports) (listed_names m.ports) m.items
 
--- ---- A.2.1.2: a port with a value is an output that is a variable
+-- ---- A.2.1.2, A.2.3: the direction of a port with a value says `reg`, `integer` or `time`
 
 abbrev pub is_variable : DirectionTree → Bool
 is_variable (input wire type) = false

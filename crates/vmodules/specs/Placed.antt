@@ -1,4 +1,4 @@
--- *trusted*: The scopes that print tasks stand in (IEEE 1364-2005, 9.8.3, 12.4, 17.1.1.1): that of the instance, or that of the named block
+-- *trusted*: The scopes that print tasks stand in (IEEE 1364-2005, 9.8.3, 12.5, 12.7, 17.1.1.6): that of the instance, or that of the named block
 -- round them. A string that a task prints has the path of its scope, which `%m` shows.
 use Rattle.std.specs.Prelude.{List, ◌∷◌, ◌++◌, map, Option, None, Some}
 use Rattle.vast.specs.Words.{Text}

@@ -157,7 +157,8 @@ own_item is_port (instances letters overrides list) = instances letters override
 abbrev pub own_items : ModuleTree → List ItemTree
 own_items m = map (own_item (is_declared (letters_of (plain_names m.ports)))) m.items
 
--- ---- 6.2.1, 12.3.4: the ports of the list with their values, as a declaration of variables in front of the items
+-- ---- 6.2.1, A.2.3: the values of the list's ports, as a declaration in front of the items. Only the processes of its values are asked for: its type
+-- says nothing
 
 abbrev pub port_declared : PortTree → DeclaredTree
 port_declared port = record { name = port.name; value = port.value }
