@@ -191,9 +191,10 @@ fn is_in_other_call(walk: Walk) -> bool {
     (is_other && walk.open == 1) || (walk.call > 1 && walk.open == walk.call)
 }
 
-/// The construct that a string tells: a value. Formats are told by themselves.
+/// The construct that a string tells: a value. Formats are told by themselves, and parentheses that a task lacks.
 pub(crate) fn by_string(words: Words<'_>, walk: Walk) -> Option<Construct> {
-    if is_printed(words, walk) || is_in_other_call(walk) {
+    let is_argument = is_printed(words, walk) || is_in_other_call(walk);
+    if is_argument || is_one_of(words.before(1), &PRINTS) {
         return None;
     }
     Some(Construct::StringValue)

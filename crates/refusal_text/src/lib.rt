@@ -23,6 +23,7 @@ mod phrase;
 mod ports;
 mod printed;
 mod rules;
+mod slips;
 mod statements;
 mod system_verilog;
 mod system_verilog_rows;

@@ -7,27 +7,37 @@ use crate::rules::Rule;
 pub(crate) enum Mistake {
     ClosedConditional,
     ClosedKeywords,
+    CommaAtEnd,
     ConnectedKind,
     ConnectedPorts,
     ConnectedSize,
     DeclaredPort,
     Escape,
     FormatOfString,
+    InputReg,
     InputVariable,
     IntegerPort,
     KeywordsVersion,
     LateDirective,
     LaterParameter,
     LineForm,
+    LocalInList,
+    LongName,
     NamelessDirective,
     NoArgument,
     NoPort,
+    OpenArguments,
     OtherRange,
+    ParameterWord,
     PullForm,
     SamePort,
+    SemicolonInList,
+    SizedInteger,
     TimescaleForm,
     TimescaleHalf,
     TimescaleOrder,
+    TwoTypes,
+    TypedPort,
     UndirectedPort,
     UnlistedPort,
     ValuedPort,
@@ -39,7 +49,7 @@ struct Row {
     rule: Rule,
 }
 
-static ROWS: [Row; 26] = [
+static ROWS: [Row; 36] = [
     Row {
         mistake: Mistake::Escape,
         rule: Rule {
@@ -139,6 +149,96 @@ static ROWS: [Row; 26] = [
             names_word: true,
             what: "has a precision that is longer than its unit",
             instead: "write the unit first, and behind it a precision that is as long or shorter: `timescale 1ns/1ps",
+        },
+    },
+    Row {
+        mistake: Mistake::LongName,
+        rule: Rule {
+            number: 201,
+            names_word: true,
+            what: "is one name up to the next blank",
+            instead: "write a blank behind an escaped name",
+        },
+    },
+    Row {
+        mistake: Mistake::InputReg,
+        rule: Rule {
+            number: 201,
+            names_word: false,
+            what: "an input that is a `reg`",
+            instead: "leave the `reg` away: an input is a net; what the module itself writes is a variable of another name",
+        },
+    },
+    Row {
+        mistake: Mistake::TwoTypes,
+        rule: Rule {
+            number: 201,
+            names_word: false,
+            what: "a declaration with two types",
+            instead: "write one of them: `output reg q`, or `output integer q`",
+        },
+    },
+    Row {
+        mistake: Mistake::SizedInteger,
+        rule: Rule {
+            number: 201,
+            names_word: false,
+            what: "a range or a sign behind `integer` or `time`",
+            instead: "leave it away: an `integer` has 32 bits and a sign, a `time` 64 bits; a vector of another size is a `reg`",
+        },
+    },
+    Row {
+        mistake: Mistake::TypedPort,
+        rule: Rule {
+            number: 201,
+            names_word: false,
+            what: "a port without a direction",
+            instead: "write `input` or `output` before its type",
+        },
+    },
+    Row {
+        mistake: Mistake::ParameterWord,
+        rule: Rule {
+            number: 201,
+            names_word: false,
+            what: "a parameter without the word `parameter`",
+            instead: "write the word before it: `#(parameter integer N = 3)`",
+        },
+    },
+    Row {
+        mistake: Mistake::LocalInList,
+        rule: Rule {
+            number: 201,
+            names_word: false,
+            what: "a `localparam` in the list of parameters",
+            instead: "declare it behind the head of the module",
+        },
+    },
+    Row {
+        mistake: Mistake::SemicolonInList,
+        rule: Rule {
+            number: 201,
+            names_word: false,
+            what: "a semicolon in a list",
+            instead: "write a comma between ports or parameters, and a parenthesis behind the last one",
+        },
+    },
+    Row {
+        mistake: Mistake::CommaAtEnd,
+        rule: Rule {
+            number: 201,
+            names_word: false,
+            what: "a comma behind the last one of a list",
+            instead: "take the comma away",
+        },
+    },
+    Row {
+        mistake: Mistake::OpenArguments,
+        rule: Rule {
+            number: 201,
+            names_word: false,
+            what: "arguments of a print task without parentheses",
+            instead: "write parentheses round them: `$display(\"x\");`",
         },
     },
     Row {
