@@ -1,6 +1,6 @@
 // The lines of a run, written slot by slot as the run goes.
 
-ghost use Rattle.std.specs.Prelude.{◌≡◌, [], ◌∷◌, OnOk, IfErr};
+ghost use Rattle.std.specs.Prelude.{◌≡◌, [], ◌∷◌, OnOk, IfErr, None};
 ghost use Rattle.vmodel.specs.declared.history.Item.TheVariants.{SlotEnd, Line};
 ghost use Rattle.byte_sinks.specs.ByteSinks.{Stopped};
 ghost use Rattle.lines_text.specs.declared.in_force.InForce.TheVariants.{Nobody};
@@ -14,6 +14,7 @@ use vbits::Vec4;
 use vdesign::design::Design;
 use vmodel::history::Item;
 use vmodel::sink::HistorySink;
+use vmodel::touched::Touched;
 
 /// Writes the printed lines of a run as its items come: each line of `$display` and `$strobe` where it stands, and the line of the
 /// monitor in force at the end of its own slot and of each later one in which an argument changed (17.1; docs/FORMATS.md, "Lines").
@@ -146,14 +147,17 @@ impl<'a, O: ByteSink> LinesSink<'a, O> {
 }
 
 impl<'a, O: ByteSink> HistorySink for LinesSink<'a, O> {
+    ghost use Rattle.std.proofs.Common.{refl};
     ghost use Rattle.lines_text.specs.Sinks.{Takes, Fails};
-    ghost use Rattle.lines_text.specs.SinkLaws.{takes_none, takes_joins, fails_after};
+    ghost use Rattle.lines_text.specs.SinkLaws.{takes_none, takes_joins, fails_after, fails_before};
 
     type Fault = OrMemory<O::Fault>;
 
     ghost takes = { Takes O.takes };
 
     ghost fails = { Fails O.takes O.fails };
+
+    ghost kept = { λ s. None };
 
     fn take(&mut self, items: &[Item]) -> Result<(), OrMemory<O::Fault>>
         ensures ok { OnOk result (Takes O.takes self.old items.now self.new) }
@@ -169,6 +173,23 @@ impl<'a, O: ByteSink> HistorySink for LinesSink<'a, O> {
         Ok(())
     }
 
+    fn take_end(
+        &mut self,
+        time: u64,
+        values: &[Vec4],
+        _touched: &Touched,
+    ) -> Result<(), OrMemory<O::Fault>>
+        ensures ok { OnOk result (Takes O.takes self.old (SlotEnd time values.now ∷ []) self.new) }
+        ensures err { IfErr result (λ fault.
+            Fails O.takes O.fails self.old (SlotEnd time values.now ∷ []) fault self.new) }
+    {
+        self.end_slot(time, values)
+    }
+
+    fn keeps_values(&self) -> bool {
+        false
+    }
+
     fn is_full(&self) -> bool {
         self.byte_sink.is_full()
     }
@@ -178,4 +199,10 @@ impl<'a, O: ByteSink> HistorySink for LinesSink<'a, O> {
     ghost joins = { takes_joins O.takes O.fails O.lawful };
 
     ghost fails_later = { fails_after O.takes O.fails O.lawful };
+
+    ghost fails_before = { fails_before O.takes O.fails O.lawful };
+
+    ghost keeps = { λ s u time values h. tt };
+
+    ghost keeps_on = { λ s u items h k. refl };
 }

@@ -1,6 +1,7 @@
 pub mod CodeLemmas
 pub mod HeaderLemmas
 pub mod ItemLemmas
+pub mod ListedLemmas
 pub mod ReaderLemmas
 pub mod ValueLemmas
 pub mod ShortLemmas

@@ -3,6 +3,7 @@ pub mod CodeLaws
 pub mod DumpLaws
 pub mod DumpText
 pub mod Headers
+pub mod Listed
 pub mod Readers
 pub mod SinkLaws
 pub mod Sinks

@@ -1,13 +1,19 @@
 -- *internal*: The laws of a sink that writes the dump.
-use Rattle.std.proofs.Common.{◌≡◌, ℕ, List, [], ◌∷◌, ◌++◌, refl, sym, ap, subst, ◌∙◌, append_assoc}
+use Rattle.std.proofs.Common.{◌≡◌, ℕ, Bool, true, false, cond, List, [], ◌∷◌, ◌++◌, refl, sym, ap, subst, ◌∙◌, append_assoc}
 use Rattle.vdesign.specs.Design.{Design}
+use Rattle.vbits.specs.Vectors.{Vector}
+use Rattle.vdesign.specs.declared.dump.DumpCommand.{DumpCommand}
+use Rattle.vmodel.specs.Touched.{IsKeptAs, IsUnended}
 use Rattle.vmodel.specs.declared.history.Item.{Item}
+use Rattle.vmodel.specs.declared.history.Item.TheVariants.{SlotEnd, Dump, Line, Monitor}
 use Rattle.basis.specs.declared.memory.OrMemory.{OrMemory}
 use Rattle.vcd_text.specs.declared.sink.DumpSink.{DumpSink}
 use Rattle.byte_sinks.specs.ByteSinks.{IsByteSink, Stopped}
 use Rattle.byte_sinks.specs.ByteSinkLaws.{stopped_after, stopped_before}
 use Rattle.vcd_text.specs.declared.progress.Progress.{Progress}
-use Rattle.vcd_text.specs.Sinks.{item_text, items_text, progress_after, progress_over, text_of, Takes, Fails}
+use Rattle.vcd_text.specs.declared.progress.Progress.TheVariants.{Waiting, Started, Failed}
+use Rattle.vcd_text.specs.DumpText.{has_start, on_after, variable_marks}
+use Rattle.vcd_text.specs.Sinks.{item_text, items_text, kept_in, kept_of, progress_after, progress_at_command, progress_at_slot_end, progress_over, text_of, Takes, Fails}
 
 pub text_joins : (design : Design) (p : Progress) (xs ys : List Item) →
     items_text design p (xs ++ ys) ≡ items_text design p xs ++ items_text design (progress_over design p xs) ys
@@ -21,6 +27,36 @@ progress_joins : (design : Design) (p : Progress) (xs ys : List Item) →
     progress_over design p (xs ++ ys) ≡ progress_over design (progress_over design p xs) ys
 progress_joins design p [] ys = refl
 progress_joins design p (x ∷ xs) ys = progress_joins design (progress_after design p x) xs ys
+
+-- what is kept after a slot's end are the values there
+kept_at_end : (design : Design) (p : Progress) (t : ℕ) (values : List Vector) → IsKeptAs values (kept_of (progress_at_slot_end design p t values))
+kept_at_end design (Waiting commands) t values = by (has_start commands)
+  where
+    by : (b : Bool) → IsKeptAs values (kept_of (cond b (Started t (on_after true commands) (variable_marks design commands) values []) (Waiting [])))
+    by true = refl
+    by false = tt
+kept_at_end design (Started last on marks old commands) t values = refl
+kept_at_end design Failed t values = tt
+
+kept_at_command : (p : Progress) (command : DumpCommand) → kept_of (progress_at_command p command) ≡ kept_of p
+kept_at_command (Waiting commands) command = refl
+kept_at_command (Started last on marks old commands) command = refl
+kept_at_command Failed command = refl
+
+-- and it stays until the next one
+kept_over : (design : Design) (p : Progress) (items : List Item) → IsUnended items → kept_of (progress_over design p items) ≡ kept_of p
+kept_over design p [] h = refl
+kept_over design p (SlotEnd t values ∷ items) h = absurd (let no : true ≡ false = h.0 in cc)
+kept_over design p (Dump command ∷ items) h = kept_over design (progress_at_command p command) items h.1 ∙ kept_at_command p command
+kept_over design p (Line text ∷ items) h = kept_over design p items h.1
+kept_over design p (Monitor place ∷ items) h = kept_over design p items h.1
+
+module _ {O : Type 0} (takes : O → List ℕ → O → Type 0) where
+  pub keeps_end : (s u : DumpSink O) (t : ℕ) (values : List Vector) → Takes takes s (SlotEnd t values ∷ []) u → IsKeptAs values (kept_in u)
+  keeps_end s u t values p = subst (λ (q : Progress). IsKeptAs values (kept_of q)) (sym p.1) (kept_at_end s.design.now s.progress t values)
+
+  pub keeps_between : (s u : DumpSink O) (items : List Item) → IsUnended items → Takes takes s items u → kept_in u ≡ kept_in s
+  keeps_between s u items h p = ap kept_of p.1 ∙ kept_over s.design.now s.progress items h
 
 module _ {O F : Type 0} (takes : O → List ℕ → O → Type 0) (fails : O → List ℕ → F → O → Type 0) (laws : IsByteSink takes fails) where
   -- what two lists of items add, where the first one was taken

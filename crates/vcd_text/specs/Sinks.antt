@@ -1,5 +1,5 @@
 -- *internal*: A sink that writes the dump: what it keeps from item to item, and what taking them makes of it.
-use Rattle.std.specs.Prelude.{◌≡◌, ℕ, ◌==◌, if◌then◌else◌, List, [], ◌∷◌, ◌++◌, codes, true, Bool}
+use Rattle.std.specs.Prelude.{◌≡◌, ℕ, ◌==◌, if◌then◌else◌, List, [], ◌∷◌, ◌++◌, codes, true, Bool, Option, Some, None}
 use Rattle.vbits.specs.Vectors.{Vector}
 use Rattle.vdesign.specs.Design.{Design}
 use Rattle.vmodel.specs.History.{History}
@@ -101,6 +101,12 @@ abbrev pub progress_over : Design → Progress → List Item → Progress
 progress_over design p [] = p
 progress_over design p (item ∷ items) = progress_over design (progress_after design p item) items
 
+-- the values at the end of the last slot, once the dump has started
+abbrev pub kept_of : Progress → Option (List Vector)
+kept_of (Waiting commands) = None
+kept_of (Started last on marks values commands) = Some values
+kept_of Failed = None
+
 -- the time of the end, unless the last time line is that
 abbrev pub end_line : ℕ → ℕ → List ℕ
 end_line last t = if last == t then [] else time_line t
@@ -127,6 +133,10 @@ progress_at_end Failed t = Failed
 -- what these items add to the dump
 abbrev pub text_of : {O : Type 0} → DumpSink O → List Item → List ℕ
 text_of sink items = items_text sink.design.now sink.progress items
+
+-- the values that it keeps
+abbrev pub kept_in : {O : Type 0} → DumpSink O → Option (List Vector)
+kept_in sink = kept_of sink.progress
 
 -- it is the same borrowed byte sink and the same design
 abbrev pub IsSameDump : {O : Type 0} → DumpSink O → DumpSink O → Type 0

@@ -7,6 +7,7 @@
 mod commands;
 mod header;
 mod law;
+mod listed;
 mod progress;
 mod selected;
 mod sink;

@@ -3,8 +3,10 @@
 ghost use Rattle.std.specs.Prelude.{◌≡◌, ◌++◌, [], ◌∷◌, List, ℕ, IfOk, OnOk, codes, true, false};
 ghost use Rattle.vcd_text.specs.DumpText.{all_lines, changed_part, command_part, command_parts, line, parts_text, time_line};
 ghost use Rattle.vcd_text.specs.Sinks.{last_line, slot_text, IsStart};
+ghost use Rattle.vmodel.specs.Touched.{ChangesOnly};
 
 use crate::commands::{Commands, on_by};
+use crate::listed::put_listed_changes;
 use crate::selected::Marks;
 use crate::values::{put_blanks, put_changes, put_values};
 use basis::NoMemory;
@@ -12,6 +14,7 @@ use itoa::Buffer;
 use std::alloc::Global;
 use vbits::Vec4;
 use vdesign::dump::DumpCommand;
+use vmodel::touched::Touched;
 use vmodel::values::Values;
 
 /// How far a dump has come.
@@ -164,7 +167,7 @@ fn put_commands(
     Ok(())
 }
 
-// The values that changed, of a dump that is on.
+// The values that changed, of a dump that is on, where only such variables may have.
 fn put_changed(
     alloc: Global,
     text: &mut Vec<u8>,
@@ -172,14 +175,19 @@ fn put_changed(
     on: bool,
     old: &[Vec4],
     new: &[Vec4],
+    touched: &Touched,
 ) -> Result<(), NoMemory>
+    requires { ChangesOnly touched.now old.now new.now }
     ensures { OnOk result (text.new.items
         ≡ text.old.items ++ parts_text (changed_part marks.now on old.now new.now)) }
 {
     if !on {
         return Ok(());
     }
-    put_changes(alloc, text, marks, old, new)
+    match touched.listed() {
+        None => put_changes(alloc, text, marks, old, new),
+        Some(variables) => put_listed_changes(alloc, text, marks, old, new, variables),
+    }
 }
 
 // What the first slot end adds below the header.
@@ -198,7 +206,7 @@ pub(crate) fn first_text(
     Ok(text)
 }
 
-// What a later slot end adds.
+// What a later slot end adds, where only such variables may have changed.
 pub(crate) fn later_text(
     alloc: Global,
     time: u64,
@@ -207,13 +215,15 @@ pub(crate) fn later_text(
     old: &[Vec4],
     commands: &[DumpCommand],
     new: &[Vec4],
+    touched: &Touched,
 ) -> Result<Vec<u8>, NoMemory>
+    requires { ChangesOnly touched.now old.now new.now }
     ensures { IfOk result (λ text.
         text.items ≡ slot_text time on marks.now old.now commands.now new.now) }
 {
     let mut text = line_of(alloc, time)?;
     let start = text.len();
-    put_changed(alloc, &mut text, marks, on, old, new)?;
+    put_changed(alloc, &mut text, marks, on, old, new, touched)?;
     put_commands(alloc, &mut text, marks, on, commands, new)?;
     if text.len() == start {
         text.clear();

@@ -5,6 +5,7 @@ ghost use Rattle.vmodel.specs.declared.history.Item.TheVariants.{SlotEnd, Dump};
 ghost use Rattle.vcd_text.specs.declared.progress.Progress.TheVariants.{Waiting, Failed};
 ghost use Rattle.vcd_text.specs.Sinks.{progress_at_start, begun_text, end_line, line_after_slot, slot_text, started_text};
 ghost use Rattle.byte_sinks.specs.ByteSinks.{Stopped};
+ghost use Rattle.vmodel.specs.Touched.{ChangesOnly, ChangesOnlySince};
 
 use crate::commands::{Commands, have_start, on_after};
 use crate::header::header_of;
@@ -19,6 +20,7 @@ use vdesign::design::Design;
 use vdesign::dump::DumpCommand;
 use vmodel::history::Item;
 use vmodel::sink::HistorySink;
+use vmodel::touched::Touched;
 use vmodel::values::Values;
 
 /// Writes the dump of a run of a design as its items come: the header and the values at the end of the first slot with a
@@ -57,7 +59,8 @@ fn put_start<O: ByteSink>(
     }
 }
 
-// What a later slot adds. What is kept moves on to its values, and to its time where it has a line.
+// What a later slot adds, where only such variables may have changed. What is kept moves on to its values, and to its time where it
+// has a line.
 fn put_slot<O: ByteSink>(
     alloc: Global,
     byte_sink: &mut O,
@@ -68,7 +71,9 @@ fn put_slot<O: ByteSink>(
     commands: &[DumpCommand],
     time: u64,
     values: &[Vec4],
+    touched: &Touched,
 ) -> Result<(), OrMemory<O::Fault>>
+    requires { ChangesOnly touched.now kept.old values.now }
     ensures last { OnOk result
         (last.new ≡ line_after_slot last.old time on marks.now kept.old commands.now values.now) }
     ensures kept { OnOk result (kept.new ≡ values.now) }
@@ -77,8 +82,17 @@ fn put_slot<O: ByteSink>(
     ensures err { IfErr result (λ fault. Stopped O.takes O.fails byte_sink.old
         (slot_text time on marks.now kept.old commands.now values.now) fault byte_sink.new) }
 {
-    let text = later_text(alloc, time, on, marks, kept.as_slice(), commands, values)?;
-    kept.assign(values)?;
+    let text = later_text(
+        alloc,
+        time,
+        on,
+        marks,
+        kept.as_slice(),
+        commands,
+        values,
+        touched,
+    )?;
+    kept.follow(values, touched)?;
     match put(byte_sink, &text) {
         Ok(()) => {
             *last = line_after(*last, time, &text);
@@ -150,7 +164,7 @@ fn put_end<O: ByteSink>(
 }
 
 impl<'a, O: ByteSink> DumpSink<'a, O> {
-    ghost use Rattle.vcd_text.specs.Sinks.{IsAtEnd, IsPassedOver, IsSameDump, Takes, TakesEnd, FailsEnd, StopsIn};
+    ghost use Rattle.vcd_text.specs.Sinks.{IsAtEnd, IsPassedOver, IsSameDump, Takes, TakesEnd, FailsEnd, StopsIn, kept_in};
 
     /// A dump of which nothing has come yet.
     pub fn new(alloc: Global, design: &'a Design, byte_sink: &'a mut O) -> DumpSink<'a, O>
@@ -187,8 +201,14 @@ impl<'a, O: ByteSink> DumpSink<'a, O> {
         }
     }
 
-    // A slot has ended.
-    fn end_slot(&mut self, time: u64, values: &[Vec4]) -> Result<(), OrMemory<O::Fault>>
+    // A slot has ended. Since the end of the one whose values are kept, if some are, only such variables may have changed.
+    fn end_slot(
+        &mut self,
+        time: u64,
+        values: &[Vec4],
+        touched: &Touched,
+    ) -> Result<(), OrMemory<O::Fault>>
+        requires { ChangesOnlySince touched.now (kept_in self.old) values.now }
         ensures ok { OnOk result (Takes O.takes self.old (SlotEnd time values.now ∷ []) self.new) }
         ensures err { IfErr result (λ fault.
             StopsIn O.takes O.fails self.old (SlotEnd time values.now ∷ []) fault self.new) }
@@ -222,6 +242,7 @@ impl<'a, O: ByteSink> DumpSink<'a, O> {
                     commands.as_slice(),
                     time,
                     values,
+                    touched,
                 )?;
                 *on = on_after(*on, commands.as_slice());
                 commands.clear();
@@ -252,7 +273,9 @@ impl<'a, O: ByteSink> DumpSink<'a, O> {
             StopsIn O.takes O.fails self.old (item.now ∷ []) fault self.new) }
     {
         match item {
-            Item::SlotEnd { time, values } => self.end_slot(*time, values.as_slice()),
+            Item::SlotEnd { time, values } => {
+                self.end_slot(*time, values.as_slice(), &Touched::any(self.alloc))
+            }
             Item::Dump(command) => self.ask(*command),
             Item::Line(_) => Ok(()),
             Item::Monitor(_) => Ok(()),
@@ -314,14 +337,16 @@ impl<'a, O: ByteSink> DumpSink<'a, O> {
 }
 
 impl<'a, O: ByteSink> HistorySink for DumpSink<'a, O> {
-    ghost use Rattle.vcd_text.specs.Sinks.{IsPassedOver, Takes, Fails};
-    ghost use Rattle.vcd_text.specs.SinkLaws.{takes_none, takes_joins, fails_after};
+    ghost use Rattle.vcd_text.specs.Sinks.{IsPassedOver, Takes, Fails, kept_in};
+    ghost use Rattle.vcd_text.specs.SinkLaws.{takes_none, takes_joins, fails_after, fails_before, keeps_end, keeps_between};
 
     type Fault = OrMemory<O::Fault>;
 
     ghost takes = { Takes O.takes };
 
     ghost fails = { Fails O.takes O.fails };
+
+    ghost kept = { kept_in };
 
     fn take(&mut self, items: &[Item]) -> Result<(), OrMemory<O::Fault>>
         ensures ok { OnOk result (Takes O.takes self.old items.now self.new) }
@@ -346,6 +371,34 @@ impl<'a, O: ByteSink> HistorySink for DumpSink<'a, O> {
         Ok(())
     }
 
+    fn take_end(
+        &mut self,
+        time: u64,
+        values: &[Vec4],
+        touched: &Touched,
+    ) -> Result<(), OrMemory<O::Fault>>
+        requires { ChangesOnlySince touched.now (kept_in self.old) values.now }
+        ensures ok { OnOk result (Takes O.takes self.old (SlotEnd time values.now ∷ []) self.new) }
+        ensures err { IfErr result (λ fault.
+            Fails O.takes O.fails self.old (SlotEnd time values.now ∷ []) fault self.new) }
+    {
+        match self.end_slot(time, values, touched) {
+            Ok(()) => Ok(()),
+            Err(fault) => {
+                self.progress = Progress::Failed;
+                Err(fault)
+            }
+        }
+    }
+
+    fn keeps_values(&self) -> bool {
+        match &self.progress {
+            Progress::Started { .. } => true,
+            Progress::Waiting(_) => false,
+            Progress::Failed => false,
+        }
+    }
+
     fn is_full(&self) -> bool {
         self.byte_sink.is_full()
     }
@@ -355,4 +408,10 @@ impl<'a, O: ByteSink> HistorySink for DumpSink<'a, O> {
     ghost joins = { takes_joins O.takes O.fails O.lawful };
 
     ghost fails_later = { fails_after O.takes O.fails O.lawful };
+
+    ghost fails_before = { fails_before O.takes O.fails O.lawful };
+
+    ghost keeps = { keeps_end O.takes };
+
+    ghost keeps_on = { keeps_between O.takes };
 }

@@ -67,7 +67,7 @@ fn put_change(text: &mut Vec<u8>, digits: &[u8], name: &[u8]) -> Result<(), NoMe
 }
 
 // The line that says what the variable of this code is worth. The scratch is for its digits.
-fn put_value(
+pub(crate) fn put_value(
     text: &mut Vec<u8>,
     scratch: &mut Vec<u8>,
     value: Vec4,
@@ -137,6 +137,9 @@ pub(crate) fn put_blanks(
 fn is_kept(old: Vec4, new: Vec4) -> bool
     ensures { result ≡ is_kept_vector old new }
 {
+    if old == new {
+        return true;
+    }
     if old.len() != new.len() {
         return false;
     }
@@ -147,7 +150,7 @@ fn is_kept(old: Vec4, new: Vec4) -> bool
 }
 
 // Whether the value of a variable that is marked or not has changed, so that it is told.
-fn is_news(mark: bool, old: Vec4, new: Vec4) -> bool
+pub(crate) fn is_news(mark: bool, old: Vec4, new: Vec4) -> bool
     ensures { result ≡ is_news_of mark old new }
 {
     if !mark {

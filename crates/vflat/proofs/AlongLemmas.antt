@@ -1,14 +1,13 @@
 -- Of a code that is whole: where the processes stand once one has taken a step, and once some have woken.
-use Rattle.std.proofs.Common.{◌≡◌, ◌≢◌, ◌⊎◌, inl, inr, ℕ, zero, suc, ◌+◌, ◌<◌, ◌≤◌, nat_le, ◌==◌, Bool, true, false, true≢false, ◌&&◌, if◌then◌else◌, is_some, List, [], ◌∷◌, ◌++◌, map, length, Option, None, Some, option_map, refl, sym, ap, subst, ◌∙◌, arith}
-use Rattle.std.specs.Prelude.{slice_get, slice_set, unwrap_or}
-use Rattle.std.proofs.lemmas.Bool.Decides.{nat_tests}
-use Rattle.basis.proofs.Bools.{and_left, and_right}
+use Rattle.std.proofs.Common.{◌≡◌, ◌≢◌, inl, inr, ℕ, zero, suc, ◌<◌, ◌≤◌, nat_le, ◌==◌, Bool, true, false, ◌&&◌, if◌then◌else◌, is_some, List, [], ◌∷◌, ◌++◌, map, length, Option, None, Some, option_map, refl, sym, ap, subst, ◌∙◌, arith}
+use Rattle.std.specs.Prelude.{slice_get, slice_set}
+use Rattle.basis.proofs.Bools.{and_left}
 use Rattle.basis.proofs.Lists.{place_within}
 use Rattle.vbits.specs.Vectors.{Vector}
 use Rattle.vcode.specs.declared.point.Point.{Point}
 use Rattle.vcode.specs.declared.point.Point.TheVariants as point
 use Rattle.vcode.specs.Points.{place_of_point}
-use Rattle.vcode.specs.Code.{Code, link_at, turns_at, with_turns, settle, behind}
+use Rattle.vcode.specs.Code.{link_at, with_turns}
 use Rattle.vdesign.specs.Design.{Design}
 use Rattle.vdesign.specs.declared.action.Action.{Action}
 use Rattle.vvalue.specs.Value.{Environment}
@@ -25,12 +24,12 @@ use Rattle.vmodel.specs.Waking.{wakes, awake, with_awake}
 use Rattle.vmodel.proofs.MovedLemmas.{get-set_same, get-set_other}
 use Rattle.vmodel.proofs.PlaceLemmas.{alike}
 use Rattle.vcompile.specs.Links.{place_number, links_of}
-use Rattle.vcompile.specs.Listening.{resumes_at, events_in}
-use Rattle.vcompile.specs.Whole.{are_all, lead_on, are_linked, begin_well, holds_links, all_listed, is_whole}
+use Rattle.vcompile.specs.Listening.{events_in}
+use Rattle.vcompile.specs.Whole.{are_all, lead_on, are_linked, begin_well, holds_links, all_listed}
 use Rattle.vcompile.specs.CodeOf.{no_code, code_by, code_of}
-use Rattle.vcompile.specs.Laws.{point_of, first_of as first_point_of, IsCounted, IsLed, AreLed, turns_behind, HasCounters, TakesStep, IsLinked, IsHeardByAll}
-use Rattle.vflat.specs.Flat.{point_in, Woken, with_terms, told, frame_at, numbered, comes_to, goes_from, stands_by, waits_in, left_in, stand_of, IsSuspended, StandsAlong, StandsFor}
-use Rattle.vflat.proofs.ContinueLemmas.{before_left, continues, no_turns, own_turns, turns_many, has_counters}
+use Rattle.vcompile.specs.Laws.{point_of, first_of as first_point_of, AreLed, turns_behind, TakesStep, IsLinked, IsHeardByAll}
+use Rattle.vflat.specs.Flat.{point_in, with_terms, told, numbered, comes_to, goes_from, stands_by, waits_in, left_in, stand_of, IsSuspended, StandsAlong, StandsFor}
+use Rattle.vflat.proofs.ContinueLemmas.{before_left, continues, no_turns, own_turns, has_counters}
 use Rattle.vflat.proofs.ToldLemmas.{covers}
 use Rattle.vflat.proofs.WakeLemmas.{IsParked, Stand, set_else, set_length, AreWoken, woken_by_lists}
 use Rattle.vmodel.proofs.AwakeLemmas.{get_awake}

@@ -1,15 +1,14 @@
 -- A step does the same whatever its process has left behind the first frame, and puts places before that.
-use Rattle.std.proofs.Common.{◌≡◌, ℕ, ◌-◌, zero, suc, Bool, true, false, if◌then◌else◌, List, [], ◌∷◌, ◌++◌, length, slice_set, ◌⊎◌, inl, inr, Option, None, Some, refl, sym, ap, ◌∙◌, arith}
+use Rattle.std.proofs.Common.{◌≡◌, ℕ, ◌-◌, zero, suc, Bool, true, false, if◌then◌else◌, List, [], ◌∷◌, ◌++◌, length, slice_set, ◌⊎◌, inl, inr, Option, None, Some, refl, ap, ◌∙◌, arith}
 use Rattle.vbits.specs.Vectors.{Vector}
 use Rattle.vcode.specs.Code.{Code, counter_at, with_counter, with_turns}
 use Rattle.vdesign.specs.declared.action.Action.{Action}
 use Rattle.vdesign.specs.declared.action.Action.TheVariants.{Assign, Nonblocking, AssignDelayed, NonblockingDelayed, Trigger, Test, Case, While, Repeat, Forever, Delay, EventControl, Wait, ContinuousAssign, Print, DumpVars, Dump, NoOperation, Finish, Stop}
-use Rattle.vdesign.specs.declared.print.When.TheVariants.{Now, AtSlotEnd, AtChange}
 use Rattle.vvalue.specs.Value.{Environment, holds, delay_of}
 use Rattle.vvalue.specs.Cases.{places_of_case, turns_of}
 use Rattle.vmodel.specs.declared.process.Frame.{Frame}
 use Rattle.vmodel.specs.declared.process.Frame.TheVariants.{Executing, Repeating, Writing}
-use Rattle.vmodel.specs.declared.effect.Disposition.TheVariants.{Runnable, Delayed, Waiting}
+use Rattle.vmodel.specs.declared.effect.Disposition.TheVariants.{Delayed, Waiting}
 use Rattle.vmodel.specs.declared.effect.Effect.{Effect}
 use Rattle.vmodel.specs.Step.{StepResult, quiet, frames, turns_left, place_of, execute_at}
 use Rattle.vmodel.specs.InnerStep.{wait_result, while_result}

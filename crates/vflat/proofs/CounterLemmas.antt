@@ -1,10 +1,10 @@
 -- Counters: each that says that turns are left is that of a `repeat` which a process has left.
-use Rattle.std.proofs.Common.{◌≡◌, ◌≢◌, ◌⊎◌, inl, inr, ℕ, zero, suc, ◌+◌, ◌-◌, ◌<◌, ◌≤◌, nat_le, Bool, true, false, if◌then◌else◌, List, [], ◌∷◌, ◌++◌, length, map, replicate, Option, None, Some, option_map, refl, sym, ap, subst, ◌∙◌, arith}
+use Rattle.std.proofs.Common.{◌≡◌, ◌≢◌, inl, inr, ℕ, zero, suc, ◌+◌, ◌-◌, ◌<◌, nat_le, Bool, true, false, if◌then◌else◌, List, [], ◌∷◌, ◌++◌, length, map, Option, None, Some, option_map, refl, sym, ap, subst, ◌∙◌, arith}
 use Rattle.std.specs.Prelude.{slice_get, slice_set, unwrap_or}
 use Rattle.std.specs.List.{Contains}
 use Rattle.std.proofs.lemmas.List.Elements.{Contains-append_left, Contains-append_right}
 use Rattle.vbits.specs.Vectors.{Vector}
-use Rattle.vcode.specs.Code.{Code, counter_at, turns_by, turns_at, with_counter, with_turns}
+use Rattle.vcode.specs.Code.{Code, counter_at, turns_by, with_counter}
 use Rattle.vdesign.specs.Design.{Design}
 use Rattle.vdesign.specs.declared.action.Action.{Action}
 use Rattle.vdesign.specs.declared.action.Action.TheVariants.{Assign, Nonblocking, AssignDelayed, NonblockingDelayed, Trigger, Test, Case, While, Repeat, Forever, Delay, EventControl, Wait, ContinuousAssign, Print, DumpVars, Dump, NoOperation, Finish, Stop}
@@ -13,14 +13,14 @@ use Rattle.vvalue.specs.Cases.{turns_of}
 use Rattle.vmodel.specs.declared.process.Frame.{Frame}
 use Rattle.vmodel.specs.declared.process.Frame.TheVariants.{Executing, Repeating, Writing}
 use Rattle.vmodel.specs.State.{Process}
-use Rattle.vmodel.specs.Step.{frames, turns_left, place_of, execute_at, continuation_of}
+use Rattle.vmodel.specs.Step.{frames, turns_left, execute_at, continuation_of}
 use Rattle.vmodel.specs.Waking.{awake}
 use Rattle.vmodel.proofs.MovedLemmas.{get-set_same, get-set_other}
 use Rattle.vmodel.proofs.PlaceLemmas.{alike}
 use Rattle.vcompile.specs.Links.{is_repeat, counter_by, next_counter, counters_from, links_of}
 use Rattle.vcompile.specs.CodeOf.{no_code, code_by, code_of}
-use Rattle.vcompile.specs.Laws.{IsCounted, AreLed, turns_behind, HasCounters}
-use Rattle.vflat.specs.Flat.{left_in, IsCounterOf, AreCounted, counter_count}
+use Rattle.vcompile.specs.Laws.{IsCounted, turns_behind, HasCounters}
+use Rattle.vflat.specs.Flat.{left_in, AreCounted, counter_count}
 use Rattle.vflat.proofs.WakeLemmas.{listed_first, listed_later, listed_cases}
 use Rattle.vmodel.proofs.AwakeLemmas.{get_awake}
 

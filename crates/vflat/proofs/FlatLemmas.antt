@@ -1,16 +1,14 @@
 -- The step of a flat state, part by part.
-use Rattle.std.proofs.Common.{◌≡◌, ℕ, zero, suc, Bool, true, false, List, [], ◌∷◌, ◌++◌, map, if◌then◌else◌, Option, None, Some, refl, sym, ap, subst, ◌∙◌}
+use Rattle.std.proofs.Common.{◌≡◌, ℕ, Bool, true, false, List, [], ◌∷◌, if◌then◌else◌, Option, None, Some, refl, sym, ap, subst, ◌∙◌}
 use Rattle.std.specs.Prelude.{slice_get}
 use Rattle.vbits.specs.Vectors.{Vector}
 use Rattle.vcode.specs.declared.listener.Listener.{Listener}
-use Rattle.vcode.specs.declared.point.Point.{Point}
 use Rattle.vcode.specs.Code.{Code, listeners_at}
 use Rattle.vdesign.specs.Design.{Design}
 use Rattle.vdesign.specs.declared.action.Action.{Action}
 use Rattle.vdesign.specs.declared.action.Edge.{Edge}
 use Rattle.vdesign.specs.declared.action.Edge.TheVariants.{Any}
-use Rattle.vdesign.specs.declared.action.Term.{Term}
-use Rattle.vdesign.specs.declared.action.Term.TheVariants.{Change, Event}
+use Rattle.vdesign.specs.declared.action.Term.TheVariants.{Change}
 use Rattle.vvalue.specs.Value.{Environment}
 use Rattle.sched_core.specs.declared.end.Cause.{Cause}
 use Rattle.vmodel.specs.declared.choice.Choice.{Choice}
@@ -19,17 +17,16 @@ use Rattle.vmodel.specs.declared.effect.Effect.{Effect}
 use Rattle.vmodel.specs.declared.part.Part.{Part}
 use Rattle.vmodel.specs.declared.process.Frame.{Frame}
 use Rattle.vmodel.specs.Inner.{variable_of}
-use Rattle.vmodel.specs.InnerStep.{behind, step_result, transition_to}
+use Rattle.vmodel.specs.InnerStep.{step_result, transition_to}
 use Rattle.vmodel.specs.Parts.{value_in, with_parts}
 use Rattle.vmodel.specs.Printed.{printed_after}
 use Rattle.vmodel.specs.State.{State}
-use Rattle.vmodel.specs.Step.{StepResult, Transition, place_of, frames, execute_at, complete, no_transition, environment_of, with_moves_by, with_advance, with_held_after, with_lines_after, items_of}
-use Rattle.vmodel.specs.Waking.{is_triggered}
+use Rattle.vmodel.specs.Step.{StepResult, place_of, execute_at, complete, no_transition, environment_of, with_moves_by, with_advance, with_lines_after, items_of}
 use Rattle.vcompile.specs.Laws.{turns_behind}
 use Rattle.vflat.specs.declared.flat_step.News.{News}
 use Rattle.vflat.specs.declared.flat_step.News.TheVariants.{Changed, Triggered}
 use Rattle.vflat.specs.Flat.{Flat, FlatTransition, point_in, held_by, wakes_listener, with_resumed, frame_at, with_listeners, told, told_of_event, flat_woken, comes_to, flat_placed, step_alone, flat_after, flat_updated, flat_action, flat_frame, flat_transition_of, flat_viewed, rest_of, with_rest}
-use Rattle.vflat.specs.InnerFlat.{is_heard, woken_of, with_woken, heard_by, told_of, written, moved, finished, with_left, action_there, held_view, flat_to}
+use Rattle.vflat.specs.InnerFlat.{is_heard, woken_of, with_woken, heard_by, told_of, moved, finished, with_left, action_there, held_view, flat_to}
 use Rattle.vflat.proofs.PointLemmas.{hears_itself}
 
 -- ---- waking

@@ -11,3 +11,4 @@ mod MatchLemmas
 mod OneLemmas
 mod OnlyLemmas
 pub mod RepresentationLemmas
+pub mod TouchedLemmas

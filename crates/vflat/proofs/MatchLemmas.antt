@@ -1,13 +1,10 @@
 -- A step of a flat state stands for the step of the state of a run that it stands for.
-use Rattle.std.proofs.Common.{◌≡◌, ◌≢◌, ◌⊎◌, inl, inr, ℕ, zero, suc, ◌+◌, ◌<◌, ◌≤◌, Bool, true, false, true≢false, ◌||◌, if◌then◌else◌, List, [], ◌∷◌, ◌++◌, map, length, Option, None, Some, option_map, refl, sym, ap, subst, ◌∙◌, arith}
-use Rattle.std.specs.Prelude.{slice_get, slice_set, unwrap_or}
+use Rattle.std.proofs.Common.{◌≡◌, ℕ, zero, suc, ◌+◌, ◌≤◌, Bool, true, false, if◌then◌else◌, List, [], ◌∷◌, ◌++◌, map, Option, None, Some, refl, sym, ap, subst, ◌∙◌, arith}
+use Rattle.std.specs.Prelude.{slice_get, slice_set}
 use Rattle.vbits.specs.Vectors.{Vector}
 use Rattle.vcode.specs.declared.point.Point.{Point}
-use Rattle.vcode.specs.declared.point.Point.TheVariants as point
-use Rattle.vcode.specs.Code.{Code, turns_at}
 use Rattle.vdesign.specs.Design.{Design}
 use Rattle.vdesign.specs.declared.action.Action.{Action}
-use Rattle.vvalue.specs.Value.{Environment}
 use Rattle.sched_core.specs.declared.end.Cause.{Cause}
 use Rattle.vmodel.specs.declared.choice.Choice.{Choice}
 use Rattle.vmodel.specs.declared.choice.Choice.TheVariants.{Run, Update, Advance}
@@ -19,19 +16,18 @@ use Rattle.vmodel.specs.declared.part.Part.{Part}
 use Rattle.vmodel.specs.declared.process.Frame.{Frame}
 use Rattle.vmodel.specs.declared.process.Frame.TheVariants.{Executing, Repeating, Writing}
 use Rattle.vmodel.specs.Choices.{choices}
-use Rattle.vmodel.specs.Kept.{RisesFrom, IsInOrder, IsKept, count_in, asleep, places, most_places, waits_of}
+use Rattle.vmodel.specs.Kept.{RisesFrom, IsKept, count_in, asleep, places, most_places}
 use Rattle.vmodel.specs.Parts.{with_parts}
 use Rattle.vmodel.specs.Printed.{printed_after}
 use Rattle.vmodel.specs.Queue.{Queue}
 use Rattle.vmodel.specs.State.{Process, State, without_processes}
-use Rattle.vmodel.specs.Step.{StepResult, Transition, quiet, place_of, execute_at, process_to_continue, process_by, posts, with_strobe, reschedule, with_moves_by, with_moves, monitors_by, monitors_of, complete, with_step, with_woken, transition_with, no_transition, environment_of, continuation_of, held_of, action_transition, continuation_transition, process_transition, first_of, without_update, with_update, with_advance, transition_of, shown_items, idle_items, slot_end_by, slot_end_of, line_item, strobe_items, before_end, end_items, items_of, with_held_after, with_lines_after, with_views, transition_by, next}
-use Rattle.vmodel.specs.Waking.{wakes, awake, with_awake}
-use Rattle.vmodel.proofs.KeptLemmas.{next-kept}
+use Rattle.vmodel.specs.Step.{StepResult, Transition, quiet, place_of, execute_at, process_to_continue, process_by, with_strobe, with_moves_by, monitors_by, complete, with_step, with_woken, transition_with, no_transition, environment_of, held_of, action_transition, continuation_transition, first_of, without_update, with_update, with_advance, transition_of, shown_items, slot_end_by, line_item, strobe_items, before_end, items_of, with_held_after, with_views, transition_by, next}
+use Rattle.vmodel.specs.Waking.{wakes, awake}
 use Rattle.vmodel.proofs.MovedLemmas.{is_there, order-process_with_move}
 use Rattle.vmodel.proofs.OpenLemmas.{IsOpen, open_choice}
 use Rattle.vcompile.specs.CodeOf.{code_of}
-use Rattle.vcompile.specs.Laws.{point_of, first_of as first_point_of, IsCounted, AreLed, turns_behind, TakesStep, IsLinked, IsHeardByAll}
-use Rattle.vflat.specs.Flat.{Flat, point_in, held_by, flat_woken, frame_at, comes_to, goes_from, rest_with_step, flat_placed, step_alone, flat_after, FlatTransition, rest_of, with_rest, flat_action, flat_frame, flat_updated, flat_transition_of, flat_viewed, flat_by, flat_next, waits_in, left_in, stand_of, StandsAlong, StandsFor, AreCounted, Matches}
+use Rattle.vcompile.specs.Laws.{point_of, AreLed, turns_behind, TakesStep, IsLinked, IsHeardByAll}
+use Rattle.vflat.specs.Flat.{Flat, point_in, held_by, flat_woken, frame_at, comes_to, rest_with_step, flat_placed, FlatTransition, rest_of, with_rest, flat_action, flat_frame, flat_updated, flat_transition_of, flat_viewed, flat_by, flat_next, waits_in, left_in, stand_of, StandsAlong, StandsFor, AreCounted, Matches}
 use Rattle.vflat.proofs.ContinueLemmas.{before_left, continues, turns_as_many}
 use Rattle.vflat.proofs.CounterLemmas.{enough_counters, counted_behind, counted_awake}
 use Rattle.vflat.proofs.AlongLemmas.{goes_is, comes, placed, woken}

@@ -1,24 +1,22 @@
 -- Each state has one flat state, and the opening state has one.
-use Rattle.std.proofs.Common.{◌≡◌, ◌≢◌, ◌⊎◌, inl, inr, ℕ, zero, suc, ◌+◌, ◌<◌, ◌≤◌, nat_le, ◌==◌, Bool, true, false, if◌then◌else◌, List, [], ◌∷◌, map, length, replicate, Option, None, Some, option_map, refl, sym, ap, subst, ◌∙◌, arith}
+use Rattle.std.proofs.Common.{◌≡◌, ◌≢◌, inl, inr, ℕ, zero, suc, ◌≤◌, nat_le, Bool, true, false, if◌then◌else◌, List, [], ◌∷◌, map, length, replicate, Option, None, Some, option_map, refl, sym, ap, subst, ◌∙◌, arith}
 use Rattle.std.specs.Prelude.{slice_get, unwrap_or}
 use Rattle.std.specs.List.{Contains}
-use Rattle.vbits.specs.Vectors.{Vector}
-use Rattle.vcode.specs.declared.point.Point.{Point}
 use Rattle.vcode.specs.declared.point.Point.TheVariants as point
-use Rattle.vcode.specs.Code.{Code, begin_of, counter_at, turns_by, turns_at}
+use Rattle.vcode.specs.Code.{Code, counter_at, turns_by}
 use Rattle.vdesign.specs.Design.{Design}
 use Rattle.vmodel.specs.declared.process.Frame.{Frame}
-use Rattle.vmodel.specs.declared.process.Frame.TheVariants.{Executing, Repeating, Writing}
+use Rattle.vmodel.specs.declared.process.Frame.TheVariants.{Repeating}
 use Rattle.vmodel.specs.Kept.{waits_of}
-use Rattle.vmodel.specs.Run.{Setting, opening_process, opening_of}
+use Rattle.vmodel.specs.Run.{opening_process}
 use Rattle.vmodel.specs.State.{Process, State}
-use Rattle.vmodel.specs.Step.{frames, continuation_of}
+use Rattle.vmodel.specs.Step.{continuation_of}
 use Rattle.vmodel.proofs.PlaceLemmas.{alike}
-use Rattle.vcompile.specs.Links.{links_of, first_point, begins_by}
+use Rattle.vcompile.specs.Links.{links_of}
 use Rattle.vcompile.proofs.LinkLemmas.{begins_as_many}
 use Rattle.vcompile.specs.CodeOf.{no_code, code_by, code_of}
-use Rattle.vcompile.specs.Laws.{first_of as first_point_of, IsCounted, AreLed, IsLinked}
-use Rattle.vflat.specs.Flat.{Flat, point_in, waits_in, left_in, stand_of, StandsAlong, StandsFor, IsCounterOf, AreCounted, counter_count, Matches, flat_opening}
+use Rattle.vcompile.specs.Laws.{IsCounted, AreLed, IsLinked}
+use Rattle.vflat.specs.Flat.{Flat, point_in, waits_in, left_in, stand_of, StandsAlong, StandsFor, counter_count, Matches, flat_opening}
 use Rattle.vflat.proofs.WakeLemmas.{listed_cases}
 use Rattle.vflat.proofs.AlongLemmas.{led_of}
 

@@ -1,21 +1,18 @@
 -- A flat state stands for one state only.
-use Rattle.std.proofs.Common.{◌≡◌, ℕ, zero, suc, ◌≤◌, true, List, [], ◌∷◌, map, length, drop, Option, None, Some, refl, sym, ap, subst, ◌∙◌, arith}
+use Rattle.std.proofs.Common.{◌≡◌, ℕ, suc, true, List, [], ◌∷◌, map, length, drop, Option, None, Some, refl, sym, ap, subst, ◌∙◌, arith}
 use Rattle.std.specs.Prelude.{slice_get, unwrap_or}
 use Rattle.vbits.specs.Vectors.{Vector}
-use Rattle.vcode.specs.declared.point.Point.{Point}
 use Rattle.vcode.specs.declared.point.Point.TheVariants as point
 use Rattle.vcode.specs.Code.{Code, link_at, turns_at, settle, behind}
 use Rattle.vdesign.specs.Design.{Design}
-use Rattle.vdesign.specs.declared.action.Action.{Action}
 use Rattle.vmodel.specs.declared.process.Frame.{Frame}
 use Rattle.vmodel.specs.declared.process.Frame.TheVariants.{Executing, Repeating, Writing}
-use Rattle.vmodel.specs.Kept.{waits_of}
 use Rattle.vmodel.specs.State.{Process, State, without_processes}
-use Rattle.vmodel.specs.Step.{place_of, continuation_of}
+use Rattle.vmodel.specs.Step.{place_of}
 use Rattle.vcompile.specs.Listening.{resumes_at}
 use Rattle.vcompile.specs.CodeOf.{code_of}
 use Rattle.vcompile.specs.Laws.{point_of, first_of as first_point_of, IsCounted, AreLed, IsLinked}
-use Rattle.vflat.specs.Flat.{Flat, point_in, waits_in, left_in, stand_of, StandsAlong, Matches}
+use Rattle.vflat.specs.Flat.{Flat, waits_in, left_in, stand_of, StandsAlong, Matches}
 use Rattle.vflat.proofs.WakeLemmas.{IsParked, goes_on}
 use Rattle.vflat.proofs.AlongLemmas.{led_of, parked_of}
 

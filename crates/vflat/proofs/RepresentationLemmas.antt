@@ -1,20 +1,18 @@
 -- The law of machines, over states as they are or flat.
-use Rattle.std.proofs.Common.{◌≡◌, ◌⊎◌, inl, inr, ℕ, zero, suc, ◌<◌, ◌≤◌, Bool, true, false, true≢false, ◌==◌, ◌&&◌, ◌||◌, if◌then◌else◌, is_some, List, [], length, Option, Some, None, refl, sym, ap, subst, ◌∙◌, arith}
+use Rattle.std.proofs.Common.{◌≡◌, ℕ, zero, suc, ◌<◌, Bool, true, false, true≢false, if◌then◌else◌, List, length, refl, sym, ap, subst, ◌∙◌, arith}
 use Rattle.sched_core.specs.Ranks.{IsRanked}
-use Rattle.sched_core.specs.Rules.{Rules, IsLawful, IsRun, stands, choice_at}
-use Rattle.vdesign.specs.Design.{Design}
+use Rattle.sched_core.specs.Rules.{IsLawful, IsRun, stands, choice_at}
 use Rattle.vmodel.specs.State.{State, without_processes}
 use Rattle.vmodel.specs.Choices.{choices}
-use Rattle.vmodel.specs.Kept.{IsKept}
 use Rattle.vmodel.specs.InnerStep.{transition_to}
 use Rattle.vmodel.specs.Step.{Transition, next, items_of, slot_end_of}
-use Rattle.vmodel.specs.Run.{Setting, rules_of, opening_of, opening_process, is_mark, state_after}
+use Rattle.vmodel.specs.Run.{Setting, rules_of, opening_of, is_mark, state_after}
 use Rattle.vmodel.specs.RulesLaws.{lawful}
 use Rattle.vmodel.proofs.KeptLemmas.{next-kept, opening-kept}
 use Rattle.vmodel.proofs.TimesLemmas.{time_never_falls}
 use Rattle.vcompile.specs.CodeOf.{code_of}
 use Rattle.vcompile.specs.Laws.{IsLinked, IsHeardByAll}
-use Rattle.vflat.specs.Flat.{Flat, Matches, flat_next, flat_opening}
+use Rattle.vflat.specs.Flat.{flat_opening}
 use Rattle.vflat.specs.Representations.{Representation, RepresentedTransition, plain, fast, rest_in, representation_same, representation_after, representation_next, representation_first, representation_rules, Represents, representations_tell}
 use Rattle.vflat.proofs.MatchLemmas.{items_bare, end_bare_by, next_stands}
 use Rattle.vflat.proofs.OneLemmas.{one_flat, opening_matches}

@@ -1,21 +1,19 @@
 -- What a step tells those who listen: whatever it changes is told.
-use Rattle.std.proofs.Common.{◌≡◌, ◌≢◌, ◌⊎◌, inl, inr, ℕ, zero, suc, ◌==◌, nat_lt, Bool, true, false, true≢false, not, ◌||◌, cond, List, [], ◌∷◌, ◌++◌, map, Option, None, Some, refl, sym, ap, subst, ◌∙◌, arith}
+use Rattle.std.proofs.Common.{◌≡◌, ◌≢◌, ◌⊎◌, inl, inr, ℕ, zero, suc, true, true≢false, List, [], ◌∷◌, map, Option, None, Some, refl, sym, ap, subst, ◌∙◌, arith}
 use Rattle.std.specs.Prelude.{slice_get, slice_set, unwrap_or}
 use Rattle.std.specs.List.{Contains}
 use Rattle.std.proofs.lemmas.Bool.Decides.{nat_tests, eqb_tells}
 use Rattle.std.proofs.lemmas.List.Elements.{Contains-append_left, Contains-append_right}
 use Rattle.vbits.specs.declared.bit4.Bit4.TheVariants.{X}
 use Rattle.vbits.specs.Vectors.{Vector, filled}
-use Rattle.vbits.specs.Equal.{vectors_tell}
-use Rattle.vdesign.specs.declared.action.Edge.{Edge}
-use Rattle.vdesign.specs.declared.action.Edge.TheVariants.{Any, Rise, Fall}
+use Rattle.vdesign.specs.declared.action.Edge.TheVariants.{Any}
 use Rattle.vdesign.specs.declared.action.Term.{Term}
 use Rattle.vdesign.specs.declared.action.Term.TheVariants.{Change, Event}
 use Rattle.vmodel.specs.declared.part.Part.{Part}
 use Rattle.vmodel.specs.declared.part.Part.TheVariants.{Whole, Bits}
 use Rattle.vmodel.specs.Inner.{variable_of}
 use Rattle.vmodel.specs.Parts.{value_in, with_bits, write, with_parts}
-use Rattle.vmodel.specs.Waking.{rank, last_bit, is_edge, is_triggered, hears}
+use Rattle.vmodel.specs.Waking.{is_triggered, hears}
 use Rattle.vcompile.specs.Laws.{with_edge}
 use Rattle.vflat.specs.Flat.{told, told_of_event}
 use Rattle.vflat.proofs.WakeLemmas.{listed_first, listed_later}

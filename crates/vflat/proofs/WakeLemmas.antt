@@ -1,7 +1,6 @@
 -- Waking by lists of listeners wakes each process for which that has come which it waits for, and nobody else.
-use Rattle.std.proofs.Common.{◌≡◌, ◌≢◌, ◌⊎◌, inl, inr, ℕ, zero, suc, ◌+◌, ◌<◌, ◌≤◌, nat_lt, ◌==◌, Bool, true, false, true≢false, ◌||◌, ◌&&◌, cond, if◌then◌else◌, List, [], ◌∷◌, map, length, slice_get, slice_set, unwrap_or, Option, None, Some, option_map, refl, sym, ap, subst, ◌∙◌, arith}
+use Rattle.std.proofs.Common.{◌≡◌, ◌≢◌, ◌⊎◌, inl, inr, ℕ, zero, suc, ◌+◌, ◌<◌, ◌≤◌, ◌==◌, Bool, true, false, true≢false, ◌||◌, ◌&&◌, if◌then◌else◌, List, [], ◌∷◌, map, length, slice_get, slice_set, Option, None, Some, option_map, refl, sym, ap, subst, ◌∙◌, arith}
 use Rattle.std.specs.List.{Contains}
-use Rattle.std.proofs.lemmas.Bool.Decides.{nat_tests, eqb_tells}
 use Rattle.std.proofs.lemmas.Bool.{ne_eqb}
 use Rattle.basis.proofs.Lists.{place_within}
 use Rattle.vbits.specs.Vectors.{Vector}
@@ -11,7 +10,6 @@ use Rattle.vcode.specs.declared.listener.Listener.{Listener}
 use Rattle.vcode.specs.Points.{is_same_point}
 use Rattle.vcode.specs.Code.{Code, link_at, settle}
 use Rattle.vdesign.specs.Design.{Design}
-use Rattle.vdesign.specs.declared.action.Edge.{Edge}
 use Rattle.vdesign.specs.declared.action.Edge.TheVariants.{Any}
 use Rattle.vdesign.specs.declared.action.Term.{Term}
 use Rattle.vdesign.specs.declared.action.Term.TheVariants.{Change, Event}
@@ -29,7 +27,7 @@ use Rattle.vcompile.specs.CodeOf.{code_of}
 use Rattle.vcompile.specs.Laws.{first_of, heard_of, with_edge, IsHeard, Awaits, IsHeardByAll}
 use Rattle.vflat.specs.Flat.{point_in, Woken, wakes_listener, with_resumed, with_listener, with_listeners, with_term, with_terms, waits_in, left_in, stand_of}
 use Rattle.vflat.proofs.RisingLemmas.{is_in, in_with, rises_with, same_members}
-use Rattle.basis.proofs.Bools.{and_both, and_left, and_right, or_first, or_second, same_truth}
+use Rattle.basis.proofs.Bools.{and_left, and_right, or_first, or_second, same_truth}
 use Rattle.vmodel.proofs.ProcessLemmas.{same as equal_numbers, same_back}
 use Rattle.vmodel.proofs.PlaceLemmas.{or_either}
 use Rattle.vmodel.proofs.AwakeLemmas.{awake_rises, get_awake}

@@ -26,7 +26,7 @@ use Rattle.vmodel.specs.declared.process.Frame.TheVariants.{Executing, Repeating
 use Rattle.vmodel.specs.Choices.{choices}
 use Rattle.vmodel.specs.Inner.{variable_of}
 use Rattle.vmodel.specs.InnerWaking.{with_active}
-use Rattle.vmodel.specs.Kept.{IsKept, waits_of}
+use Rattle.vmodel.specs.Kept.{waits_of}
 use Rattle.vmodel.specs.Parts.{with_parts}
 use Rattle.vmodel.specs.Queue.{with_process}
 use Rattle.vmodel.specs.State.{Process, State, without_processes}

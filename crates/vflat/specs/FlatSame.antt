@@ -1,5 +1,5 @@
 -- *internal*: When two flat states are equal, and what the hash of one is fed (laws with their proofs).
-use Rattle.std.specs.Prelude.{◌≡◌, ℕ, Bool, nat_eq, ◌&&◌, ◌+◌, ◌^◌, true, List, [], ◌∷◌, ◌++◌, Option}
+use Rattle.std.specs.Prelude.{◌≡◌, ℕ, Bool, nat_eq, ◌&&◌, ◌+◌, ◌^◌, true, List, [], ◌∷◌, ◌++◌}
 use Rattle.std.specs.Hash as fed
 use Rattle.std.specs.Option.{option_eq}
 use Rattle.std.specs.Cmp.{IsEquivalence, decided, unsigned_Decides}

@@ -1,7 +1,6 @@
 -- *internal*: How the step of a flat state is told in parts: words for the contracts of parts within.
 use Rattle.std.specs.Prelude.{◌≡◌, ℕ, Bool, true, false, List, [], slice_get, slice_set, Option, Some, None}
 use Rattle.std.specs.Borrow.{Bor}
-use Rattle.vbits.specs.Vectors.{Vector}
 use Rattle.vcode.specs.declared.point.Point.{Point}
 use Rattle.vcode.specs.declared.listener.Listener.{Listener}
 use Rattle.vcode.specs.Code.{Code, with_turns}
@@ -17,7 +16,6 @@ use Rattle.vdesign.specs.Design.{Design}
 use Rattle.vmodel.specs.InnerSilent.{is_some_print, ShowsNoLine}
 use Rattle.vmodel.specs.InnerWaking.{with_active}
 use Rattle.vmodel.specs.Parts.{with_parts}
-use Rattle.vmodel.specs.State.{State}
 use Rattle.vmodel.specs.InnerStep.{behind}
 use Rattle.vmodel.specs.Step.{place_of, frames, posts, with_strobe, reschedule, complete, with_held_after}
 use Rattle.vmodel.specs.Waking.{is_edge}

@@ -2,3 +2,4 @@ mod StandLemmas
 mod RunProgressLemmas
 mod SlotLemmas
 pub mod GivenLemmas
+mod WaitingLemmas

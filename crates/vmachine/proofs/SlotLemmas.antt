@@ -5,20 +5,15 @@ use Rattle.vdesign.specs.Design.{Design}
 use Rattle.sched_core.specs.declared.end.Cause.{Cause}
 use Rattle.vmodel.specs.declared.history.Item.{Item}
 use Rattle.vmodel.specs.declared.history.Item.TheVariants.{SlotEnd}
-use Rattle.vmodel.specs.declared.part.Part.{Part}
-use Rattle.vmodel.specs.declared.effect.Shown.{Shown}
-use Rattle.vmodel.specs.declared.effect.Shown.TheVariants.{Commands, Prints, Watches}
 use Rattle.vmodel.specs.State.{State}
 use Rattle.vmodel.specs.Choices.{choices, choices_by}
-use Rattle.vmodel.specs.Step.{Transition, idle_items, slot_end_by, slot_end_of, shown_items, strobe_items, before_end, items_of}
+use Rattle.vmodel.specs.Step.{Transition, slot_end_by, slot_end_of, items_of}
+use Rattle.vmodel.specs.Touched.{ends_slot, IsUnended, front_items}
+use Rattle.vmodel.proofs.TouchedLemmas.{idle, not_idle, unended_both, front_and_end, front_unended}
 use Rattle.vmodel.specs.Run.{is_mark}
-use Rattle.vmachine.specs.Handed.{ends_slot, in_first, by_slot, TakesEach}
+use Rattle.vmachine.specs.Handed.{in_first, by_slot, TakesEach}
 use Rattle.vmachine.specs.Inner.{HandsOn}
-use Rattle.vmachine.specs.Runs.{IsCut, IsUnended, Waits}
-
-unended_both : (xs ys : List Item) → IsUnended xs → IsUnended ys → IsUnended (xs ++ ys)
-unended_both [] ys h k = k
-unended_both (x ∷ xs) ys h k = (h.0, unended_both xs ys h.1 k)
+use Rattle.vmachine.specs.Runs.{IsCut, Waits}
 
 -- ---- how items are cut
 
@@ -57,18 +52,6 @@ takes_one_more takes (slot ∷ slots) last old between new (first, begun, rest) 
 
 -- ---- what stands at a mark
 
-not_idle : (active : List ℕ) (activated : List (List Part)) (time : ℕ) (values : List Vector) →
-    (length active == 0 && length activated == 0) ≡ false → idle_items active activated time values ≡ []
-not_idle [] [] time values e = absurd (grind arith)
-not_idle [] (u ∷ us) time values e = refl
-not_idle (p ∷ ps) us time values e = refl
-
-idle : (active : List ℕ) (activated : List (List Part)) (time : ℕ) (values : List Vector) →
-    (length active == 0 && length activated == 0) ≡ true → idle_items active activated time values ≡ SlotEnd time values ∷ []
-idle [] [] time values e = refl
-idle [] (u ∷ us) time values e = absurd (grind arith)
-idle (p ∷ ps) us time values e = absurd (grind arith)
-
 ends_none : (cause : Option Cause) (s : State) → (is_some cause || (length s.queue.active == 0 && length s.queue.activated == 0)) ≡ false →
     slot_end_by cause s ≡ []
 ends_none (Some cause) s e = refl
@@ -92,26 +75,8 @@ waits_more xs ys s unended (front, unended_too, is) = (
   ap (λ (zs : List Item). xs ++ zs) is ∙ sym (append_assoc xs front (slot_end_of s)),
 )
 
-shown_unended : (design : Design) (s : State) (shown : Option Shown) → IsUnended (shown_items design s shown)
-shown_unended design s None = tt
-shown_unended design s (Some (Commands command)) = (refl, tt)
-shown_unended design s (Some (Prints place)) = (refl, tt)
-shown_unended design s (Some (Watches place)) = (refl, tt)
-
-strobes_unended : (design : Design) (s : State) (places : List ℕ) → IsUnended (strobe_items design s places)
-strobes_unended design s [] = tt
-strobes_unended design s (place ∷ places) = (refl, strobes_unended design s places)
-
-before : (shown strobes ends : List Item) → IsUnended shown → IsUnended strobes →
-    (front : List Item) × IsUnended front × (shown ++ before_end strobes ends ≡ front ++ ends)
-before shown strobes [] unended unended_too = (shown, unended, refl)
-before shown strobes (end ∷ rest) unended unended_too =
-    (shown ++ strobes, unended_both shown strobes unended unended_too, sym (append_assoc shown strobes (end ∷ rest)))
-
 pub items_wait : (design : Design) (transition : Transition) → Waits (items_of design transition) transition.state
-items_wait design transition =
-    before (shown_items design transition.state transition.effect.shown) (strobe_items design transition.state transition.monitors) (slot_end_of transition.state)
-    (shown_unended design transition.state transition.effect.shown) (strobes_unended design transition.state transition.monitors)
+items_wait design transition = (front_items design transition, front_unended design transition, front_and_end design transition)
 
 -- ---- handing on
 
@@ -177,3 +142,15 @@ module _ {T : Type 0} (takes : T → List Item → T → Type 0) (joins : (s t u
   pub handed_on : (waiting : List Item) → Waits waiting s → HandsOn takes (is_mark s) sink waiting new left →
       IsHandedOn takes s old new (handed ++ waiting) left
   handed_on waiting waits on = by_mark (is_mark s) waiting refl waits on
+
+-- what was handed on where something waited
+pub hands_some : {T : Type 0} (takes : T → List Item → T → Type 0) (old new : T) (waiting left : List Item) → waiting ≢ [] → takes old waiting new → left ≡ [] →
+    HandsOn takes true old waiting new left
+hands_some takes old new [] left some took none = absurd (some refl)
+hands_some takes old new (x ∷ xs) left some took none = (took, none)
+
+-- and where nothing is to be
+pub hands_nothing : {T : Type 0} (takes : T → List Item → T → Type 0) (mark : Bool) (sink : T) (waiting : List Item) → (mark ≡ true → waiting ≡ []) → HandsOn takes mark sink waiting sink waiting
+hands_nothing takes false sink waiting none = (refl, refl)
+hands_nothing takes true sink [] none = (refl, refl)
+hands_nothing takes true sink (x ∷ xs) none = absurd (let e : x ∷ xs ≡ [] = none refl in cc)

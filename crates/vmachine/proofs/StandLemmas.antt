@@ -1,7 +1,6 @@
 -- States of a machine and of a run, step by step.
-use Rattle.std.proofs.Common.{◌≡◌, ◌≤◌, ℕ, nat_le, Bool, true, false, if◌then◌else◌, List, length, refl, sym, ap, subst, ◌∙◌, arith}
+use Rattle.std.proofs.Common.{◌≡◌, ℕ, true, List, length, refl, sym, ap, subst}
 use Rattle.sched_core.specs.Rules.{IsRun, stands}
-use Rattle.vdesign.specs.Design.{Design}
 use Rattle.vmodel.specs.State.{State, without_processes}
 use Rattle.vmodel.specs.Choices.{choices}
 use Rattle.vmodel.specs.declared.effect.Effect.{Effect}
@@ -12,7 +11,7 @@ use Rattle.vmodel.specs.Run.{Setting, rules_of, opening_of, end_of, is_mark, sta
 use Rattle.vcompile.specs.CodeOf.{code_of}
 use Rattle.vmachine.specs.declared.machine_state.MachineState.{MachineState}
 use Rattle.vmachine.specs.Machines.{Stands, machine_rules, rank_of, state_in, linked, heard}
-use Rattle.vflat.specs.Representations.{Represents, rest_in, representation_same, representation_after, representation_next, representation_to, representation_first, representations_tell}
+use Rattle.vflat.specs.Representations.{Represents, rest_in, representation_after, representation_next, representation_to, representation_first, representations_tell}
 use Rattle.vflat.proofs.RepresentationLemmas.{GivesAs, next_stands_so, slot_ends_stand, read_so, first_stands_so, widths_stand, marks_stand, times_stand, after_stands_so, same_stands_so, one_stands_so, only_stands_so, all_stand_so, runs_there_so, runs_here_so}
 
 pub first_stands : (setting : Setting) → Stands setting (machine_rules setting).first (opening_of setting)

@@ -1,10 +1,10 @@
 -- *internal*: What becomes of who watches a run: a sink that is handed its items (IEEE 1364-2005, 11.4, 18.1).
-use Rattle.std.specs.Prelude.{◌≡◌, ℕ, Bool, true, false, if◌then◌else◌, List, [], ◌∷◌, take}
+use Rattle.std.specs.Prelude.{◌≡◌, ℕ, if◌then◌else◌, List, [], ◌∷◌, take}
 use Rattle.sched_core.specs.Replay.{IsReplayReason}
 use Rattle.sched_core.specs.declared.end.End.{End}
 use Rattle.vmodel.specs.declared.history.Item.{Item}
-use Rattle.vmodel.specs.declared.history.Item.TheVariants.{SlotEnd, Dump, Line, Monitor}
 use Rattle.vmodel.specs.History.{History}
+use Rattle.vmodel.specs.Touched.{ends_slot}
 use Rattle.vmodel.specs.Run.{Setting, rules_of, items_after, history_after}
 use Rattle.vmodel.specs.RunProgress.{Finishes, IsOnItsWay}
 use Rattle.basis.specs.declared.memory.OrMemory.{OrMemory}
@@ -15,12 +15,6 @@ use Rattle.vmachine.specs.declared.run.RunFault.TheVariants.{Replay, Sink}
 -- the run ends with this end, and the sink took all that it gave
 abbrev pub RunsInto : {T : Type 0} → (T → List Item → T → Type 0) → Setting → List (ℕ × ℕ) → ℕ → T → End → T → Type 0
 RunsInto takes setting log steps old end new = (n : ℕ) × Finishes setting log steps n end × takes old (items_after setting log n) new
-
-abbrev pub ends_slot : Item → Bool
-ends_slot (SlotEnd time values) = true
-ends_slot (Dump command) = false
-ends_slot (Line text) = false
-ends_slot (Monitor place) = false
 
 -- an item in front of the first of these slots
 abbrev pub in_first : Item → List (List Item) → List (List Item)

@@ -4,5 +4,6 @@ pub mod MachineLaws
 pub mod Reads
 pub mod Handed
 pub mod Inner
+pub mod Waiting
 pub mod Runs
 pub mod Kept

@@ -1,18 +1,22 @@
 // The run of a machine under a log, handed on slot by slot, or kept whole.
 
-ghost use Rattle.std.specs.Prelude.{◌≡◌, ℕ, List, [], Decides, length, IfOk, IfErr, OnOk, IsSome, false};
+ghost use Rattle.std.specs.Prelude.{◌≡◌, ℕ, List, [], ◌++◌, true, Decides, length, IfOk, IfErr, OnOk, IsSome, false};
 ghost use Rattle.basis.specs.Reasons.{IfFault};
 ghost use Rattle.basis.specs.declared.memory.OrMemory.TheVariants.{Fault};
 ghost use Rattle.vmachine.specs.declared.run.RunFault.TheVariants.{Replay};
 ghost use Rattle.vmachine.specs.Handed.{RunsInto, RunsBySlot, IsHistory, IsNoSuchRun, LeavesSink};
 ghost use Rattle.vmachine.specs.Inner.{IsOfSink, HandsOn, IsAt, IsChosen};
+ghost use Rattle.vmachine.specs.Waiting.{IsNothing, waiting_in};
 ghost use Rattle.vmachine.specs.Runs.{AllWaits, IsHandedBySlot, IsHandedSo, IsRunAt, Reaches, ReachesBySlot};
 ghost use Rattle.vmodel.specs.RunProgress.{Finishes};
 ghost use Rattle.sched_core.specs.Logs.{IsLogFrom};
 ghost use Rattle.sched_core.specs.Replay.{IsReplayReason};
 ghost use Rattle.vmodel.specs.Choices.{choices};
-ghost use Rattle.vmodel.specs.Run.{Setting, rules_of};
+ghost use Rattle.vmodel.specs.InnerStep.{transition_to};
+ghost use Rattle.vmodel.specs.Run.{Setting, rules_of, is_mark};
 ghost use Rattle.vmodel.specs.State.{State};
+ghost use Rattle.vmodel.specs.Step.{items_of};
+ghost use Rattle.vmodel.specs.Touched.{ChangesOnlySince, IsUnended, end_due};
 
 use crate::machine::Machine;
 use crate::machine_state::MachineState;
@@ -25,8 +29,9 @@ use vdesign::design::Design;
 use vmodel::effect::Effect;
 use vmodel::history::{History, Item};
 use vmodel::sink::HistorySink;
+use vmodel::touched::Touched;
 use vmodel::values::Values;
-use vmodel::{put_items, put_slot_end};
+use vmodel::{State, put_front, put_items, put_slot_end};
 
 /// Why a run wasn't handed on to its end, but for want of memory.
 #[derive(Debug, Drop, Error)]
@@ -47,34 +52,135 @@ fn refused<F>(fault: ReplayFault) -> OrMemory<RunFault<F>>
     OrMemory::Fault(RunFault::Replay(fault))
 }
 
-// Hands on what waits, if anything does, where a slot or the run has ended.
-fn hand<S: HistorySink>(
+/// What a run gave that wasn't handed on yet: items, and after them the end of the slot, where it is due.
+#[derive(Drop)]
+pub(crate) struct Pending {
+    items: Vec<Item>,
+    due: bool,
+}
+
+// Hands on the items that wait, if any do.
+fn hand_items<S: HistorySink>(
     sink: &mut S,
-    pending: &mut Vec<Item>,
-    is_mark: bool,
+    items: &mut Vec<Item>,
 ) -> Result<(), OrMemory<RunFault<S::Fault>>>
-    ensures ok { OnOk result
-        (HandsOn S.takes is_mark sink.old pending.old.items sink.new pending.new.items) }
-    ensures err { IfErr result (IsOfSink (λ fault.
-        S.fails sink.old pending.old.items fault sink.new)) }
+    ensures ok { OnOk result (S.takes sink.old items.old.items sink.new) }
+    ensures none { OnOk result (items.new.items ≡ []) }
+    ensures err { IfErr result (IsOfSink (λ fault. S.fails sink.old items.old.items fault sink.new)) }
 {
-    if !is_mark || pending.is_empty() {
+    if items.is_empty() {
         return Ok(());
     }
-    match sink.take(pending) {
+    match sink.take(items) {
         Ok(()) => {
-            pending.clear();
+            items.clear();
             Ok(())
         }
         Err(fault) => Err(OrMemory::Fault(RunFault::Sink(fault))),
     }
 }
 
-// Whether no item waits to be handed on.
-fn none_waits(pending: &[Item]) -> bool
-    ensures { Decides result (pending.now ≡ []) }
+// Hands on the end of the slot, where it is due. From then on no variable has changed, if the sink keeps values.
+fn hand_end<S: HistorySink>(
+    sink: &mut S,
+    due: &mut bool,
+    state: &State,
+    touched: &mut Touched,
+) -> Result<(), OrMemory<RunFault<S::Fault>>>
+    requires { ChangesOnlySince touched.old (S.kept sink.old) state.now.values }
+    ensures ok { OnOk result (S.takes sink.old (end_due due.old state.now) sink.new) }
+    ensures none { OnOk result (due.new ≡ false) }
+    ensures since { OnOk result (ChangesOnlySince touched.new (S.kept sink.new) state.now.values) }
+    ensures err { IfErr result (IsOfSink (λ fault.
+        S.fails sink.old (end_due due.old state.now) fault sink.new)) }
 {
-    pending.is_empty()
+    if !*due {
+        return Ok(());
+    }
+    match sink.take_end(state.time(), state.values(), touched) {
+        Ok(()) => {
+            *due = false;
+            if sink.keeps_values() {
+                touched.clear();
+            } else {
+                touched.forget();
+            }
+            Ok(())
+        }
+        Err(fault) => Err(OrMemory::Fault(RunFault::Sink(fault))),
+    }
+}
+
+// Hands on what waits.
+fn hand_all<S: HistorySink>(
+    sink: &mut S,
+    pending: &mut Pending,
+    state: &State,
+    touched: &mut Touched,
+) -> Result<(), OrMemory<RunFault<S::Fault>>>
+    requires since { ChangesOnlySince touched.old (S.kept sink.old) state.now.values }
+    requires unended { IsUnended pending.old.items.items }
+    ensures ok { OnOk result (S.takes sink.old (waiting_in pending.old state.now) sink.new) }
+    ensures none { OnOk result (pending.new.items.items ≡ []) }
+    ensures due { OnOk result (pending.new.due ≡ false) }
+    ensures since { OnOk result (ChangesOnlySince touched.new (S.kept sink.new) state.now.values) }
+    ensures err { IfErr result (IsOfSink (λ fault.
+        S.fails sink.old (waiting_in pending.old state.now) fault sink.new)) }
+{
+    match hand_items(sink, &mut pending.items) {
+        Ok(()) => hand_end(sink, &mut pending.due, state, touched),
+        Err(fault) => Err(fault),
+    }
+}
+
+// Whether nothing waits to be handed on.
+fn none_waits(pending: &Pending) -> bool
+    ensures { Decides result (IsNothing pending.now) }
+{
+    pending.items.is_empty() && !pending.due
+}
+
+// Hands on what waits, if anything does, where a slot or the run has ended.
+fn hand<S: HistorySink>(
+    sink: &mut S,
+    pending: &mut Pending,
+    state: &State,
+    touched: &mut Touched,
+) -> Result<(), OrMemory<RunFault<S::Fault>>>
+    requires since { ChangesOnlySince touched.old (S.kept sink.old) state.now.values }
+    requires unended { IsUnended pending.old.items.items }
+    requires due { pending.old.due ≡ true → is_mark state.now ≡ true }
+    ensures ok { OnOk result (HandsOn S.takes (is_mark state.now)
+        sink.old (waiting_in pending.old state.now) sink.new (waiting_in pending.new state.now)) }
+    ensures unended { OnOk result (IsUnended pending.new.items.items) }
+    ensures due { OnOk result (pending.new.due ≡ false) }
+    ensures since { OnOk result (ChangesOnlySince touched.new (S.kept sink.new) state.now.values) }
+    ensures err { IfErr result (IsOfSink (λ fault.
+        S.fails sink.old (waiting_in pending.old state.now) fault sink.new)) }
+{
+    if !state.is_mark() || none_waits(pending) {
+        return Ok(());
+    }
+    hand_all(sink, pending, state, touched)
+}
+
+// What a step gives waits after what waited: its items, and the end of the slot, where one ends.
+fn put_pending(
+    pending: &mut Pending,
+    design: &Design,
+    state: &State,
+    effect: &Effect,
+    monitors: &[usize],
+) -> Result<(), NoMemory>
+    requires { pending.old.due ≡ false }
+    ensures waits { (before : State) → OnOk result (waiting_in pending.new state.now
+        ≡ waiting_in pending.old before ++ items_of design.now (transition_to state.now effect.now monitors.now)) }
+    ensures unended { IsUnended pending.old.items.items → OnOk result (IsUnended pending.new.items.items) }
+    ensures due { OnOk result (pending.new.due ≡ true → is_mark state.now ≡ true) }
+{
+    put_front(&mut pending.items, design, state, effect, monitors)?;
+    pending.due = state.is_slot_end();
+    Ok(())
 }
 
 /// The choice of a step, and what is left of the log after it.
@@ -122,7 +228,7 @@ pub struct Run<'l> {
     rest: &'l [Member],
     n: u32,
     state: MachineState,
-    pending: Vec<Item>,
+    pending: Pending,
 }
 
 impl Machine {
@@ -133,8 +239,10 @@ impl Machine {
         ensures waits { IfOk result (λ run. AllWaits self.now run) }
     {
         let state = self.root()?;
-        let mut pending = Vec::new(self.alloc);
-        put_slot_end(&mut pending, state.rest())?;
+        let pending = Pending {
+            items: Vec::new(self.alloc),
+            due: state.rest().is_slot_end(),
+        };
         Ok(Run {
             log,
             rest: log.members(),
@@ -168,8 +276,9 @@ impl Machine {
     {
         let mut effect = Effect::quiet();
         let mut monitors = Vec::new(self.alloc);
+        let mut touched = Touched::any(self.alloc);
         'walk: loop {
-            hand(sink, &mut run.pending, run.state.is_mark())?;
+            hand(sink, &mut run.pending, run.state.rest(), &mut touched)?;
             if may_pause && none_waits(&run.pending) && sink.is_full() {
                 return Ok(None);
             }
@@ -185,7 +294,8 @@ impl Machine {
                 &mut effect,
                 &mut monitors,
             )?;
-            put_items(
+            touched.touch_all(&effect.wrote)?;
+            put_pending(
                 &mut run.pending,
                 &self.design,
                 run.state.rest(),

@@ -27,3 +27,4 @@ mod EndsLemmas
 mod ShownLemmas
 mod WrittenLemmas
 mod DigestLemmas
+pub mod TouchedLemmas

@@ -227,7 +227,7 @@ bits_are old value put_so low len is some fits e =
     chosen true is_true = refl
     chosen false is_true = cc
 
-write_is : (part : Part) (values : List Vector) → write part values ≡ slice_set values (variable_of part) (value_over part (value_in values (variable_of part)))
+pub write_is : (part : Part) (values : List Vector) → write part values ≡ slice_set values (variable_of part) (value_over part (value_in values (variable_of part)))
 write_is (Whole n value) values = refl
 write_is (Bits n low value) values = refl
 
@@ -244,7 +244,7 @@ nowhere (v ∷ vs) (suc n) le = nowhere vs n (omega (arith, le))
 write_length : (part : Part) (values : List Vector) → length (write part values) ≡ length values
 write_length part values = ap length (write_is part values) ∙ length-set values (variable_of part) (value_over part (value_in values (variable_of part)))
 
-written_length : (parts : List Part) (values : List Vector) → length (with_parts parts values) ≡ length values
+pub written_length : (parts : List Part) (values : List Vector) → length (with_parts parts values) ≡ length values
 written_length [] values = refl
 written_length (part ∷ parts) values = written_length parts (write part values) ∙ write_length part values
 

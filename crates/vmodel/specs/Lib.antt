@@ -24,3 +24,4 @@ pub mod Inner
 pub mod InnerContinuation
 pub mod InnerStep
 pub mod InnerSilent
+pub mod Touched

@@ -24,13 +24,14 @@ mod shown;
 pub mod sink;
 pub mod state;
 mod step;
+pub mod touched;
 mod value;
 pub mod values;
 mod waking;
 
 pub use law::run_law;
 pub use open::opening;
-pub use shown::{pieces_at, put_items, put_slot_end};
+pub use shown::{pieces_at, put_front, put_items, put_slot_end};
 pub use state::State;
 pub use step::{environment_at, is_print, slow_step, slow_width};
 pub use waking::is_edge;

@@ -6,6 +6,7 @@ ghost use Rattle.vdesign.specs.declared.action.Action.{Action};
 ghost use Rattle.vmodel.specs.InnerStep.{transition_to};
 ghost use Rattle.vmodel.specs.Step as spec;
 ghost use Rattle.vmodel.specs.Step.{slot_end_of, items_of, HasFront};
+ghost use Rattle.vmodel.specs.Touched.{front_items};
 
 use crate::effect::{Effect, Shown};
 use crate::history::Item;
@@ -16,6 +17,9 @@ use std::alloc::Global;
 use vdesign::action::Action;
 use vdesign::design::Design;
 use vdesign::print::{Piece, Text};
+
+/// For how many bytes a line has room at first, so that it seldom grows.
+const LINE_ROOM: usize = 64;
 
 // What the action of a print task shows.
 fn pieces_of<'d>(action: &'d Action) -> &'d [Piece]
@@ -42,7 +46,7 @@ impl State {
     fn line(&self, alloc: Global, design: &Design, place: usize) -> Result<Item, NoMemory>
         ensures { IfOk result (λ item. item ≡ spec.line_item design.now self.now place) }
     {
-        let mut bytes = Vec::new(alloc);
+        let mut bytes = Vec::with_capacity(alloc, LINE_ROOM)?;
         put_pieces(
             &mut bytes,
             pieces_at(design, place),
@@ -124,6 +128,27 @@ fn put_end(
         items.push(end)?;
     }
     Ok(())
+}
+
+/// Puts after others what a step gives to the history before the end of the slot, in order: what it showed at once, and where the state
+/// after it is a slot end the lines of the monitor events.
+pub fn put_front(
+    items: &mut Vec<Item>,
+    design: &Design,
+    state: &State,
+    effect: &Effect,
+    monitors: &[usize],
+) -> Result<(), NoMemory>
+    ensures { OnOk result (items.new.items
+        ≡ items.old.items ++ front_items design.now (transition_to state.now effect.now monitors.now)) }
+{
+    if let Some(shown) = effect.shown {
+        put_shown(items, design, state, shown)?;
+    }
+    if monitors.is_empty() || !state.is_slot_end() {
+        return Ok(());
+    }
+    put_strobes(items, design, state, monitors)
 }
 
 /// Puts after others what a step gives to the history, in order: what it showed at once, and where the state after it is a slot end

@@ -5,6 +5,7 @@ ghost use Rattle.std.specs.Option.{ForSome};
 ghost use Rattle.vmodel.specs.Choices.{choices as choices_of, IsWithin};
 ghost use Rattle.vmodel.specs.Holding.{held_by_choice};
 ghost use Rattle.vmodel.specs.Run.{end_of, is_mark, held_at_first, printed_at_first};
+ghost use Rattle.vmodel.specs.Touched.{is_slot_end};
 
 use crate::choice::Choice;
 use crate::printed::copy_printed;
@@ -156,6 +157,13 @@ impl State {
         ensures { result ≡ is_mark self.now }
     {
         self.cause.is_some() || self.queue.is_idle()
+    }
+
+    /// Whether a slot has ended here, and the run goes on.
+    pub fn is_slot_end(&self) -> bool
+        ensures { result ≡ is_slot_end self.now }
+    {
+        self.cause.is_none() && self.queue.is_idle()
     }
 
     /// The time, in units of the precision.

@@ -1,13 +1,15 @@
 // The values of all variables, by number (IEEE 1364-2005, 4.2).
 
-ghost use Rattle.std.specs.Prelude.{◌≡◌, ◌≤◌, List, slice_set, IfOk, OnOk, map};
+ghost use Rattle.std.specs.Prelude.{◌≡◌, ◌≤◌, ℕ, List, ◌∷◌, slice_set, IfOk, OnOk, Some, map};
 ghost use Rattle.vbits.specs.Vectors.{Vector};
 ghost use Rattle.vmodel.specs.Parts as spec;
 ghost use Rattle.vmodel.specs.Run.{opening_value};
 ghost use Rattle.vmodel.specs.InnerWaking.{IsChange};
 ghost use Rattle.vmodel.specs.Inner.{value_over, over_one};
+ghost use Rattle.vmodel.specs.Touched.{ChangesOnly};
 
 use crate::part::Part;
+use crate::touched::Touched;
 use basis::NoMemory;
 use std::alloc::Global;
 use std::marker::Model;
@@ -161,6 +163,41 @@ impl Values {
         self.list.clear();
         self.list.extend_from_slice(values)?;
         Ok(())
+    }
+
+    // The value of a variable in place of its own, where there is one.
+    #[tactic(auto, using(crate::proofs::TouchedLemmas::followed_there, crate::proofs::TouchedLemmas::followed_nowhere))]
+    fn follow_at(&mut self, values: &[Vec4], variable: u32)
+        ensures { (more : List ℕ) → ChangesOnly (Some (variable ∷ more)) self.old values.now → ChangesOnly (Some more) self.new values.now }
+    {
+        if let Some(value) = values.get(variable as usize) {
+            self.set(variable, *value);
+        }
+    }
+
+    // Those of some variables in place of its own.
+    fn follow_each(&mut self, values: &[Vec4], variables: &[u32])
+        requires { ChangesOnly (Some variables.now) self.old values.now }
+        ensures { self.new ≡ values.now }
+    {
+        for variable in variables {
+            self.follow_at(values, *variable);
+        }
+    }
+
+    /// Other values in place of these, which differ from them only in such variables. It takes memory only where any variable may
+    /// differ and they are more; where it is refused the values are lost.
+    pub fn follow(&mut self, values: &[Vec4], touched: &Touched) -> Result<(), NoMemory>
+        requires { ChangesOnly touched.now self.old values.now }
+        ensures { OnOk result (self.new ≡ values.now) }
+    {
+        match touched.listed() {
+            None => self.assign(values),
+            Some(variables) => {
+                self.follow_each(values, variables);
+                Ok(())
+            }
+        }
     }
 
     /// The values, as a list.

@@ -6,7 +6,7 @@ use Rattle.basis.specs.declared.memory.OrMemory.TheVariants as or
 use Rattle.vdesign.specs.Design.{Design}
 use Rattle.vmodel.specs.declared.history.Item.{Item}
 use Rattle.vmodel.specs.Run.{Setting, rules_of, items_after}
-use Rattle.vmachine.specs.Runs.{AllWaits, IsHandedSo, IsRunAt}
+use Rattle.vmachine.specs.Runs.{AllWaits, IsHandedSo, IsRunAt, waiting}
 use Rattle.vmachine.specs.declared.run.Run.{Run}
 use Rattle.vmachine.proofs.GivenLemmas.{given_nothing}
 use Rattle.byte_sinks.specs.ByteSinks.{IsByteSink, Stopped}
@@ -94,7 +94,7 @@ own_front setting log limit front is = subst (λ (l : List (ℕ × ℕ)). IsLine
 
 -- what is held where the run paused are the lines in front
 pub held_front : (setting : Setting) (log : List (ℕ × ℕ)) (limit : ℕ) (front : LinesFront) (s t : LinesSink (List ℕ)) →
-    front.run.log.now ≡ log → IsRunAt setting limit front.run → IsHandedSo (Takes Appended) setting front.run s t → front.run.pending.items ≡ [] →
+    front.run.log.now ≡ log → IsRunAt setting limit front.run → IsHandedSo (Takes Appended) setting front.run s t → waiting front.run ≡ [] →
     s.in_force ≡ Nobody → s.design.now ≡ setting.design → s.byte_sink.now ≡ [] → front.text ≡ t.byte_sink.now → front.in_force ≡ t.in_force →
     IsLinesFront setting log limit front
 held_front setting log limit front s t log_is here given none fresh design empty text in_force =

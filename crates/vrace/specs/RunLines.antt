@@ -8,7 +8,7 @@ use Rattle.lines_text.specs.LinesText.{lines}
 use Rattle.lines_text.specs.Sinks.{Takes, in_force_over}
 use Rattle.lines_text.specs.declared.in_force.InForce.TheVariants.{Nobody}
 use Rattle.lines_text.specs.declared.sink.LinesSink.{LinesSink}
-use Rattle.vmachine.specs.Runs.{IsHandedSo, IsRunAt}
+use Rattle.vmachine.specs.Runs.{IsHandedSo, IsRunAt, waiting}
 use Rattle.vmachine.specs.declared.run.Run.{Run}
 use Rattle.byte_sinks.specs.ByteSinks.{Stopped}
 use Rattle.vrace.specs.declared.lines.LinesFront.{LinesFront}
@@ -46,7 +46,7 @@ pub record IsFrontOf {O : Type 0} (takes : O → List ℕ → O → Type 0) (set
 pub record IsLinesFront (setting : Setting) (log : List (ℕ × ℕ)) (limit : ℕ) (front : LinesFront) : Type 0 where
   pub log_is : front.run.log.now ≡ log
   pub here : IsRunAt setting limit front.run
-  pub none_wait : front.run.pending.items ≡ []
+  pub none_wait : waiting front.run ≡ []
   pub text_is : front.text ≡ lines setting.design (items_after setting log front.run.n)
   pub in_force_is : front.in_force ≡ in_force_over setting.design Nobody (items_after setting log front.run.n)
 

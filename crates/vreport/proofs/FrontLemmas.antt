@@ -6,7 +6,7 @@ use Rattle.basis.specs.declared.memory.OrMemory.TheVariants as or
 use Rattle.vdesign.specs.Design.{Design}
 use Rattle.vmodel.specs.declared.history.Item.{Item}
 use Rattle.vmodel.specs.Run.{Setting, rules_of, items_after, history_after}
-use Rattle.vmachine.specs.Runs.{AllWaits, IsHandedSo, IsRunAt}
+use Rattle.vmachine.specs.Runs.{AllWaits, IsHandedSo, IsRunAt, waiting}
 use Rattle.vmachine.specs.declared.run.Run.{Run}
 use Rattle.vmachine.proofs.GivenLemmas.{given_nothing}
 use Rattle.vcd_text.specs.DumpText.{vcd}
@@ -104,7 +104,7 @@ same_left takes fails setting log limit first t (or.Memory m) (n, k, way, taken)
 
 -- what is held where the run paused is the front of its dump
 pub held_front : (setting : Setting) (log : List (ℕ × ℕ)) (limit : ℕ) (front : DumpFront) (s t : DumpSink (List ℕ)) →
-    front.run.log.now ≡ log → IsRunAt setting limit front.run → IsHandedSo (Takes Appended) setting front.run s t → front.run.pending.items ≡ [] →
+    front.run.log.now ≡ log → IsRunAt setting limit front.run → IsHandedSo (Takes Appended) setting front.run s t → waiting front.run ≡ [] →
     s.progress ≡ Waiting [] → s.design.now ≡ setting.design → s.byte_sink.now ≡ [] → front.text ≡ t.byte_sink.now → front.progress ≡ t.progress →
     IsDumpFront setting log limit front
 held_front setting log limit front s t log_is here given none fresh design empty text progress =

@@ -5,7 +5,7 @@ use Rattle.sched_core.specs.declared.end.End.{End}
 use Rattle.vmodel.specs.Run.{Setting, history_after}
 use Rattle.vmodel.specs.RunProgress.{Finishes}
 use Rattle.vmodel.specs.Run.{items_after}
-use Rattle.vmachine.specs.Runs.{IsHandedSo, IsRunAt}
+use Rattle.vmachine.specs.Runs.{IsHandedSo, IsRunAt, waiting}
 use Rattle.vmachine.specs.declared.run.Run.{Run}
 use Rattle.vcd_text.specs.DumpText.{vcd}
 use Rattle.vcd_text.specs.Sinks.{Takes, items_text, progress_over}
@@ -47,7 +47,7 @@ pub record IsFrontOf {O : Type 0} (takes : O → List ℕ → O → Type 0) (set
 pub record IsDumpFront (setting : Setting) (log : List (ℕ × ℕ)) (limit : ℕ) (front : DumpFront) : Type 0 where
   pub log_is : front.run.log.now ≡ log
   pub here : IsRunAt setting limit front.run
-  pub none_wait : front.run.pending.items ≡ []
+  pub none_wait : waiting front.run ≡ []
   pub text_is : front.text ≡ items_text setting.design (Waiting []) (items_after setting log front.run.n)
   pub progress_is : front.progress ≡ progress_over setting.design (Waiting []) (items_after setting log front.run.n)
 

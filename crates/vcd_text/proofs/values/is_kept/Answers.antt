@@ -1,8 +1,12 @@
-use Rattle.std.proofs.Common.{ap, ◌∙◌, arith}
+use Rattle.std.proofs.Common.{ap, sym, ◌∙◌, arith}
 use Rattle.vbits.specs.Vectors.{Vector}
 use Rattle.vbits.specs.Numbers.{number}
 use Rattle.vcd_text.proofs.ValueLemmas.{kept_by_number, always_known}
+use Rattle.vcd_text.proofs.ListedLemmas.{same_kept}
 use Rattle.vcd_text.proofs.values.is_kept.Goals as goal
+
+pub returns-then-eq : goal.returns-then-eq
+returns-then-eq c = sym (same_kept c.args.old c.args.new (sym c.eq.ensures ∙ c.if-eq.true))
 
 pub returns-in-Some : goal.returns-in-Some
 returns-in-Some c =

@@ -12,10 +12,18 @@ use Rattle.vmachine.specs.declared.run.RunFault.{RunFault}
 use Rattle.vmachine.specs.Handed.{LeavesSink, TakesEach, by_slot}
 use Rattle.vmachine.specs.Inner.{IsAt, IsChosen, HandsOn}
 use Rattle.vcompile.specs.CodeOf.{code_of}
-use Rattle.vflat.specs.Representations.{representation_next, representation_to}
+use Rattle.vflat.specs.Representations.{rest_in, representation_next, representation_to}
 use Rattle.vmachine.specs.Machines.{Stands}
-use Rattle.vmachine.specs.Runs.{Waits, state_of}
-use Rattle.vmachine.proofs.StandLemmas.{marks_read, next_read}
+use Rattle.vmachine.specs.Runs.{Waits, state_of, waiting}
+use Rattle.vmachine.specs.Waiting.{waiting_in}
+use Rattle.vmachine.proofs.WaitingLemmas.{hands_there, waits_there, nothing_waits}
+use Rattle.vbits.specs.Vectors.{Vector}
+use Rattle.vmodel.specs.Parts.{with_parts}
+use Rattle.vmodel.specs.State.{State}
+use Rattle.vmodel.specs.Touched.{ChangesOnlySince}
+use Rattle.vmodel.proofs.TouchedLemmas.{changes_more}
+use Rattle.vflat.proofs.TouchedLemmas.{step_writes}
+use Rattle.vmachine.proofs.StandLemmas.{next_read}
 use Rattle.vmachine.proofs.GivenLemmas.{gave_more, taken_on}
 use Rattle.vmachine.proofs.RunProgressLemmas.{at_next, items_next, underway, handed_first, left_by, sink_left, ended_at_mark, less_differs}
 use Rattle.vmodel.specs.Choices.{choices}
@@ -37,7 +45,8 @@ returns-in_err-hand-clause-left g c = λ first start.
       c.walk.run.n,
       underway setting log c.walk.run.rest.now c.args.steps c.walk.run.n now here,
       subst (λ (xs : List Item). g.S.HistorySink.fails first xs fault c.hand.new.sink) given.is
-          (g.met.S.HistorySink.fails_later first c.walk.sink c.hand.new.sink given.handed c.walk.run.pending.items fault given.taken failed),
+          (g.met.S.HistorySink.fails_later first c.walk.sink c.hand.new.sink given.handed (waiting c.walk.run) fault given.taken
+          (subst (λ (r : State). g.S.HistorySink.fails c.walk.sink (waiting_in c.walk.run.pending r) fault c.hand.new.sink) c.rest.ensures failed)),
     ))
     c.in_err-hand.ensures.err))
 
@@ -45,11 +54,11 @@ pub returns-then-is_full-clause-ends : goal.returns-then-is_full-clause-ends
 returns-then-is_full-clause-ends g c = λ first start.
     let now = state_of c.args.self.now c.walk.run in
     let given = c.walk.invariant.2 first start in
-    let on : HandsOn g.S.HistorySink.takes (is_mark now) c.walk.sink c.walk.run.pending.items c.hand.new.sink c.hand.new.pending.items =
-    subst (λ mark. HandsOn g.S.HistorySink.takes mark c.walk.sink c.walk.run.pending.items c.hand.new.sink c.hand.new.pending.items) (c.is_mark.ensures ∙ marks_read c.args.self.now c.walk.run.state now c.walk.invariant.0.stands) c.in_ok-hand.ensures.ok in
-    let after = taken_on g.S.HistorySink.takes g.met.S.HistorySink.joins (is_mark now) first c.walk.sink c.hand.new.sink given.handed c.walk.run.pending.items
-    c.hand.new.pending.items given.taken on in
-    (record { handed = after.handed; taken = after.taken; is = after.is ∙ given.is }, sym c.deref.ensures.value ∙ c.none_waits.ensures.0 c.if-none_waits.true)
+    let on : HandsOn g.S.HistorySink.takes (is_mark now) c.walk.sink (waiting c.walk.run) c.hand.new.sink (waiting_in c.hand.new.pending (rest_in c.walk.run.state)) =
+    hands_there g.S.HistorySink.takes c.args.self.now c.walk.run.state now c.rest.result.now c.walk.sink c.hand.new.sink c.walk.run.pending c.hand.new.pending c.walk.invariant.0.stands c.rest.ensures c.in_ok-hand.ensures.ok in
+    let after = taken_on g.S.HistorySink.takes g.met.S.HistorySink.joins (is_mark now) first c.walk.sink c.hand.new.sink given.handed (waiting c.walk.run)
+    (waiting_in c.hand.new.pending (rest_in c.walk.run.state)) given.taken on in
+    (record { handed = after.handed; taken = after.taken; is = after.is ∙ given.is }, nothing_waits c.hand.new.pending (rest_in c.walk.run.state) (c.none_waits.ensures.0 c.if-none_waits.true))
 
 pub returns-in-Ok-None-clause-ends : goal.returns-in-Ok-None-clause-ends
 returns-in-Ok-None-clause-ends g c = λ first start.
@@ -58,14 +67,14 @@ returns-in-Ok-None-clause-ends g c = λ first start.
     let here = c.walk.invariant.0.so in
     let now = state_of setting c.walk.run in
     let given = c.walk.invariant.2 first start in
-    let on : HandsOn g.S.HistorySink.takes (is_mark now) c.walk.sink c.walk.run.pending.items c.hand.new.sink c.hand.new.pending.items =
-    subst (λ mark. HandsOn g.S.HistorySink.takes mark c.walk.sink c.walk.run.pending.items c.hand.new.sink c.hand.new.pending.items) (c.is_mark.ensures ∙ marks_read setting c.walk.run.state now c.walk.invariant.0.stands) c.in_ok-hand.ensures.ok in
-    let after = taken_on g.S.HistorySink.takes g.met.S.HistorySink.joins (is_mark now) first c.walk.sink c.hand.new.sink given.handed c.walk.run.pending.items
-    c.hand.new.pending.items given.taken on in
+    let on : HandsOn g.S.HistorySink.takes (is_mark now) c.walk.sink (waiting c.walk.run) c.hand.new.sink (waiting_in c.hand.new.pending (rest_in c.walk.run.state)) =
+    hands_there g.S.HistorySink.takes c.args.self.now c.walk.run.state now c.rest.result.now c.walk.sink c.hand.new.sink c.walk.run.pending c.hand.new.pending c.walk.invariant.0.stands c.rest.ensures c.in_ok-hand.ensures.ok in
+    let after = taken_on g.S.HistorySink.takes g.met.S.HistorySink.joins (is_mark now) first c.walk.sink c.hand.new.sink given.handed (waiting c.walk.run)
+    (waiting_in c.hand.new.pending (rest_in c.walk.run.state)) given.taken on in
     let chosen : IsChosen setting log c.args.steps c.walk.run.n now c.walk.run.rest.now (Ok None) =
     subst (IsChosen setting log c.args.steps c.walk.run.n now c.walk.run.rest.now) (c.in-Ok-None.is ∙ ap (λ (o : Option Chosen). Ok o) c.in-Ok-None.field-0-is) (c.choose.ensures setting log now here (c.width_of.ensures now c.walk.invariant.0.stands)) in
-    let nothing : c.hand.new.pending.items ≡ [] =
-    emptied g.S.HistorySink.takes (is_mark now) c.walk.sink c.hand.new.sink c.walk.run.pending.items c.hand.new.pending.items
+    let nothing : (waiting_in c.hand.new.pending (rest_in c.walk.run.state)) ≡ [] =
+    emptied g.S.HistorySink.takes (is_mark now) c.walk.sink c.hand.new.sink (waiting c.walk.run) (waiting_in c.hand.new.pending (rest_in c.walk.run.state))
     (ended_at_mark setting log c.walk.run.rest.now c.args.steps c.walk.run.n now _ here chosen) on in
     let whole : after.handed ≡ items_after setting log c.walk.run.n =
     sym (append-nil after.handed) ∙ ap (λ (xs : List Item). after.handed ++ xs) (sym nothing) ∙ after.is ∙ given.is in (
@@ -81,15 +90,15 @@ returns-in-Ok-None-clause-slots g c = λ first start.
     let here = c.walk.invariant.0.so in
     let now = state_of setting c.walk.run in
     let given = c.walk.invariant.3 first start in
-    let on : HandsOn g.S.HistorySink.takes (is_mark now) c.walk.sink c.walk.run.pending.items c.hand.new.sink c.hand.new.pending.items =
-    subst (λ mark. HandsOn g.S.HistorySink.takes mark c.walk.sink c.walk.run.pending.items c.hand.new.sink c.hand.new.pending.items) (c.is_mark.ensures ∙ marks_read setting c.walk.run.state now c.walk.invariant.0.stands) c.in_ok-hand.ensures.ok in
+    let on : HandsOn g.S.HistorySink.takes (is_mark now) c.walk.sink (waiting c.walk.run) c.hand.new.sink (waiting_in c.hand.new.pending (rest_in c.walk.run.state)) =
+    hands_there g.S.HistorySink.takes c.args.self.now c.walk.run.state now c.rest.result.now c.walk.sink c.hand.new.sink c.walk.run.pending c.hand.new.pending c.walk.invariant.0.stands c.rest.ensures c.in_ok-hand.ensures.ok in
     let after =
-    handed_on g.S.HistorySink.takes g.met.S.HistorySink.joins now first c.walk.sink c.hand.new.sink given.so.handed c.hand.new.pending.items
-    given.so.taken given.each given.cut c.walk.run.pending.items given.waits on in
+    handed_on g.S.HistorySink.takes g.met.S.HistorySink.joins now first c.walk.sink c.hand.new.sink given.so.handed (waiting_in c.hand.new.pending (rest_in c.walk.run.state))
+    given.so.taken given.each given.cut (waiting c.walk.run) given.waits on in
     let chosen : IsChosen setting log c.args.steps c.walk.run.n now c.walk.run.rest.now (Ok None) =
     subst (IsChosen setting log c.args.steps c.walk.run.n now c.walk.run.rest.now) (c.in-Ok-None.is ∙ ap (λ (o : Option Chosen). Ok o) c.in-Ok-None.field-0-is) (c.choose.ensures setting log now here (c.width_of.ensures now c.walk.invariant.0.stands)) in
-    let nothing : c.hand.new.pending.items ≡ [] =
-    emptied g.S.HistorySink.takes (is_mark now) c.walk.sink c.hand.new.sink c.walk.run.pending.items c.hand.new.pending.items
+    let nothing : (waiting_in c.hand.new.pending (rest_in c.walk.run.state)) ≡ [] =
+    emptied g.S.HistorySink.takes (is_mark now) c.walk.sink c.hand.new.sink (waiting c.walk.run) (waiting_in c.hand.new.pending (rest_in c.walk.run.state))
     (ended_at_mark setting log c.walk.run.rest.now c.args.steps c.walk.run.n now _ here chosen) on in
     let whole : after.handed ≡ items_after setting log c.walk.run.n =
     sym (append-nil after.handed) ∙ ap (λ (xs : List Item). after.handed ++ xs) (sym nothing) ∙ after.is ∙ given.so.is in (
@@ -105,13 +114,13 @@ returns-in-Err-clause-left g c = λ first start.
     let here = c.walk.invariant.0.so in
     let now = state_of setting c.walk.run in
     let given = c.walk.invariant.2 first start in
-    let on : HandsOn g.S.HistorySink.takes (is_mark now) c.walk.sink c.walk.run.pending.items c.hand.new.sink c.hand.new.pending.items =
-    subst (λ mark. HandsOn g.S.HistorySink.takes mark c.walk.sink c.walk.run.pending.items c.hand.new.sink c.hand.new.pending.items) (c.is_mark.ensures ∙ marks_read setting c.walk.run.state now c.walk.invariant.0.stands) c.in_ok-hand.ensures.ok in
-    let after = taken_on g.S.HistorySink.takes g.met.S.HistorySink.joins (is_mark now) first c.walk.sink c.hand.new.sink given.handed c.walk.run.pending.items
-    c.hand.new.pending.items given.taken on in
+    let on : HandsOn g.S.HistorySink.takes (is_mark now) c.walk.sink (waiting c.walk.run) c.hand.new.sink (waiting_in c.hand.new.pending (rest_in c.walk.run.state)) =
+    hands_there g.S.HistorySink.takes c.args.self.now c.walk.run.state now c.rest.result.now c.walk.sink c.hand.new.sink c.walk.run.pending c.hand.new.pending c.walk.invariant.0.stands c.rest.ensures c.in_ok-hand.ensures.ok in
+    let after = taken_on g.S.HistorySink.takes g.met.S.HistorySink.joins (is_mark now) first c.walk.sink c.hand.new.sink given.handed (waiting c.walk.run)
+    (waiting_in c.hand.new.pending (rest_in c.walk.run.state)) given.taken on in
     subst (λ l. LeavesSink g.S.HistorySink.takes g.S.HistorySink.fails setting l c.args.steps first c.refused.result c.hand.new.sink) c.walk.invariant.1
     (subst (λ (e : OrMemory (RunFault _)). LeavesSink g.S.HistorySink.takes g.S.HistorySink.fails setting log c.args.steps first e c.hand.new.sink) (sym c.refused.ensures)
-    (handed_first g.S.HistorySink.takes setting log c.walk.run.rest.now c.args.steps c.walk.run.n now first c.hand.new.sink after.handed c.hand.new.pending.items here after.taken (after.is ∙ given.is)))
+    (handed_first g.S.HistorySink.takes setting log c.walk.run.rest.now c.args.steps c.walk.run.n now first c.hand.new.sink after.handed (waiting_in c.hand.new.pending (rest_in c.walk.run.state)) here after.taken (after.is ∙ given.is)))
 
 pub returns-in_err-step_into-clause-left : goal.returns-in_err-step_into-clause-left
 returns-in_err-step_into-clause-left g c = λ first start.
@@ -120,30 +129,46 @@ returns-in_err-step_into-clause-left g c = λ first start.
     let here = c.walk.invariant.0.so in
     let now = state_of setting c.walk.run in
     let given = c.walk.invariant.2 first start in
-    let on : HandsOn g.S.HistorySink.takes (is_mark now) c.walk.sink c.walk.run.pending.items c.hand.new.sink c.hand.new.pending.items =
-    subst (λ mark. HandsOn g.S.HistorySink.takes mark c.walk.sink c.walk.run.pending.items c.hand.new.sink c.hand.new.pending.items) (c.is_mark.ensures ∙ marks_read setting c.walk.run.state now c.walk.invariant.0.stands) c.in_ok-hand.ensures.ok in
-    let after = taken_on g.S.HistorySink.takes g.met.S.HistorySink.joins (is_mark now) first c.walk.sink c.hand.new.sink given.handed c.walk.run.pending.items
-    c.hand.new.pending.items given.taken on in
+    let on : HandsOn g.S.HistorySink.takes (is_mark now) c.walk.sink (waiting c.walk.run) c.hand.new.sink (waiting_in c.hand.new.pending (rest_in c.walk.run.state)) =
+    hands_there g.S.HistorySink.takes c.args.self.now c.walk.run.state now c.rest.result.now c.walk.sink c.hand.new.sink c.walk.run.pending c.hand.new.pending c.walk.invariant.0.stands c.rest.ensures c.in_ok-hand.ensures.ok in
+    let after = taken_on g.S.HistorySink.takes g.met.S.HistorySink.joins (is_mark now) first c.walk.sink c.hand.new.sink given.handed (waiting c.walk.run)
+    (waiting_in c.hand.new.pending (rest_in c.walk.run.state)) given.taken on in
     left_by g.S.HistorySink.takes g.S.HistorySink.fails setting c.args.run.now.log.now c.args.steps first c.hand.new.sink c.from_residual-in_err-step_into.result (Memory c.in_err-step_into.field-0.0)
     c.from_residual-in_err-step_into.ensures.1
     (subst (λ l. LeavesSink g.S.HistorySink.takes g.S.HistorySink.fails setting l c.args.steps first (Memory c.in_err-step_into.field-0.0) c.hand.new.sink) c.walk.invariant.1
-    (handed_first g.S.HistorySink.takes setting log c.walk.run.rest.now c.args.steps c.walk.run.n now first c.hand.new.sink after.handed c.hand.new.pending.items here after.taken (after.is ∙ given.is)))
+    (handed_first g.S.HistorySink.takes setting log c.walk.run.rest.now c.args.steps c.walk.run.n now first c.hand.new.sink after.handed (waiting_in c.hand.new.pending (rest_in c.walk.run.state)) here after.taken (after.is ∙ given.is)))
 
-pub returns-in_err-put_items-clause-left : goal.returns-in_err-put_items-clause-left
-returns-in_err-put_items-clause-left g c = λ first start.
+pub returns-in_err-touch_all-clause-left : goal.returns-in_err-touch_all-clause-left
+returns-in_err-touch_all-clause-left g c = λ first start.
     let setting = c.args.self.now in
     let log = c.walk.run.log.now in
     let here = c.walk.invariant.0.so in
     let now = state_of setting c.walk.run in
     let given = c.walk.invariant.2 first start in
-    let on : HandsOn g.S.HistorySink.takes (is_mark now) c.walk.sink c.walk.run.pending.items c.hand.new.sink c.hand.new.pending.items =
-    subst (λ mark. HandsOn g.S.HistorySink.takes mark c.walk.sink c.walk.run.pending.items c.hand.new.sink c.hand.new.pending.items) (c.is_mark.ensures ∙ marks_read setting c.walk.run.state now c.walk.invariant.0.stands) c.in_ok-hand.ensures.ok in
-    let after = taken_on g.S.HistorySink.takes g.met.S.HistorySink.joins (is_mark now) first c.walk.sink c.hand.new.sink given.handed c.walk.run.pending.items
-    c.hand.new.pending.items given.taken on in
-    left_by g.S.HistorySink.takes g.S.HistorySink.fails setting c.args.run.now.log.now c.args.steps first c.hand.new.sink c.from_residual-in_err-put_items.result (Memory c.in_err-put_items.field-0.0)
-    c.from_residual-in_err-put_items.ensures.1
-    (subst (λ l. LeavesSink g.S.HistorySink.takes g.S.HistorySink.fails setting l c.args.steps first (Memory c.in_err-put_items.field-0.0) c.hand.new.sink) c.walk.invariant.1
-    (handed_first g.S.HistorySink.takes setting log c.walk.run.rest.now c.args.steps c.walk.run.n now first c.hand.new.sink after.handed c.hand.new.pending.items here after.taken (after.is ∙ given.is)))
+    let on : HandsOn g.S.HistorySink.takes (is_mark now) c.walk.sink (waiting c.walk.run) c.hand.new.sink (waiting_in c.hand.new.pending (rest_in c.walk.run.state)) =
+    hands_there g.S.HistorySink.takes c.args.self.now c.walk.run.state now c.rest.result.now c.walk.sink c.hand.new.sink c.walk.run.pending c.hand.new.pending c.walk.invariant.0.stands c.rest.ensures c.in_ok-hand.ensures.ok in
+    let after = taken_on g.S.HistorySink.takes g.met.S.HistorySink.joins (is_mark now) first c.walk.sink c.hand.new.sink given.handed (waiting c.walk.run)
+    (waiting_in c.hand.new.pending (rest_in c.walk.run.state)) given.taken on in
+    left_by g.S.HistorySink.takes g.S.HistorySink.fails setting c.args.run.now.log.now c.args.steps first c.hand.new.sink c.from_residual-in_err-touch_all.result (Memory c.in_err-touch_all.field-0.0)
+    c.from_residual-in_err-touch_all.ensures.1
+    (subst (λ l. LeavesSink g.S.HistorySink.takes g.S.HistorySink.fails setting l c.args.steps first (Memory c.in_err-touch_all.field-0.0) c.hand.new.sink) c.walk.invariant.1
+    (handed_first g.S.HistorySink.takes setting log c.walk.run.rest.now c.args.steps c.walk.run.n now first c.hand.new.sink after.handed (waiting_in c.hand.new.pending (rest_in c.walk.run.state)) here after.taken (after.is ∙ given.is)))
+
+pub returns-in_err-put_pending-clause-left : goal.returns-in_err-put_pending-clause-left
+returns-in_err-put_pending-clause-left g c = λ first start.
+    let setting = c.args.self.now in
+    let log = c.walk.run.log.now in
+    let here = c.walk.invariant.0.so in
+    let now = state_of setting c.walk.run in
+    let given = c.walk.invariant.2 first start in
+    let on : HandsOn g.S.HistorySink.takes (is_mark now) c.walk.sink (waiting c.walk.run) c.hand.new.sink (waiting_in c.hand.new.pending (rest_in c.walk.run.state)) =
+    hands_there g.S.HistorySink.takes c.args.self.now c.walk.run.state now c.rest.result.now c.walk.sink c.hand.new.sink c.walk.run.pending c.hand.new.pending c.walk.invariant.0.stands c.rest.ensures c.in_ok-hand.ensures.ok in
+    let after = taken_on g.S.HistorySink.takes g.met.S.HistorySink.joins (is_mark now) first c.walk.sink c.hand.new.sink given.handed (waiting c.walk.run)
+    (waiting_in c.hand.new.pending (rest_in c.walk.run.state)) given.taken on in
+    left_by g.S.HistorySink.takes g.S.HistorySink.fails setting c.args.run.now.log.now c.args.steps first c.hand.new.sink c.from_residual-in_err-put_pending.result (Memory c.in_err-put_pending.field-0.0)
+    c.from_residual-in_err-put_pending.ensures.1
+    (subst (λ l. LeavesSink g.S.HistorySink.takes g.S.HistorySink.fails setting l c.args.steps first (Memory c.in_err-put_pending.field-0.0) c.hand.new.sink) c.walk.invariant.1
+    (handed_first g.S.HistorySink.takes setting log c.walk.run.rest.now c.args.steps c.walk.run.n now first c.hand.new.sink after.handed (waiting_in c.hand.new.pending (rest_in c.walk.run.state)) here after.taken (after.is ∙ given.is)))
 
 pub walk-preserved : goal.walk-preserved
 walk-preserved g c =
@@ -152,60 +177,74 @@ walk-preserved g c =
     let here = c.walk.invariant.0.so in
     let now = state_of setting c.walk.run in
     let stands = c.walk.invariant.0.stands in
-    let on : HandsOn g.S.HistorySink.takes (is_mark now) c.walk.sink c.walk.run.pending.items c.hand.new.sink c.hand.new.pending.items =
-    subst (λ mark. HandsOn g.S.HistorySink.takes mark c.walk.sink c.walk.run.pending.items c.hand.new.sink c.hand.new.pending.items)
-    (c.is_mark.ensures ∙ marks_read setting c.walk.run.state now stands) c.in_ok-hand.ensures.ok in
+    let on : HandsOn g.S.HistorySink.takes (is_mark now) c.walk.sink (waiting c.walk.run) c.hand.new.sink (waiting_in c.hand.new.pending (rest_in c.walk.run.state)) =
+    hands_there g.S.HistorySink.takes c.args.self.now c.walk.run.state now c.rest.result.now c.walk.sink c.hand.new.sink c.walk.run.pending c.hand.new.pending c.walk.invariant.0.stands c.rest.ensures c.in_ok-hand.ensures.ok in
     let chosen : IsChosen setting log c.args.steps c.walk.run.n now c.walk.run.rest.now (Ok (Some c.in-Ok-Some.chosen)) =
     subst (IsChosen setting log c.args.steps c.walk.run.n now c.walk.run.rest.now) (c.in-Ok-Some.is ∙ ap (λ (o : Option Chosen). Ok o) c.in-Ok-Some.field-0-is)
     (c.choose.ensures setting log now here (c.width_of.ensures now stands)) in
     let choice = c.in-Ok-Some.chosen.choice in
     let later = c.in-Ok-Some.chosen.later.now in
     let effect = c.step_into.new.effect in
-    let monitors = c.deref-in-walk.result.now in
+    let monitors = c.deref.result.now in
     let design = ap (λ (s : Setting). s.design) c.self.view_is in
     let code = c.self.invariant.0 ∙ ap code_of design in
     let stepped : representation_next setting.design (code_of setting.design) c.walk.run.state choice ≡ representation_to c.step_into.new.self effect monitors =
     (λ i. representation_next (sym design i) (sym code i) c.walk.run.state choice) ∙ c.in_ok-step_into.ensures.ok
-    ∙ ap (representation_to c.step_into.new.self effect) (sym c.deref-in-walk.ensures.value) in
+    ∙ ap (representation_to c.step_into.new.self effect) (sym c.deref.ensures.value) in
     let read = next_read setting c.walk.run.state c.step_into.new.self now choice effect monitors stands stepped in
     let transition : Transition = next setting.design now choice in
     let gave = items_next setting log c.walk.run.rest.now c.args.steps c.walk.run.n now here choice later chosen.2 transition (λ i. transition) in
     let at = at_next setting log c.walk.run.rest.now c.args.steps c.walk.run.n now here choice later chosen.2
     transition.state (less_differs c.walk.run.n c.args.steps chosen.0) chosen.1 chosen.3 (λ i. transition.state) in
     let goes_on : length (choices now) ≢ 0 = λ none. absurd (omega (arith, none, chosen.1)) in
-    let more : c.put_items.new.items.items ≡ c.hand.new.pending.items ++ items_of setting.design transition =
-    c.in_ok-put_items.ensures.ok
-    ∙ (λ i. c.hand.new.pending.items ++ items_of (design i) (transition_to (c.rest.ensures i) effect monitors))
-    ∙ ap (λ (xs : List Item). c.hand.new.pending.items ++ xs) read.1 in (
+    let after_rest : State = rest_in c.step_into.new.self in
+    let more : waiting_in c.put_pending.new.pending after_rest ≡ waiting_in c.hand.new.pending (rest_in c.walk.run.state) ++ items_of setting.design transition =
+    waits_there setting.design c.hand.new.pending c.put_pending.new.pending (rest_in c.walk.run.state) after_rest c.rest-in-walk.result.now effect monitors transition
+    c.rest-in-walk.ensures (subst (λ (d : Design). waiting_in c.put_pending.new.pending c.rest-in-walk.result.now
+    ≡ waiting_in c.hand.new.pending (rest_in c.walk.run.state) ++ items_of d (transition_to c.rest-in-walk.result.now effect monitors)) design
+    (c.in_ok-put_pending.ensures.waits (rest_in c.walk.run.state))) read.1 in
+    let wrote : after_rest.values ≡ with_parts effect.wrote (rest_in c.walk.run.state).values =
+    step_writes setting.design (code_of setting.design) c.walk.run.state c.step_into.new.self choice effect monitors stepped in (
       record {
         so = subst (IsAt setting log later c.args.steps (c.walk.run.n + 1)) at.at at;
         stands = subst (Stands setting c.step_into.new.self) at.at read.0;
+        unended = c.in_ok-put_pending.ensures.unended c.in_ok-hand.ensures.unended;
+        due = λ due. ap is_mark (sym c.rest-in-walk.ensures) ∙ c.in_ok-put_pending.ensures.due due;
       },
       c.walk.invariant.1,
       λ first start.
           let given = c.walk.invariant.2 first start in
-          let after = taken_on g.S.HistorySink.takes g.met.S.HistorySink.joins (is_mark now) first c.walk.sink c.hand.new.sink given.handed c.walk.run.pending.items
-          c.hand.new.pending.items given.taken on in
+          let after = taken_on g.S.HistorySink.takes g.met.S.HistorySink.joins (is_mark now) first c.walk.sink c.hand.new.sink given.handed (waiting c.walk.run)
+          (waiting_in c.hand.new.pending (rest_in c.walk.run.state)) given.taken on in
           record {
             handed = after.handed;
             taken = after.taken;
-            is = gave_more setting log c.walk.run.n (items_of setting.design transition) gave after.handed c.hand.new.pending.items c.put_items.new.items.items more (after.is ∙ given.is);
+            is = gave_more setting log c.walk.run.n (items_of setting.design transition) gave after.handed (waiting_in c.hand.new.pending (rest_in c.walk.run.state))
+                (waiting_in c.put_pending.new.pending after_rest) more (after.is ∙ given.is);
           },
       λ first start.
           let given = c.walk.invariant.3 first start in
           let after =
-          handed_on g.S.HistorySink.takes g.met.S.HistorySink.joins now first c.walk.sink c.hand.new.sink given.so.handed c.hand.new.pending.items
-          given.so.taken given.each given.cut c.walk.run.pending.items given.waits on in
+          handed_on g.S.HistorySink.takes g.met.S.HistorySink.joins now first c.walk.sink c.hand.new.sink given.so.handed (waiting_in c.hand.new.pending (rest_in c.walk.run.state))
+          given.so.taken given.each given.cut (waiting c.walk.run) given.waits on in
           record {
             so = record {
               handed = after.handed;
               taken = after.taken;
-              is = gave_more setting log c.walk.run.n (items_of setting.design transition) gave after.handed c.hand.new.pending.items c.put_items.new.items.items more (after.is ∙ given.so.is);
+              is = gave_more setting log c.walk.run.n (items_of setting.design transition) gave after.handed (waiting_in c.hand.new.pending (rest_in c.walk.run.state))
+                  (waiting_in c.put_pending.new.pending after_rest) more (after.is ∙ given.so.is);
             };
             each = after.each;
             cut = after.cut goes_on;
-            waits = subst (Waits c.put_items.new.items.items) at.at
+            waits = subst (Waits (waiting_in c.put_pending.new.pending after_rest)) at.at
                 (subst (λ (xs : List Item). Waits xs transition.state) (sym more)
-                (waits_more c.hand.new.pending.items (items_of setting.design transition) transition.state (after.unended goes_on) (items_wait setting.design transition)));
+                (waits_more (waiting_in c.hand.new.pending (rest_in c.walk.run.state)) (items_of setting.design transition) transition.state (after.unended goes_on) (items_wait setting.design transition)));
           },
+      subst (λ (values : List Vector). ChangesOnlySince c.touch_all.new.self (g.S.HistorySink.kept c.hand.new.sink) values) (sym wrote)
+          (changes_more effect.wrote c.hand.new.touched c.touch_all.new.self (g.S.HistorySink.kept c.hand.new.sink) (rest_in c.walk.run.state).values c.in_ok-touch_all.ensures
+          (subst (λ (r : State). ChangesOnlySince c.hand.new.touched (g.S.HistorySink.kept c.hand.new.sink) r.values) c.rest.ensures c.in_ok-hand.ensures.since)),
     )
+
+pub hand-requires-clause-since : goal.hand-requires-clause-since
+hand-requires-clause-since g c =
+    subst (λ (r : State). ChangesOnlySince c.walk.touched (g.S.HistorySink.kept c.walk.sink) r.values) (sym c.rest.ensures) c.walk.invariant.4
