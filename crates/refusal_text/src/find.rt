@@ -5,7 +5,7 @@ use crate::declared::declared_of;
 use crate::formats::{bad_format, letters_of};
 use crate::mistakes::{Mistake, rule_for};
 use crate::modules::begins_instances;
-use crate::walk::{Level, Walk};
+use crate::walk::{Level, Walk, walk_to};
 use crate::words::{Words, is_one_of};
 use crate::{bounds, declarations, expressions, keywords, statements, system_verilog};
 use basis::NoMemory;
@@ -222,11 +222,7 @@ pub(crate) fn construct_near<'a>(tokens: &'a Tokens<'a>, refused: usize) -> Opti
 
 /// The construct that the word at the place tells.
 pub(crate) fn construct_at<'a>(tokens: &'a Tokens<'a>, at: usize) -> Option<Found<'a>> {
-    let mut walk = Walk::new();
-    for before in 0..at {
-        walk = walk.after(Words::new(tokens, before));
-    }
     let words = Words::new(tokens, at);
-    let construct = construct_of(words, walk)?;
+    let construct = construct_of(words, walk_to(tokens, at))?;
     Some(told_at(words, construct))
 }

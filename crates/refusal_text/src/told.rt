@@ -3,6 +3,7 @@
 use crate::bounds::opens_range;
 use crate::construct::Construct;
 use crate::find::{Found, What, construct_at, construct_near, constructs, found_at, is_same};
+use crate::grammar_mistakes::{grammar_mistake_of, is_long_name};
 use crate::lines::Files;
 use crate::mended::{Mended, mend_files};
 use crate::message::put_found;
@@ -10,7 +11,6 @@ use crate::mistakes::{Mistake, rule_for};
 use crate::modules::modules_of;
 use crate::ports::mistake_of;
 use crate::printed::format_near;
-use crate::slips::{is_long_name, slip_of};
 use crate::tops::{missing_modules, put_none, put_several};
 use crate::undeclared::undeclared_names;
 use crate::words::{Words, is};
@@ -88,12 +88,12 @@ fn declared_at<'a>(tokens: &'a Tokens<'a>, at: usize, number: u16) -> Option<Fou
 }
 
 // The mistake of the grammar that the word is refused for, if the words before it tell one.
-fn slip_at<'a>(tokens: &'a Tokens<'a>, at: usize) -> Option<Found<'a>> {
+fn grammar_mistake_at<'a>(tokens: &'a Tokens<'a>, at: usize) -> Option<Found<'a>> {
     let words = Words::new(tokens, at);
-    if is_long_name(words.previous()) && at > 0 {
+    if at > 0 && is_long_name(words.previous()) {
         return Some(mistaken(words.previous(), Mistake::LongName));
     }
-    let mistake = slip_of(tokens, at)?;
+    let mistake = grammar_mistake_of(tokens, at)?;
     Some(mistaken(words, mistake))
 }
 
@@ -109,7 +109,7 @@ fn first_of<'a>(one: Option<Found<'a>>, other: Option<Found<'a>>) -> Option<Foun
 fn cause_of<'a>(tokens: &'a Tokens<'a>, at: usize, number: u16) -> Option<Found<'a>> {
     let words = Words::new(tokens, at);
     match number {
-        201 | 202 => first_of(construct_near(tokens, at), slip_at(tokens, at)),
+        201 | 202 => first_of(construct_near(tokens, at), grammar_mistake_at(tokens, at)),
         301 => only_instance(construct_at(tokens, at)),
         305 if is_connected_by_names(words) => {
             Some(found_at(words, Construct::OutputExpression, words.word()))

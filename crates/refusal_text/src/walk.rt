@@ -1,7 +1,7 @@
 // Where a word stands, by the words before it: in the head of a module, among its items, in a statement, in a task or a function.
 
 use crate::words::{Words, is, is_name, is_one_of};
-use vlex::TokenKind;
+use vlex::{TokenKind, Tokens};
 
 /// What a word stands in.
 #[derive(Clone, Copy, PartialEq, Eq)]
@@ -612,4 +612,13 @@ impl Walk {
             _ => self.marked(word),
         }
     }
+}
+
+/// Where the word at this place stands, by the words before it.
+pub(crate) fn walk_to<'a>(tokens: &'a Tokens<'a>, at: usize) -> Walk {
+    let mut walk = Walk::new();
+    for before in 0..at {
+        walk = walk.after(Words::new(tokens, before));
+    }
+    walk
 }

@@ -1,7 +1,7 @@
 // Mistakes of the grammar, told by the word that is refused and the words before it. Told of texts that have no tree.
 
 use crate::mistakes::Mistake;
-use crate::walk::{Group, Level, PRINTS, Walk};
+use crate::walk::{Group, Level, PRINTS, Walk, walk_to};
 use crate::words::{Words, is, is_one_of};
 use vlex::{TokenKind, Tokens};
 
@@ -84,17 +84,13 @@ pub(crate) fn is_long_name(words: Words<'_>) -> bool {
 }
 
 /// What is wrong with the word at this place, where the words before it tell.
-pub(crate) fn slip_of<'a>(tokens: &'a Tokens<'a>, at: usize) -> Option<Mistake> {
-    let mut walk = Walk::new();
-    for before in 0..at {
-        walk = walk.after(Words::new(tokens, before));
-    }
+pub(crate) fn grammar_mistake_of<'a>(tokens: &'a Tokens<'a>, at: usize) -> Option<Mistake> {
     let words = Words::new(tokens, at);
     if is_one_of(words.before(1), &PRINTS) && begins_argument(words) {
         return Some(Mistake::OpenArguments);
     }
     match of_types(words) {
         Some(mistake) => Some(mistake),
-        None => of_head(words, walk),
+        None => of_head(words, walk_to(tokens, at)),
     }
 }
