@@ -26,6 +26,10 @@ abbrev pub ChangesOnlySince : Option (List ℕ) → Option (List Vector) → Lis
 ChangesOnlySince touched None new = Unit {0}
 ChangesOnlySince touched (Some old) new = ChangesOnly touched old new
 
+-- values that take over the value of a variable: where they may have differed there and at others, they may at the others alone
+abbrev pub TakesOver : ℕ → List Vector → List Vector → List Vector → Type 0
+TakesOver n old values new = (more : List ℕ) → ChangesOnly (Some (n ∷ more)) old values → ChangesOnly (Some more) new values
+
 -- these may have changed too
 abbrev pub TouchesToo : List ℕ → Option (List ℕ) → Option (List ℕ) → Type 0
 TouchesToo more None new = new ≡ None

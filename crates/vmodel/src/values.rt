@@ -1,12 +1,12 @@
 // The values of all variables, by number (IEEE 1364-2005, 4.2).
 
-ghost use Rattle.std.specs.Prelude.{◌≡◌, ◌≤◌, ℕ, List, ◌∷◌, slice_set, IfOk, OnOk, Some, map};
+ghost use Rattle.std.specs.Prelude.{◌≡◌, ◌≤◌, List, slice_set, IfOk, OnOk, Some, map};
 ghost use Rattle.vbits.specs.Vectors.{Vector};
 ghost use Rattle.vmodel.specs.Parts as spec;
 ghost use Rattle.vmodel.specs.Run.{opening_value};
 ghost use Rattle.vmodel.specs.InnerWaking.{IsChange};
 ghost use Rattle.vmodel.specs.Inner.{value_over, over_one};
-ghost use Rattle.vmodel.specs.Touched.{ChangesOnly};
+ghost use Rattle.vmodel.specs.Touched.{ChangesOnly, TakesOver};
 
 use crate::part::Part;
 use crate::touched::Touched;
@@ -168,7 +168,7 @@ impl Values {
     // The value of a variable in place of its own, where there is one.
     #[tactic(auto, using(crate::proofs::TouchedLemmas::followed_there, crate::proofs::TouchedLemmas::followed_nowhere))]
     fn follow_at(&mut self, values: &[Vec4], variable: u32)
-        ensures { (more : List ℕ) → ChangesOnly (Some (variable ∷ more)) self.old values.now → ChangesOnly (Some more) self.new values.now }
+        ensures { TakesOver variable self.old values.now self.new }
     {
         if let Some(value) = values.get(variable as usize) {
             self.set(variable, *value);
