@@ -12,12 +12,12 @@ use Rattle.vast.specs.NumberedModules.{RangeTree, TypeTree, ParameterType, integ
 use Rattle.vast.specs.declared.statement.Edge.{Edge}
 use Rattle.vast.specs.declared.module.NetKind.{NetKind}
 use Rattle.vast.specs.Expressions.{spell_expression, spell_parts, spell_more_parts}
-use Rattle.vast.specs.Statements.{listed, spell_target, spell_targets, spell_more_targets, spell_delay, spell_optional_delay, spell_edge, spell_term, spell_further_term, spell_event, spell_argument, spell_arguments, spell_path, spell_selection, spell_number, spell_task, case_word, spell_condition, spell_statement, spell_statements, spell_branch, spell_branches}
+use Rattle.vast.specs.Statements.{with_commas, spell_target, spell_targets, spell_more_targets, spell_delay, spell_optional_delay, spell_edge, spell_term, spell_further_term, spell_event, spell_argument, spell_arguments, spell_path, spell_selection, spell_number, spell_task, case_word, spell_condition, spell_statement, spell_statements, spell_branch, spell_branches}
 use Rattle.vast.specs.Modules as plain
 use Rattle.vast.specs.Modules.{spell_range, spell_signed, spell_type, spell_parameter_type, spell_value, spell_declared, spell_net, spell_wire, spell_direction, spell_port, spell_kind, spell_head_parameter, spell_optional, spell_connection, spell_connections, spell_overrides, spell_instance, spell_declaration_kind, spell_item, spell_head_parameters, spell_ports}
 use Rattle.vast.specs.TreeWords.{expression_with, expressions_with, target_with, targets_with, delay_with, term_with, further_with, event_with, argument_with, selection_with, task_with, statement_with, statements_with, branch_with, branches_with, range_with, type_with, parameter_type_with, setting_with, net_assignment_with, declared_with, direction_with, port_with, head_with, connection_with, connections_with, instance_with, declaration_kind_with, item_with}
 use Rattle.action_origins.specs.Lengths.{length_if, word_if, word_where, length_of_each, list_length, expression_length, each_part, parts_length, target_length, each_target, end_of_targets, delay_length, term_length, further_length, event_length, argument_length, arguments_length, path_length, paths_length, selection_length, task_length, assignment_length, pair_length, head_length, for_length, turn_length, default_length, statement_length, statements_length, branch_length, branches_length, range_length, type_length, parameter_type_length, setting_length, net_assignment_length, value_length, declared_length, direction_length, port_length, kind_length, head_parameter_length, connection_length, connections_length, overrides_length, instance_length, declaration_kind_length, item_length, head_parameters_length, ports_length}
-use Rattle.action_origins.specs.Laws.{letters, spelled, spelled_pair, AreLengths}
+use Rattle.action_origins.specs.Laws.{letters, words_of_expression, spelled_pair, AreLengths}
 
 -- words behind others
 pub both : (xs ys : List Text) (n m : ℕ) → n ≡ length xs → m ≡ length ys → n + m ≡ length (xs ++ ys)
@@ -32,7 +32,7 @@ module _ {A B : Type 0} (f : A → B) (size : A → ℕ) (spell : B → List Tex
       let rest : List Text = flat_map (λ other. codes "," ∷ spell other) (map f xs) in
       omega (arith, one x, more_listed xs, length-append (spell (f x)) rest)
 
-  pub list_spelled : (xs : List A) (end : Text) → list_length size xs ≡ length (listed spell (map f xs) ++ end ∷ [])
+  pub list_spelled : (xs : List A) (end : Text) → list_length size xs ≡ length (with_commas spell (map f xs) ++ end ∷ [])
   list_spelled [] end = refl
   list_spelled (x ∷ xs) end =
       let rest : List Text = flat_map (λ other. codes "," ∷ spell other) (map f xs) in
@@ -41,34 +41,34 @@ module _ {A B : Type 0} (f : A → B) (size : A → ℕ) (spell : B → List Tex
 -- ---- expressions
 
 -- round an operator
-combined : (left right : ExpressionTree) (word : Text) → expression_length left ≡ length (spelled left) → expression_length right ≡ length (spelled right) →
-    1 + (expression_length left + expression_length right) ≡ length (spelled left ++ word ∷ spelled right)
-combined left right word one two = omega (arith, one, two, length-append (spelled left) (word ∷ spelled right))
+combined : (left right : ExpressionTree) (word : Text) → expression_length left ≡ length (words_of_expression left) → expression_length right ≡ length (words_of_expression right) →
+    1 + (expression_length left + expression_length right) ≡ length (words_of_expression left ++ word ∷ words_of_expression right)
+combined left right word one two = omega (arith, one, two, length-append (words_of_expression left) (word ∷ words_of_expression right))
 
 mutual
-  pub expression_spelled : (e : ExpressionTree) → expression_length e ≡ length (spelled e)
+  pub expression_spelled : (e : ExpressionTree) → expression_length e ≡ length (words_of_expression e)
   expression_spelled (text.number digits) = refl
   expression_spelled (text.name name) = refl
   expression_spelled (text.time word) = refl
-  expression_spelled (text.bit name index) = omega (arith, expression_spelled index, length-append (spelled index) (codes "]" ∷ []))
+  expression_spelled (text.bit name index) = omega (arith, expression_spelled index, length-append (words_of_expression index) (codes "]" ∷ []))
   expression_spelled (text.part name left right) =
       omega (
         arith,
         expression_spelled left,
         expression_spelled right,
-        length-append (spelled left) (codes ":" ∷ (spelled right ++ codes "]" ∷ [])),
-        length-append (spelled right) (codes "]" ∷ []),
+        length-append (words_of_expression left) (codes ":" ∷ (words_of_expression right ++ codes "]" ∷ [])),
+        length-append (words_of_expression right) (codes "]" ∷ []),
       )
-  expression_spelled (text.parentheses inner) = omega (arith, expression_spelled inner, length-append (spelled inner) (codes ")" ∷ []))
+  expression_spelled (text.parentheses inner) = omega (arith, expression_spelled inner, length-append (words_of_expression inner) (codes ")" ∷ []))
   expression_spelled (text.concatenation parts) = omega (arith, parts_spelled parts (codes "}") [])
   expression_spelled (text.replication count parts) =
       omega (
         arith,
         expression_spelled count,
         parts_spelled parts (codes "}") (codes "}" ∷ []),
-        length-append (spelled count) (codes "{" ∷ (spell_parts (expressions_with letters parts) ++ codes "}" ∷ codes "}" ∷ [])),
+        length-append (words_of_expression count) (codes "{" ∷ (spell_parts (expressions_with letters parts) ++ codes "}" ∷ codes "}" ∷ [])),
       )
-  expression_spelled (text.conversion signed inner) = omega (arith, expression_spelled inner, length-append (spelled inner) (codes ")" ∷ []))
+  expression_spelled (text.conversion signed inner) = omega (arith, expression_spelled inner, length-append (words_of_expression inner) (codes ")" ∷ []))
   expression_spelled (text.apply operator inner) = omega (arith, expression_spelled inner)
   expression_spelled (text.combine operator left right) =
       combined left right _ (expression_spelled left) (expression_spelled right)
@@ -78,8 +78,8 @@ mutual
         expression_spelled condition,
         expression_spelled when_true,
         expression_spelled when_false,
-        length-append (spelled condition) (codes "?" ∷ (spelled when_true ++ codes ":" ∷ spelled when_false)),
-        length-append (spelled when_true) (codes ":" ∷ spelled when_false),
+        length-append (words_of_expression condition) (codes "?" ∷ (words_of_expression when_true ++ codes ":" ∷ words_of_expression when_false)),
+        length-append (words_of_expression when_true) (codes ":" ∷ words_of_expression when_false),
       )
 
   -- with the word that ends them, and what stands behind it
@@ -91,28 +91,28 @@ mutual
         arith,
         expression_spelled one,
         more_parts_spelled more,
-        length-append (spelled one) (spell_more_parts (expressions_with letters more)),
-        length-append (spelled one ++ spell_more_parts (expressions_with letters more)) (end ∷ rest),
+        length-append (words_of_expression one) (spell_more_parts (expressions_with letters more)),
+        length-append (words_of_expression one ++ spell_more_parts (expressions_with letters more)) (end ∷ rest),
       )
 
   more_parts_spelled : (parts : ExpressionTrees) → each_part parts ≡ length (spell_more_parts (expressions_with letters parts))
   more_parts_spelled text.none = refl
   more_parts_spelled (text.first one more) =
-      omega (arith, expression_spelled one, more_parts_spelled more, length-append (spelled one) (spell_more_parts (expressions_with letters more)))
+      omega (arith, expression_spelled one, more_parts_spelled more, length-append (words_of_expression one) (spell_more_parts (expressions_with letters more)))
 
 -- ---- parts of statements
 
 mutual
   pub target_spelled : (t : TargetTree) → target_length t ≡ length (spell_target (target_with letters t))
   target_spelled (written.whole name) = refl
-  target_spelled (written.bit name index) = omega (arith, expression_spelled index, length-append (spelled index) (codes "]" ∷ []))
+  target_spelled (written.bit name index) = omega (arith, expression_spelled index, length-append (words_of_expression index) (codes "]" ∷ []))
   target_spelled (written.part name left right) =
       omega (
         arith,
         expression_spelled left,
         expression_spelled right,
-        length-append (spelled left) (codes ":" ∷ (spelled right ++ codes "]" ∷ [])),
-        length-append (spelled right) (codes "]" ∷ []),
+        length-append (words_of_expression left) (codes ":" ∷ (words_of_expression right ++ codes "]" ∷ [])),
+        length-append (words_of_expression right) (codes "]" ∷ []),
       )
   target_spelled (written.joined targets) = omega (arith, targets_spelled targets)
 
@@ -145,7 +145,7 @@ enclosed xs n is = omega (arith, is, length-append xs (codes ")" ∷ []))
 pub delay_spelled : (amount : DelayTree) → delay_length amount ≡ length (spell_delay (delay_with letters amount))
 delay_spelled (by_number digits) = refl
 delay_spelled (by_name name) = refl
-delay_spelled (by_value amount) = omega (arith, enclosed (spelled amount) (expression_length amount) (expression_spelled amount))
+delay_spelled (by_value amount) = omega (arith, enclosed (words_of_expression amount) (expression_length amount) (expression_spelled amount))
 
 own_delay_spelled : (amount : Option DelayTree) → length_if delay_length amount ≡ length (spell_optional_delay (option_map (delay_with letters) amount))
 own_delay_spelled None = refl
@@ -226,15 +226,15 @@ task_spelled (end_run stops digits) = omega (arith, number_spelled digits)
 
 pub pair_spelled : (target : TargetTree) (value : ExpressionTree) → pair_length target value ≡ length (spelled_pair target value)
 pair_spelled target value =
-    omega (arith, target_spelled target, expression_spelled value, length-append (spell_target (target_with letters target)) (codes "=" ∷ spelled value))
+    omega (arith, target_spelled target, expression_spelled value, length-append (spell_target (target_with letters target)) (codes "=" ∷ words_of_expression value))
 
 pub head_spelled : (keyword : Text) (condition : ExpressionTree) →
     head_length condition ≡ length (keyword ∷ spell_condition (expression_with letters condition))
-head_spelled keyword condition = omega (arith, enclosed (spelled condition) (expression_length condition) (expression_spelled condition))
+head_spelled keyword condition = omega (arith, enclosed (words_of_expression condition) (expression_length condition) (expression_spelled condition))
 
 assignment_spelled : (sign : Text) (target : TargetTree) (amount : Option DelayTree) (value : ExpressionTree) →
     assignment_length target amount value
-    ≡ length (spell_target (target_with letters target) ++ sign ∷ (spell_optional_delay (option_map (delay_with letters) amount) ++ (spelled value ++ codes ";" ∷ [])))
+    ≡ length (spell_target (target_with letters target) ++ sign ∷ (spell_optional_delay (option_map (delay_with letters) amount) ++ (words_of_expression value ++ codes ";" ∷ [])))
 assignment_spelled sign target amount value =
     let own : List Text = spell_optional_delay (option_map (delay_with letters) amount) in
     omega (
@@ -242,22 +242,22 @@ assignment_spelled sign target amount value =
       target_spelled target,
       own_delay_spelled amount,
       expression_spelled value,
-      length-append (spell_target (target_with letters target)) (sign ∷ (own ++ (spelled value ++ codes ";" ∷ []))),
-      length-append own (spelled value ++ codes ";" ∷ []),
-      length-append (spelled value) (codes ";" ∷ []),
+      length-append (spell_target (target_with letters target)) (sign ∷ (own ++ (words_of_expression value ++ codes ";" ∷ []))),
+      length-append own (words_of_expression value ++ codes ";" ∷ []),
+      length-append (words_of_expression value) (codes ";" ∷ []),
     )
 
 -- before anything
 pub for_before : (target : TargetTree) (value condition : ExpressionTree) (rest : List Text) →
     for_length target value condition + length rest
-    ≡ length (codes "for" ∷ codes "(" ∷ (spelled_pair target value ++ codes ";" ∷ (spelled condition ++ codes ";" ∷ rest)))
+    ≡ length (codes "for" ∷ codes "(" ∷ (spelled_pair target value ++ codes ";" ∷ (words_of_expression condition ++ codes ";" ∷ rest)))
 for_before target value condition rest =
     omega (
       arith,
       pair_spelled target value,
       expression_spelled condition,
-      length-append (spelled_pair target value) (codes ";" ∷ (spelled condition ++ codes ";" ∷ rest)),
-      length-append (spelled condition) (codes ";" ∷ rest),
+      length-append (spelled_pair target value) (codes ";" ∷ (words_of_expression condition ++ codes ";" ∷ rest)),
+      length-append (words_of_expression condition) (codes ";" ∷ rest),
     )
 
 pub turn_before : (target : TargetTree) (value : ExpressionTree) (rest : List Text) →
@@ -340,8 +340,8 @@ range_spelled (Some range) =
       arith,
       expression_spelled range.left,
       expression_spelled range.right,
-      length-append (spelled range.left) (codes ":" ∷ (spelled range.right ++ codes "]" ∷ [])),
-      length-append (spelled range.right) (codes "]" ∷ []),
+      length-append (words_of_expression range.left) (codes ":" ∷ (words_of_expression range.right ++ codes "]" ∷ [])),
+      length-append (words_of_expression range.right) (codes "]" ∷ []),
     )
 
 signed_spelled : (signed : Bool) → word_where signed ≡ length (spell_signed signed)
@@ -423,14 +423,14 @@ declaration_kind_spelled (variables net type) = omega (arith, type_spelled type)
 declaration_kind_spelled (integers long) = refl
 declaration_kind_spelled (directed direction) = direction_spelled (Some direction)
 
-settings_spelled : (settings : List SettingTree) → list_length setting_length settings ≡ length (listed plain.spell_setting (map (setting_with letters) settings) ++ codes ";" ∷ [])
+settings_spelled : (settings : List SettingTree) → list_length setting_length settings ≡ length (with_commas plain.spell_setting (map (setting_with letters) settings) ++ codes ";" ∷ [])
 settings_spelled settings = list_spelled (setting_with letters) setting_length plain.spell_setting setting_spelled settings (codes ";")
 
 net_assignment_spelled : (one : NetAssignment) → net_assignment_length one ≡ length (plain.spell_net_assignment (net_assignment_with letters one))
 net_assignment_spelled one = pair_spelled one.target one.value
 
 net_assignments_spelled : (list : List NetAssignment) →
-    list_length net_assignment_length list ≡ length (listed plain.spell_net_assignment (map (net_assignment_with letters) list) ++ codes ";" ∷ [])
+    list_length net_assignment_length list ≡ length (with_commas plain.spell_net_assignment (map (net_assignment_with letters) list) ++ codes ";" ∷ [])
 net_assignments_spelled list =
     list_spelled (net_assignment_with letters) net_assignment_length plain.spell_net_assignment net_assignment_spelled list (codes ";")
 
@@ -440,10 +440,10 @@ item_spelled (parameters local type settings) =
       arith,
       parameter_type_spelled type,
       settings_spelled settings,
-      length-append (spell_parameter_type (parameter_type_with letters type)) (listed plain.spell_setting (map (setting_with letters) settings) ++ codes ";" ∷ []),
+      length-append (spell_parameter_type (parameter_type_with letters type)) (with_commas plain.spell_setting (map (setting_with letters) settings) ++ codes ";" ∷ []),
     )
 item_spelled (declaration kind list) =
-    both (spell_declaration_kind (declaration_kind_with letters kind)) (listed spell_declared (map (declared_with letters) list) ++ codes ";" ∷ []) _ _
+    both (spell_declaration_kind (declaration_kind_with letters kind)) (with_commas spell_declared (map (declared_with letters) list) ++ codes ";" ∷ []) _ _
     (declaration_kind_spelled kind) (list_spelled (declared_with letters) declared_length spell_declared declared_spelled list (codes ";"))
 item_spelled (events names) =
     omega (arith, list_spelled letters (λ name. 1) (λ word. word ∷ []) (λ name. refl) names (codes ";"))
@@ -455,7 +455,7 @@ item_spelled (instances name overrides list) =
       arith,
       overrides_spelled overrides,
       list_spelled (instance_with letters) instance_length spell_instance instance_spelled list (codes ";"),
-      length-append (spell_overrides (option_map (connections_with letters) overrides)) (listed spell_instance (map (instance_with letters) list) ++ codes ";" ∷ []),
+      length-append (spell_overrides (option_map (connections_with letters) overrides)) (with_commas spell_instance (map (instance_with letters) list) ++ codes ";" ∷ []),
     )
 
 pub head_parameters_spelled : (list : Option (List HeadParameter)) →

@@ -2,7 +2,7 @@
 use Rattle.std.proofs.Common.{◌≡◌, ℕ, suc, ◌+◌, ◌-◌, List, [], ◌∷◌, ◌++◌, Vec, Global, Box, sym, ap, ◌∙◌, append_assoc, arith, Option}
 use Rattle.std.specs.List.{flat_map}
 use Rattle.vast.specs.Words.{Text}
-use Rattle.vast.specs.NumberedWords.{numbered, Word}
+use Rattle.vast.specs.NumberedWords.{word_of, Word}
 use Rattle.vast.specs.NumberedStatements.{StatementTree, block, case_of}
 use Rattle.vast.specs.NumberedModules.{ModuleTree, SourceTree}
 use Rattle.vast.specs.NumberedTrees.{tree_of, statement_tree, statement_trees, branch_trees}
@@ -20,11 +20,11 @@ use Rattle.vast.specs.declared.token.Token.{Token}
 module _ (words : List Text) where
   module _ (s : Statement) (label : Option Token) (list : Vec Statement Global) (items : List Statement) (is : s ≡ Block label list) (same : items ≡ list.items) where
     abbrev own : Option Word
-    own = option_map (numbered words) label
+    own = option_map (word_of words) label
 
     block_is : block own (statement_trees words items) ≡ statement_tree words s
     block_is =
-        sym (ap (statement_tree words) is ∙ told_block (numbered words) label list ∙ ap (λ (xs : List Statement). block own (statement_trees words xs)) (sym same))
+        sym (ap (statement_tree words) is ∙ told_block (word_of words) label list ∙ ap (λ (xs : List Statement). block own (statement_trees words xs)) (sym same))
 
     pub block_put : (old new : List ℕ) (left middle : ℕ) → middle ≡ left - begin_length own → new ≡ old ++ statements_origins words middle (statement_trees words items) →
         new ≡ old ++ statement_origins words left (statement_tree words s)
@@ -43,7 +43,7 @@ module _ (words : List Text) where
     case_is =
         sym
         (
-        ap (statement_tree words) is ∙ told_case (numbered words) at kind value branches
+        ap (statement_tree words) is ∙ told_case (word_of words) at kind value branches
         ∙ ap (λ (v : Expression). case_of kind (tree_of words v) (branch_trees words branches.items)) (sym same)
         ∙ ap (λ (bs : List Branch). case_of kind (tree_of words amount) (branch_trees words bs)) (sym these)
         )

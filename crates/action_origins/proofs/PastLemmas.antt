@@ -4,7 +4,7 @@ use Rattle.std.proofs.lemmas.Bool.Decides.{nat_tests}
 use Rattle.std.proofs.lemmas.List.{drop_all}
 use Rattle.basis.proofs.Lists.{left_from}
 use Rattle.vast.specs.Words.{Text}
-use Rattle.vast.specs.NumberedWords.{numbered}
+use Rattle.vast.specs.NumberedWords.{word_of}
 use Rattle.std.specs.Prelude.{Option, option_map}
 use Rattle.vast.specs.NumberedTrees.{tree_of, trees_of, target_tree, target_trees, term_tree, further_term, event_tree, argument_tree, task_tree, connections_tree, instance_tree, item_tree}
 use Rattle.vast.specs.declared.token.Token.{Token}
@@ -79,7 +79,7 @@ module _ (words : List Text) (left result : ℕ) where
       middle ≡ left - 1 → result ≡ middle - parts_length (trees_of words items) → result ≡ left - expression_length (tree_of words e)
   concatenation_past e at parts items middle is same one h =
       let size : expression_length (tree_of words e) ≡ 1 + parts_length (trees_of words items) =
-      ap expression_length (ap (tree_of words) is ∙ told_concatenation (numbered words) at parts) ∙ ap (λ (xs : List Expression). 1 + parts_length (trees_of words xs)) (sym same) in
+      ap expression_length (ap (tree_of words) is ∙ told_concatenation (word_of words) at parts) ∙ ap (λ (xs : List Expression). 1 + parts_length (trees_of words xs)) (sym same) in
       omega (arith, one, h, size)
 
   pub replication_past : (e : Expression) (at : ℕ) (count : Box Expression Global) (parts : Vec Expression Global) (amount : Expression) (items : List Expression) (middle between : ℕ) →
@@ -87,7 +87,7 @@ module _ (words : List Text) (left result : ℕ) where
       middle ≡ left - 3 → between ≡ middle - expression_length (tree_of words amount) → result ≡ between - parts_length (trees_of words items) → result ≡ left - expression_length (tree_of words e)
   replication_past e at count parts amount items middle between is counted same three h g =
       let size : expression_length (tree_of words e) ≡ 3 + (expression_length (tree_of words amount) + parts_length (trees_of words items)) =
-      ap expression_length (ap (tree_of words) is ∙ told_replication (numbered words) at count parts)
+      ap expression_length (ap (tree_of words) is ∙ told_replication (word_of words) at count parts)
       ∙ (λ i. 3 + (expression_length (tree_of words (sym counted i)) + parts_length (trees_of words (sym same i)))) in
       omega (arith, three, h, g, size)
 
@@ -95,7 +95,7 @@ module _ (words : List Text) (left result : ℕ) where
       middle ≡ left - 1 → result ≡ middle - targets_length (target_trees words items) → result ≡ left - target_length (target_tree words t)
   joined_past t at targets items middle is same one h =
       let size : target_length (target_tree words t) ≡ 1 + targets_length (target_trees words items) =
-      ap target_length (ap (target_tree words) is ∙ told_joined (numbered words) at targets) ∙ ap (λ (ts : List Target). 1 + targets_length (target_trees words ts)) (sym same) in
+      ap target_length (ap (target_tree words) is ∙ told_joined (word_of words) at targets) ∙ ap (λ (ts : List Target). 1 + targets_length (target_trees words ts)) (sym same) in
       omega (arith, one, h, size)
 
   pub terms_past : (e : Event) (term : Term) (further : Vec FurtherTerm Global) (items : List FurtherTerm) (a b : ℕ) → e ≡ Terms term further → items ≡ further.items →
@@ -118,18 +118,18 @@ module _ (words : List Text) (left result : ℕ) where
       ap (λ (l : List FurtherTerm). further_length (map (further_term words) l)) is in
       omega (arith, put, same, opened)
 
-  each_name : (names : List Token) → length_of_each (λ name. 1) (map (numbered words) names) ≡ length names + length names
+  each_name : (names : List Token) → length_of_each (λ name. 1) (map (word_of words) names) ≡ length names + length names
   each_name [] = refl
   each_name (x ∷ xs) = omega (arith, each_name xs)
 
-  end_of_names : (names : List Token) → length_of_end (map (numbered words) names) ≡ word_where (length names == 0)
+  end_of_names : (names : List Token) → length_of_end (map (word_of words) names) ≡ word_where (length names == 0)
   end_of_names [] = refl
   end_of_names (x ∷ xs) = some_stand (length xs)
 
   pub names_past : (names : List Token) (is_empty : Bool) (a b : ℕ) → is_empty ≡ (length names == 0) → a ≡ left - word_where is_empty → b ≡ a - length names → result ≡ b - length names →
-      result ≡ left - list_length (λ name. 1) (map (numbered words) names)
+      result ≡ left - list_length (λ name. 1) (map (word_of words) names)
   names_past names is_empty a b is one two three =
-      let end : length_of_end (map (numbered words) names) ≡ word_where is_empty = end_of_names names ∙ ap word_where (sym is) in
+      let end : length_of_end (map (word_of words) names) ≡ word_where is_empty = end_of_names names ∙ ap word_where (sym is) in
       omega (arith, end, each_name names, one, two, three)
 
   pub instances_past : (item : ModuleItem) (name : Token) (overrides : Option Connections) (list : Vec Instance Global) (items : List Instance) (a b : ℕ) →

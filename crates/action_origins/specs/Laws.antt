@@ -16,8 +16,8 @@ abbrev pub letters : Word → Text
 letters word = word.letters
 
 -- the words of an expression
-abbrev pub spelled : ExpressionTree → List Text
-spelled e = spell_expression (expression_with letters e)
+abbrev pub words_of_expression : ExpressionTree → List Text
+words_of_expression e = spell_expression (expression_with letters e)
 
 abbrev pub spelled_pair : TargetTree → ExpressionTree → List Text
 spelled_pair target value = spell_setting (target_with letters target) (expression_with letters value)
@@ -30,7 +30,7 @@ pub record AreLengths : Type 0 where
   -- for ( target = value ; condition ;
   pub for : (target : TargetTree) (value condition : ExpressionTree) →
       for_length target value condition
-      ≡ length (codes "for" ∷ codes "(" ∷ (spelled_pair target value ++ codes ";" ∷ (spelled condition ++ codes ";" ∷ [])))
+      ≡ length (codes "for" ∷ codes "(" ∷ (spelled_pair target value ++ codes ";" ∷ (words_of_expression condition ++ codes ";" ∷ [])))
   -- target = value )
   pub turn : (target : TargetTree) (value : ExpressionTree) → turn_length target value ≡ length (spelled_pair target value ++ codes ")" ∷ [])
   -- default :

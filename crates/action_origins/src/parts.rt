@@ -2,7 +2,7 @@
 
 ghost use Rattle.std.specs.Prelude.{◌≡◌, ◌-◌, ◌+◌, List, map, option_map};
 ghost use Rattle.vast.specs.NumberedTrees.{argument_tree, delay_tree, event_tree, further_term, path_tree, selection_tree, target_tree, target_trees, task_tree, term_tree, tree_of};
-ghost use Rattle.vast.specs.NumberedWords.{numbered};
+ghost use Rattle.vast.specs.NumberedWords.{word_of};
 ghost use Rattle.vast.specs.Words.{Text};
 ghost use Rattle.action_origins.specs.Lengths.{argument_length, arguments_length, assignment_length, delay_length, each_target, event_length, for_length, further_length, head_length, length_if, length_of_each, pair_length, path_length, paths_length, selection_length, target_length, targets_length, task_length, term_length, turn_length, word_if};
 
@@ -194,7 +194,7 @@ fn past_arguments(arguments: &[Argument], left: usize) -> usize
 }
 
 fn past_path(names: &[Token], left: usize) -> usize
-    ensures { (words : List Text) → result ≡ left - path_length (map (numbered words) names.now) }
+    ensures { (words : List Text) → result ≡ left - path_length (map (word_of words) names.now) }
 {
     let len = names.len();
     left.saturating_sub(len)
@@ -223,7 +223,7 @@ fn past_selection(selection: &Option<Selection>, left: usize) -> usize
 
 fn past_number(number: Option<Token>, left: usize) -> usize
     ensures { (words : List Text) → result ≡ left - length_if (λ word. 3)
-        (option_map (numbered words) number) }
+        (option_map (word_of words) number) }
 {
     match number {
         None => left,

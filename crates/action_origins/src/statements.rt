@@ -7,7 +7,7 @@ ghost use Rattle.action_origins.specs.Lengths.{branch_length, branches_length, d
 ghost use Rattle.action_origins.specs.Origins as spec;
 ghost use Rattle.action_origins.specs.Origins.{branch_origins, branches_origins, statement_origins, statements_origins};
 ghost use Rattle.vast.specs.Words.{Text};
-ghost use Rattle.vast.specs.NumberedWords.{numbered};
+ghost use Rattle.vast.specs.NumberedWords.{word_of};
 
 use crate::expressions::past_parts;
 use crate::parts::{
@@ -46,7 +46,7 @@ fn past_default(colon: bool, left: usize) -> usize
 
 fn past_begin(name: &Option<Token>, left: usize) -> usize
     ensures { (words : List Text) →
-        result ≡ left - begin_length (option_map (numbered words) name.now) }
+        result ≡ left - begin_length (option_map (word_of words) name.now) }
 {
     match name {
         None => left.saturating_sub(1),

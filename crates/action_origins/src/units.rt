@@ -4,7 +4,7 @@ ghost use Rattle.std.specs.Prelude.{◌≡◌, ◌-◌, ◌++◌, List, None, So
 ghost use Rattle.std.specs.List.{flat_map};
 ghost use Rattle.vast.specs.NumberedTrees.{connection_tree, connections_tree, declared_tree, instance_tree, item_tree, module_tree, net_assignment, port_tree, source_tree, tree_of};
 ghost use Rattle.vast.specs.NumberedModules.{by_name, by_order};
-ghost use Rattle.vast.specs.NumberedWords.{numbered};
+ghost use Rattle.vast.specs.NumberedWords.{word_of};
 ghost use Rattle.vast.specs.Words.{Text};
 ghost use Rattle.vexpr_parse.specs.Texts.{words_of};
 ghost use Rattle.vmodules.specs.Names.{first_again};
@@ -92,7 +92,7 @@ fn put_driven(
 // What is left behind names and the word that ends them.
 fn past_names(names: &[Token], left: usize) -> usize
     ensures { (words : List Text) →
-        result ≡ left - list_length (λ name. 1) (map (numbered words) names.now) }
+        result ≡ left - list_length (λ name. 1) (map (word_of words) names.now) }
 {
     let len = names.len();
     past_end(names.is_empty(), left)
@@ -171,7 +171,7 @@ fn items_left(tokens: &Tokens<'_>, unit: &ModuleTree) -> usize
 // Puts a name once for each of these values.
 fn put_for_each(name: Token, values: &[Expression], into: &mut Vec<usize>) -> Result<(), NoMemory>
     ensures { (words : List Text) → OnOk result (into.new.items ≡ into.old.items ++ joined_origins
-        (numbered words name) (by_order (map (tree_of words) values.now))) }
+        (word_of words name) (by_order (map (tree_of words) values.now))) }
 {
     for _value in values {
         into.push(name.number as usize)?;
@@ -182,7 +182,7 @@ fn put_for_each(name: Token, values: &[Expression], into: &mut Vec<usize>) -> Re
 // Puts a name once for each of these that has a value.
 fn put_for_valued(name: Token, list: &[Connection], into: &mut Vec<usize>) -> Result<(), NoMemory>
     ensures { (words : List Text) → OnOk result (into.new.items ≡ into.old.items ++ joined_origins
-        (numbered words name) (by_name (map (connection_tree words) list.now))) }
+        (word_of words name) (by_name (map (connection_tree words) list.now))) }
 {
     for one in list {
         if one.value.is_some() {
@@ -199,7 +199,7 @@ fn put_joined(
     into: &mut Vec<usize>,
 ) -> Result<(), NoMemory>
     ensures { OnOk result (into.new.items ≡ into.old.items ++ joined_origins
-        (numbered (words_of tokens.now) instance.now.name)
+        (word_of (words_of tokens.now) instance.now.name)
         (connections_tree (words_of tokens.now) instance.now.connections)) }
 {
     match &instance.connections {

@@ -5,8 +5,8 @@ use Rattle.basis.specs.declared.memory.OrMemory.TheVariants.{Fault, Memory}
 use Rattle.basis.specs.declared.memory.NoMemory.{NoMemory}
 
 -- want of memory as a value; it has nothing to tell
-abbrev pub refused : NoMemory
-refused = record { _refused = tt }
+abbrev pub no_memory : NoMemory
+no_memory = record { _refused = tt }
 
 -- a fault has this reason; want of memory needs none
 abbrev pub Because : {F : Type 0} → (F → Type 0) → OrMemory F → Type 0

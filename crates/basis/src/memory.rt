@@ -1,7 +1,7 @@
 // Want of memory (E901; docs/FAULTS.md), and a fault beside it.
 
 ghost use Rattle.std.specs.Prelude.{◌≡◌};
-ghost use Rattle.basis.specs.Reasons.{refused};
+ghost use Rattle.basis.specs.Reasons.{no_memory};
 ghost use Rattle.basis.specs.declared.memory.OrMemory.TheVariants.{Memory};
 
 use std::alloc::{AllocError, AllocFailed};
@@ -29,7 +29,7 @@ pub enum OrMemory<F> {
 }
 
 impl From<AllocError> for NoMemory {
-    ghost from_gives = { λ _ e. e ≡ refused };
+    ghost from_gives = { λ _ e. e ≡ no_memory };
 
     fn from(_refused: AllocError) -> NoMemory {
         NoMemory { _refused: () }
@@ -37,7 +37,7 @@ impl From<AllocError> for NoMemory {
 }
 
 impl<T: Drop> From<AllocFailed<T>> for NoMemory {
-    ghost from_gives = { λ _ e. e ≡ refused };
+    ghost from_gives = { λ _ e. e ≡ no_memory };
 
     fn from(_refused: AllocFailed<T>) -> NoMemory {
         NoMemory { _refused: () }
@@ -53,7 +53,7 @@ impl<F> From<NoMemory> for OrMemory<F> {
 }
 
 impl<F> From<AllocError> for OrMemory<F> {
-    ghost from_gives = { λ _ e. e ≡ Memory refused };
+    ghost from_gives = { λ _ e. e ≡ Memory no_memory };
 
     fn from(_refused: AllocError) -> OrMemory<F> {
         OrMemory::Memory(NoMemory { _refused: () })
@@ -61,7 +61,7 @@ impl<F> From<AllocError> for OrMemory<F> {
 }
 
 impl<F, T: Drop> From<AllocFailed<T>> for OrMemory<F> {
-    ghost from_gives = { λ _ e. e ≡ Memory refused };
+    ghost from_gives = { λ _ e. e ≡ Memory no_memory };
 
     fn from(_refused: AllocFailed<T>) -> OrMemory<F> {
         OrMemory::Memory(NoMemory { _refused: () })

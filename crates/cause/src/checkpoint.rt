@@ -27,7 +27,7 @@ impl Checkpoint {
     {
         Ok(Checkpoint {
             step: 0,
-            state: machine.opened()?,
+            state: machine.opening_state()?,
             seen: Seen::nothing(alloc),
         })
     }

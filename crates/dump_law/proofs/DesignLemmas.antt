@@ -7,7 +7,7 @@ use Rattle.vast.specs.NumberedModules.{ModuleTree, SourceTree}
 use Rattle.module_size.specs.Sizes.{size_of}
 use Rattle.vdesign.specs.Design.{Variable, Scope, Design}
 use Rattle.vmodules.specs.Ports.{ports_of, own_items}
-use Rattle.velab_declaration.specs.Drives.{Place, start_of, started}
+use Rattle.velab_declaration.specs.Drives.{Place, start_of, with_start_values}
 use Rattle.velab_declaration.specs.Variables.{port_scope}
 use Rattle.velab_expr.specs.declared.fault.ElabFault.{ElabFault}
 use Rattle.vhierarchy.specs.Instances.{Instantiation, Part, Context, scope_of, child_context, each, elaborate_instance, elaborate_top, nothing, top_context, driven_in, Elaborates}
@@ -21,18 +21,18 @@ use Rattle.dump_law.proofs.RangeLemmas.{ports_small, variables_small}
 
 -- what the bits of variables are at first changes no size
 module _ (driven : List Place) where
-  started_long : (n : ℕ) (vs : List Variable) → length (started driven n vs) ≡ length vs
+  started_long : (n : ℕ) (vs : List Variable) → length (with_start_values driven n vs) ≡ length vs
   started_long n [] = refl
   started_long n (v ∷ more) = ap suc (started_long (n + 1) more)
 
-  started_letters : (n : ℕ) (vs : List Variable) → size_of (λ v. length v.name) (started driven n vs) ≡ size_of (λ v. length v.name) vs
+  started_letters : (n : ℕ) (vs : List Variable) → size_of (λ v. length v.name) (with_start_values driven n vs) ≡ size_of (λ v. length v.name) vs
   started_letters n [] = refl
   started_letters n (v ∷ more) = ap (λ (long : ℕ). length v.name + long) (started_letters (n + 1) more)
 
-  started_small : (n : ℕ) (vs : List Variable) → All IsSmallVariable vs → All IsSmallVariable (started driven n vs)
+  started_small : (n : ℕ) (vs : List Variable) → All IsSmallVariable vs → All IsSmallVariable (with_start_values driven n vs)
   started_small n [] all = All-nil IsSmallVariable
   started_small n (v ∷ more) all =
-      All-cons IsSmallVariable (record v { start = start_of driven n v }) (started driven (n + 1) more) (All-head IsSmallVariable v more all)
+      All-cons IsSmallVariable (record v { start = start_of driven n v }) (with_start_values driven (n + 1) more) (All-head IsSmallVariable v more all)
       (started_small (n + 1) more (All-tail IsSmallVariable v more all))
 
 -- what stands in a design so far

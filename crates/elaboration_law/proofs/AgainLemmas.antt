@@ -6,7 +6,7 @@ use Rattle.vdesign.specs.declared.expression.Bounds.{Bounds}
 use Rattle.vmodules.specs.Ports.{Second, own_item}
 use Rattle.vmodules.specs.Placed.{placed_item}
 use Rattle.velab_expr.specs.declared.fault.Rule.TheVariants.{Width}
-use Rattle.velab_expr.specs.Answers.{required}
+use Rattle.velab_expr.specs.Answers.{require}
 use Rattle.velab_expr.specs.Scopes.{Scope}
 use Rattle.velab_expr.specs.Ranges.{lower_bounds}
 use Rattle.velab_expr.specs.Symbols.{symbols_by, behind_item}
@@ -19,7 +19,7 @@ use Rattle.elaboration_law.proofs.StepLemmas.{same_value, then_ok, required_ok}
 pub again_keeps : (scope : Scope) (again : Option Second) (bounds whole : Option Bounds) → lower_again scope again bounds ≡ Ok whole → bounds ≡ whole
 again_keeps scope None bounds whole is = same_value bounds whole is
 again_keeps scope (Some second) bounds whole is =
-    let other = then_ok (lower_bounds scope second.type.range) (λ other. required (same_bounds bounds other) Width (Some second.name) bounds) whole is in
+    let other = then_ok (lower_bounds scope second.type.range) (λ other. require (same_bounds bounds other) Width (Some second.name) bounds) whole is in
     (required_ok (same_bounds bounds other.0) Width (Some second.name) bounds whole other.2).1
 
 -- an item declares the same parameters without the names of ports

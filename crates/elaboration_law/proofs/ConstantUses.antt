@@ -18,7 +18,7 @@ use Rattle.velab_expr.specs.declared.scope.Meaning.{Meaning}
 use Rattle.velab_expr.specs.declared.scope.Meaning.TheVariants.{Variable, Parameter, Event, Instance}
 use Rattle.velab_expr.specs.declared.scope.Operand.TheVariants as operand
 use Rattle.velab_expr.specs.declared.fault.ElabFault.{ElabFault}
-use Rattle.velab_expr.specs.Answers.{required}
+use Rattle.velab_expr.specs.Answers.{require}
 use Rattle.velab_expr.specs.Scopes.{Scope, meaning_at, meaning_of, bounds_for, operand_by, variable_by, event_by}
 use Rattle.format_text.specs.Pieces.{pieces_of}
 use Rattle.velab_expr.specs.FirstWords.{first_argument}
@@ -60,7 +60,7 @@ fixed_in scope (use_of_time constant) = not constant
 fixed_in scope (use_of_formats arguments) = true
 fixed_in scope (use_of_levels levels) = true
 
-required_fits : {A : Type 0} (holds : Bool) (word : Option Word) (x : A) → Judges is_constant holds (required holds Constant word x)
+required_fits : {A : Type 0} (holds : Bool) (word : Option Word) (x : A) → Judges is_constant holds (require holds Constant word x)
 required_fits true word x = refl
 required_fits false word x = λ e. refl
 

@@ -17,7 +17,7 @@ use Rattle.vexpr_parse.proofs.Turning.{le_so}
 use Rattle.velab_expr.specs.declared.fault.Rule.{Rule}
 use Rattle.velab_expr.specs.declared.fault.Rule.TheVariants.{Depth, TooMany}
 use Rattle.velab_expr.specs.declared.fault.ElabFault.{ElabFault}
-use Rattle.velab_expr.specs.Rules.{told, unless}
+use Rattle.velab_expr.specs.Rules.{fault_at, unless}
 use Rattle.velab_expr.specs.Scopes.{Scope}
 use Rattle.velab_declaration.specs.Right.{kind_rule}
 use Rattle.velab_declaration.specs.ActionFlaws.{blank_environment, flaw_rule, table_fault}
@@ -25,7 +25,7 @@ use Rattle.velab_declaration.specs.Drives.{drivers_fault}
 use Rattle.velab_declaration.specs.Variables.{declared_names}
 use Rattle.velab_process.specs.Processes.{Processes as Made}
 use Rattle.vhierarchy.specs.Instances.{Instantiation, scope_of, lower_own_variables, lower_own_processes, with_own, child_context, each, elaborate_instance, elaborate_top, nothing, top_context, Part, Context, letters_held, broken_paths, broken_table, elaborated}
-use Rattle.elaboration_law.specs.Hierarchy.{Instance, instances_in, top_instance, listed}
+use Rattle.elaboration_law.specs.Hierarchy.{Instance, instances_in, top_instance, instances_from}
 use Rattle.elaboration_law.specs.Laws.{IsMeant}
 use Rattle.elaboration_law.specs.Counts.{Counted, Variables, Processes, Instances, NamedEvents, Letters, Sizes, limit, count_in, HasTooMany}
 use Rattle.elaboration_law.proofs.ToldLemmas.{is_local, is_of_connections, untold, untold_fault}
@@ -174,14 +174,14 @@ pub record Exceeds (part : Part) (list : List Instance) : Type 0 where
 
 module _ (modules : SourceTree) (fault : ElabFault) (rule : fault.rule ≡ TooMany) where
   -- each instance is one
-  lists_itself : (levels : ℕ) (one : Instance) → 1 ≤ total Instances (listed levels modules one)
+  lists_itself : (levels : ℕ) (one : Instance) → 1 ≤ total Instances (instances_from levels modules one)
   lists_itself zero one = let sum = sum_by-cons (count_in Instances) one [] in omega (arith, sum)
-  lists_itself (suc levels) one = let sum = sum_by-cons (count_in Instances) one (flat_map (listed levels modules) (instances_in modules one)) in omega (arith, sum)
+  lists_itself (suc levels) one = let sum = sum_by-cons (count_in Instances) one (flat_map (instances_from levels modules) (instances_in modules one)) in omega (arith, sum)
 
-  lists_each : (levels : ℕ) (list : List Instance) → length list ≤ total Instances (flat_map (listed levels modules) list)
+  lists_each : (levels : ℕ) (list : List Instance) → length list ≤ total Instances (flat_map (instances_from levels modules) list)
   lists_each levels [] = omega arith
   lists_each levels (one ∷ more) =
-      let sum = sum_by-append (count_in Instances) (listed levels modules one) (flat_map (listed levels modules) more) in
+      let sum = sum_by-append (count_in Instances) (instances_from levels modules one) (flat_map (instances_from levels modules) more) in
       let here = lists_itself levels one in
       let rest = lists_each levels more in
       omega (arith, sum, here, rest)
@@ -193,9 +193,9 @@ module _ (modules : SourceTree) (fault : ElabFault) (rule : fault.rule ≡ TooMa
     more_names (inr (inr (inl many))) list = let sum = sum_by-cons (count_in Letters) (instance_at context) list in record { what = Letters; many = omega (arith, many, sum) }
     more_names (inr (inr (inr many))) list = let sum = sum_by-cons (count_in Sizes) (instance_at context) list in record { what = Sizes; many = omega (arith, many, sum) }
 
-    more_instances : (levels : ℕ) → 1024 < 0 + length (instances_in modules (instance_at context)) → Exceeds part (instance_at context ∷ flat_map (listed levels modules) (instances_in modules (instance_at context)))
+    more_instances : (levels : ℕ) → 1024 < 0 + length (instances_in modules (instance_at context)) → Exceeds part (instance_at context ∷ flat_map (instances_from levels modules) (instances_in modules (instance_at context)))
     more_instances levels many =
-        let sum = sum_by-cons (count_in Instances) (instance_at context) (flat_map (listed levels modules) (instances_in modules (instance_at context))) in
+        let sum = sum_by-cons (count_in Instances) (instance_at context) (flat_map (instances_from levels modules) (instances_in modules (instance_at context))) in
         let rest = lists_each levels (instances_in modules (instance_at context)) in
         record { what = Instances; many = omega (arith, many, sum, rest) }
 
@@ -221,29 +221,29 @@ module _ (modules : SourceTree) (fault : ElabFault) (rule : fault.rule ≡ TooMa
           absurd (untold is_of_connections (lower_own_processes context (ports_of context.unit) scope part.table) fault TooMany (own_processes_tell context (ports_of context.unit) scope part) refl err rule)
       own_steps_exceed (too_many variables processes ok err) = more_of variables processes ok (few_err context.name (with_own context scope part variables processes) fault err).0
 
-    own_exceeds : (levels : ℕ) → OwnFault modules part context fault → Exceeds part (instance_at context ∷ flat_map (listed levels modules) (instances_in modules (instance_at context)))
-    own_exceeds levels (in_names err) = more_names (many_names part context fault rule err) (flat_map (listed levels modules) (instances_in modules (instance_at context)))
+    own_exceeds : (levels : ℕ) → OwnFault modules part context fault → Exceeds part (instance_at context ∷ flat_map (instances_from levels modules) (instances_in modules (instance_at context)))
+    own_exceeds levels (in_names err) = more_names (many_names part context fault rule err) (flat_map (instances_from levels modules) (instances_in modules (instance_at context)))
     own_exceeds levels (in_instances scope names err) = more_instances levels (many_instances modules context.path fault rule 0 scope.known context.unit.items err)
     own_exceeds levels (in_own scope children names wanted err) =
-        own_steps_exceed scope (flat_map (listed levels modules) (instances_in modules (instance_at context))) (own_told context scope part fault err)
+        own_steps_exceed scope (flat_map (instances_from levels modules) (instances_in modules (instance_at context))) (own_told context scope part fault err)
 
   -- what stands before is held, and what stands behind only adds
   before_is : (levels : ℕ) (scope : Scope) (context : Context) (part next : Part) (one : Instantiation) (more : List Instance) → elaborate_instance levels modules part (child_context scope context one) ≡ Ok next →
-      Exceeds next more → Exceeds part (listed levels modules (instance_of context.path one) ++ more)
+      Exceeds next more → Exceeds part (instances_from levels modules (instance_of context.path one) ++ more)
   before_is levels scope context part next one more ok e =
       let what = e.what in
       let many = e.many in
       let same = gathered context.top modules (λ (a b : ℕ). a + b) (held what) (total what) (counts_gather context.top modules what) levels part (child_context scope context one) next refl ok in
-      let sum = sum_by-append (count_in what) (listed levels modules (instance_of context.path one)) more in
+      let sum = sum_by-append (count_in what) (instances_from levels modules (instance_of context.path one)) more in
       record { what = what; many = omega (arith, many, same, sum) }
 
   behind_adds : (part : Part) (list more : List Instance) → Exceeds part list → Exceeds part (list ++ more)
   behind_adds part list more e = let many = e.many in let sum = sum_by-append (count_in e.what) list more in record { what = e.what; many = omega (arith, many, sum) }
 
   each_exceeds : (levels : ℕ) (scope : Scope) (context : Context) →
-      ((part : Part) (context : Context) → elaborate_instance levels modules part context ≡ Err fault → Exceeds part (listed levels modules (instance_at context))) →
+      ((part : Part) (context : Context) → elaborate_instance levels modules part context ≡ Err fault → Exceeds part (instances_from levels modules (instance_at context))) →
       (part : Part) (list : List Instantiation) → each (λ so_far child. elaborate_instance levels modules so_far (child_context scope context child)) part list ≡ Err fault →
-      Exceeds part (flat_map (listed levels modules) (map (instance_of context.path) list))
+      Exceeds part (flat_map (instances_from levels modules) (map (instance_of context.path) list))
   each_exceeds levels scope context one_by part [] is = absurd cc
   each_exceeds levels scope context one_by part (one ∷ more) is =
       by (then_err (elaborate_instance levels modules part (child_context scope context one)) (λ next. each (λ so_far child. elaborate_instance levels modules so_far (child_context scope context child)) next more) fault is)
@@ -253,10 +253,10 @@ module _ (modules : SourceTree) (fault : ElabFault) (rule : fault.rule ≡ TooMa
           ⊎ ((next : Part) × (elaborate_instance levels modules part (child_context scope context one) ≡ Ok next)
           × (each (λ so_far child. elaborate_instance levels modules so_far (child_context scope context child)) next more ≡ Err fault)) →
           ((next : Part) → each (λ so_far child. elaborate_instance levels modules so_far (child_context scope context child)) next more ≡ Err fault →
-          Exceeds next (flat_map (listed levels modules) (map (instance_of context.path) more))) →
-          Exceeds part (listed levels modules (instance_of context.path one) ++ flat_map (listed levels modules) (map (instance_of context.path) more))
-      by (inl err) rest = behind_adds part (listed levels modules (instance_of context.path one)) (flat_map (listed levels modules) (map (instance_of context.path) more)) (one_by part (child_context scope context one) err)
-      by (inr (next, ok, err)) rest = before_is levels scope context part next one (flat_map (listed levels modules) (map (instance_of context.path) more)) ok (rest next err)
+          Exceeds next (flat_map (instances_from levels modules) (map (instance_of context.path) more))) →
+          Exceeds part (instances_from levels modules (instance_of context.path one) ++ flat_map (instances_from levels modules) (map (instance_of context.path) more))
+      by (inl err) rest = behind_adds part (instances_from levels modules (instance_of context.path one)) (flat_map (instances_from levels modules) (map (instance_of context.path) more)) (one_by part (child_context scope context one) err)
+      by (inr (next, ok, err)) rest = before_is levels scope context part next one (flat_map (instances_from levels modules) (map (instance_of context.path) more)) ok (rest next err)
 
   -- its own is held, too
   own_held : (part : Part) (context : Context) (own : Own modules part context) (list : List Instance) → Exceeds own.whole list → Exceeds part (instance_at context ∷ list)
@@ -266,22 +266,22 @@ module _ (modules : SourceTree) (fault : ElabFault) (rule : fault.rule ≡ TooMa
       let sum = sum_by-cons (count_in e.what) (instance_at context) list in
       record { what = e.what; many = omega (arith, many, more, sum) }
 
-  exceeds : (levels : ℕ) (part : Part) (context : Context) → elaborate_instance levels modules part context ≡ Err fault → Exceeds part (listed levels modules (instance_at context))
+  exceeds : (levels : ℕ) (part : Part) (context : Context) → elaborate_instance levels modules part context ≡ Err fault → Exceeds part (instances_from levels modules (instance_at context))
   exceeds zero part context is =
-      let same : told Depth (Some context.name) ≡ fault = cc in
+      let same : fault_at Depth (Some context.name) ≡ fault = cc in
       absurd (let other : Depth ≡ fault.rule = ap (λ (f : ElabFault). f.rule) same in cc)
   exceeds (suc levels) part context is = by (opened_err modules levels part context fault is) (exceeds levels)
     where
       by : OwnFault modules part context fault ⊎ ((own : Own modules part context) × (below modules levels part context own.scope own.children own.whole ≡ Err fault)) →
-          ((part : Part) (context : Context) → elaborate_instance levels modules part context ≡ Err fault → Exceeds part (listed levels modules (instance_at context))) →
-          Exceeds part (instance_at context ∷ flat_map (listed levels modules) (instances_in modules (instance_at context)))
+          ((part : Part) (context : Context) → elaborate_instance levels modules part context ≡ Err fault → Exceeds part (instances_from levels modules (instance_at context))) →
+          Exceeds part (instance_at context ∷ flat_map (instances_from levels modules) (instances_in modules (instance_at context)))
       by (inl own) rest = own_exceeds part context levels own
       by (inr (own, err)) rest =
-          own_held part context own (flat_map (listed levels modules) (instances_in modules (instance_at context)))
-          (subst (λ (l : List Instance). Exceeds own.whole (flat_map (listed levels modules) l)) (children_are modules context.path 0 own.scope.known context.unit.items own.children own.instances_are)
+          own_held part context own (flat_map (instances_from levels modules) (instances_in modules (instance_at context)))
+          (subst (λ (l : List Instance). Exceeds own.whole (flat_map (instances_from levels modules) l)) (children_are modules context.path 0 own.scope.known context.unit.items own.children own.instances_are)
           (each_exceeds levels own.scope context rest own.whole own.children err))
 
-  top_exceeds : (m : ModuleTree) → elaborate_top modules m ≡ Err fault → Exceeds nothing (listed 16 modules (top_instance m))
+  top_exceeds : (m : ModuleTree) → elaborate_top modules m ≡ Err fault → Exceeds nothing (instances_from 16 modules (top_instance m))
   unfolding elaborate_top
   top_exceeds m is = exceeds 16 nothing (top_context m) is
 
@@ -300,7 +300,7 @@ unless_some true rule word fault is = absurd cc
 unless_some false rule word fault is = refl
 
 module _ (modules : SourceTree) (top : Option Text) where
-  total_is : (what : Counted) (unit : ModuleTree) (part : Part) → elaborate_top modules unit ≡ Ok part → held what part ≡ total what (listed 16 modules (top_instance unit))
+  total_is : (what : Counted) (unit : ModuleTree) (part : Part) → elaborate_top modules unit ≡ Ok part → held what part ≡ total what (instances_from 16 modules (top_instance unit))
   total_is what unit part ok =
       let same = top_gathered unit.name.letters modules (λ (a b : ℕ). a + b) (held what) (total what) (counts_gather unit.name.letters modules what) unit part refl ok in
       let none = nothing_held what in
@@ -358,7 +358,7 @@ module _ (modules : SourceTree) (top : Option Text) where
   counts_never : (scale : Timescale) (design : Design) → elaborated modules top scale ≡ Ok design → ¬ HasTooMany modules top
   counts_never scale design is h =
       let all = all_elaborated modules top scale design is in
-      let same = ap (λ (u : ModuleTree). total h.what (listed 16 modules (top_instance u))) (one_top modules top h.unit all.unit h.is_top all.is_top) in
+      let same = ap (λ (u : ModuleTree). total h.what (instances_from 16 modules (top_instance u))) (one_top modules top h.unit all.unit h.is_top all.is_top) in
       let few = few_top modules h.what all.unit all.part all.is_part in
       let sum = total_is h.what all.unit all.part all.is_part in
       let many = h.many in

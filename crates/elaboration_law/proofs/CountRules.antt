@@ -22,8 +22,8 @@ use Rattle.velab_expr.specs.declared.fault.Rule.TheVariants.{Top, Doubled, TooMa
 use Rattle.velab_expr.specs.declared.fault.ElabFault.{ElabFault}
 use Rattle.velab_expr.specs.declared.scope.Meaning.{Meaning}
 use Rattle.velab_expr.specs.declared.scope.Meaning.TheVariants.{Event}
-use Rattle.velab_expr.specs.Rules.{told}
-use Rattle.velab_expr.specs.Answers.{◌>>=◌, required, provided}
+use Rattle.velab_expr.specs.Rules.{fault_at}
+use Rattle.velab_expr.specs.Answers.{◌>>=◌, require, answer_if}
 use Rattle.velab_expr.specs.Scopes.{Scope, at}
 use Rattle.velab_expr.specs.Symbols.{Symbol, parameter_symbol, event_symbol, instance_symbol, name_in, events_in, symbols_behind, symbols_in_head, symbols_by, valueless_by, behind_item}
 use Rattle.velab_declaration.specs.Parameters.{Overrides, Base, lower_meaning, with_meaning, add_symbol, add_symbols, first_scope, item_scope}
@@ -33,7 +33,7 @@ use Rattle.velab_process.specs.Processes.{ProcessTree, Processes as Made, with_b
 use Rattle.velab_process.specs.Connections.{lower_connection, lower_join, lower_joins, one_process}
 use Rattle.vhierarchy.specs.Instances.{barring, Instantiation, lower_list, named_again, lower_instances_of, lower_instances_by, lower_instances, Part, Context, base_of, lower_names, lower_own_processes, has_room, letters_held, letters_added}
 use Rattle.elaboration_law.specs.Hierarchy.{instance_by, instances_of, instances_by}
-use Rattle.elaboration_law.specs.Counts.{connected, events_by}
+use Rattle.elaboration_law.specs.Counts.{values_connected, events_by}
 use Rattle.elaboration_law.proofs.ToldLemmas.{is_local, is_of_connections, untold}
 use Rattle.elaboration_law.proofs.ModuleRules.{lower_parameter_tells, list_tells}
 use Rattle.elaboration_law.proofs.StepLemmas.{same_value, then_ok, then_err, provided_ok, provided_err, required_ok, required_err, barring_ok, barring_err}
@@ -93,7 +93,7 @@ items_counted scope table (item ∷ more) made is =
     ∙ sym (length-append (process_trees_by item) (flat_map process_trees_by more))
 
 pub own_processes_counted : (context : Context) (scope : Scope) (table : Table) (made : Made) → lower_own_processes context (ports_of context.unit) scope table ≡ Ok made →
-    length made.begins ≡ length (connected (instance_at context)) + length (flat_map process_trees_by (placed_items context.path context.unit))
+    length made.begins ≡ length (values_connected (instance_at context)) + length (flat_map process_trees_by (placed_items context.path context.unit))
 own_processes_counted context scope table made is =
     let joins = then_ok (lower_joins context.name context.overrides.scope scope context.connections table (ports_of context.unit))
     (λ joins. with_begins_before joins.begins (lower_items scope joins.table (placed_items context.path context.unit))) made is in
@@ -110,7 +110,7 @@ events_of list = sum_by events_in list
 module _ (overrides : Overrides) where
   one_counted : (scope next : Scope) (one : Symbol) → add_symbol overrides scope one ≡ Ok next → next.events ≡ scope.events + events_in one
   one_counted scope next one is =
-      let meaning = then_ok (lower_meaning overrides scope one) (λ meaning. required (not (is_declared scope.names (name_in one).letters)) Doubled (Some (name_in one)) (with_meaning scope one meaning)) next is in
+      let meaning = then_ok (lower_meaning overrides scope one) (λ meaning. require (not (is_declared scope.names (name_in one).letters)) Doubled (Some (name_in one)) (with_meaning scope one meaning)) next is in
       sym (ap (λ (s : Scope). s.events) (required_ok (not (is_declared scope.names (name_in one).letters)) Doubled (Some (name_in one)) (with_meaning scope one meaning.0) next meaning.2).1)
 
   pub symbols_counted : (scope next : Scope) (list : List Symbol) → add_symbols overrides scope list ≡ Ok next → next.events ≡ scope.events + events_of list
@@ -134,7 +134,7 @@ module _ (overrides : Overrides) where
   few_symbols scope next [] is few = let same = ap (λ (s : Scope). s.events) (same_value scope next is) in omega (arith, same, few)
   few_symbols scope next (one ∷ more) is few =
       let front = then_ok (add_symbol overrides scope one) (λ s. add_symbols overrides s more) next is in
-      let meaning = then_ok (lower_meaning overrides scope one) (λ meaning. required (not (is_declared scope.names (name_in one).letters)) Doubled (Some (name_in one)) (with_meaning scope one meaning)) front.0 front.1 in
+      let meaning = then_ok (lower_meaning overrides scope one) (λ meaning. require (not (is_declared scope.names (name_in one).letters)) Doubled (Some (name_in one)) (with_meaning scope one meaning)) front.0 front.1 in
       let first = one_counted scope front.0 one front.1 in
       let bound = few_meaning scope one meaning.0 meaning.1 few in
       few_symbols front.0 next more front.2 (omega (arith, first, bound))
@@ -149,7 +149,7 @@ module _ (overrides : Overrides) where
 
     many_one : (scope : Scope) (one : Symbol) →
         (lower_meaning overrides scope one ≡ Err fault)
-        ⊎ ((meaning : Meaning) × (lower_meaning overrides scope one ≡ Ok meaning) × (required (not (is_declared scope.names (name_in one).letters)) Doubled (Some (name_in one)) (with_meaning scope one meaning) ≡ Err fault)) →
+        ⊎ ((meaning : Meaning) × (lower_meaning overrides scope one ≡ Ok meaning) × (require (not (is_declared scope.names (name_in one).letters)) Doubled (Some (name_in one)) (with_meaning scope one meaning) ≡ Err fault)) →
         4294967295 < scope.events + events_in one
     many_one scope one (inl err) = many_meaning scope one err
     many_one scope one (inr (meaning, ok, err)) =
@@ -162,7 +162,7 @@ module _ (overrides : Overrides) where
         by : (add_symbol overrides scope one ≡ Err fault) ⊎ ((next : Scope) × (add_symbol overrides scope one ≡ Ok next) × (add_symbols overrides next more ≡ Err fault)) →
             ((next : Scope) → add_symbols overrides next more ≡ Err fault → 4294967295 < next.events + events_of more) → 4294967295 < scope.events + events_of (one ∷ more)
         by (inl err) rest =
-            let many = many_one scope one (then_err (lower_meaning overrides scope one) (λ meaning. required (not (is_declared scope.names (name_in one).letters)) Doubled (Some (name_in one)) (with_meaning scope one meaning)) fault err) in
+            let many = many_one scope one (then_err (lower_meaning overrides scope one) (λ meaning. require (not (is_declared scope.names (name_in one).letters)) Doubled (Some (name_in one)) (with_meaning scope one meaning)) fault err) in
             let sum = sum_by-cons events_in one more in
             omega (arith, many, sum)
         by (inr (next, ok, err)) rest =
@@ -305,14 +305,14 @@ pub record NamesCounted (part : Part) (context : Context) (scope : Scope) : Type
 
 module _ (part : Part) (context : Context) where
   abbrev counted : Result Scope ElabFault
-  counted = provided (has_room part context) TooMany (Some context.name) (item_scope (base_of part context) context.unit)
+  counted = answer_if (has_room part context) TooMany (Some context.name) (item_scope (base_of part context) context.unit)
 
   abbrev fewer : Bool
   fewer = nat_le (length part.variables + length (declared_names context.unit)) 1024
 
   pub names_counted : (scope : Scope) → lower_names part context ≡ Ok scope → NamesCounted part context scope
   names_counted scope is =
-      let again = barring_ok (first_again (declared_names context.unit)) Doubled (provided fewer TooMany (Some context.name) counted) scope is in
+      let again = barring_ok (first_again (declared_names context.unit)) Doubled (answer_if fewer TooMany (Some context.name) counted) scope is in
       let few = provided_ok fewer TooMany (Some context.name) counted scope again.1 in
       let inner = provided_ok (has_room part context) TooMany (Some context.name) (item_scope (base_of part context) context.unit) scope few.1 in
       let events = nat_le part.events 4294967295 in
@@ -353,20 +353,20 @@ module _ (part : Part) (context : Context) where
     in_fewer (inl (many, other)) = inl (gt_of (length part.variables + length (declared_names context.unit)) 1024 many)
     in_fewer (inr (ok, err)) = in_counted (provided_err (has_room part context) TooMany (Some context.name) (item_scope (base_of part context) context.unit) fault err)
 
-    in_variables : ((w : Word) × (first_again (declared_names context.unit) ≡ Some w) × (fault.rule ≡ Doubled)) ⊎ ((first_again (declared_names context.unit) ≡ None) × (provided fewer TooMany (Some context.name) counted ≡ Err fault)) →
+    in_variables : ((w : Word) × (first_again (declared_names context.unit) ≡ Some w) × (fault.rule ≡ Doubled)) ⊎ ((first_again (declared_names context.unit) ≡ None) × (answer_if fewer TooMany (Some context.name) counted ≡ Err fault)) →
         ManyNames
     in_variables (inl (w, again, other)) = absurd cc
     in_variables (inr (none, err)) = in_fewer (provided_err fewer TooMany (Some context.name) counted fault err)
 
     pub many_names : lower_names part context ≡ Err fault → ManyNames
-    many_names is = in_variables (barring_err (first_again (declared_names context.unit)) Doubled (provided fewer TooMany (Some context.name) counted) fault is)
+    many_names is = in_variables (barring_err (first_again (declared_names context.unit)) Doubled (answer_if fewer TooMany (Some context.name) counted) fault is)
 
 -- ---- instances
 
 module _ (modules : SourceTree) (path : Text) (fault : ElabFault) (rule : fault.rule ≡ TooMany) where
   of_many : (name : Word) (before known : ℕ) (found : Option ModuleTree) (overrides : Option ConnectionsTree) (list : List InstanceTree) →
       lower_instances_of name before known found overrides list ≡ Err fault → 1024 < before + length (instances_of path found list)
-  of_many name before known None overrides list is = let same : told Top (Some name) ≡ fault = cc in absurd (let other : Top ≡ fault.rule = ap (λ (f : ElabFault). f.rule) same in cc)
+  of_many name before known None overrides list is = let same : fault_at Top (Some name) ≡ fault = cc in absurd (let other : Top ≡ fault.rule = ap (λ (f : ElabFault). f.rule) same in cc)
   of_many name before known (Some m) overrides list is =
       by (provided_err (nat_le (before + length list) 1024) TooMany (Some name) (barring (named_again m) Doubled (lower_list m known overrides list)) fault is)
     where

@@ -18,10 +18,10 @@ use Rattle.velab_expr.specs.declared.fault.Rule.TheVariants.{Width, Constant, Ki
 use Rattle.velab_expr.specs.declared.fault.ElabFault.{ElabFault}
 use Rattle.velab_expr.specs.declared.scope.Operand.{Operand}
 use Rattle.velab_expr.specs.declared.scope.Operand.TheVariants as operand
-use Rattle.velab_expr.specs.Answers.{◌>>=◌, required, found, unflawed}
+use Rattle.velab_expr.specs.Answers.{◌>>=◌, require, found, unless_flawed}
 use Rattle.velab_expr.specs.FirstWords.{first_in, first_among}
 use Rattle.velab_expr.specs.Scopes.{Scope, lower_name, lower_variable, lower_event}
-use Rattle.velab_expr.specs.Constants.{nothing, worth, measured, bound_in, part_bounds}
+use Rattle.velab_expr.specs.Constants.{nothing, worth, checked_worth, bound_in, part_bounds}
 use Rattle.velab_expr.specs.Resolved.{plain, part_in, count_of, few, lower, lower_parts, lower_expression, lower_constant, lower_value}
 use Rattle.velab_expr.specs.Ranges.{span, lower_bound, lower_range, lower_bounds}
 use Rattle.velab_expr.specs.Written as written
@@ -88,10 +88,10 @@ module _ (q : Question) (scope : Scope) where
 
   -- ---- expressions
 
-  unflawed_knows : {A : Type 0} (e : ExpressionTree) (word : Option Word) (x : A) → Judges q.asked true (unflawed (flaw_of nothing e) word x)
+  unflawed_knows : {A : Type 0} (e : ExpressionTree) (word : Option Word) (x : A) → Judges q.asked true (unless_flawed (flaw_of nothing e) word x)
   unflawed_knows {A = A} e word x = by (flaw_of nothing e) (sizes_only e)
     where
-      by : (flaw : Option Flaw) → IsOfSize flaw → Judges q.asked true (unflawed flaw word x)
+      by : (flaw : Option Flaw) → IsOfSize flaw → Judges q.asked true (unless_flawed flaw word x)
       by None h = refl
       by (Some NoBits) h = absurd h
       by (Some Size) h = λ e. absurd (let no = q.no_width in cc)
@@ -104,26 +104,26 @@ module _ (q : Question) (scope : Scope) where
   few_knows : (uses : List Use) (parts : text.ExpressionTrees) (a : Result ExpressionTree ElabFault) → Fits q scope uses a → Fits q scope uses (few parts a)
   few_knows uses parts a h = provided_judges q.asked (list_all (q.fits scope) uses) (nat_le (count_of parts) 64) Width (first_among parts) a q.no_width h
 
-  measured_knows : (tree : text.ExpressionTree) → Fits q scope (used_in true tree) (lower true scope tree) → Fits q scope (used_in true tree) (lower true scope tree >>= measured (first_in tree))
-  measured_knows tree h = last q scope (used_in true tree) (lower true scope tree) (measured (first_in tree)) h (λ e. unflawed_knows e (first_in tree) (worth e))
+  measured_knows : (tree : text.ExpressionTree) → Fits q scope (used_in true tree) (lower true scope tree) → Fits q scope (used_in true tree) (lower true scope tree >>= checked_worth (first_in tree))
+  measured_knows tree h = last q scope (used_in true tree) (lower true scope tree) (checked_worth (first_in tree)) h (λ e. unflawed_knows e (first_in tree) (worth e))
 
   mutual
     pub lower_knows : (fixed : Bool) (tree : text.ExpressionTree) → Fits q scope (used_in fixed tree) (lower fixed scope tree)
     lower_knows fixed (text.number digits) = refl
     lower_knows fixed (text.name letters) = last q scope (use_of Read fixed letters ∷ []) (lower_name fixed scope letters) _ (value_is_known fixed letters) (λ operand. refl)
-    lower_knows fixed (text.time word) = single q scope (use_of_time fixed) (required (not fixed) Constant (Some word) time) (q.of_time fixed scope (Some word) time)
+    lower_knows fixed (text.time word) = single q scope (use_of_time fixed) (require (not fixed) Constant (Some word) time) (q.of_time fixed scope (Some word) time)
     lower_knows fixed (text.bit letters index) =
         both q scope (use_of ReadIn fixed letters ∷ []) (used_in fixed index) (lower_name fixed scope letters) _ (bits_know fixed letters) (λ operand.
         last q scope (used_in fixed index) (lower fixed scope index) _ (lower_knows fixed index) (λ place. refl))
     lower_knows fixed (text.part letters left right) =
         both q scope (use_of ReadIn fixed letters ∷ []) (used_in true left ++ used_in true right) (lower_name fixed scope letters) _ (bits_know fixed letters) (λ operand.
-        both q scope (used_in true left) (used_in true right) (lower true scope left >>= measured (first_in left)) _ (measured_knows left (lower_knows true left)) (λ high.
-        last q scope (used_in true right) (lower true scope right >>= measured (first_in right)) _ (measured_knows right (lower_knows true right)) (λ low.
+        both q scope (used_in true left) (used_in true right) (lower true scope left >>= checked_worth (first_in left)) _ (measured_knows left (lower_knows true left)) (λ high.
+        last q scope (used_in true right) (lower true scope right >>= checked_worth (first_in right)) _ (measured_knows right (lower_knows true right)) (λ low.
         part_knows operand (part_bounds high low) letters)))
     lower_knows fixed (text.parentheses inner) = lower_knows fixed inner
     lower_knows fixed (text.concatenation parts) = few_knows (used_in_parts fixed parts) parts (lower_parts fixed scope parts) (parts_know fixed parts)
     lower_knows fixed (text.replication count parts) =
-        both q scope (used_in true count) (used_in_parts fixed parts) (lower true scope count >>= measured (first_in count)) _ (measured_knows count (lower_knows true count)) (λ amount.
+        both q scope (used_in true count) (used_in_parts fixed parts) (lower true scope count >>= checked_worth (first_in count)) _ (measured_knows count (lower_knows true count)) (λ amount.
         last q scope (used_in_parts fixed parts) (few parts (lower_parts fixed scope parts)) _ (few_knows (used_in_parts fixed parts) parts (lower_parts fixed scope parts) (parts_know fixed parts)) (λ e. refl))
     lower_knows fixed (text.conversion signed inner) = last q scope (used_in fixed inner) (lower fixed scope inner) _ (lower_knows fixed inner) (λ operand. refl)
     lower_knows fixed (text.apply operator inner) = last q scope (used_in fixed inner) (lower fixed scope inner) _ (lower_knows fixed inner) (λ operand. refl)

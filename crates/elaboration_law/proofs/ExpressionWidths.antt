@@ -27,10 +27,10 @@ use Rattle.velab_expr.specs.declared.scope.Meaning.{Meaning}
 use Rattle.velab_expr.specs.declared.scope.Meaning.TheVariants.{Variable, Parameter, Event, Instance}
 use Rattle.velab_expr.specs.declared.scope.Operand.{Operand}
 use Rattle.velab_expr.specs.declared.scope.Operand.TheVariants as operand
-use Rattle.velab_expr.specs.Answers.{◌>>=◌, required, provided, found, unflawed}
+use Rattle.velab_expr.specs.Answers.{◌>>=◌, require, answer_if, found, unless_flawed}
 use Rattle.velab_expr.specs.FirstWords.{first_in, first_among}
 use Rattle.velab_expr.specs.Scopes.{Scope, meaning_of, bounds_for, operand_by, lower_name}
-use Rattle.velab_expr.specs.Constants.{nothing, worth, measured, bound_in, part_bounds, count_in}
+use Rattle.velab_expr.specs.Constants.{nothing, worth, checked_worth, bound_in, part_bounds, count_in}
 use Rattle.velab_expr.specs.Resolved.{plain, operand_tree, bit_in, count_of, few, times, lower, lower_parts, lower_constant, lower_value}
 use Rattle.velab_expr.specs.Resolved as resolved
 use Rattle.velab_expr.specs.Ranges.{span, lower_bound, narrow, lower_bounds}
@@ -165,10 +165,10 @@ IsMeasured meaning holds (Ok v) = (v ≡ worth meaning) × (holds ≡ true)
 IsMeasured meaning holds (Err fault) = is_width fault.rule ≡ true → holds ≡ false
 
 pub measured_is : (word : Option Word) (meaning : ExpressionTree) (holds : Bool) (a : Result ExpressionTree ElabFault) → Sizes true nothing meaning holds a →
-    IsMeasured meaning holds (a >>= measured word)
+    IsMeasured meaning holds (a >>= checked_worth word)
 measured_is word meaning holds (Ok e) h = by (flaw_of nothing e) h.says
   where
-    by : (flaw : Option Flaw) → Says flaw holds → IsMeasured meaning holds (unflawed flaw word (worth e))
+    by : (flaw : Option Flaw) → Says flaw holds → IsMeasured meaning holds (unless_flawed flaw word (worth e))
     by None s = (ap worth (h.same refl), s)
     by (Some NoBits) s = λ no. absurd cc
     by (Some Size) s = λ is. s
@@ -197,7 +197,7 @@ module _ (fixed : Bool) (now : Environment) where
       record { same = λ f. ap (λ (x : Worth). plain x.value) (sym s); size = ap (λ (x : Worth). length x.value.letters) (sym s); says = refl }
   name_sizes w (Err fault) s = λ e. absurd cc
 
-  time_sizes : (f : Bool) (word : Word) → Sizes f now design.time true (required (not f) Constant (Some word) design.time)
+  time_sizes : (f : Bool) (word : Word) → Sizes f now design.time true (require (not f) Constant (Some word) design.time)
   time_sizes true word = λ e. absurd cc
   time_sizes false word = record { same = λ f. refl; size = refl; says = refl }
 
@@ -228,7 +228,7 @@ module _ (fixed : Bool) (now : Environment) where
       (by (is_part bounds selected))
     where
       by : (test : Bool) → Sizes fixed now (plain (part_of value bounds selected (part_size selected))) test
-          (required test Width (Some name) (plain (part_of value bounds selected (part_size selected))))
+          (require test Width (Some name) (plain (part_of value bounds selected (part_size selected))))
       by true = record { same = λ f. refl; size = refl; says = refl }
       by false = λ e. refl
 
@@ -319,7 +319,7 @@ module _ (named : Text → Worth) (vectors : AreVectors named) (fixed : Bool) (n
   few_sizes parts a h = by (nat_le (count_of parts) 64) refl a h
     where
       by : (test : Bool) → nat_le (count_of parts) 64 ≡ test → (a : Result ExpressionTree ElabFault) → PartsSizes parts a →
-          Sizes fixed now (meant_parts named parts) (are_joined parts) (provided test Width (first_among parts) a)
+          Sizes fixed now (meant_parts named parts) (are_joined parts) (answer_if test Width (first_among parts) a)
       by true is (Ok e) h = h
       by true is (Err fault) h = λ e. first_false (are_sized named parts) (nat_le (joined_size named parts) 64) (h e)
       by false is a h =
@@ -364,13 +364,13 @@ module _ (scope : Scope) (named : Text → Worth) (vectors : AreVectors named) w
   name_stands fixed now h name = by (meaning_of scope name) refl
     where
       read : (number : ℕ) (f : Bool) → f ≡ fixed → meaning_of scope name ≡ Some (Variable number) →
-          AnswerStands fixed now (named name.letters) (required (not f) Constant (Some name) (operand.Variable number))
+          AnswerStands fixed now (named name.letters) (require (not f) Constant (Some name) (operand.Variable number))
       read number true e is = refl
       read number false e is =
           let both = h.of_variable name number (sym e) is in record { free = sym e; long = both.0; ranged = both.1 }
 
       set : (test : Bool) (value : Vector) (bounds : Option Bounds) (before : ℕ) → meaning_of scope name ≡ Some (Parameter value bounds before) →
-          AnswerStands fixed now (named name.letters) (required test Unknown (Some name) (operand.Parameter value (bounds_for value bounds)))
+          AnswerStands fixed now (named name.letters) (require test Unknown (Some name) (operand.Parameter value (bounds_for value bounds)))
       set true value bounds before is = h.of_parameter name value bounds before is
       set false value bounds before is = refl
 
@@ -383,7 +383,7 @@ module _ (scope : Scope) (named : Text → Worth) (vectors : AreVectors named) w
 
   -- lowered as a constant, an expression is worth what is meant
   measured_as : (tree : text.ExpressionTree) → Sizes true nothing (meant named tree) (is_sized named tree) (lower true scope tree) →
-      IsMeasured (meant named tree) (is_sized named tree) (lower true scope tree >>= measured (first_in tree))
+      IsMeasured (meant named tree) (is_sized named tree) (lower true scope tree >>= checked_worth (first_in tree))
   measured_as tree h = measured_is (first_in tree) (meant named tree) (is_sized named tree) (lower true scope tree) h
 
   mutual
@@ -397,14 +397,14 @@ module _ (scope : Scope) (named : Text → Worth) (vectors : AreVectors named) w
         (name_stands fixed now h letters) (lower_sizes fixed now h index)
     lower_sizes fixed now h (text.part letters left right) =
         part_sizes fixed now (named letters.letters) (meant named left) (meant named right) (is_sized named left) (is_sized named right) letters
-        (lower_name fixed scope letters) (lower true scope left >>= measured (first_in left)) (lower true scope right >>= measured (first_in right))
+        (lower_name fixed scope letters) (lower true scope left >>= checked_worth (first_in left)) (lower true scope right >>= checked_worth (first_in right))
         (name_stands fixed now h letters) (measured_as left (lower_sizes true nothing (worth_of_constants fixed now scope named h) left))
         (measured_as right (lower_sizes true nothing (worth_of_constants fixed now scope named h) right))
     lower_sizes fixed now h (text.parentheses inner) = lower_sizes fixed now h inner
     lower_sizes fixed now h (text.concatenation parts) = few_sizes named vectors fixed now parts (lower_parts fixed scope parts) (parts_sizes fixed now h parts)
     lower_sizes fixed now h (text.replication count parts) =
         times_sizes fixed now (meant named count) (meant_parts named parts) (is_sized named count) (are_sized named parts && nat_le (joined_size named parts) 64)
-        (lower true scope count >>= measured (first_in count)) (few parts (lower_parts fixed scope parts))
+        (lower true scope count >>= checked_worth (first_in count)) (few parts (lower_parts fixed scope parts))
         (measured_as count (lower_sizes true nothing (worth_of_constants fixed now scope named h) count))
         (few_sizes named vectors fixed now parts (lower_parts fixed scope parts) (parts_sizes fixed now h parts))
     lower_sizes fixed now h (text.conversion signed inner) =
@@ -439,13 +439,13 @@ module _ (scope : Scope) (named : Text → Worth) (vectors : AreVectors named) w
   constant_sizes h tree = by (lower true scope tree) (lower_sizes true nothing h tree)
     where
       told : (e : ExpressionTree) → e ≡ meant named tree → (flaw : Option Flaw) → Says flaw (is_sized named tree) →
-          IsConstant (meant named tree) (is_sized named tree) (unflawed flaw (first_in tree) e)
+          IsConstant (meant named tree) (is_sized named tree) (unless_flawed flaw (first_in tree) e)
       told e is None s = (is, s)
       told e is (Some NoBits) s = λ no. absurd cc
       told e is (Some Size) s = λ f. s
 
       by : (a : Result ExpressionTree ElabFault) → Sizes true nothing (meant named tree) (is_sized named tree) a →
-          IsConstant (meant named tree) (is_sized named tree) (a >>= λ e. unflawed (flaw_of nothing e) (first_in tree) e)
+          IsConstant (meant named tree) (is_sized named tree) (a >>= λ e. unless_flawed (flaw_of nothing e) (first_in tree) e)
       by (Ok e) k = told e (k.same refl) (flaw_of nothing e) k.says
       by (Err fault) k = k
 
@@ -478,7 +478,7 @@ module _ (scope : Scope) (named : Text → Worth) (vectors : AreVectors named) w
       few = nat_le (span (selected_by named range.left range.right)) 64
 
       told : (bounds : Bounds) → bounds ≡ selected_by named range.left range.right → (test : Bool) → nat_le (span bounds) 64 ≡ test → left ≡ true → right ≡ true →
-          IsRange named (Some range) (is_range named (Some range)) (required test Width (first_in range.left) bounds >>= λ bounds. Ok (Some bounds))
+          IsRange named (Some range) (is_range named (Some range)) (require test Width (first_in range.left) bounds >>= λ bounds. Ok (Some bounds))
       told bounds is true e l r = (ap Some is, and_both left (right && few) l (and_both right few r (ap (λ (b : Bounds). nat_le (span b) 64) (sym is) ∙ e)))
       told bounds is false e l r = λ f. second_false left (right && few) (second_false right few (ap (λ (b : Bounds). nat_le (span b) 64) (sym is) ∙ e))
 

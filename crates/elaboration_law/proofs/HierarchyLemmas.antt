@@ -11,19 +11,19 @@ use Rattle.vdesign.specs.Design.{Design}
 use Rattle.vmodules.specs.Names.{letters_of, first_again}
 use Rattle.vmodules.specs.Hierarchy.{module_names, module_of, top_of, rival_of}
 use Rattle.vmodules.specs.Ports.{ports_of}
-use Rattle.vmodules.specs.Misdeclared.{Misdeclared, misdeclared}
+use Rattle.vmodules.specs.Misdeclared.{Misdeclared, first_misdeclared}
 use Rattle.vmodules.specs.declared.misdeclared.PortFlaw.{PortFlaw}
 use Rattle.vmodules.specs.declared.misdeclared.PortFlaw.TheVariants as flaw
 use Rattle.vmodules.specs.Connected.{open_names, misfit, misfit_if}
 use Rattle.velab_expr.specs.declared.fault.Rule.{Rule}
 use Rattle.velab_expr.specs.declared.fault.Rule.TheVariants.{Top, Doubled, Unknown, Drivers, Ports, Width, Constant, Depth, TooMany, Kind}
 use Rattle.velab_expr.specs.declared.fault.ElabFault.{ElabFault}
-use Rattle.velab_expr.specs.Rules.{told}
+use Rattle.velab_expr.specs.Rules.{fault_at}
 use Rattle.velab_expr.specs.Answers.{◌>>=◌, found}
 use Rattle.velab_expr.specs.Scopes.{Scope}
 use Rattle.velab_expr.specs.Symbols.{symbols_by}
 use Rattle.velab_declaration.specs.Variables.{port_names}
-use Rattle.vhierarchy.specs.Instances.{rule_of_port, broken_ports, unbroken, top_whole, faultless, Instantiation, instantiation_by, lower_instance, lower_list, named_again, lower_instances_of, lower_instances_by, lower_instances, Part, Context, lower_names, lower_own, child_context, each, elaborate_instance, nothing, top_context, elaborate_top, design_by, broken_design, Whole, checked, whole_of, elaborated_whole, elaborated}
+use Rattle.vhierarchy.specs.Instances.{rule_of_port, broken_ports, unless_fault, top_whole, faultless, Instantiation, instantiation_by, lower_instance, lower_list, named_again, lower_instances_of, lower_instances_by, lower_instances, Part, Context, lower_names, lower_own, child_context, each, elaborate_instance, nothing, top_context, elaborate_top, design_by, broken_design, Whole, check, whole_of, elaborated_whole, elaborated}
 use Rattle.elaboration_law.specs.Hierarchy.{Instance, instance_by, instances_of, instances_by, instances_in, StandsBelow, top_instance}
 use Rattle.elaboration_law.proofs.StepLemmas.{same_value, then_ok, then_err, provided_ok, barring_ok, barring_err, found_ok, found_err, contains_first, contains_more, contains_none, contains_mapped, mapped_contains}
 
@@ -197,7 +197,7 @@ module _ (modules : SourceTree) (fault : ElabFault) where
   one_deeper levels top child inside (by_own depth part context stands own) = by_own (suc depth) part context (child, inside, stands) own
 
   pub told_below : (levels : ℕ) (part : Part) (context : Context) → elaborate_instance levels modules part context ≡ Err fault → ToldBelow modules levels (instance_at context) fault
-  told_below zero part context is = let same : told Depth (Some context.name) ≡ fault = cc in too_deep (instance_at context) (ap (λ (f : ElabFault). f.rule) (sym same)) refl
+  told_below zero part context is = let same : fault_at Depth (Some context.name) ≡ fault = cc in too_deep (instance_at context) (ap (λ (f : ElabFault). f.rule) (sym same)) refl
   told_below (suc levels) part context is = by (opened_err modules levels part context fault is) (λ before scope child. told_below levels before (child_context scope context child))
     where
       by : OwnFault modules part context fault ⊎ ((own : Own modules part context) × (below modules levels part context own.scope own.children own.whole ≡ Err fault)) →
@@ -218,7 +218,7 @@ pub record Elaborated (modules : SourceTree) (top : Option Text) (scale : Timesc
   pub unit : ModuleTree
   pub part : Part
   pub modules_differ : first_again (module_names modules) ≡ None
-  pub ports_right : misdeclared modules ≡ None
+  pub ports_right : first_misdeclared modules ≡ None
   pub is_top : top_of modules top ≡ Some unit
   pub is_part : elaborate_top modules unit ≡ Ok part
   pub is_right : broken_design unit.name part ≡ None
@@ -227,7 +227,7 @@ pub record Elaborated (modules : SourceTree) (top : Option Text) (scale : Timesc
 -- or where the fault is told
 pub data Told (modules : SourceTree) (top : Option Text) (fault : ElabFault) : Type 0 where
   in_modules : (w : Word) → first_again (module_names modules) ≡ Some w → fault.rule ≡ Doubled → Told modules top fault
-  in_ports : (m : Misdeclared) → misdeclared modules ≡ Some m → rule_of_port m.flaw ≡ fault.rule → Told modules top fault
+  in_ports : (m : Misdeclared) → first_misdeclared modules ≡ Some m → rule_of_port m.flaw ≡ fault.rule → Told modules top fault
   in_top : top_of modules top ≡ None → fault.rule ≡ Top → Told modules top fault
   in_hierarchy : (unit : ModuleTree) → top_of modules top ≡ Some unit → elaborate_top modules unit ≡ Err fault → Told modules top fault
   in_design : (unit : ModuleTree) (part : Part) → top_of modules top ≡ Some unit → elaborate_top modules unit ≡ Ok part → broken_design unit.name part ≡ Some fault → Told modules top fault
@@ -245,16 +245,16 @@ faultless_err (Some f) x fault is = let same : f ≡ fault = cc in ap Some same
 
 -- what is told of ports that items declare, and of names of blocks
 ports_ok : {A : Type 0} (wrong : Option Misdeclared) (answer : Result A ElabFault) (x : A) →
-    unbroken (option_map (λ (m : Misdeclared). told (rule_of_port m.flaw) (Some m.word)) wrong) answer ≡ Ok x → (wrong ≡ None) × (answer ≡ Ok x)
+    unless_fault (option_map (λ (m : Misdeclared). fault_at (rule_of_port m.flaw) (Some m.word)) wrong) answer ≡ Ok x → (wrong ≡ None) × (answer ≡ Ok x)
 ports_ok None answer x is = (refl, is)
 ports_ok (Some m) answer x is = absurd cc
 
 ports_err : {A : Type 0} (wrong : Option Misdeclared) (answer : Result A ElabFault) (fault : ElabFault) →
-    unbroken (option_map (λ (m : Misdeclared). told (rule_of_port m.flaw) (Some m.word)) wrong) answer ≡ Err fault →
+    unless_fault (option_map (λ (m : Misdeclared). fault_at (rule_of_port m.flaw) (Some m.word)) wrong) answer ≡ Err fault →
     ((m : Misdeclared) × (wrong ≡ Some m) × (rule_of_port m.flaw ≡ fault.rule)) ⊎ (answer ≡ Err fault)
 ports_err None answer fault is = inr is
 ports_err (Some m) answer fault is =
-    let same : told (rule_of_port m.flaw) (Some m.word) ≡ fault = cc in inl (m, refl, ap (λ (f : ElabFault). f.rule) same)
+    let same : fault_at (rule_of_port m.flaw) (Some m.word) ≡ fault = cc in inl (m, refl, ap (λ (f : ElabFault). f.rule) same)
 
 -- of other rules nothing is told there
 abbrev pub is_of_ports : Rule → Bool
@@ -302,15 +302,15 @@ module _ (modules : SourceTree) (top : Option Text) (scale : Timescale) where
   topped = top_whole modules top
 
   abbrev with_ports : Result Whole ElabFault
-  with_ports = unbroken (broken_ports modules) topped
+  with_ports = unless_fault (broken_ports modules) topped
 
   pub all_elaborated : (design : Design) → elaborated modules top scale ≡ Ok design → Elaborated modules top scale design
   all_elaborated design is =
       let whole = then_ok (elaborated_whole modules top) (λ whole. Ok (design_by scale whole.unit whole.part)) design is in
       let differ = barring_ok (first_again (module_names modules)) Doubled with_ports whole.0 whole.1 in
-      let ports = ports_ok (misdeclared modules) topped whole.0 differ.1 in
+      let ports = ports_ok (first_misdeclared modules) topped whole.0 differ.1 in
       let unit = then_ok (found (top_of modules top) Top (rival_of modules top)) (λ m. whole_of modules m) whole.0 ports.1 in
-      let part = then_ok (elaborate_top modules unit.0) (λ p. checked unit.0 p) whole.0 unit.2 in
+      let part = then_ok (elaborate_top modules unit.0) (λ p. check unit.0 p) whole.0 unit.2 in
       let right = faultless_ok (broken_design unit.0.name part.0) (record { unit = unit.0; part = part.0 }) whole.0 part.2 in
       record {
         unit = unit.0;
@@ -325,7 +325,7 @@ module _ (modules : SourceTree) (top : Option Text) (scale : Timescale) where
 
   module _ (fault : ElabFault) where
     checked_told : (unit : ModuleTree) → top_of modules top ≡ Some unit →
-        (elaborate_top modules unit ≡ Err fault) ⊎ ((part : Part) × (elaborate_top modules unit ≡ Ok part) × (checked unit part ≡ Err fault)) → Told modules top fault
+        (elaborate_top modules unit ≡ Err fault) ⊎ ((part : Part) × (elaborate_top modules unit ≡ Ok part) × (check unit part ≡ Err fault)) → Told modules top fault
     checked_told unit is_top (inl err) = in_hierarchy unit is_top err
     checked_told unit is_top (inr (part, ok, err)) = in_design unit part is_top ok (faultless_err (broken_design unit.name part) (record { unit = unit; part = part }) fault err)
 
@@ -333,15 +333,15 @@ module _ (modules : SourceTree) (top : Option Text) (scale : Timescale) where
         Told modules top fault
     top_told (inl err) = let missing = found_err (top_of modules top) Top (rival_of modules top) fault err in in_top missing.0 missing.1
     top_told (inr (unit, ok, err)) =
-        checked_told unit (found_ok (top_of modules top) Top (rival_of modules top) unit ok) (then_err (elaborate_top modules unit) (λ p. checked unit p) fault err)
+        checked_told unit (found_ok (top_of modules top) Top (rival_of modules top) unit ok) (then_err (elaborate_top modules unit) (λ p. check unit p) fault err)
 
-    ports_told : ((m : Misdeclared) × (misdeclared modules ≡ Some m) × (rule_of_port m.flaw ≡ fault.rule)) ⊎ (topped ≡ Err fault) → Told modules top fault
+    ports_told : ((m : Misdeclared) × (first_misdeclared modules ≡ Some m) × (rule_of_port m.flaw ≡ fault.rule)) ⊎ (topped ≡ Err fault) → Told modules top fault
     ports_told (inl (m, is, rule)) = in_ports m is rule
     ports_told (inr err) = top_told (then_err (found (top_of modules top) Top (rival_of modules top)) (λ m. whole_of modules m) fault err)
 
     modules_told : ((w : Word) × (first_again (module_names modules) ≡ Some w) × (fault.rule ≡ Doubled)) ⊎ ((first_again (module_names modules) ≡ None) × (with_ports ≡ Err fault)) → Told modules top fault
     modules_told (inl (w, again, rule)) = in_modules w again rule
-    modules_told (inr (differ, err)) = ports_told (ports_err (misdeclared modules) topped fault err)
+    modules_told (inr (differ, err)) = ports_told (ports_err (first_misdeclared modules) topped fault err)
 
     whole_told : (elaborated_whole modules top ≡ Err fault) ⊎ ((whole : Whole) × (elaborated_whole modules top ≡ Ok whole) × (Ok (design_by scale whole.unit whole.part) ≡ Err fault)) → Told modules top fault
     whole_told (inl err) = modules_told (barring_err (first_again (module_names modules)) Doubled with_ports fault err)

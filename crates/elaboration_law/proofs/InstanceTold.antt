@@ -20,7 +20,7 @@ use Rattle.vvalue.specs.Value.{Environment}
 use Rattle.vvalue.specs.Flaws.{flaw_of, targets_flaw}
 use Rattle.velab_expr.specs.declared.fault.Rule.TheVariants.{Doubled, Ports, TooMany}
 use Rattle.velab_expr.specs.declared.fault.ElabFault.{ElabFault}
-use Rattle.velab_expr.specs.Answers.{◌>>=◌, provided}
+use Rattle.velab_expr.specs.Answers.{◌>>=◌, answer_if}
 use Rattle.velab_expr.specs.Constants.{nothing}
 use Rattle.velab_expr.specs.Resolved.{lower_expression}
 use Rattle.velab_expr.specs.Scopes.{Scope, at}
@@ -58,7 +58,7 @@ doubled_quiet : {A : Type 0} (word : Option Word) (a : Result A ElabFault) → Q
 doubled_quiet None a h = h
 doubled_quiet (Some word) a h = refl
 
-few_quiet : {A : Type 0} (holds : Bool) (word : Option Word) (a : Result A ElabFault) → Quiet a → Quiet (provided holds TooMany word a)
+few_quiet : {A : Type 0} (holds : Bool) (word : Option Word) (a : Result A ElabFault) → Quiet a → Quiet (answer_if holds TooMany word a)
 few_quiet true word a h = h
 few_quiet false word a h = refl
 

@@ -17,7 +17,7 @@ use Rattle.velab_expr.specs.declared.fault.Rule.{Rule}
 use Rattle.velab_expr.specs.declared.fault.Rule.TheVariants.{Top, Doubled, Drivers, Ports, Width, Depth, TooMany}
 use Rattle.velab_expr.specs.declared.fault.ElabFault.{ElabFault}
 use Rattle.velab_expr.specs.declared.scope.Meaning.TheVariants.{Event}
-use Rattle.velab_expr.specs.Answers.{◌>>=◌, required, provided}
+use Rattle.velab_expr.specs.Answers.{◌>>=◌, require, answer_if}
 use Rattle.vdesign.specs.declared.expression.Bounds.{Bounds}
 use Rattle.velab_expr.specs.Scopes.{Scope, at}
 use Rattle.velab_expr.specs.Ranges.{lower_bounds}
@@ -355,8 +355,8 @@ module _ (r : UseRule) where
     names_judged =
         let b = all_fit r.fits by_all in
         let few = nat_le (length part.variables + length (declared_names context.unit)) 1024 in
-        let counted = provided (has_room part context) TooMany (Some context.name) (item_scope base context.unit) in
-        barring_judges asked b (first_again (declared_names context.unit)) Doubled (provided few TooMany (Some context.name) counted) r.no_doubled
+        let counted = answer_if (has_room part context) TooMany (Some context.name) (item_scope base context.unit) in
+        barring_judges asked b (first_again (declared_names context.unit)) Doubled (answer_if few TooMany (Some context.name) counted) r.no_doubled
         (provided_judges asked b few TooMany (Some context.name) counted r.no_many
         (provided_judges asked b (has_room part context) TooMany (Some context.name) (item_scope base context.unit) r.no_many scope_judged))
 
@@ -374,7 +374,7 @@ module _ (r : UseRule) where
 
     few_silent : (made : Part) → Judges asked true (few_enough context.name made)
     few_silent made =
-        provided_judges asked true (nat_le (length made.begins) 256) TooMany (Some context.name) (required (nat_le (length made.scopes) 1025) TooMany (Some context.name) made) r.no_many
+        provided_judges asked true (nat_le (length made.begins) 256) TooMany (Some context.name) (require (nat_le (length made.scopes) 1025) TooMany (Some context.name) made) r.no_many
         (required_judges asked (nat_le (length made.scopes) 1025) TooMany (Some context.name) made r.no_many)
 
     module _ (scope : Scope) (s : Stands context.unit [] context.unit.items scope) where

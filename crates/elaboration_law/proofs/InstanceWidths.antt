@@ -12,7 +12,7 @@ use Rattle.velab_expr.specs.declared.fault.ElabFault.{ElabFault}
 use Rattle.velab_expr.specs.declared.scope.Meaning.{Meaning}
 use Rattle.velab_expr.specs.declared.scope.Meaning.TheVariants.{Variable, Parameter, Event, Instance}
 use Rattle.velab_expr.specs.declared.fault.Rule.TheVariants.{Width}
-use Rattle.velab_expr.specs.Answers.{◌>>=◌, required}
+use Rattle.velab_expr.specs.Answers.{◌>>=◌, require}
 use Rattle.velab_expr.specs.Scopes.{Scope, at, meaning_at, meaning_of}
 use Rattle.velab_expr.specs.Constants.{nothing}
 use Rattle.velab_expr.specs.Ranges.{lower_bounds}
@@ -132,7 +132,7 @@ module _ (named : Text → Worth) (vectors : AreVectors named) (path : Text) whe
   ranged_first : {A : Type 0} (b c : Bool) (a : Result A ElabFault) → b ≡ true → Judges is_width c a → Judges is_width (b && c) a
   ranged_first b c a is h = subst (λ (x : Bool). Judges is_width (x && c) a) (sym is) h
 
-  same_judged : (holds : Bool) (word : Option Word) (bounds : Option Bounds) → Judges is_width holds (required holds Width word bounds)
+  same_judged : (holds : Bool) (word : Option Word) (bounds : Option Bounds) → Judges is_width holds (require holds Width word bounds)
   same_judged true word bounds = refl
   same_judged false word bounds = λ width. refl
 
@@ -146,10 +146,10 @@ module _ (named : Text → Worth) (vectors : AreVectors named) (path : Text) whe
       same = same_bounds (bounds_by named range) (bounds_by named second.type.range)
 
       by : (a : Result (Option Bounds) ElabFault) → IsRange named second.type.range (is_range named second.type.range) a →
-          Judges is_width (is_range named second.type.range && same) (a >>= λ other. required (same_bounds bounds other) Width (Some second.name) bounds)
+          Judges is_width (is_range named second.type.range && same) (a >>= λ other. require (same_bounds bounds other) Width (Some second.name) bounds)
       by (Ok other) k =
           ranged_first (is_range named second.type.range) same _ k.1
-          (subst (λ (b : Bool). Judges is_width b (required (same_bounds bounds other) Width (Some second.name) bounds)) (λ i. same_bounds (is i) (k.0 i))
+          (subst (λ (b : Bool). Judges is_width b (require (same_bounds bounds other) Width (Some second.name) bounds)) (λ i. same_bounds (is i) (k.0 i))
           (same_judged (same_bounds bounds other) (Some second.name) bounds))
       by (Err fault) k = λ width. ap (λ (b : Bool). b && same) (k width)
 

@@ -27,12 +27,12 @@ use Rattle.velab_expr.specs.declared.fault.ElabFault.{ElabFault}
 use Rattle.velab_expr.specs.declared.scope.Meaning.{Meaning}
 use Rattle.velab_expr.specs.declared.scope.Meaning.TheVariants.{Variable, Parameter, Event, Instance}
 use Rattle.velab_expr.specs.declared.scope.Operand.TheVariants as operand
-use Rattle.velab_expr.specs.Answers.{◌>>=◌, required, found}
+use Rattle.velab_expr.specs.Answers.{◌>>=◌, require, found}
 use Rattle.velab_expr.specs.FirstWords.{first_argument}
 use Rattle.velab_expr.specs.Scopes.{Scope, meaning_at, meaning_of, bounds_for, operand_by, variable_by, event_by}
 use Rattle.velab_expr.specs.Resolved.{lower_expression}
 use Rattle.velab_expr.specs.Selections.{levels_in}
-use Rattle.velab_process.specs.Prints.{between_quotes, given, is_watched, lower_argument, lower_arguments}
+use Rattle.velab_process.specs.Prints.{between_quotes, arguments_given, is_watched, lower_argument, lower_arguments}
 use Rattle.velab_process.proofs.LineLemmas.{given_same}
 use Rattle.velab_process.specs.Waits.{term_by}
 use Rattle.vhierarchy.specs.Instances.{elaborate_top, elaborated}
@@ -98,7 +98,7 @@ kind_in scope (use_of_time constant) = true
 kind_in scope (use_of_formats arguments) = formats_fit [] arguments
 kind_in scope (use_of_levels levels) = is_some (levels_in levels)
 
-variable_read : (constant : Bool) (name : Word) (number : ℕ) → Judges is_kind (constant || true) (required (not constant) Constant (Some name) (operand.Variable number))
+variable_read : (constant : Bool) (name : Word) (number : ℕ) → Judges is_kind (constant || true) (require (not constant) Constant (Some name) (operand.Variable number))
 variable_read true name number = λ e. absurd cc
 variable_read false name number = refl
 
@@ -261,11 +261,11 @@ found_kind : {A : Type 0} (x : Option A) (word : Option Word) → Judges is_kind
 found_kind None word = λ e. refl
 found_kind (Some x) word = refl
 
-formats_kind : (scope : Scope) (default : Form) (ends : Bool) (arguments : List ArgumentTree) (all : List Argument) → lower_arguments scope (given arguments) ≡ Ok all →
+formats_kind : (scope : Scope) (default : Form) (ends : Bool) (arguments : List ArgumentTree) (all : List Argument) → lower_arguments scope (arguments_given arguments) ≡ Ok all →
     Judges is_kind (formats_fit [] arguments) (found (pieces_of default ends all) Kind (first_argument arguments))
 formats_kind scope default ends arguments all is =
     subst (λ (b : Bool). Judges is_kind b (found (pieces_of default ends all) Kind (first_argument arguments)))
-    (ended_some ends (pieces_by default [] all) ∙ formats_are default scope [] (given arguments) all is ∙ given_same (formats_fit []) refl arguments)
+    (ended_some ends (pieces_by default [] all) ∙ formats_are default scope [] (arguments_given arguments) all is ∙ given_same (formats_fit []) refl arguments)
     (found_kind (pieces_of default ends all) (first_argument arguments))
 
 pub kinds : Question

@@ -19,7 +19,7 @@ use Rattle.velab_expr.specs.declared.scope.Meaning.{Meaning}
 use Rattle.velab_expr.specs.declared.scope.Meaning.TheVariants.{Variable, Parameter, Event, Instance}
 use Rattle.velab_expr.specs.declared.scope.Operand.TheVariants as operand
 use Rattle.velab_expr.specs.declared.fault.ElabFault.{ElabFault}
-use Rattle.velab_expr.specs.Answers.{required}
+use Rattle.velab_expr.specs.Answers.{require}
 use Rattle.velab_expr.specs.Scopes.{Scope, meaning_at, meaning_of, bounds_for, operand_by, variable_by, event_by}
 use Rattle.format_text.specs.Pieces.{pieces_of}
 use Rattle.velab_expr.specs.FirstWords.{first_argument}
@@ -68,7 +68,7 @@ name_known constant known name None = λ e. refl
 name_known constant known name (Some (Variable number)) = required_judges is_unknown (not constant) Constant (Some name) (operand.Variable number) refl
 name_known constant known name (Some (Parameter value bounds before)) = by (not constant || nat_lt before known)
   where
-    by : (b : Bool) → Judges is_unknown b (required b Unknown (Some name) (operand.Parameter value (bounds_for value bounds)))
+    by : (b : Bool) → Judges is_unknown b (require b Unknown (Some name) (operand.Parameter value (bounds_for value bounds)))
     by true = refl
     by false = λ e. refl
 name_known constant known name (Some (Event number)) = λ e. absurd cc

@@ -16,7 +16,7 @@ use Rattle.vmodules.specs.Placed.{placed_items}
 use Rattle.vmodules.specs.Connected.{NamedConnection, open_names, misfit, misfit_if, value_for}
 use Rattle.velab_expr.specs.declared.fault.Rule.TheVariants.{Top, Doubled, Ports, TooMany}
 use Rattle.velab_expr.specs.declared.fault.ElabFault.{ElabFault}
-use Rattle.velab_expr.specs.Rules.{told}
+use Rattle.velab_expr.specs.Rules.{fault_at}
 use Rattle.velab_expr.specs.Answers.{◌>>=◌}
 use Rattle.velab_expr.specs.Scopes.{Scope}
 use Rattle.velab_expr.specs.Resolved.{lower_expression}
@@ -129,7 +129,7 @@ module _ (modules : SourceTree) where
     of_misfit : (name : Word) (before known : ℕ) (found : Option ModuleTree) (overrides : Option ConnectionsTree) (list : List InstanceTree) →
         lower_instances_of name before known found overrides list ≡ Err fault → (child : ModuleTree) × (found ≡ Some child) × MisfitIn child known overrides list
     of_misfit name before known None overrides list is =
-        let same : told Top (Some name) ≡ fault = cc in absurd (let other : Top ≡ fault.rule = ap (λ (f : ElabFault). f.rule) same in cc)
+        let same : fault_at Top (Some name) ≡ fault = cc in absurd (let other : Top ≡ fault.rule = ap (λ (f : ElabFault). f.rule) same in cc)
     of_misfit name before known (Some m) overrides list is =
         (m, refl, by (provided_err (nat_le (before + length list) 1024) TooMany (Some name) (barring (named_again m) Doubled (lower_list m known overrides list)) fault is))
       where

@@ -11,7 +11,7 @@ use Rattle.vmodules.specs.Hierarchy.{module_of, top_of}
 use Rattle.vmodules.specs.Connected.{open_names, named_connections, named_connections_if}
 use Rattle.velab_expr.specs.declared.fault.Rule.TheVariants.{Depth}
 use Rattle.velab_expr.specs.declared.fault.ElabFault.{ElabFault}
-use Rattle.velab_expr.specs.Rules.{told}
+use Rattle.velab_expr.specs.Rules.{fault_at}
 use Rattle.velab_expr.specs.Scopes.{Scope, at}
 use Rattle.velab_expr.specs.Symbols.{symbols_by}
 use Rattle.velab_declaration.specs.Variables.{port_names}
@@ -164,7 +164,7 @@ module _ (r : UseRule) (modules : SourceTree) (fault : ElabFault) (rule : fault.
   told_in : (levels : ℕ) (part : Part) (context : Context) (outside : Place) → IsAt outside context.overrides.scope → elaborate_instance levels modules part context ≡ Err fault →
       (all_fit r.fits (used_at outside context) ≡ false) ⊎ MisusesBelow r.fits modules (instance_at context)
   told_in zero part context outside h is =
-      let same : told Depth (Some context.name) ≡ fault = cc in absurd (not_too_deep (sym rule ∙ sym (ap (λ (f : ElabFault). f.rule) same)))
+      let same : fault_at Depth (Some context.name) ≡ fault = cc in absurd (not_too_deep (sym rule ∙ sym (ap (λ (f : ElabFault). f.rule) same)))
   told_in (suc levels) part context outside h is = by (opened_err modules levels part context fault is) (λ before next inner of_inner. told_in levels before next inner of_inner)
     where
       by : OwnFault modules part context fault ⊎ ((own : Own modules part context) × (below modules levels part context own.scope own.children own.whole ≡ Err fault)) →

@@ -15,7 +15,7 @@ use Rattle.velab_expr.specs.declared.fault.Rule.{Rule}
 use Rattle.velab_expr.specs.declared.fault.Rule.TheVariants.{Top, Doubled, Unknown, Drivers, Ports, Width, Constant, Depth, TooMany, Kind}
 use Rattle.velab_expr.specs.declared.fault.ElabFault.{ElabFault}
 use Rattle.velab_expr.specs.declared.scope.Meaning.TheVariants.{Event}
-use Rattle.velab_expr.specs.Answers.{provided, required}
+use Rattle.velab_expr.specs.Answers.{answer_if, require}
 use Rattle.velab_expr.specs.Scopes.{Scope}
 use Rattle.velab_expr.specs.Resolved.{lower_constant}
 use Rattle.velab_expr.specs.Ranges.{lower_bounds}
@@ -206,8 +206,8 @@ pub names_tell : (part : Part) (context : Context) → Tells is_of_names (lower_
 names_tell part context =
     let many = nat_le (length part.variables + length (declared_names context.unit)) 1024 in
     let inner = item_scope (base_of part context) context.unit in
-    barring_tells is_of_names (first_again (declared_names context.unit)) Doubled (provided many TooMany (Some context.name) (provided (has_room part context) TooMany (Some context.name) inner)) refl
-    (provided_tells is_of_names many TooMany (Some context.name) (provided (has_room part context) TooMany (Some context.name) inner) refl
+    barring_tells is_of_names (first_again (declared_names context.unit)) Doubled (answer_if many TooMany (Some context.name) (answer_if (has_room part context) TooMany (Some context.name) inner)) refl
+    (provided_tells is_of_names many TooMany (Some context.name) (answer_if (has_room part context) TooMany (Some context.name) inner) refl
     (provided_tells is_of_names (has_room part context) TooMany (Some context.name) inner refl (scope_tells (base_of part context) context.unit)))
 
 -- ---- instances
@@ -300,7 +300,7 @@ module _ (context : Context) (ports : List Port) (scope : Scope) where
 
   pub few_tells : (part : Part) → Tells is_of_own (few_enough context.name part)
   few_tells part =
-      provided_tells is_of_own (nat_le (length part.begins) 256) TooMany (Some context.name) (required (nat_le (length part.scopes) 1025) TooMany (Some context.name) part) refl
+      provided_tells is_of_own (nat_le (length part.begins) 256) TooMany (Some context.name) (require (nat_le (length part.scopes) 1025) TooMany (Some context.name) part) refl
       (required_tells is_of_own (nat_le (length part.scopes) 1025) TooMany (Some context.name) part refl)
 
   pub own_tells : (part : Part) → Tells is_of_own (lower_own context ports scope part)

@@ -18,7 +18,7 @@ use Rattle.velab_expr.specs.declared.fault.ElabFault.{ElabFault}
 use Rattle.velab_expr.specs.Rules.{broken_if}
 use Rattle.velab_declaration.specs.ActionFlaws.{table_fault}
 use Rattle.vhierarchy.specs.Instances.{lower_own, Part, Context, scope_of, variable_paths, scope_paths, broken_selection, broken_paths, broken_table, broken_design, elaborate_top, elaborated}
-use Rattle.elaboration_law.specs.Hierarchy.{Instance, StandsBelow, StandsAt, top_instance, listed}
+use Rattle.elaboration_law.specs.Hierarchy.{Instance, StandsBelow, StandsAt, top_instance, instances_from}
 use Rattle.elaboration_law.specs.Laws.{IsMeant}
 use Rattle.elaboration_law.specs.Doubles.{names_in_module, variable_paths_in, path_in, IsDeclaredTwice, module_twice, port_twice, block_twice, name_twice, head_twice, variable_twice, path_twice}
 use Rattle.elaboration_law.proofs.ToldLemmas.{is_local, untold, untold_fault}
@@ -82,10 +82,10 @@ if_some false rule word fault is = absurd cc
 module _ (modules : SourceTree) (top : Option Text) where
   -- its paths are those of the text
   module _ (unit : ModuleTree) (part : Part) (ok : elaborate_top modules unit ≡ Ok part) where
-    pub variables_are : variable_paths part ≡ flat_map variable_paths_in (listed 16 modules (top_instance unit))
+    pub variables_are : variable_paths part ≡ flat_map variable_paths_in (instances_from 16 modules (top_instance unit))
     variables_are = top_gathered unit.name.letters modules (λ (a b : List Text). a ++ b) variable_paths (flat_map variable_paths_in) (variables_gather unit.name.letters modules) unit part refl ok
 
-    pub paths_are : scope_paths part ≡ flat_map path_in (listed 16 modules (top_instance unit))
+    pub paths_are : scope_paths part ≡ flat_map path_in (instances_from 16 modules (top_instance unit))
     paths_are = top_gathered unit.name.letters modules (λ (a b : List Text). a ++ b) scope_paths (flat_map path_in) (paths_gather unit.name.letters modules) unit part refl ok
 
     design_twice : (fault : ElabFault) → top_of modules top ≡ Some unit → fault.rule ≡ Doubled → broken_design unit.name part ≡ Some fault → IsDeclaredTwice modules top
@@ -109,7 +109,7 @@ module _ (modules : SourceTree) (top : Option Text) where
         whole (inr is) = absurd (untold_fault is_of_table (broken_table unit.name part) fault Doubled (broken_table_tells is_of_table refl refl refl unit.name part refl) refl is rule)
 
     design_once : broken_design unit.name part ≡ None →
-        (has_double (flat_map variable_paths_in (listed 16 modules (top_instance unit))) ≡ false) × (has_double (flat_map path_in (listed 16 modules (top_instance unit))) ≡ false)
+        (has_double (flat_map variable_paths_in (instances_from 16 modules (top_instance unit))) ≡ false) × (has_double (flat_map path_in (instances_from 16 modules (top_instance unit))) ≡ false)
     design_once right =
         let rest = table_fault (broken_selection (scope_paths part) (variable_paths part)) part.table.actions part.table.words in
         let scoped = broken_if (has_double (scope_paths part)) Doubled (Some unit.name) in
@@ -169,16 +169,16 @@ module _ (modules : SourceTree) (top : Option Text) where
         true≢false (sym twice ∙ sym (ap (λ (i : Instance). has_double (names_in_module i.unit)) found.at) ∙ names_once found.part found.context found.own.scope found.own.names_are)
     names_never (head_twice levels one name overrides list child stands inside there twice) =
         let found = (was_elaborated levels one stands).1 in
-        let listed = subst (λ (i : Instance). Contains i.unit.items (instances name overrides list)) (sym found.at) inside in
-        true≢false (sym twice ∙ heads_once modules 0 found.own.scope.known found.context.unit.items found.own.children name overrides list child found.own.instances_are listed there)
+        let instances_from = subst (λ (i : Instance). Contains i.unit.items (instances name overrides list)) (sym found.at) inside in
+        true≢false (sym twice ∙ heads_once modules 0 found.own.scope.known found.context.unit.items found.own.children name overrides list child found.own.instances_are instances_from there)
     names_never (variable_twice m is_top twice) =
         let all = all_elaborated modules top scale design is in
         let same = one_top modules top m all.unit is_top all.is_top in
-        true≢false (sym twice ∙ ap (λ (u : ModuleTree). has_double (flat_map variable_paths_in (listed 16 modules (top_instance u)))) same ∙ (design_once all.unit all.part all.is_part all.is_right).0)
+        true≢false (sym twice ∙ ap (λ (u : ModuleTree). has_double (flat_map variable_paths_in (instances_from 16 modules (top_instance u)))) same ∙ (design_once all.unit all.part all.is_part all.is_right).0)
     names_never (path_twice m is_top twice) =
         let all = all_elaborated modules top scale design is in
         let same = one_top modules top m all.unit is_top all.is_top in
-        true≢false (sym twice ∙ ap (λ (u : ModuleTree). has_double (flat_map path_in (listed 16 modules (top_instance u)))) same ∙ (design_once all.unit all.part all.is_part all.is_right).1)
+        true≢false (sym twice ∙ ap (λ (u : ModuleTree). has_double (flat_map path_in (instances_from 16 modules (top_instance u)))) same ∙ (design_once all.unit all.part all.is_part all.is_right).1)
 
 pub names_meant : IsMeant Doubled IsDeclaredTwice
 names_meant = record {

@@ -13,8 +13,8 @@ use Rattle.vmodules.proofs.NameLemmas.{double_at, no_double-push}
 use Rattle.velab_expr.specs.declared.fault.Rule.TheVariants.{Top, Doubled, TooMany}
 use Rattle.velab_expr.specs.declared.fault.ElabFault.{ElabFault}
 use Rattle.velab_expr.specs.declared.scope.Meaning.{Meaning}
-use Rattle.velab_expr.specs.Answers.{◌>>=◌, required, provided}
-use Rattle.velab_expr.specs.Rules.{told}
+use Rattle.velab_expr.specs.Answers.{◌>>=◌, require, answer_if}
+use Rattle.velab_expr.specs.Rules.{fault_at}
 use Rattle.velab_expr.specs.Scopes.{Scope, at}
 use Rattle.velab_expr.specs.Symbols.{Symbol, name_in, symbols_in_head, symbols_by, valueless_by}
 use Rattle.velab_declaration.specs.Parameters.{Overrides, Base, lower_meaning, with_meaning, add_symbol, add_symbols, first_scope, item_scope}
@@ -45,7 +45,7 @@ module _ (overrides : Overrides) where
   symbol_added : (scope next : Scope) (one : Symbol) → add_symbol overrides scope one ≡ Ok next →
       (is_declared scope.names (name_in one).letters ≡ false) × (next.names ≡ scope.names ++ (name_in one).letters ∷ [])
   symbol_added scope next one is =
-      let meaning = then_ok (lower_meaning overrides scope one) (λ meaning. required (not (is_declared scope.names (name_in one).letters)) Doubled (Some (name_in one)) (with_meaning scope one meaning)) next is in
+      let meaning = then_ok (lower_meaning overrides scope one) (λ meaning. require (not (is_declared scope.names (name_in one).letters)) Doubled (Some (name_in one)) (with_meaning scope one meaning)) next is in
       let new = required_ok (not (is_declared scope.names (name_in one).letters)) Doubled (Some (name_in one)) (with_meaning scope one meaning.0) next meaning.2 in
       (not_true (is_declared scope.names (name_in one).letters) new.0, sym (ap (λ (s : Scope). s.names) new.1))
 
@@ -67,10 +67,10 @@ module _ (overrides : Overrides) where
   module _ (fault : ElabFault) (rule : fault.rule ≡ Doubled) where
     stands_before : (scope : Scope) (one : Symbol) → add_symbol overrides scope one ≡ Err fault → is_declared scope.names (name_in one).letters ≡ true
     stands_before scope one is =
-        by (then_err (lower_meaning overrides scope one) (λ meaning. required (not (is_declared scope.names (name_in one).letters)) Doubled (Some (name_in one)) (with_meaning scope one meaning)) fault is)
+        by (then_err (lower_meaning overrides scope one) (λ meaning. require (not (is_declared scope.names (name_in one).letters)) Doubled (Some (name_in one)) (with_meaning scope one meaning)) fault is)
       where
         by : (lower_meaning overrides scope one ≡ Err fault)
-            ⊎ ((meaning : Meaning) × (lower_meaning overrides scope one ≡ Ok meaning) × (required (not (is_declared scope.names (name_in one).letters)) Doubled (Some (name_in one)) (with_meaning scope one meaning) ≡ Err fault)) →
+            ⊎ ((meaning : Meaning) × (lower_meaning overrides scope one ≡ Ok meaning) × (require (not (is_declared scope.names (name_in one).letters)) Doubled (Some (name_in one)) (with_meaning scope one meaning) ≡ Err fault)) →
             is_declared scope.names (name_in one).letters ≡ true
         by (inl err) = absurd (untold is_of_meaning (lower_meaning overrides scope one) fault Doubled (meaning_tells overrides scope one) refl err rule)
         by (inr (meaning, ok, err)) =
@@ -166,14 +166,14 @@ module _ (base : Base) (m : ModuleTree) where
 
 module _ (part : Part) (context : Context) where
   abbrev counted : Result Scope ElabFault
-  counted = provided (has_room part context) TooMany (Some context.name) (item_scope (base_of part context) context.unit)
+  counted = answer_if (has_room part context) TooMany (Some context.name) (item_scope (base_of part context) context.unit)
 
   abbrev few : Bool
   few = nat_le (length part.variables + length (declared_names context.unit)) 1024
 
   pub names_once : (scope : Scope) → lower_names part context ≡ Ok scope → has_double (names_in_module context.unit) ≡ false
   names_once scope is =
-      let again = barring_ok (first_again (declared_names context.unit)) Doubled (provided few TooMany (Some context.name) counted) scope is in
+      let again = barring_ok (first_again (declared_names context.unit)) Doubled (answer_if few TooMany (Some context.name) counted) scope is in
       let inner = provided_ok (has_room part context) TooMany (Some context.name) (item_scope (base_of part context) context.unit) scope (provided_ok few TooMany (Some context.name) counted scope again.1).1 in
       scope_once (base_of part context) context.unit scope inner.1 (none_twice (declared_names context.unit) again.0)
 
@@ -187,13 +187,13 @@ module _ (part : Part) (context : Context) where
     in_few (inl (many, other)) = absurd cc
     in_few (inr (ok, err)) = in_counted (provided_err (has_room part context) TooMany (Some context.name) (item_scope (base_of part context) context.unit) fault err)
 
-    in_variables : ((w : Word) × (first_again (declared_names context.unit) ≡ Some w) × (fault.rule ≡ Doubled)) ⊎ ((first_again (declared_names context.unit) ≡ None) × (provided few TooMany (Some context.name) counted ≡ Err fault)) →
+    in_variables : ((w : Word) × (first_again (declared_names context.unit) ≡ Some w) × (fault.rule ≡ Doubled)) ⊎ ((first_again (declared_names context.unit) ≡ None) × (answer_if few TooMany (Some context.name) counted ≡ Err fault)) →
         has_double (names_in_module context.unit) ≡ true
     in_variables (inl (w, again, same)) = twice_among (letters_of (declared_names context.unit)) (letters_of (other_names context.unit)) (one_twice (declared_names context.unit) w again)
     in_variables (inr (none, err)) = in_few (provided_err few TooMany (Some context.name) counted fault err)
 
     pub names_twice : lower_names part context ≡ Err fault → has_double (names_in_module context.unit) ≡ true
-    names_twice is = in_variables (barring_err (first_again (declared_names context.unit)) Doubled (provided few TooMany (Some context.name) counted) fault is)
+    names_twice is = in_variables (barring_err (first_again (declared_names context.unit)) Doubled (answer_if few TooMany (Some context.name) counted) fault is)
 
 -- ---- heads of modules
 
@@ -243,7 +243,7 @@ module _ (modules : SourceTree) where
   module _ (fault : ElabFault) (rule : fault.rule ≡ Doubled) where
     of_twice : (name : Word) (before known : ℕ) (found : Option ModuleTree) (overrides : Option ConnectionsTree) (list : List InstanceTree) →
         lower_instances_of name before known found overrides list ≡ Err fault → (child : ModuleTree) × (found ≡ Some child) × (has_head_twice child ≡ true)
-    of_twice name before known None overrides list is = let same : told Top (Some name) ≡ fault = cc in absurd (let other : Top ≡ fault.rule = ap (λ (f : ElabFault). f.rule) same in cc)
+    of_twice name before known None overrides list is = let same : fault_at Top (Some name) ≡ fault = cc in absurd (let other : Top ≡ fault.rule = ap (λ (f : ElabFault). f.rule) same in cc)
     of_twice name before known (Some m) overrides list is =
         (m, refl, counted_again (provided_err (nat_le (before + length list) 1024) TooMany (Some name) (barring (named_again m) Doubled (lower_list m known overrides list)) fault is))
       where

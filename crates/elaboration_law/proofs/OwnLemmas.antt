@@ -10,7 +10,7 @@ use Rattle.vdesign.specs.Design.{Variable}
 use Rattle.vdesign.specs.declared.design.Kind.{Kind}
 use Rattle.velab_expr.specs.declared.fault.Rule.TheVariants.{TooMany}
 use Rattle.velab_expr.specs.declared.fault.ElabFault.{ElabFault}
-use Rattle.velab_expr.specs.Answers.{◌>>=◌, required}
+use Rattle.velab_expr.specs.Answers.{◌>>=◌, require}
 use Rattle.velab_expr.specs.Ranges.{lower_bounds}
 use Rattle.velab_expr.specs.Scopes.{Scope}
 use Rattle.velab_expr.specs.Symbols.{behind_item}
@@ -48,7 +48,7 @@ module _ (modules : SourceTree) (part : Part) (context : Context) (own : Own mod
       (λ vs. lower_own_processes context ports own.scope part.table >>= λ ps. few_enough context.name (with_own context own.scope part vs ps)) own.whole own.own_is in
       let processes = then_ok (lower_own_processes context ports own.scope part.table) (λ ps. few_enough context.name (with_own context own.scope part made.0 ps)) own.whole made.2 in
       let whole = with_own context own.scope part made.0 processes.0 in
-      let few = provided_ok (nat_le (length whole.begins) 256) TooMany (Some context.name) (required (nat_le (length whole.scopes) 1025) TooMany (Some context.name) whole) own.whole processes.2 in
+      let few = provided_ok (nat_le (length whole.begins) 256) TooMany (Some context.name) (require (nat_le (length whole.scopes) 1025) TooMany (Some context.name) whole) own.whole processes.2 in
       let enough = required_ok (nat_le (length whole.scopes) 1025) TooMany (Some context.name) whole own.whole few.1 in
       let front = then_ok (lower_ports path (port_scope context.unit own.scope) ports) (λ front. lower_variables path own.scope (own_items context.unit) >>= λ others. Ok (front ++ others)) made.0 made.1 in
       let others = then_ok (lower_variables path own.scope (own_items context.unit)) (λ others. Ok (front.0 ++ others)) made.0 front.2 in

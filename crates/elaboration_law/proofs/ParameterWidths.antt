@@ -23,7 +23,7 @@ use Rattle.velab_expr.specs.declared.fault.Rule.TheVariants.{Doubled, TooMany}
 use Rattle.velab_expr.specs.declared.fault.ElabFault.{ElabFault}
 use Rattle.velab_expr.specs.declared.scope.Meaning.{Meaning}
 use Rattle.velab_expr.specs.declared.scope.Meaning.TheVariants.{Variable, Parameter, Event, Instance}
-use Rattle.velab_expr.specs.Answers.{◌>>=◌, required}
+use Rattle.velab_expr.specs.Answers.{◌>>=◌, require}
 use Rattle.velab_expr.specs.Scopes.{Scope, meaning_at, meaning_of, bounds_for}
 use Rattle.velab_expr.specs.Constants.{nothing, worth}
 use Rattle.velab_expr.specs.Resolved.{lower_constant}
@@ -250,7 +250,7 @@ module _ (overrides : Overrides) (outside : Text → Worth) (outer_vectors : Are
       by (Err fault) b h k = λ e. first_false ranged valued (h e)
   meaning_sizes scope named vectors agrees (event_symbol name) = by (nat_lt scope.events 4294967295)
     where
-      by : (few : Bool) → Means no_worth true (required few TooMany (Some name) (Event scope.events))
+      by : (few : Bool) → Means no_worth true (require few TooMany (Some name) (Event scope.events))
       by true = (tt, refl)
       by false = λ e. absurd cc
   meaning_sizes scope named vectors agrees (instance_symbol name) = (tt, refl)
@@ -324,7 +324,7 @@ module _ (overrides : Overrides) (outside : Text → Worth) (outer_vectors : Are
 
       fresh_or : (meaning : Meaning) → set_one ≡ true → (declared : Bool) →
           (declared ≡ false → AllAdded all_named set_more (add_symbols overrides (with_meaning scope one meaning) more)) →
-          AllAdded all_named (set_one && set_more) (required (not declared) Doubled (Some (name_in one)) (with_meaning scope one meaning) >>= λ next. add_symbols overrides next more)
+          AllAdded all_named (set_one && set_more) (require (not declared) Doubled (Some (name_in one)) (with_meaning scope one meaning) >>= λ next. add_symbols overrides next more)
       fresh_or meaning set true rest = λ e. absurd cc
       fresh_or meaning set false rest = then_added all_named set_one set_more (add_symbols overrides (with_meaning scope one meaning) more) set (rest refl)
 
@@ -332,6 +332,6 @@ module _ (overrides : Overrides) (outside : Text → Worth) (outer_vectors : Are
           ((meaning : Meaning) → HasWorth w meaning → set_one ≡ true → is_declared scope.names (name_in one).letters ≡ false →
           AllAdded all_named set_more (add_symbols overrides (with_meaning scope one meaning) more)) →
           AllAdded all_named (set_one && set_more)
-          ((a >>= λ meaning. required (not (is_declared scope.names (name_in one).letters)) Doubled (Some (name_in one)) (with_meaning scope one meaning)) >>= λ next. add_symbols overrides next more)
+          ((a >>= λ meaning. require (not (is_declared scope.names (name_in one).letters)) Doubled (Some (name_in one)) (with_meaning scope one meaning)) >>= λ next. add_symbols overrides next more)
       by (Ok meaning) k rest = fresh_or meaning k.1 (is_declared scope.names (name_in one).letters) (λ fresh. rest meaning k.0 k.1 fresh)
       by (Err fault) k rest = λ e. first_false set_one set_more (k e)

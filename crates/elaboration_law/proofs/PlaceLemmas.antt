@@ -11,7 +11,7 @@ use Rattle.vmodules.specs.Names.{is_declared, letters_of, first_again}
 use Rattle.velab_expr.specs.declared.fault.Rule.TheVariants.{Doubled, TooMany}
 use Rattle.velab_expr.specs.declared.scope.Meaning.{Meaning}
 use Rattle.velab_expr.specs.declared.scope.Meaning.TheVariants.{Variable, Parameter, Event, Instance}
-use Rattle.velab_expr.specs.Answers.{◌>>=◌, required, provided}
+use Rattle.velab_expr.specs.Answers.{◌>>=◌, require, answer_if}
 use Rattle.velab_expr.specs.Scopes.{Scope, at}
 use Rattle.velab_expr.specs.Symbols.{Symbol, parameter_symbol, event_symbol, instance_symbol, name_in, valueless_by, symbols_behind, symbols_in_head, symbols_by, behind_item}
 use Rattle.velab_declaration.specs.Parameters.{Overrides, Base, lower_type, parameter_by, lower_setting, lower_meaning, with_meaning, add_symbol, add_symbols, first_scope, item_scope}
@@ -287,7 +287,7 @@ module _ (overrides : Overrides) where
   -- what a symbol makes of the scope
   pub symbol_makes : (scope next : Scope) (one : Symbol) → add_symbol overrides scope one ≡ Ok next → (meaning : Meaning) × (lower_meaning overrides scope one ≡ Ok meaning) × (with_meaning scope one meaning ≡ next)
   symbol_makes scope next one is =
-      let meaning = then_ok (lower_meaning overrides scope one) (λ meaning. required (not (is_declared scope.names (name_in one).letters)) Doubled (Some (name_in one)) (with_meaning scope one meaning)) next is in
+      let meaning = then_ok (lower_meaning overrides scope one) (λ meaning. require (not (is_declared scope.names (name_in one).letters)) Doubled (Some (name_in one)) (with_meaning scope one meaning)) next is in
       (meaning.0, meaning.1, (required_ok (not (is_declared scope.names (name_in one).letters)) Doubled (Some (name_in one)) (with_meaning scope one meaning.0) next meaning.2).1)
 
   pub symbol_grown : (m : ModuleTree) (firm : ℕ) (left : List Symbol) (scope : Scope) (one : Symbol) (meaning : Meaning) → lower_meaning overrides scope one ≡ Ok meaning → Grown m firm (one ∷ left) scope →
@@ -499,9 +499,9 @@ module _ (base : Base) (m : ModuleTree) where
 module _ (part : Part) (context : Context) where
   pub item_scope_of : (scope : Scope) → lower_names part context ≡ Ok scope → item_scope (base_of part context) context.unit ≡ Ok scope
   item_scope_of scope is =
-      let counted = provided (has_room part context) TooMany (Some context.name) (item_scope (base_of part context) context.unit) in
+      let counted = answer_if (has_room part context) TooMany (Some context.name) (item_scope (base_of part context) context.unit) in
       let few = nat_le (length part.variables + length (declared_names context.unit)) 1024 in
-      let again = barring_ok (first_again (declared_names context.unit)) Doubled (provided few TooMany (Some context.name) counted) scope is in
+      let again = barring_ok (first_again (declared_names context.unit)) Doubled (answer_if few TooMany (Some context.name) counted) scope is in
       (provided_ok (has_room part context) TooMany (Some context.name) (item_scope (base_of part context) context.unit) scope (provided_ok few TooMany (Some context.name) counted scope again.1).1).1
 
   pub names_stand : (scope : Scope) → lower_names part context ≡ Ok scope → Stands context.unit [] context.unit.items scope

@@ -8,7 +8,7 @@ use Rattle.vast.specs.declared.module.NetKind.TheVariants as net
 use Rattle.vmodules.specs.Names.{is_declared, has_double, letters_of, first_again}
 use Rattle.vmodules.specs.Ports.{listed_names, plain_names, is_plain_list}
 use Rattle.vmodules.specs.Blocks.{blocks_by, named_in, doubled_block}
-use Rattle.vmodules.specs.Misdeclared.{Misdeclared, flawed, words_by, words_as, outside, among, stray, port_flaw, valued_port, flaw_of, misdeclared}
+use Rattle.vmodules.specs.Misdeclared.{Misdeclared, misdeclared_at, words_by, words_as, outside, among, stray, port_flaw, valued_port, flaw_of, first_misdeclared}
 use Rattle.vmodules.specs.declared.misdeclared.PortFlaw.{PortFlaw}
 use Rattle.vmodules.specs.declared.misdeclared.PortFlaw.TheVariants as flaw
 use Rattle.vmodules.specs.declared.misdeclared.Declaring.TheVariants as how
@@ -20,14 +20,14 @@ use Rattle.elaboration_law.proofs.WordLemmas.{double_parts, second_double, share
 
 -- ---- one flaw behind another
 
-flawed_told : (f : PortFlaw) (word : Option Word) (x : Misdeclared) → flawed f word ≡ Some x → (w : Word) × (word ≡ Some w) × (x.flaw ≡ f)
+flawed_told : (f : PortFlaw) (word : Option Word) (x : Misdeclared) → misdeclared_at f word ≡ Some x → (w : Word) × (word ≡ Some w) × (x.flaw ≡ f)
 flawed_told f None x is = absurd cc
 flawed_told f (Some w) x is =
     let told : Misdeclared = record { flaw = f; word = w } in
     let same : told ≡ x = cc in
     (w, refl, sym (ap (λ (m : Misdeclared). m.flaw) same))
 
-flawed_nothing : (f : PortFlaw) (word : Option Word) → flawed f word ≡ None → word ≡ None
+flawed_nothing : (f : PortFlaw) (word : Option Word) → misdeclared_at f word ≡ None → word ≡ None
 flawed_nothing f None is = refl
 flawed_nothing f (Some w) is = absurd cc
 
@@ -122,16 +122,16 @@ module _ (m : ModuleTree) where
   registers = seconds_as how.Registers m
 
   abbrev flaw_6 : Option Misdeclared
-  flaw_6 = flawed flaw.Input (first_again (inputs ++ registers))
+  flaw_6 = misdeclared_at flaw.Input (first_again (inputs ++ registers))
 
   abbrev flaw_5 : Option Misdeclared
-  flaw_5 = option_or (flawed flaw.Doubled (first_again holding)) flaw_6
+  flaw_5 = option_or (misdeclared_at flaw.Doubled (first_again holding)) flaw_6
 
   abbrev flaw_4 : Option Misdeclared
-  flaw_4 = option_or (flawed flaw.Undeclared (outside ports plain)) flaw_5
+  flaw_4 = option_or (misdeclared_at flaw.Undeclared (outside ports plain)) flaw_5
 
   abbrev flaw_3 : Option Misdeclared
-  flaw_3 = option_or (flawed flaw.Doubled (first_again ports)) flaw_4
+  flaw_3 = option_or (misdeclared_at flaw.Doubled (first_again ports)) flaw_4
 
   abbrev flaw_2 : Option Misdeclared
   flaw_2 = option_or (stray listed (outside plain ports)) flaw_3
@@ -140,13 +140,13 @@ module _ (m : ModuleTree) where
 
   pub untold : flaw_of m ≡ None → IsUntold m
   untold is =
-      let both = or_nothing (port_flaw m) (option_or (flawed flaw.Valued (valued_port m)) (flawed flaw.Doubled (doubled_block m))) is in
-      let last = or_nothing (flawed flaw.Valued (valued_port m)) (flawed flaw.Doubled (doubled_block m)) both.1 in
-      let one = or_nothing (flawed flaw.Doubled (first_again plain)) flaw_2 both.0 in
+      let both = or_nothing (port_flaw m) (option_or (misdeclared_at flaw.Valued (valued_port m)) (misdeclared_at flaw.Doubled (doubled_block m))) is in
+      let last = or_nothing (misdeclared_at flaw.Valued (valued_port m)) (misdeclared_at flaw.Doubled (doubled_block m)) both.1 in
+      let one = or_nothing (misdeclared_at flaw.Doubled (first_again plain)) flaw_2 both.0 in
       let two = or_nothing (stray listed (outside plain ports)) flaw_3 one.1 in
-      let three = or_nothing (flawed flaw.Doubled (first_again ports)) flaw_4 two.1 in
-      let four = or_nothing (flawed flaw.Undeclared (outside ports plain)) flaw_5 three.1 in
-      let five = or_nothing (flawed flaw.Doubled (first_again holding)) flaw_6 four.1 in
+      let three = or_nothing (misdeclared_at flaw.Doubled (first_again ports)) flaw_4 two.1 in
+      let four = or_nothing (misdeclared_at flaw.Undeclared (outside ports plain)) flaw_5 three.1 in
+      let five = or_nothing (misdeclared_at flaw.Doubled (first_again holding)) flaw_6 four.1 in
       record {
         listed = flawed_nothing flaw.Doubled (first_again plain) one.0;
         stray = stray_nothing listed (outside plain ports) two.0;
@@ -221,29 +221,29 @@ module _ (m : ModuleTree) where
         let t = flawed_told flaw.Input (first_again (inputs ++ registers)) x is in
         variable_input t.2 (input_wrong ports_once held_once t.0 t.1)
 
-    wrong_5 : first_again ports ≡ None → (flawed flaw.Doubled (first_again holding) ≡ Some x) ⊎ ((flawed flaw.Doubled (first_again holding) ≡ None) × (flaw_6 ≡ Some x)) → IsWrong m x.flaw
+    wrong_5 : first_again ports ≡ None → (misdeclared_at flaw.Doubled (first_again holding) ≡ Some x) ⊎ ((misdeclared_at flaw.Doubled (first_again holding) ≡ None) × (flaw_6 ≡ Some x)) → IsWrong m x.flaw
     wrong_5 ports_once (inl is) = let t = flawed_told flaw.Doubled (first_again holding) x is in port_doubled t.2 (held_twice (one_twice holding t.0 t.1))
     wrong_5 ports_once (inr (none, is)) = wrong_6 ports_once (flawed_nothing flaw.Doubled (first_again holding) none) is
 
-    wrong_4 : first_again ports ≡ None → (flawed flaw.Undeclared (outside ports plain) ≡ Some x) ⊎ ((flawed flaw.Undeclared (outside ports plain) ≡ None) × (flaw_5 ≡ Some x)) → IsWrong m x.flaw
+    wrong_4 : first_again ports ≡ None → (misdeclared_at flaw.Undeclared (outside ports plain) ≡ Some x) ⊎ ((misdeclared_at flaw.Undeclared (outside ports plain) ≡ None) × (flaw_5 ≡ Some x)) → IsWrong m x.flaw
     wrong_4 ports_once (inl is) =
         let t = flawed_told flaw.Undeclared (outside ports plain) x is in
         let at = found_outside ports plain t.0 t.1 in
         port_alone t.2 (undirected (t.0, at.0, at.1))
-    wrong_4 ports_once (inr (none, is)) = wrong_5 ports_once (or_told (flawed flaw.Doubled (first_again holding)) flaw_6 x is)
+    wrong_4 ports_once (inr (none, is)) = wrong_5 ports_once (or_told (misdeclared_at flaw.Doubled (first_again holding)) flaw_6 x is)
 
-    wrong_3 : (flawed flaw.Doubled (first_again ports) ≡ Some x) ⊎ ((flawed flaw.Doubled (first_again ports) ≡ None) × (flaw_4 ≡ Some x)) → IsWrong m x.flaw
+    wrong_3 : (misdeclared_at flaw.Doubled (first_again ports) ≡ Some x) ⊎ ((misdeclared_at flaw.Doubled (first_again ports) ≡ None) × (flaw_4 ≡ Some x)) → IsWrong m x.flaw
     wrong_3 (inl is) = let t = flawed_told flaw.Doubled (first_again ports) x is in port_doubled t.2 (directed_twice (one_twice ports t.0 t.1))
     wrong_3 (inr (none, is)) =
-        wrong_4 (flawed_nothing flaw.Doubled (first_again ports) none) (or_told (flawed flaw.Undeclared (outside ports plain)) flaw_5 x is)
+        wrong_4 (flawed_nothing flaw.Doubled (first_again ports) none) (or_told (misdeclared_at flaw.Undeclared (outside ports plain)) flaw_5 x is)
 
     wrong_2 : (stray listed (outside plain ports) ≡ Some x) ⊎ ((stray listed (outside plain ports) ≡ None) × (flaw_3 ≡ Some x)) → IsWrong m x.flaw
     wrong_2 (inl is) =
         let t = stray_told listed (outside plain ports) x is in
         stray_wrong x.flaw t.0 t.1 (is_declared (letters_of listed) t.0.letters) refl t.2
-    wrong_2 (inr (none, is)) = wrong_3 (or_told (flawed flaw.Doubled (first_again ports)) flaw_4 x is)
+    wrong_2 (inr (none, is)) = wrong_3 (or_told (misdeclared_at flaw.Doubled (first_again ports)) flaw_4 x is)
 
-    wrong_1 : (flawed flaw.Doubled (first_again plain) ≡ Some x) ⊎ ((flawed flaw.Doubled (first_again plain) ≡ None) × (flaw_2 ≡ Some x)) → IsWrong m x.flaw
+    wrong_1 : (misdeclared_at flaw.Doubled (first_again plain) ≡ Some x) ⊎ ((misdeclared_at flaw.Doubled (first_again plain) ≡ None) × (flaw_2 ≡ Some x)) → IsWrong m x.flaw
     wrong_1 (inl is) = let t = flawed_told flaw.Doubled (first_again plain) x is in port_doubled t.2 (listed_twice (one_twice plain t.0 t.1))
     wrong_1 (inr (none, is)) = wrong_2 (or_told (stray listed (outside plain ports)) flaw_3 x is)
 
@@ -254,32 +254,32 @@ module _ (m : ModuleTree) where
         by (inl twice) = blocks_alike twice
         by (inr one) = block_and_other one
 
-    later_wrong : (flawed flaw.Valued (valued_port m) ≡ Some x) ⊎ ((flawed flaw.Valued (valued_port m) ≡ None) × (flawed flaw.Doubled (doubled_block m) ≡ Some x)) → IsWrong m x.flaw
+    later_wrong : (misdeclared_at flaw.Valued (valued_port m) ≡ Some x) ⊎ ((misdeclared_at flaw.Valued (valued_port m) ≡ None) × (misdeclared_at flaw.Doubled (doubled_block m) ≡ Some x)) → IsWrong m x.flaw
     later_wrong (inl value) = let t = flawed_told flaw.Valued (valued_port m) x value in valued_net t.2 (value_wrong m t.0 t.1)
     later_wrong (inr (none, block)) = let t = flawed_told flaw.Doubled (doubled_block m) x block in block_doubled t.2 (block_wrong t.0 t.1)
 
     pub flaw_wrong : flaw_of m ≡ Some x → IsWrong m x.flaw
-    flaw_wrong is = by (or_told (port_flaw m) (option_or (flawed flaw.Valued (valued_port m)) (flawed flaw.Doubled (doubled_block m))) x is)
+    flaw_wrong is = by (or_told (port_flaw m) (option_or (misdeclared_at flaw.Valued (valued_port m)) (misdeclared_at flaw.Doubled (doubled_block m))) x is)
       where
-        by : (port_flaw m ≡ Some x) ⊎ ((port_flaw m ≡ None) × (option_or (flawed flaw.Valued (valued_port m)) (flawed flaw.Doubled (doubled_block m)) ≡ Some x)) → IsWrong m x.flaw
-        by (inl port) = wrong_1 (or_told (flawed flaw.Doubled (first_again plain)) flaw_2 x port)
-        by (inr (none, later)) = later_wrong (or_told (flawed flaw.Valued (valued_port m)) (flawed flaw.Doubled (doubled_block m)) x later)
+        by : (port_flaw m ≡ Some x) ⊎ ((port_flaw m ≡ None) × (option_or (misdeclared_at flaw.Valued (valued_port m)) (misdeclared_at flaw.Doubled (doubled_block m)) ≡ Some x)) → IsWrong m x.flaw
+        by (inl port) = wrong_1 (or_told (misdeclared_at flaw.Doubled (first_again plain)) flaw_2 x port)
+        by (inr (none, later)) = later_wrong (or_told (misdeclared_at flaw.Valued (valued_port m)) (misdeclared_at flaw.Doubled (doubled_block m)) x later)
 
 -- ---- the modules of a text
 
-pub one_wrong : (modules : SourceTree) (x : Misdeclared) → misdeclared modules ≡ Some x → (m : ModuleTree) × Contains modules m × IsWrong m x.flaw
+pub one_wrong : (modules : SourceTree) (x : Misdeclared) → first_misdeclared modules ≡ Some x → (m : ModuleTree) × Contains modules m × IsWrong m x.flaw
 one_wrong [] x is = absurd cc
-one_wrong (m ∷ more) x is = by (or_told (flaw_of m) (misdeclared more) x is) (one_wrong more x)
+one_wrong (m ∷ more) x is = by (or_told (flaw_of m) (first_misdeclared more) x is) (one_wrong more x)
   where
-    by : (flaw_of m ≡ Some x) ⊎ ((flaw_of m ≡ None) × (misdeclared more ≡ Some x)) → (misdeclared more ≡ Some x → (u : ModuleTree) × Contains more u × IsWrong u x.flaw) →
+    by : (flaw_of m ≡ Some x) ⊎ ((flaw_of m ≡ None) × (first_misdeclared more ≡ Some x)) → (first_misdeclared more ≡ Some x → (u : ModuleTree) × Contains more u × IsWrong u x.flaw) →
         (u : ModuleTree) × Contains (m ∷ more) u × IsWrong u x.flaw
     by (inl here) rest = (m, contains_first m more, flaw_wrong m x here)
     by (inr (none, there)) rest = let r = rest there in (r.0, contains_more m r.0 more r.1, r.2)
 
-pub all_untold : (modules : SourceTree) → misdeclared modules ≡ None → (m : ModuleTree) → Contains modules m → IsUntold m
+pub all_untold : (modules : SourceTree) → first_misdeclared modules ≡ None → (m : ModuleTree) → Contains modules m → IsUntold m
 all_untold [] is u inside = absurd (contains_none u inside)
-all_untold (m ∷ more) is u inside = by (or_nothing (flaw_of m) (misdeclared more) is) (contains_cases m u more inside) (λ none. all_untold more none u)
+all_untold (m ∷ more) is u inside = by (or_nothing (flaw_of m) (first_misdeclared more) is) (contains_cases m u more inside) (λ none. all_untold more none u)
   where
-    by : (flaw_of m ≡ None) × (misdeclared more ≡ None) → (m ≡ u) ⊎ Contains more u → (misdeclared more ≡ None → Contains more u → IsUntold u) → IsUntold u
+    by : (flaw_of m ≡ None) × (first_misdeclared more ≡ None) → (m ≡ u) ⊎ Contains more u → (first_misdeclared more ≡ None → Contains more u → IsUntold u) → IsUntold u
     by (here, there) (inl same) rest = untold u (sym (ap (λ (v : ModuleTree). flaw_of v) same) ∙ here)
     by (here, there) (inr later) rest = rest there later

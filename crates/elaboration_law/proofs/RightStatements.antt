@@ -34,7 +34,7 @@ use Rattle.velab_expr.specs.Written.{lower_target, lower_net_target}
 use Rattle.velab_expr.specs.Selections.{lower_selection}
 use Rattle.velab_declaration.specs.Right.{writes_net, writes_variables}
 use Rattle.velab_process.specs.Waits.{edge_of, lower_control}
-use Rattle.velab_process.specs.Prints.{default_form, ends_line, given, lower_argument, lower_arguments, lower_line}
+use Rattle.velab_process.specs.Prints.{default_form, ends_line, arguments_given, lower_argument, lower_arguments, lower_line}
 use Rattle.velab_process.proofs.LineLemmas.{given_same}
 use Rattle.velab_process.specs.Statements.{Table, Lowered, LoweredBranches, with_places_before, assignment_action, lower_amount, lower_own_amount, lower_assignment, lower_task, lower_label, lower_labels, lower_statement, lower_all, lower_branch, lower_branches}
 use Rattle.velab_process.specs.Processes.{ProcessTree, procedural, continuous, Processes, with_begins_before, lower_process, lower_processes}
@@ -209,7 +209,7 @@ module _ (vs : List Variable) (place : Place) (scope : Scope) (h : IsAt place sc
   line_says : (kind : Printing) (arguments : List ArgumentTree) → Says (λ l. list_all (piece_bits vs) l) (hold (used_in_arguments arguments)) (lower_line scope kind arguments)
   line_says kind arguments =
       subst (λ (uses : List Use). Says (λ l. list_all (piece_bits vs) l) (hold uses) (lower_line scope kind arguments)) (given_same used_in_arguments refl arguments)
-      (last_says (λ l. list_all argument_bits l) (λ l. list_all (piece_bits vs) l) (hold (used_in_arguments (given arguments))) (lower_arguments scope (given arguments)) _ (arguments_say (given arguments)) (λ all. by (list_all argument_bits all) (pieces_of (default_form kind) (ends_line kind) all)
+      (last_says (λ l. list_all argument_bits l) (λ l. list_all (piece_bits vs) l) (hold (used_in_arguments (arguments_given arguments))) (lower_arguments scope (arguments_given arguments)) _ (arguments_say (arguments_given arguments)) (λ all. by (list_all argument_bits all) (pieces_of (default_form kind) (ends_line kind) all)
       (ended_bits (ends_line kind) (list_all argument_bits all) (pieces_by (default_form kind) [] all) (pieces_are (default_form kind) [] all))))
     where
       by : (b : Bool) (pieces : Option (List Piece)) → Pieces b pieces → Says (λ l. list_all (piece_bits vs) l) b (found pieces Kind (first_argument arguments))

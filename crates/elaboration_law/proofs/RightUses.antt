@@ -23,10 +23,10 @@ use Rattle.velab_expr.specs.declared.scope.Meaning.{Meaning}
 use Rattle.velab_expr.specs.declared.scope.Meaning.TheVariants as means
 use Rattle.velab_expr.specs.declared.scope.Operand.{Operand}
 use Rattle.velab_expr.specs.declared.scope.Operand.TheVariants as operand
-use Rattle.velab_expr.specs.Answers.{◌>>=◌, required, provided, unflawed}
+use Rattle.velab_expr.specs.Answers.{◌>>=◌, require, answer_if, unless_flawed}
 use Rattle.velab_expr.specs.FirstWords.{first_in, first_among}
 use Rattle.velab_expr.specs.Scopes.{Scope, meaning_of, bounds_for, operand_by, variable_by, lower_name, lower_variable}
-use Rattle.velab_expr.specs.Constants.{nothing, measured, part_bounds}
+use Rattle.velab_expr.specs.Constants.{nothing, checked_worth, part_bounds}
 use Rattle.velab_expr.specs.Resolved.{plain, operand_tree, bit_in, part_in, in_front, count_of, few, lower, lower_parts}
 use Rattle.velab_expr.specs.Written as written
 use Rattle.velab_expr.specs.Written.{lower_index, lower_target_by, lower_targets_by}
@@ -161,7 +161,7 @@ module _ {A B : Type 0} where
   pub front_says : (one : A → Bool) (view : B → Bool) (c b : Bool) (a : Result A ElabFault) (next : A → Result B ElabFault) → Says one b a → ((x : A) → Says view (c && one x) (next x)) → Says view (c && b) (a >>= next)
   front_says one view c b a next h more = through one view (λ d. c && d) b a next h more
 
-pub provided_says : {A : Type 0} (view : A → Bool) (b holds : Bool) (rule : Rule) (word : Option Word) (a : Result A ElabFault) → Says view b a → Says view b (provided holds rule word a)
+pub provided_says : {A : Type 0} (view : A → Bool) (b holds : Bool) (rule : Rule) (word : Option Word) (a : Result A ElabFault) → Says view b a → Says view b (answer_if holds rule word a)
 provided_says view b true rule word a h = h
 provided_says view b false rule word a h = tt
 
@@ -226,7 +226,7 @@ module _ (vs : List Variable) (place : Place) (scope : Scope) (h : IsAt place sc
   bits_say : (constant : Bool) (name : Word) → Says operand_bits (is_suited_later place (use_of ReadIn constant name)) (lower_name constant scope name)
   bits_say constant name = by constant (meaning_of scope name) (thing_of place name) (stands_alike place scope h name)
     where
-      a_parameter_says : (c ok : Bool) (value : _) (bounds : _) → Says operand_bits true (required ok Unknown (Some name) (operand.Parameter value bounds))
+      a_parameter_says : (c ok : Bool) (value : _) (bounds : _) → Says operand_bits true (require ok Unknown (Some name) (operand.Parameter value bounds))
       a_parameter_says c true value bounds = refl
       a_parameter_says c false value bounds = tt
 
@@ -301,7 +301,7 @@ module _ (vs : List Variable) (place : Place) (scope : Scope) (h : IsAt place sc
       by (operand.Variable number) = refl
       by (operand.Parameter value bounds) = refl
 
-  time_says : (fixed : Bool) (word : Word) → Says (bits_in vs) true (required (not fixed) Constant (Some word) time)
+  time_says : (fixed : Bool) (word : Word) → Says (bits_in vs) true (require (not fixed) Constant (Some word) time)
   time_says true word = tt
   time_says false word = refl
 
@@ -313,7 +313,7 @@ module _ (vs : List Variable) (place : Place) (scope : Scope) (h : IsAt place sc
   part_says (operand.Variable number) bounds name = refl
   part_says (operand.Parameter value all) bounds name = by (is_part all bounds)
     where
-      by : (b : Bool) → Says (bits_in vs) true (required b Width (Some name) (plain (part_of value all bounds (part_size bounds))))
+      by : (b : Bool) → Says (bits_in vs) true (require b Width (Some name) (plain (part_of value all bounds (part_size bounds))))
       by true = refl
       by false = tt
 
@@ -341,14 +341,14 @@ module _ (vs : List Variable) (place : Place) (scope : Scope) (h : IsAt place sc
     lower_says fixed (text.part letters left right) =
         with_constants (bits_in vs) (use_of ReadIn fixed letters) (used_in true left ++ used_in true right) _ (both_hold place (used_in true left) (used_in true right) (constants_hold place left) (constants_hold place right))
         (last_says operand_bits (bits_in vs) (is_suited_later place (use_of ReadIn fixed letters)) (lower_name fixed scope letters) _ (bits_say fixed letters) (λ operand.
-        silent_says (bits_in vs) (operand_bits operand) (lower true scope left >>= measured (first_in left)) _ (λ high.
-        silent_says (bits_in vs) (operand_bits operand) (lower true scope right >>= measured (first_in right)) _ (λ low. part_says operand (part_bounds high low) letters))))
+        silent_says (bits_in vs) (operand_bits operand) (lower true scope left >>= checked_worth (first_in left)) _ (λ high.
+        silent_says (bits_in vs) (operand_bits operand) (lower true scope right >>= checked_worth (first_in right)) _ (λ low. part_says operand (part_bounds high low) letters))))
     lower_says fixed (text.parentheses inner) = lower_says fixed inner
     lower_says fixed (text.concatenation parts) =
         provided_says (bits_in vs) (holds (used_in_parts fixed parts)) (nat_le (count_of parts) 64) Width (first_among parts) (lower_parts fixed scope parts) (parts_say fixed parts)
     lower_says fixed (text.replication count parts) =
         behind_constants (bits_in vs) (used_in true count) (used_in_parts fixed parts) _ (constants_hold place count)
-        (silent_says (bits_in vs) (holds (used_in_parts fixed parts)) (lower true scope count >>= measured (first_in count)) _ (λ amount.
+        (silent_says (bits_in vs) (holds (used_in_parts fixed parts)) (lower true scope count >>= checked_worth (first_in count)) _ (λ amount.
         last_says (bits_in vs) (bits_in vs) (holds (used_in_parts fixed parts)) (few parts (lower_parts fixed scope parts)) _
         (provided_says (bits_in vs) (holds (used_in_parts fixed parts)) (nat_le (count_of parts) 64) Width (first_among parts) (lower_parts fixed scope parts) (parts_say fixed parts)) (λ e. refl)))
     lower_says fixed (text.conversion signed inner) = last_says (bits_in vs) (bits_in vs) (holds (used_in fixed inner)) (lower fixed scope inner) _ (lower_says fixed inner) (λ o. refl)
@@ -369,7 +369,7 @@ module _ (vs : List Variable) (place : Place) (scope : Scope) (h : IsAt place sc
 
   -- ---- targets
 
-  unflawed_says : (flaw : Option Flaw) (word : Option Word) (e : ExpressionTree) → Says (bits_in vs) (bits_in vs e) (unflawed flaw word e)
+  unflawed_says : (flaw : Option Flaw) (word : Option Word) (e : ExpressionTree) → Says (bits_in vs) (bits_in vs e) (unless_flawed flaw word e)
   unflawed_says None word e = refl
   unflawed_says (Some flaw) word e = tt
 

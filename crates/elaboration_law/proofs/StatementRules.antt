@@ -21,7 +21,7 @@ use Rattle.velab_expr.specs.Resolved.{lower_expression}
 use Rattle.velab_expr.specs.Written.{lower_target, lower_net_target, target_of}
 use Rattle.velab_expr.specs.Selections.{lower_selection}
 use Rattle.velab_process.specs.Waits.{edge_of, term_by, lower_term, lower_further, lower_control}
-use Rattle.velab_process.specs.Prints.{default_form, ends_line, given, lower_argument, lower_arguments, lower_line}
+use Rattle.velab_process.specs.Prints.{default_form, ends_line, arguments_given, lower_argument, lower_arguments, lower_line}
 use Rattle.vast.specs.declared.statement.Printing.{Printing}
 use Rattle.velab_process.specs.Statements.{Table, Lowered, with_places_before, lower_amount, lower_own_amount, lower_assignment, lower_task, lower_label, lower_labels, lower_statement, lower_all, lower_branch, lower_branches}
 use Rattle.velab_process.specs.Processes.{ProcessTree, procedural, continuous, Processes, with_begins_before, lower_process, lower_processes, process_trees_by, lower_items}
@@ -72,7 +72,7 @@ arguments_tell scope (one ∷ more) =
 
 line_tells : (scope : Scope) (kind : Printing) (arguments : List ArgumentTree) → Tells is_local (lower_line scope kind arguments)
 line_tells scope kind arguments =
-    then_tells is_local (lower_arguments scope (given arguments)) _ (arguments_tell scope (given arguments)) (λ all. found_tells is_local (pieces_of (default_form kind) (ends_line kind) all) Kind (first_argument arguments) refl)
+    then_tells is_local (lower_arguments scope (arguments_given arguments)) _ (arguments_tell scope (arguments_given arguments)) (λ all. found_tells is_local (pieces_of (default_form kind) (ends_line kind) all) Kind (first_argument arguments) refl)
 
 task_tells : (scope : Scope) (table : Table) (call : TaskTree) → Tells is_local (lower_task scope table call)
 task_tells scope table (print kind arguments) = then_tells is_local (lower_line scope kind arguments) _ (line_tells scope kind arguments) (λ pieces. tt)

@@ -15,7 +15,7 @@ use Rattle.velab_expr.specs.Resolved.{lower_expression}
 use Rattle.velab_expr.specs.Written.{lower_target, lower_net_target}
 use Rattle.velab_expr.specs.Selections.{lower_selection}
 use Rattle.velab_process.specs.Waits.{edge_of, lower_term, lower_further, lower_control}
-use Rattle.velab_process.specs.Prints.{default_form, ends_line, given, lower_argument, lower_arguments, lower_line}
+use Rattle.velab_process.specs.Prints.{default_form, ends_line, arguments_given, lower_argument, lower_arguments, lower_line}
 use Rattle.velab_process.proofs.LineLemmas.{given_same}
 use Rattle.vast.specs.declared.statement.Printing.{Printing}
 use Rattle.velab_process.specs.Statements.{Table, Lowered, with_places_before, lower_amount, lower_own_amount, lower_assignment, lower_task, lower_label, lower_labels, lower_statement, lower_all, lower_branch, lower_branches}
@@ -60,7 +60,7 @@ module _ (q : Question) (scope : Scope) where
   line_knows : (kind : Printing) (arguments : List ArgumentTree) → Fits q scope (used_in_arguments arguments ++ use_of_formats arguments ∷ []) (lower_line scope kind arguments)
   line_knows kind arguments =
       subst (λ (uses : List Use). Fits q scope (uses ++ use_of_formats arguments ∷ []) (lower_line scope kind arguments)) (given_same used_in_arguments refl arguments)
-      (known_judges q.asked (q.fits scope) (used_in_arguments (given arguments)) (use_of_formats arguments ∷ []) (lower_arguments scope (given arguments)) _ (arguments_know (given arguments)) (λ all is.
+      (known_judges q.asked (q.fits scope) (used_in_arguments (arguments_given arguments)) (use_of_formats arguments ∷ []) (lower_arguments scope (arguments_given arguments)) _ (arguments_know (arguments_given arguments)) (λ all is.
       single q scope (use_of_formats arguments) (found (pieces_of (default_form kind) (ends_line kind) all) Kind (first_argument arguments))
       (q.of_formats scope (default_form kind) (ends_line kind) arguments all is)))
 

@@ -44,7 +44,7 @@ use Rattle.velab_expr.specs.Written.{lower_target, lower_net_target, lower_targe
 use Rattle.velab_expr.specs.Selections.{levels_in, lower_selection}
 use Rattle.velab_declaration.specs.ActionFlaws.{first_flaw, branch_flaw, piece_flaw, assignment_flaw, action_flaw}
 use Rattle.velab_process.specs.Waits.{edge_of, term_by, lower_term, lower_further, lower_control}
-use Rattle.velab_process.specs.Prints.{default_form, ends_line, given, lower_argument, lower_arguments, lower_line}
+use Rattle.velab_process.specs.Prints.{default_form, ends_line, arguments_given, lower_argument, lower_arguments, lower_line}
 use Rattle.velab_process.proofs.LineLemmas.{given_same}
 use Rattle.velab_process.specs.Statements.{Table, Lowered, LoweredBranches, lowered_action, with_places_before, with_branches_before, assignment_action, dump_action, end_action, lower_amount, lower_own_amount, lower_assignment, lower_task, lower_label, lower_labels, lower_statement, lower_all, lower_branch, lower_branches}
 use Rattle.velab_process.specs.Processes.{ProcessTree, procedural, continuous, Processes, with_begins_before, process_trees_by, lower_process, lower_processes, lower_items}
@@ -365,17 +365,17 @@ module _ (scope : Scope) (named : Text → Worth) (vectors : AreVectors named) (
 
   line_told : (kind : Printing) (arguments : List ArgumentTree) → Told (first_flaw (piece_flaw now)) (list_all (is_sized_argument named) arguments) (lower_line scope kind arguments)
   line_told kind arguments =
-      goes_on (first_flaw (argument_flaw now)) (first_flaw (piece_flaw now)) holds holds (lower_arguments scope (given arguments)) _ (λ e. e) told_given (λ all h.
+      goes_on (first_flaw (argument_flaw now)) (first_flaw (piece_flaw now)) holds holds (lower_arguments scope (arguments_given arguments)) _ (λ e. e) told_given (λ all h.
       by (first_flaw (argument_flaw now) all) (pieces_of (default_form kind) (ends_line kind) all) h
       (ended_have now (ends_line kind) (first_flaw (argument_flaw now) all) (pieces_by (default_form kind) [] all) (pieces_have now (default_form kind) [] all)))
     where
       holds : Bool
       holds = list_all (is_sized_argument named) arguments
 
-      told_given : Told (first_flaw (argument_flaw now)) holds (lower_arguments scope (given arguments))
+      told_given : Told (first_flaw (argument_flaw now)) holds (lower_arguments scope (arguments_given arguments))
       told_given =
-          subst (λ (b : Bool). Told (first_flaw (argument_flaw now)) b (lower_arguments scope (given arguments)))
-          (given_same (list_all (is_sized_argument named)) refl arguments) (arguments_told (given arguments))
+          subst (λ (b : Bool). Told (first_flaw (argument_flaw now)) b (lower_arguments scope (arguments_given arguments)))
+          (given_same (list_all (is_sized_argument named)) refl arguments) (arguments_told (arguments_given arguments))
 
       by : (flaw : Option Flaw) (pieces : Option (List Piece)) → Says flaw holds → Have now flaw pieces → Told (first_flaw (piece_flaw now)) holds (found pieces Kind (first_argument arguments))
       by flaw None h k = λ e. absurd cc

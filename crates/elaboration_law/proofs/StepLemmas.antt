@@ -5,8 +5,8 @@ use Rattle.vast.specs.NumberedWords.{Word}
 use Rattle.velab_expr.specs.declared.fault.Rule.{Rule}
 use Rattle.velab_expr.specs.declared.fault.Rule.TheVariants.{TooMany}
 use Rattle.velab_expr.specs.declared.fault.ElabFault.{ElabFault}
-use Rattle.velab_expr.specs.Rules.{told}
-use Rattle.velab_expr.specs.Answers.{◌>>=◌, provided, required, found}
+use Rattle.velab_expr.specs.Rules.{fault_at}
+use Rattle.velab_expr.specs.Answers.{◌>>=◌, answer_if, require, found}
 use Rattle.vhierarchy.specs.Instances.{barring, Part, few_enough}
 
 module _ {A : Type 0} where
@@ -22,22 +22,22 @@ module _ {A : Type 0} where
   then_err (Ok x) next fault is = inr (x, refl, is)
   then_err (Err f) next fault is = let same : f ≡ fault = cc in inl (ap Err same)
 
-  pub provided_ok : (holds : Bool) (rule : Rule) (word : Option Word) (a : Result A ElabFault) (x : A) → provided holds rule word a ≡ Ok x → (holds ≡ true) × (a ≡ Ok x)
+  pub provided_ok : (holds : Bool) (rule : Rule) (word : Option Word) (a : Result A ElabFault) (x : A) → answer_if holds rule word a ≡ Ok x → (holds ≡ true) × (a ≡ Ok x)
   provided_ok true rule word a x is = (refl, is)
   provided_ok false rule word a x is = absurd cc
 
-  pub provided_err : (holds : Bool) (rule : Rule) (word : Option Word) (a : Result A ElabFault) (fault : ElabFault) → provided holds rule word a ≡ Err fault →
+  pub provided_err : (holds : Bool) (rule : Rule) (word : Option Word) (a : Result A ElabFault) (fault : ElabFault) → answer_if holds rule word a ≡ Err fault →
       ((holds ≡ false) × (fault.rule ≡ rule)) ⊎ ((holds ≡ true) × (a ≡ Err fault))
   provided_err true rule word a fault is = inr (refl, is)
-  provided_err false rule word a fault is = let same : told rule word ≡ fault = cc in inl (refl, ap (λ (f : ElabFault). f.rule) (sym same))
+  provided_err false rule word a fault is = let same : fault_at rule word ≡ fault = cc in inl (refl, ap (λ (f : ElabFault). f.rule) (sym same))
 
-  pub required_ok : (holds : Bool) (rule : Rule) (word : Option Word) (x y : A) → required holds rule word x ≡ Ok y → (holds ≡ true) × (x ≡ y)
+  pub required_ok : (holds : Bool) (rule : Rule) (word : Option Word) (x y : A) → require holds rule word x ≡ Ok y → (holds ≡ true) × (x ≡ y)
   required_ok true rule word x y is = (refl, same_value x y is)
   required_ok false rule word x y is = absurd cc
 
-  pub required_err : (holds : Bool) (rule : Rule) (word : Option Word) (x : A) (fault : ElabFault) → required holds rule word x ≡ Err fault → (holds ≡ false) × (fault.rule ≡ rule)
+  pub required_err : (holds : Bool) (rule : Rule) (word : Option Word) (x : A) (fault : ElabFault) → require holds rule word x ≡ Err fault → (holds ≡ false) × (fault.rule ≡ rule)
   required_err true rule word x fault is = absurd cc
-  required_err false rule word x fault is = let same : told rule word ≡ fault = cc in (refl, ap (λ (f : ElabFault). f.rule) (sym same))
+  required_err false rule word x fault is = let same : fault_at rule word ≡ fault = cc in (refl, ap (λ (f : ElabFault). f.rule) (sym same))
 
   pub barring_ok : (word : Option Word) (rule : Rule) (a : Result A ElabFault) (x : A) → barring word rule a ≡ Ok x → (word ≡ None) × (a ≡ Ok x)
   barring_ok None rule a x is = (refl, is)
@@ -46,14 +46,14 @@ module _ {A : Type 0} where
   pub barring_err : (word : Option Word) (rule : Rule) (a : Result A ElabFault) (fault : ElabFault) → barring word rule a ≡ Err fault →
       ((w : Word) × (word ≡ Some w) × (fault.rule ≡ rule)) ⊎ ((word ≡ None) × (a ≡ Err fault))
   barring_err None rule a fault is = inr (refl, is)
-  barring_err (Some w) rule a fault is = let same : told rule (Some w) ≡ fault = cc in inl (w, refl, ap (λ (f : ElabFault). f.rule) (sym same))
+  barring_err (Some w) rule a fault is = let same : fault_at rule (Some w) ≡ fault = cc in inl (w, refl, ap (λ (f : ElabFault). f.rule) (sym same))
 
   pub found_ok : (x : Option A) (rule : Rule) (word : Option Word) (y : A) → found x rule word ≡ Ok y → x ≡ Some y
   found_ok None rule word y is = absurd cc
   found_ok (Some x) rule word y is = ap Some (same_value x y is)
 
   pub found_err : (x : Option A) (rule : Rule) (word : Option Word) (fault : ElabFault) → found x rule word ≡ Err fault → (x ≡ None) × (fault.rule ≡ rule)
-  found_err None rule word fault is = let same : told rule word ≡ fault = cc in (refl, ap (λ (f : ElabFault). f.rule) (sym same))
+  found_err None rule word fault is = let same : fault_at rule word ≡ fault = cc in (refl, ap (λ (f : ElabFault). f.rule) (sym same))
   found_err (Some x) rule word fault is = absurd cc
 
   -- ---- elements
@@ -93,9 +93,9 @@ module _ {A : Type 0} where
 
 -- too many processes, or too many instances
 pub few_err : (name : Word) (part : Part) (fault : ElabFault) → few_enough name part ≡ Err fault → ((nat_le (length part.begins) 256 ≡ false) ⊎ (nat_le (length part.scopes) 1025 ≡ false)) × (fault.rule ≡ TooMany)
-few_err name part fault is = by (provided_err (nat_le (length part.begins) 256) TooMany (Some name) (required (nat_le (length part.scopes) 1025) TooMany (Some name) part) fault is)
+few_err name part fault is = by (provided_err (nat_le (length part.begins) 256) TooMany (Some name) (require (nat_le (length part.scopes) 1025) TooMany (Some name) part) fault is)
   where
-    by : ((nat_le (length part.begins) 256 ≡ false) × (fault.rule ≡ TooMany)) ⊎ ((nat_le (length part.begins) 256 ≡ true) × (required (nat_le (length part.scopes) 1025) TooMany (Some name) part ≡ Err fault)) →
+    by : ((nat_le (length part.begins) 256 ≡ false) × (fault.rule ≡ TooMany)) ⊎ ((nat_le (length part.begins) 256 ≡ true) × (require (nat_le (length part.scopes) 1025) TooMany (Some name) part ≡ Err fault)) →
         ((nat_le (length part.begins) 256 ≡ false) ⊎ (nat_le (length part.scopes) 1025 ≡ false)) × (fault.rule ≡ TooMany)
     by (inl (many, rule)) = (inl many, rule)
     by (inr (few, err)) = let h = required_err (nat_le (length part.scopes) 1025) TooMany (Some name) part fault err in (inr h.0, h.1)

@@ -4,7 +4,7 @@ use Rattle.vast.specs.NumberedWords.{Word}
 use Rattle.velab_expr.specs.declared.fault.Rule.{Rule}
 use Rattle.velab_expr.specs.declared.fault.Rule.TheVariants.{Top, Doubled, Unknown, Drivers, Ports, Width, Constant, Depth, TooMany, Kind}
 use Rattle.velab_expr.specs.declared.fault.ElabFault.{ElabFault}
-use Rattle.velab_expr.specs.Answers.{◌>>=◌, required, provided, found}
+use Rattle.velab_expr.specs.Answers.{◌>>=◌, require, answer_if, found}
 use Rattle.vhierarchy.specs.Instances.{barring}
 
 -- a fault in it is of one of these rules
@@ -66,11 +66,11 @@ module _ (rules : Rule → Bool) where
   then_tells (Ok x) next h more = more x
   then_tells (Err fault) next h more = h
 
-  pub required_tells : {A : Type 0} (holds : Bool) (rule : Rule) (word : Option Word) (x : A) → rules rule ≡ true → Tells rules (required holds rule word x)
+  pub required_tells : {A : Type 0} (holds : Bool) (rule : Rule) (word : Option Word) (x : A) → rules rule ≡ true → Tells rules (require holds rule word x)
   required_tells true rule word x e = tt
   required_tells false rule word x e = e
 
-  pub provided_tells : {A : Type 0} (holds : Bool) (rule : Rule) (word : Option Word) (a : Result A ElabFault) → rules rule ≡ true → Tells rules a → Tells rules (provided holds rule word a)
+  pub provided_tells : {A : Type 0} (holds : Bool) (rule : Rule) (word : Option Word) (a : Result A ElabFault) → rules rule ≡ true → Tells rules a → Tells rules (answer_if holds rule word a)
   provided_tells true rule word a e h = h
   provided_tells false rule word a e h = e
 

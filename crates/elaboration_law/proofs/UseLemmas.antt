@@ -8,14 +8,14 @@ use Rattle.vast.specs.NumberedWords.{Word}
 use Rattle.velab_expr.specs.declared.fault.Rule.{Rule}
 use Rattle.velab_expr.specs.declared.fault.ElabFault.{ElabFault}
 use Rattle.velab_expr.specs.declared.fault.Rule.TheVariants.{Width, Constant, Kind}
-use Rattle.velab_expr.specs.Answers.{◌>>=◌, required, provided, found}
+use Rattle.velab_expr.specs.Answers.{◌>>=◌, require, answer_if, found}
 use Rattle.velab_expr.specs.Scopes.{Scope, lower_name, lower_variable, lower_event}
 use Rattle.vast.specs.NumberedStatements.{ArgumentTree}
 use Rattle.vdesign.specs.declared.print.Form.{Form}
 use Rattle.format_text.specs.Pieces.{Argument, pieces_of}
 use Rattle.velab_expr.specs.FirstWords.{first_argument}
 use Rattle.velab_expr.specs.Selections.{levels_in}
-use Rattle.velab_process.specs.Prints.{lower_arguments, given}
+use Rattle.velab_process.specs.Prints.{lower_arguments, arguments_given}
 use Rattle.velab_process.specs.Waits.{lower_term}
 use Rattle.vdesign.specs.declared.action.Edge.{Edge}
 use Rattle.vhierarchy.specs.Instances.{barring}
@@ -53,11 +53,11 @@ module _ (asked : Rule → Bool) where
       by (Err fault) j = λ e. absurd (let it = j e in cc)
   last_judges one (Err fault) next h more = h
 
-  pub required_judges : {A : Type 0} (holds : Bool) (rule : Rule) (word : Option Word) (x : A) → asked rule ≡ false → Judges asked true (required holds rule word x)
+  pub required_judges : {A : Type 0} (holds : Bool) (rule : Rule) (word : Option Word) (x : A) → asked rule ≡ false → Judges asked true (require holds rule word x)
   required_judges true rule word x not = refl
   required_judges false rule word x not = λ e. absurd cc
 
-  pub provided_judges : {A : Type 0} (one holds : Bool) (rule : Rule) (word : Option Word) (a : Result A ElabFault) → asked rule ≡ false → Judges asked one a → Judges asked one (provided holds rule word a)
+  pub provided_judges : {A : Type 0} (one holds : Bool) (rule : Rule) (word : Option Word) (a : Result A ElabFault) → asked rule ≡ false → Judges asked one a → Judges asked one (answer_if holds rule word a)
   provided_judges one true rule word a not h = h
   provided_judges one false rule word a not h = λ e. absurd cc
 
@@ -104,8 +104,8 @@ pub record Question : Type 1 where
   pub of_driven_in : (scope : Scope) (name : Word) → Judges asked (fits scope (use_of DrivenIn false name)) (lower_variable scope name)
   pub of_event : (scope : Scope) (name : Word) → Judges asked (fits scope (use_of Triggered false name)) (lower_event scope name)
   pub of_term : (scope : Scope) (edge : Edge) (name : Word) → Judges asked (fits scope (use_of (Awaited edge) false name)) (lower_term scope edge name)
-  pub of_time : {A : Type 0} (constant : Bool) (scope : Scope) (word : Option Word) (x : A) → Judges asked (fits scope (use_of_time constant)) (required (not constant) Constant word x)
-  pub of_formats : (scope : Scope) (default : Form) (ends : Bool) (arguments : List ArgumentTree) (all : List Argument) → lower_arguments scope (given arguments) ≡ Ok all →
+  pub of_time : {A : Type 0} (constant : Bool) (scope : Scope) (word : Option Word) (x : A) → Judges asked (fits scope (use_of_time constant)) (require (not constant) Constant word x)
+  pub of_formats : (scope : Scope) (default : Form) (ends : Bool) (arguments : List ArgumentTree) (all : List Argument) → lower_arguments scope (arguments_given arguments) ≡ Ok all →
       Judges asked (fits scope (use_of_formats arguments)) (found (pieces_of default ends all) Kind (first_argument arguments))
   pub of_levels : (scope : Scope) (levels : Word) → Judges asked (fits scope (use_of_levels levels)) (found (levels_in levels) Kind (Some levels))
 

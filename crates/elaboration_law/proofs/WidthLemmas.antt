@@ -22,7 +22,7 @@ use Rattle.vvalue.specs.declared.flaw.Flaw.TheVariants.{NoBits, Size}
 use Rattle.velab_expr.specs.declared.fault.Rule.{Rule}
 use Rattle.velab_expr.specs.declared.fault.Rule.TheVariants.{Doubled, Ports, TooMany, Kind, Width}
 use Rattle.velab_expr.specs.declared.fault.ElabFault.{ElabFault}
-use Rattle.velab_expr.specs.Answers.{◌>>=◌, required}
+use Rattle.velab_expr.specs.Answers.{◌>>=◌, require}
 use Rattle.velab_expr.specs.Rules.{rule_of, unless}
 use Rattle.velab_expr.specs.Scopes.{Scope}
 use Rattle.velab_expr.specs.Symbols.{symbols_by}
@@ -184,7 +184,7 @@ module _ (modules : SourceTree) where
         enough : (nat_le (length whole.scopes) 1025 ≡ true) × (whole ≡ own.whole)
         enough =
             required_ok (nat_le (length whole.scopes) 1025) TooMany (Some context.name) whole own.whole
-            (provided_ok (nat_le (length whole.begins) 256) TooMany (Some context.name) (required (nat_le (length whole.scopes) 1025) TooMany (Some context.name) whole) own.whole processes.2).1
+            (provided_ok (nat_le (length whole.begins) 256) TooMany (Some context.name) (require (nat_le (length whole.scopes) 1025) TooMany (Some context.name) whole) own.whole processes.2).1
 
         carries : Carries whole (t && has_right_widths one)
         carries others =

@@ -13,7 +13,7 @@ use Rattle.vmodules.specs.Placed.{placed_items}
 use Rattle.vmodules.specs.Connected.{value_for}
 use Rattle.velab_declaration.specs.Variables.{declared_names}
 use Rattle.velab_process.specs.Processes.{process_trees_by}
-use Rattle.elaboration_law.specs.Hierarchy.{Instance, top_instance, listed}
+use Rattle.elaboration_law.specs.Hierarchy.{Instance, top_instance, instances_from}
 
 -- what is counted; of names their bytes, of modules their sizes
 pub data Counted : Type 0 where
@@ -34,8 +34,8 @@ limit Letters = 1048576
 limit Sizes = 4194304
 
 -- what ports are connected to: each connection is a process (12.3.9.2)
-abbrev pub connected : Instance → List ExpressionTree
-connected one = filter_map (λ p. value_for one.connections p.name.letters) (ports_of one.unit)
+abbrev pub values_connected : Instance → List ExpressionTree
+values_connected one = filter_map (λ p. value_for one.connections p.name.letters) (ports_of one.unit)
 
 -- 9.7.3
 abbrev pub events_by : ItemTree → List Word
@@ -54,7 +54,7 @@ letters_in one = length one.path + size_of (λ name. length one.path + (1 + leng
 -- how many an instance has
 abbrev pub count_in : Counted → Instance → ℕ
 count_in Variables one = length (declared_names one.unit)
-count_in Processes one = length (connected one) + length (flat_map process_trees_by (placed_items one.path one.unit))
+count_in Processes one = length (values_connected one) + length (flat_map process_trees_by (placed_items one.path one.unit))
 count_in Instances one = 1
 count_in NamedEvents one = length (flat_map events_by one.unit.items)
 count_in Letters one = letters_in one
@@ -65,4 +65,4 @@ pub record HasTooMany (modules : SourceTree) (top : Option Text) : Type 0 where
   pub what : Counted
   pub unit : ModuleTree
   pub is_top : top_of modules top ≡ Some unit
-  pub many : limit what < sum_by (count_in what) (listed 16 modules (top_instance unit))
+  pub many : limit what < sum_by (count_in what) (instances_from 16 modules (top_instance unit))

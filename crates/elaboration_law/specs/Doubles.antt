@@ -9,7 +9,7 @@ use Rattle.vmodules.specs.Hierarchy.{module_names, module_of, top_of}
 use Rattle.vmodules.specs.Connected.{open_names}
 use Rattle.velab_expr.specs.Symbols.{name_in, symbols_in_head, symbols_by, valueless_by}
 use Rattle.velab_declaration.specs.Variables.{port_names, declared_names}
-use Rattle.elaboration_law.specs.Hierarchy.{Instance, StandsAt, listed, top_instance}
+use Rattle.elaboration_law.specs.Hierarchy.{Instance, StandsAt, instances_from, top_instance}
 use Rattle.elaboration_law.specs.ItemPorts.{HasPortTwice, HasBlockTwice}
 
 -- the names of a module that are no variables: named events and instances, parameters of its head, and those of its items
@@ -48,7 +48,7 @@ pub data IsDeclaredTwice (modules : SourceTree) (top : Option Text) : Type 0 whe
       module_of modules name.letters ≡ Some child → has_head_twice child ≡ true → IsDeclaredTwice modules top
   -- of two variables in the hierarchy (12.5);
   variable_twice : (m : ModuleTree) → top_of modules top ≡ Some m →
-      has_double (flat_map variable_paths_in (listed 16 modules (top_instance m))) ≡ true → IsDeclaredTwice modules top
+      has_double (flat_map variable_paths_in (instances_from 16 modules (top_instance m))) ≡ true → IsDeclaredTwice modules top
   -- of two instances in it
   path_twice : (m : ModuleTree) → top_of modules top ≡ Some m →
-      has_double (flat_map path_in (listed 16 modules (top_instance m))) ≡ true → IsDeclaredTwice modules top
+      has_double (flat_map path_in (instances_from 16 modules (top_instance m))) ≡ true → IsDeclaredTwice modules top

@@ -55,6 +55,6 @@ abbrev pub StandsAt : SourceTree → Option Text → ℕ → Instance → Type 0
 StandsAt modules top levels one = (m : ModuleTree) × (top_of modules top ≡ Some m) × StandsBelow modules levels (top_instance m) one
 
 -- an instance and those below it, down to so many levels, in the order of the text
-abbrev pub listed : ℕ → SourceTree → Instance → List Instance
-listed zero modules one = one ∷ []
-listed (suc levels) modules one = one ∷ flat_map (listed levels modules) (instances_in modules one)
+abbrev pub instances_from : ℕ → SourceTree → Instance → List Instance
+instances_from zero modules one = one ∷ []
+instances_from (suc levels) modules one = one ∷ flat_map (instances_from levels modules) (instances_in modules one)

@@ -7,7 +7,7 @@ use Rattle.vast.specs.NumberedModules.{ModuleTree, SourceTree}
 use Rattle.vmodules.specs.Names.{is_declared}
 use Rattle.vmodules.specs.Hierarchy.{top_of}
 use Rattle.elaboration_law.specs.Doubles.{variable_paths_in, path_in}
-use Rattle.elaboration_law.specs.Hierarchy.{Instance, listed, top_instance}
+use Rattle.elaboration_law.specs.Hierarchy.{Instance, instances_from, top_instance}
 use Rattle.elaboration_law.specs.ItemPorts.{HasPortAlone}
 use Rattle.elaboration_law.specs.Uses.{Use, use_of, use_of_time, use_of_formats, use_of_levels}
 use Rattle.elaboration_law.specs.Places.{Place, HasMisuse}
@@ -23,7 +23,7 @@ is_known place (use_of_levels levels) = true
 
 -- all instances of the hierarchy, those of a text that has a design
 abbrev pub all_below : SourceTree → ModuleTree → List Instance
-all_below modules m = listed 16 modules (top_instance m)
+all_below modules m = instances_from 16 modules (top_instance m)
 
 -- 12.5, 18.1.2: the path is that of an instance, or that of a variable (E310)
 abbrev pub is_there : List Instance → Text → Bool

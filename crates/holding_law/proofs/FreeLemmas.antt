@@ -10,7 +10,7 @@ use Rattle.vmodel.specs.declared.choice.Choice.TheVariants.{Run, Update}
 use Rattle.vmodel.specs.Queue.{Queue}
 use Rattle.vmodel.specs.State.{State}
 use Rattle.vmodel.specs.Choices.{in_order, first_update, or_advance, offered_choices, free_among, order_by, order_of, taking_or_holding, choices_by, choices}
-use Rattle.vmodel.specs.Holding.{released}
+use Rattle.vmodel.specs.Holding.{release}
 use Rattle.vmodel.specs.Run.{Setting, state_after}
 use Rattle.vmodel.specs.RunLaws.{IsAlwaysKept}
 use Rattle.vmodel.specs.Kept.{AreHeldBack, IsKept}
@@ -19,7 +19,7 @@ use Rattle.holding_law.proofs.MemberLemmas.{IsIn, contains_in, in_contains, in_f
 use Rattle.holding_law.proofs.MayLemmas.{held_in_active, may_go}
 
 -- where neither is there, nobody is held back
-none_free : (q : Queue) (held : List ℕ) → released q held ≡ held → free_among held q.active ≡ [] → q.activated ≡ [] → held ≡ []
+none_free : (q : Queue) (held : List ℕ) → release q held ≡ held → free_among held q.active ≡ [] → q.activated ≡ [] → held ≡ []
 none_free q held still free updates =
     sym still ∙ (λ k. cond (length (free k) == 0 && length (updates k) == 0) [] held)
 

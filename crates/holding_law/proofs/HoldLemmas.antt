@@ -11,7 +11,7 @@ use Rattle.vmodel.specs.declared.choice.Choice.TheVariants.{Run, Update, Advance
 use Rattle.vmodel.specs.Queue.{Later, Queue, with_process, without_process}
 use Rattle.vmodel.specs.State.{State}
 use Rattle.vmodel.specs.Choices.{or_advance, free_among, order_of, taking_or_holding, choices}
-use Rattle.vmodel.specs.Holding.{count_before, with_one_held, with_held, before_choice, without_taken, released, held_after}
+use Rattle.vmodel.specs.Holding.{count_before, with_one_held, with_held, before_choice, without_taken, release, held_after}
 use Rattle.vmodel.specs.Step.{transition_of, transition_by}
 use Rattle.vmodel.specs.Run.{Setting, held_at_first, state_after}
 use Rattle.vmodel.specs.RunProgress.{opening_is, after_is}
@@ -183,14 +183,14 @@ module _ (design : Design) (s : State) (held : List ℕ) (k : ℕ) (c : Choice) 
     | inr old ↦ inr (in_contains p (held_in s) (subst (λ (o : Option (List ℕ)). IsIn p (unwrap_or o [])) (sym is) old))
   ]
 
-  left : (t : State) → t.held_back ≡ Some (released t.queue (without_taken c with_before)) →
+  left : (t : State) → t.held_back ≡ Some (release t.queue (without_taken c with_before)) →
       ((p : ℕ) → StandsBefore s k p → IsIn p with_before) → ((p : ℕ) → IsIn p with_before → StandsBefore s k p) → Leaves t
   left t now stands stood = by (free_among (without_taken c with_before) t.queue.active) t.queue.activated refl refl
     where
       some : (n : ℕ) → (suc n == 0) ≡ false
       some n = grind (arith, nat_tests)
 
-      kept : released t.queue (without_taken c with_before) ≡ without_taken c with_before → Leaves t
+      kept : release t.queue (without_taken c with_before) ≡ without_taken c with_before → Leaves t
       kept same = inl (λ p before ne.
           in_contains p (held_in t)
           (subst (λ (o : Option (List ℕ)). IsIn p (unwrap_or o [])) (sym (now ∙ ap Some same)) (not_taken c with_before p ne (stands p before))))
@@ -234,9 +234,9 @@ module _ (design : Design) (s : State) (held : List ℕ) (k : ℕ) (c : Choice) 
       after : Queue
       after = (transition_of design c s).state.queue
 
-      now : held_after s.held_back s.queue found.at c after ≡ Some (released after (without_taken c with_before))
+      now : held_after s.held_back s.queue found.at c after ≡ Some (release after (without_taken c with_before))
       now = ap (λ (o : Option (List ℕ)). held_after o s.queue found.at c after) is
-          ∙ ap (λ (before : List Choice). Some (released after (without_taken c (with_held before held)))) found.before
+          ∙ ap (λ (before : List Choice). Some (release after (without_taken c (with_held before held)))) found.before
 
 -- ---- where departures may hold back
 
@@ -244,7 +244,7 @@ abbrev IsThere : Option (List ℕ) → Type 0
 IsThere o = (held : List ℕ) × (o ≡ Some held)
 
 there_after : (o : Option (List ℕ)) (q : Queue) (i : ℕ) (c : Choice) (after : Queue) → IsThere o → IsThere (held_after o q i c after)
-there_after o q i c after (held, is) = (released after (without_taken c (with_held (before_choice (order_of held q) i) held)), ap (λ (x : Option (List ℕ)). held_after x q i c after) is)
+there_after o q i c after (held, is) = (release after (without_taken c (with_held (before_choice (order_of held q) i) held)), ap (λ (x : Option (List ℕ)). held_after x q i c after) is)
 
 there_next : (design : Design) (s : State) (i : ℕ) (o : Option Choice) → IsThere s.held_back → IsThere (transition_by design s i o).state.held_back
 there_next design s i None has = has

@@ -7,7 +7,7 @@ use Rattle.std.specs.Cmp.Lexicographic.{slice_cmp, texts_ties}
 use Rattle.std.proofs.lemmas.Cmp.{nat_list_cmp_total}
 use Rattle.std.specs.declared.cmp.Ordering.{Ordering}
 use Rattle.std.specs.declared.cmp.Ordering.TheVariants.{Less, Equal, Greater}
-use Rattle.sched_core.specs.Bags.{placed, with_line}
+use Rattle.sched_core.specs.Bags.{insert_by, with_line}
 use Rattle.sched_core.specs.Tests.{list_tells}
 
 order : IsTotalOrder (slice_cmp nat_cmp)
@@ -16,8 +16,8 @@ order = nat_list_cmp_total
 -- ---- where a line comes
 
 put : (line first : List ℕ) (rest : List (List ℕ)) (o : Ordering) → slice_cmp nat_cmp line first ≡ o →
-    with_line line (first ∷ rest) ≡ placed o line first (with_line line rest) rest
-put line first rest o is = ap (λ (x : Ordering). placed x line first (with_line line rest) rest) is
+    with_line line (first ∷ rest) ≡ insert_by o line first (with_line line rest) rest
+put line first rest o is = ap (λ (x : Ordering). insert_by x line first (with_line line rest) rest) is
 
 put_first : (line first : List ℕ) (rest : List (List ℕ)) → slice_cmp nat_cmp line first ≢ Greater → with_line line (first ∷ rest) ≡ line ∷ first ∷ rest
 put_first line first rest low = by (slice_cmp nat_cmp line first) refl

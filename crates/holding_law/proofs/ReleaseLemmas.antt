@@ -11,7 +11,7 @@ use Rattle.vmodel.specs.declared.choice.Choice.TheVariants.{Run, Advance}
 use Rattle.vmodel.specs.Queue.{Queue}
 use Rattle.vmodel.specs.State.{State}
 use Rattle.vmodel.specs.Choices.{in_order, first_update, free_among, active_order, order_by, order_of, choices}
-use Rattle.vmodel.specs.Holding.{count_before, with_held, before_choice, held_with, released, held_after}
+use Rattle.vmodel.specs.Holding.{count_before, with_held, before_choice, held_with, release, held_after}
 use Rattle.vmodel.specs.Step.{transition_of, transition_by, next}
 use Rattle.vmodel.specs.Run.{Setting, state_after}
 use Rattle.vmodel.specs.RunProgress.{after_is}
@@ -23,7 +23,7 @@ use Rattle.holding_law.proofs.MayLemmas.{LastIsIn, held_in_active, last_in, may_
 
 -- ---- what is taken
 
-released_few : (q : Queue) (held : List ℕ) (r : ℕ) → IsIn r (released q held) → IsIn r held
+released_few : (q : Queue) (held : List ℕ) (r : ℕ) → IsIn r (release q held) → IsIn r held
 released_few q held r = by (length (free_among held q.active) == 0 && length q.activated == 0)
   where
     by : (b : Bool) → IsIn r (cond b [] held) → IsIn r held
@@ -71,8 +71,8 @@ advance_none : (o : Option (List ℕ)) (q : Queue) (i : ℕ) (after : Queue) →
     unwrap_or (held_after o q i Advance after) [] ≡ []
 advance_none None q i after idle lasts are = refl
 advance_none (Some held) q i after idle lasts are =
-    ap (λ (order : List Choice). released after (with_held (take (count_before (length order) i) order) held)) (idle_by held q q.grain q.last refl nobody idle lasts)
-    ∙ ap (released after) (front_none (count_before 0 i) held ∙ nobody)
+    ap (λ (order : List Choice). release after (with_held (take (count_before (length order) i) order) held)) (idle_by held q q.grain q.last refl nobody idle lasts)
+    ∙ ap (release after) (front_none (count_before 0 i) held ∙ nobody)
     ∙ either (length (free_among empty after.active) == 0 && length after.activated == 0)
   where
     empty : List ℕ

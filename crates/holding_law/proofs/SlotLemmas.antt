@@ -7,7 +7,7 @@ use Rattle.std.specs.declared.cmp.Ordering.{Ordering}
 use Rattle.std.specs.declared.cmp.Ordering.TheVariants.{Less, Equal, Greater}
 use Rattle.std.proofs.lemmas.List.{append-nil}
 use Rattle.basis.proofs.Lists.{listed_place}
-use Rattle.sched_core.specs.Bags.{placed, with_line}
+use Rattle.sched_core.specs.Bags.{insert_by, with_line}
 use Rattle.sched_core.specs.Rules.{choice_at, IsRun}
 use Rattle.sched_core.specs.declared.end.Cause.{Cause}
 use Rattle.sched_core.specs.declared.setting.Looked.TheVariants.{Lines}
@@ -46,7 +46,7 @@ times-cons : (line one : List ℕ) (more : List (List ℕ)) → times_in line (o
 times-cons line one more = counts_on (pointwise nat_eq line one) (times_in line more)
 
 times-placed : (o : Ordering) (line text first : List ℕ) (later rest : List (List ℕ)) → times_in line later ≡ TimesOfOne line text + times_in line rest →
-    times_in line (placed o text first later rest) ≡ TimesOfOne line text + times_in line (first ∷ rest)
+    times_in line (insert_by o text first later rest) ≡ TimesOfOne line text + times_in line (first ∷ rest)
 times-placed Greater line text first later rest then = omega (arith, then, times-cons line first later, times-cons line first rest)
 times-placed Equal line text first later rest then = times-cons line text (first ∷ rest)
 times-placed Less line text first later rest then = times-cons line text (first ∷ rest)

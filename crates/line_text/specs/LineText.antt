@@ -64,7 +64,7 @@ shown_as form factor v = text_in form.width form.notation factor v
 
 abbrev pub piece_text : Environment → Piece → List ℕ
 piece_text now (Text bytes) = bytes
-piece_text now (Value form watched value) = shown_as form now.factor (by_itself now value)
+piece_text now (Value form values_watched value) = shown_as form now.factor (by_itself now value)
 
 abbrev pub pieces_text : Environment → List Piece → List ℕ
 pieces_text now [] = []
@@ -79,6 +79,6 @@ abbrev pub watched_in : Environment → Piece → List Vector
 watched_in now (Text bytes) = []
 watched_in now (Value form is_watched value) = watched_one now is_watched value
 
-abbrev pub watched : Environment → List Piece → List Vector
-watched now [] = []
-watched now (piece ∷ pieces) = watched_in now piece ++ watched now pieces
+abbrev pub values_watched : Environment → List Piece → List Vector
+values_watched now [] = []
+values_watched now (piece ∷ pieces) = watched_in now piece ++ values_watched now pieces

@@ -186,7 +186,7 @@ pub fn put_watched(
     environment: &Environment<'_>,
 ) -> Result<(), NoMemory>
     ensures { OnOk result
-        (values.new.items ≡ values.old.items ++ spec.watched environment.now pieces.now) }
+        (values.new.items ≡ values.old.items ++ spec.values_watched environment.now pieces.now) }
 {
     for piece in pieces {
         put_watched_of(values, piece, environment)?;

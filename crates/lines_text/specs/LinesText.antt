@@ -2,7 +2,7 @@
 use Rattle.std.specs.Prelude.{ℕ, if◌then◌else◌, List, [], ◌∷◌, ◌++◌, Option, Some, None}
 use Rattle.vbits.specs.Vectors.{Vector}
 use Rattle.vdesign.specs.Design.{Design}
-use Rattle.line_text.specs.LineText.{pieces_text, watched}
+use Rattle.line_text.specs.LineText.{pieces_text, values_watched}
 use Rattle.vmodel.specs.declared.history.Item.{Item}
 use Rattle.vmodel.specs.declared.history.Item.TheVariants.{SlotEnd, Dump, Line, Monitor}
 use Rattle.vmodel.specs.Same.{values_same}
@@ -14,7 +14,7 @@ use Rattle.lines_text.specs.declared.in_force.InForce.TheVariants.{Nobody, Calle
 
 -- its arguments at a time, but for a bare `$time`
 abbrev pub watched_values : Design → ℕ → ℕ → List Vector → List Vector
-watched_values design place time values = watched (environment_at design values time) (pieces_at design place)
+watched_values design place time values = values_watched (environment_at design values time) (pieces_at design place)
 
 abbrev pub line_at : Design → ℕ → ℕ → List Vector → List ℕ
 line_at design place time values = pieces_text (environment_at design values time) (pieces_at design place)

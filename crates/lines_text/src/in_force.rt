@@ -82,7 +82,7 @@ fn due_again(
 }
 
 /// The place of the monitor that prints at the end of a slot, if one does.
-pub(crate) fn due(
+pub(crate) fn monitor_due(
     alloc: Global,
     design: &Design,
     in_force: &InForce,

@@ -6,7 +6,7 @@ ghost use Rattle.byte_sinks.specs.ByteSinks.{Stopped};
 ghost use Rattle.lines_text.specs.declared.in_force.InForce.TheVariants.{Nobody};
 ghost use Rattle.lines_text.specs.LinesText.{line_at as line_text_at};
 
-use crate::in_force::{InForce, due, line_at, watched_values};
+use crate::in_force::{InForce, monitor_due, line_at, watched_values};
 use basis::OrMemory;
 use byte_sinks::{ByteSink, put};
 use std::alloc::Global;
@@ -46,7 +46,7 @@ impl<'a, O: ByteSink> LinesSink<'a, O> {
     }
 
     /// Lines of which some have come: the byte sink has them, and this monitor is in force.
-    pub fn resumed(
+    pub fn resume(
         alloc: Global,
         design: &'a Design,
         byte_sink: &'a mut O,
@@ -90,7 +90,7 @@ impl<'a, O: ByteSink> LinesSink<'a, O> {
         ensures err { IfErr result (λ fault.
             Fails O.takes O.fails self.old (SlotEnd time values.now ∷ []) fault self.new) }
     {
-        match due(self.alloc, self.design, &self.in_force, time, values)? {
+        match monitor_due(self.alloc, self.design, &self.in_force, time, values)? {
             None => Ok(()),
             Some(place) => self.tell(place, time, values),
         }

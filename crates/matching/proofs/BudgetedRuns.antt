@@ -9,7 +9,7 @@ use Rattle.sched_core.specs.Logs.{IsLogFrom}
 use Rattle.sched_core.specs.Rules.{Rules, choice_at, stands, IsRun, NamesBelow}
 use Rattle.sched_core.proofs.RunLemmas.{choice_below}
 use Rattle.statebook.specs.ExplorerCore.{IsEntry, budget_after, choices_of}
-use Rattle.statebook.specs.Inner.Frontiers.{departs, used}
+use Rattle.statebook.specs.Inner.Frontiers.{departs, departures_before}
 use Rattle.statebook.specs.Ways.{SomeRunExceeds}
 use Rattle.statebook.specs.declared.entry.Entry.{Entry}
 use Rattle.statebook.specs.declared.limits.Limits.{Limits}
@@ -20,7 +20,7 @@ use Rattle.matching.specs.Inner.BudgetedSlots.{budgeted_slot, choice_there, same
 use Rattle.matching.specs.declared.budgeted_slot.Budgeted.{Budgeted}
 
 -- a log uses none below the first step that it may name
-used_before : (low k : ℕ) (log : List (ℕ × ℕ)) → k ≤ low → IsLogFrom low log → used log k ≡ 0
+used_before : (low k : ℕ) (log : List (ℕ × ℕ)) → k ≤ low → IsLogFrom low log → departures_before log k ≡ 0
 used_before low zero log le is = refl
 used_before low (suc k) log le is =
     omega (arith, used_before low k log (omega (arith, le)) is, ap departs (choice_below low k log (omega (arith, le)) is))
@@ -30,7 +30,7 @@ departs_one zero le = absurd (omega (arith, le))
 departs_one (suc c) le = refl
 
 used_first : (m : ℕ × ℕ) (log : List (ℕ × ℕ)) (n : ℕ) → 1 ≤ m.1 → IsLogFrom m.0 (m ∷ log) → IsLogFrom (m.0 + 1) log → m.0 < n →
-    used (m ∷ log) n ≡ 1 + used log n
+    departures_before (m ∷ log) n ≡ 1 + departures_before log n
 used_first m log zero one is rest lt = absurd (omega (arith, lt))
 used_first m log (suc k) one is rest lt = elim (cases_lt m.0 k) [
   | inl before ↦ (
@@ -44,7 +44,7 @@ used_first m log (suc k) one is rest lt = elim (cases_lt m.0 k) [
 ]
 
 -- each member is a departure
-pub used_all : (low n : ℕ) (log : List (ℕ × ℕ)) → IsLogFrom low log → NamesBelow log n → used log n ≡ length log
+pub used_all : (low n : ℕ) (log : List (ℕ × ℕ)) → IsLogFrom low log → NamesBelow log n → departures_before log n ≡ length log
 used_all low zero [] is names = refl
 used_all low (suc n) [] is names = omega (arith, used_all low n [] is tt)
 used_all low n (m ∷ log) is names =
@@ -91,10 +91,10 @@ module _ {S : Type 0} (r : Rules S) (start : S) (most : ℕ) where
   state_is log zero = refl
   state_is log (suc n) = ap (λ s. r.after s (choice_at log n)) (state_is log n)
 
-  pub budget_is : (log : List (ℕ × ℕ)) (n : ℕ) → length log ≤ most → (stands ruled log n).budget + used log n ≡ most
+  pub budget_is : (log : List (ℕ × ℕ)) (n : ℕ) → length log ≤ most → (stands ruled log n).budget + departures_before log n ≡ most
   budget_is log zero short = omega arith
   budget_is log (suc n) short =
-      after_choice (stands ruled log n).budget (used log n) (choice_at log n) most (budget_is log n short)
+      after_choice (stands ruled log n).budget (departures_before log n) (choice_at log n) most (budget_is log n short)
       (omega (arith, used-le log (suc n), short))
 
   pub run_back : (log : List (ℕ × ℕ)) (n : ℕ) → length log ≤ most → IsRun (one_slot r start) log n → IsRun ruled log n
@@ -138,7 +138,7 @@ module _ {S : Type 0} (r : Rules S) (start : S) (most : ℕ) where
   entry_knows : (limit : ℕ) (e : Entry (Budgeted S)) → IsEntry ruled most limit e → e.state.budget ≡ e.budget
   entry_knows limit e is =
       let short : length e.log ≤ most = omega (arith, is.budget) in
-      let all : used e.log e.steps ≡ length e.log = used_all 0 e.steps e.log is.log is.names in
+      let all : departures_before e.log e.steps ≡ length e.log = used_all 0 e.steps e.log is.log is.names in
       let at : e.state.budget ≡ (stands ruled e.log e.steps).budget = same_budgets r e.state (stands ruled e.log e.steps) is.at in
       omega (arith, at, budget_is e.log e.steps short, all, is.budget)
 

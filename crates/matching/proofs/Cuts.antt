@@ -23,7 +23,7 @@ use Rattle.basis.specs.declared.memory.OrMemory.{OrMemory}
 use Rattle.basis.specs.declared.memory.OrMemory.TheVariants.{Fault, Memory}
 use Rattle.matching.specs.Inner.Candidates.{AreWays, IsAWay, Keeps}
 use Rattle.matching.specs.Inner.Searching.{IsReason}
-use Rattle.matching.specs.Inner.Slots.{EndsSlot, IsBeyond, shifted}
+use Rattle.matching.specs.Inner.Slots.{EndsSlot, IsBeyond, log_later}
 use Rattle.matching.specs.declared.candidates.Way.{Way}
 use Rattle.matching.specs.declared.halt.Halt.{Halt}
 use Rattle.matching.specs.declared.halt.Halt.TheVariants.{Entries, Steps, Stopped}
@@ -76,7 +76,7 @@ pub slot_exceeds : {S : Type 0} (r : Rules S) → IsLawful r → (limits : Limit
 slot_exceeds {S} r law limits start from x =
     let log : List (ℕ × ℕ) = start.log in
     let n : ℕ = start.steps in
-    let whole : List (ℕ × ℕ) = log ++ shifted n x.log in
+    let whole : List (ℕ × ℕ) = log ++ log_later n x.log in
     let front : ChooseAlike log whole n = λ k lt. sym (joined_before log n k x.log lt) in
     let behind : ChoosesFrom x.log whole n x.steps = λ k lt. sym (joined_after log n k x.log from.names) in
     let here : stands r log n ≡ stands r whole n = stands_alike r log whole n n front (omega arith) in
@@ -95,9 +95,9 @@ slot_exceeds {S} r law limits start from x =
       one = along_open r law start.state x.log whole n x.steps begins behind x.run;
       few = omega (
         arith,
-        within_joined log (shifted n x.log) n (n + x.steps),
+        within_joined log (log_later n x.log) n (n + x.steps),
         none_beyond log n n (n + x.steps) from.names (omega arith),
-        within_all (shifted n x.log) n (n + x.steps),
+        within_all (log_later n x.log) n (n + x.steps),
         shifted_length n x.log,
         x.short,
       );
@@ -119,7 +119,7 @@ slot_reason r law limits start status Stopped from full long many exceeds = tt
 pub end_is_long : {S : Type 0} (r : Rules S) → IsLawful r → (start : SlotStart S) (s : S) (slot : List (ℕ × ℕ)) (count : ℕ) →
     IsRunTo r start.state start.log start.steps → EndsSlot r start.state slot count s → 999999 < start.steps + count → SomeRunIsLong r
 end_is_long r law start s slot count from end long = record {
-  log = start.log ++ shifted start.steps slot;
+  log = start.log ++ log_later start.steps slot;
   steps = start.steps + count;
   run = joined_run r law start.log start.steps from.run from.names start.state slot count s from.at end;
   long = long;
@@ -127,7 +127,7 @@ end_is_long r law start s slot count from end long = record {
 
 -- The joined log is one, where its steps can be named.
 shifted_is_log : (low from n c : ℕ) (slot : List (ℕ × ℕ)) → low ≤ n + from → IsLogFrom from slot → NamesBelow slot c → n + c ≤ 1000000 →
-    IsLogFrom low (shifted n slot)
+    IsLogFrom low (log_later n slot)
 shifted_is_log low from n c [] le log names few = tt
 shifted_is_log low from n c (m ∷ slot) le log names few = (
   omega (arith, le, log.0),
@@ -138,23 +138,23 @@ shifted_is_log low from n c (m ∷ slot) le log names few = (
 )
 
 joined_is_log : (low n c : ℕ) (log slot : List (ℕ × ℕ)) → low ≤ n → IsLogFrom low log → NamesBelow log n → IsLogFrom 0 slot →
-    NamesBelow slot c → n + c ≤ 1000000 → IsLogFrom low (log ++ shifted n slot)
+    NamesBelow slot c → n + c ≤ 1000000 → IsLogFrom low (log ++ log_later n slot)
 joined_is_log low n c [] slot le log names one below few = shifted_is_log low 0 n c slot (omega (arith, le)) one below few
 joined_is_log low n c (m ∷ more) slot le log names one below few =
     (log.0, log.1, log.2, log.3, joined_is_log (m.0 + 1) n c more slot (omega (arith, names.0)) log.4 names.1 one below few)
 
 -- what was put, with one member more, is the front of it
-front_is_log : (n c : ℕ) (log slot put after : List (ℕ × ℕ)) (m : ℕ × ℕ) → put ++ shifted n (m ∷ after) ≡ log ++ shifted n slot →
+front_is_log : (n c : ℕ) (log slot put after : List (ℕ × ℕ)) (m : ℕ × ℕ) → put ++ log_later n (m ∷ after) ≡ log ++ log_later n slot →
     IsLog log → NamesBelow log n → IsLog slot → NamesBelow slot c → n + c ≤ 1000000 → IsLog (put ++ (n + m.0, m.1) ∷ [])
 front_is_log n c log slot put after m whole is names one below few =
     let L : List (ℕ × ℕ) → Type 0 = λ l. IsLog l in
-    let all : IsLog (log ++ shifted n slot) = joined_is_log 0 n c log slot (omega arith) is names one below few in
-    let same : log ++ shifted n slot ≡ (put ++ (n + m.0, m.1) ∷ []) ++ shifted n after = sym whole ∙ sym
-    (append_assoc put ((n + m.0, m.1) ∷ []) (shifted n after)) in
-    IsLogFrom-front 0 (put ++ (n + m.0, m.1) ∷ []) (shifted n after) (subst L same all)
+    let all : IsLog (log ++ log_later n slot) = joined_is_log 0 n c log slot (omega arith) is names one below few in
+    let same : log ++ log_later n slot ≡ (put ++ (n + m.0, m.1) ∷ []) ++ log_later n after = sym whole ∙ sym
+    (append_assoc put ((n + m.0, m.1) ∷ []) (log_later n after)) in
+    IsLogFrom-front 0 (put ++ (n + m.0, m.1) ∷ []) (log_later n after) (subst L same all)
 
 -- so where a member isn't taken, steps are too many
-pub is_beyond : (n : ℕ) (log slot put after : List (ℕ × ℕ)) (m : ℕ × ℕ) → put ++ shifted n (m ∷ after) ≡ log ++ shifted n slot →
+pub is_beyond : (n : ℕ) (log slot put after : List (ℕ × ℕ)) (m : ℕ × ℕ) → put ++ log_later n (m ∷ after) ≡ log ++ log_later n slot →
     IsLog log → IsLog slot → (IsLog (put ++ (n + m.0, m.1) ∷ []) → ⊥) → IsBeyond log n slot
 is_beyond n log slot put after m whole is one never c names below = elim (cases_lt 1000000 (n + c)) [
   | inl lt ↦ lt
@@ -168,7 +168,7 @@ member_last n log m more is = last_from 0 log m more is
     last_from low [] m more is = is.1
     last_from low (x ∷ log) m more is = last_from (x.0 + 1) log m more is.4
 
-pub is_beyond_all : (n : ℕ) (log slot put after : List (ℕ × ℕ)) (m : ℕ × ℕ) → put ++ shifted n (m ∷ after) ≡ log ++ shifted n slot →
+pub is_beyond_all : (n : ℕ) (log slot put after : List (ℕ × ℕ)) (m : ℕ × ℕ) → put ++ log_later n (m ∷ after) ≡ log ++ log_later n slot →
     IsLog log → IsLog slot → 4294967296 ≤ n + m.0 → IsBeyond log n slot
 is_beyond_all n log slot put after m whole is one high =
     is_beyond n log slot put after m whole is one (λ lawful. absurd (omega (arith, member_last 0 put (n + m.0, m.1) [] lawful, high)))

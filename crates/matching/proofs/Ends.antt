@@ -11,7 +11,7 @@ use Rattle.matching.specs.Slots.{IsRunTo, one_slot}
 use Rattle.matching.specs.Inner.Candidates.{FollowAll, Follows, GoesOn, IsAWay, IsEndOf, IsFittingEnd, IsIn, IsKept, Keeps, KeepsAll}
 use Rattle.matching.specs.Inner.Candidates.{KeepsEnds, KeepsFollowing, KeepsFound, begins}
 use Rattle.matching.specs.Inner.Searching.{Extends, OpensWith}
-use Rattle.matching.specs.Inner.Slots.{shifted}
+use Rattle.matching.specs.Inner.Slots.{log_later}
 use Rattle.matching.specs.declared.candidates.Onward.{Onward}
 use Rattle.matching.specs.declared.candidates.Way.{Way}
 use Rattle.matching.specs.declared.search.Search.{Search}
@@ -25,7 +25,7 @@ use Rattle.matching.proofs.Matched.{goes_on_alike}
 pub stands_end : {S : Type 0} (r : Rules S) → IsLawful r → (most : ℕ) (start : SlotStart S) (s : S) (log : List (ℕ × ℕ)) (steps : ℕ) →
     IsRunTo r start.state start.log start.steps → IsEndOf r most start s log steps → IsRunTo r s log steps × (r.mark s ≡ true)
 stands_end {S} r law most start s log steps from h =
-    let whole : List (ℕ × ℕ) = start.log ++ shifted start.steps h.slot in
+    let whole : List (ℕ × ℕ) = start.log ++ log_later start.steps h.slot in
     let n : ℕ = start.steps + h.count in
     let at : r.same s (stands r whole n) ≡ true = joined_at r law start.log start.steps from.run from.names start.state h.slot h.count s
     from.at h.ends in

@@ -9,7 +9,7 @@ use Rattle.sched_core.specs.Rules.{Rules, IsLawful, stands, choice_at, IsRun, Na
 use Rattle.matching.specs.Slots.{one_slot}
 use Rattle.matching.specs.Answers.{ComesNear}
 use Rattle.matching.specs.Explained.{EndsSlots, IsAtEnd, IsExplained, NoEndWithin, departures_within}
-use Rattle.matching.specs.Inner.Slots.{shifted, EndsSlot}
+use Rattle.matching.specs.Inner.Slots.{log_later, EndsSlot}
 use Rattle.matching.proofs.JoinedLogs.{choice_beyond, joined_after, joined_before, names_joined, none_before, none_beyond, shifted_length}
 use Rattle.matching.proofs.JoinedLogs.{within_all, within_joined}
 use Rattle.matching.proofs.Segments.{ChooseAlike, ChoosesFrom, along, along_open, along_run, rank_stays, run_alike, stands_alike}
@@ -114,7 +114,7 @@ module _ {S : Type 0} (r : Rules S) (law : IsLawful r) (log : List (ℕ × ℕ))
     (start : S) (slot : List (ℕ × ℕ)) (c : ℕ) (s : S) (first : r.same start (stands r log n) ≡ true)
     (end : EndsSlot r start slot c s) where
   abbrev pub whole : List (ℕ × ℕ)
-  whole = log ++ shifted n slot
+  whole = log ++ log_later n slot
 
   front_alike : ChooseAlike log whole n
   front_alike k lt = sym (joined_before log n k slot lt)
@@ -178,7 +178,7 @@ module _ {S : Type 0} (r : Rules S) (law : IsLawful r) (log : List (ℕ × ℕ))
 
     few_by : (i j : ℕ) → i ≤ j → j ≤ n + c → NoEndWithin r whole i j → departures_within whole i j ≤ most
     few_by i j le within none =
-        let parts = within_joined log (shifted n slot) i j in
+        let parts = within_joined log (log_later n slot) i j in
         elim (cases_lt i n) [
           | inl before ↦ elim (cases_lt j n) [
             | inl lt ↦ (
@@ -193,7 +193,7 @@ module _ {S : Type 0} (r : Rules S) (law : IsLawful r) (log : List (ℕ × ℕ))
             arith,
             parts,
             none_beyond log n i j base.names ge,
-            within_all (shifted n slot) i j,
+            within_all (log_later n slot) i j,
             shifted_length n slot,
             short,
           )
@@ -236,7 +236,7 @@ module _ {S : Type 0} (r : Rules S) (law : IsLawful r) (log : List (ℕ × ℕ))
     ]
 
     -- the run that goes on into the slot shows all up to before its time
-    pub near_joined : ComesNear r rank shown most w (log ++ shifted n slot) (n + c)
+    pub near_joined : ComesNear r rank shown most w (log ++ log_later n slot) (n + c)
     near_joined = record {
       run = joined_run;
       names = joined_names;
@@ -247,7 +247,7 @@ module _ {S : Type 0} (r : Rules S) (law : IsLawful r) (log : List (ℕ × ℕ))
     }
 
     -- the run that goes on into the slot is explained up to its time
-    pub explained_joined : shown w (stands r whole (n + c)) ≡ 0 → IsExplained r rank shown most w (log ++ shifted n slot) (n + c)
+    pub explained_joined : shown w (stands r whole (n + c)) ≡ 0 → IsExplained r rank shown most w (log ++ log_later n slot) (n + c)
     explained_joined now = record {
       run = joined_run;
       names = joined_names;

@@ -5,7 +5,7 @@ use Rattle.std.proofs.lemmas.Bool.{cases_lt}
 use Rattle.std.proofs.lemmas.Bool.Decides.{nat_tests}
 use Rattle.sched_core.specs.Rules.{choice_at, NamesBelow}
 use Rattle.matching.specs.Explained.{departures_within}
-use Rattle.matching.specs.Inner.Slots.{shifted}
+use Rattle.matching.specs.Inner.Slots.{log_later}
 
 -- The members from step i to before step j, so many steps earlier.
 abbrev pub between : ℕ → ℕ → List (ℕ × ℕ) → List (ℕ × ℕ)
@@ -19,23 +19,23 @@ eq_shift : (n a b : ℕ) → (n + a == n + b) ≡ (a == b)
 eq_shift n a b = grind (arith, nat_tests)
 
 -- below the step where the second log begins there is no choice of it
-pub shifted_before : (n k : ℕ) (slot : List (ℕ × ℕ)) → k < n → choice_at (shifted n slot) k ≡ 0
+pub shifted_before : (n k : ℕ) (slot : List (ℕ × ℕ)) → k < n → choice_at (log_later n slot) k ≡ 0
 shifted_before n k [] lt = refl
 shifted_before n k (m ∷ slot) lt =
     let other : (n + m.0 == k) ≡ false = eq_no (n + m.0) k (λ e. absurd (omega (arith, e, lt))) in
     rw other (shifted_before n k slot lt)
 
-pub shifted_at : (n k : ℕ) (slot : List (ℕ × ℕ)) → choice_at (shifted n slot) (n + k) ≡ choice_at slot k
+pub shifted_at : (n k : ℕ) (slot : List (ℕ × ℕ)) → choice_at (log_later n slot) (n + k) ≡ choice_at slot k
 shifted_at n k [] = refl
 shifted_at n k (m ∷ slot) = rw (eq_shift n m.0 k) (ap (λ c. if m.0 == k then m.1 else c) (shifted_at n k slot))
 
 -- the joined log has the choices of the first below its steps, and behind them those of the second
-pub joined_before : (log : List (ℕ × ℕ)) (n k : ℕ) (slot : List (ℕ × ℕ)) → k < n → choice_at (log ++ shifted n slot) k ≡ choice_at log k
+pub joined_before : (log : List (ℕ × ℕ)) (n k : ℕ) (slot : List (ℕ × ℕ)) → k < n → choice_at (log ++ log_later n slot) k ≡ choice_at log k
 joined_before [] n k slot lt = shifted_before n k slot lt
 joined_before (m ∷ log) n k slot lt = ap (λ c. if m.0 == k then m.1 else c) (joined_before log n k slot lt)
 
 pub joined_after : (log : List (ℕ × ℕ)) (n k : ℕ) (slot : List (ℕ × ℕ)) → NamesBelow log n →
-    choice_at (log ++ shifted n slot) (n + k) ≡ choice_at slot k
+    choice_at (log ++ log_later n slot) (n + k) ≡ choice_at slot k
 joined_after [] n k slot below = shifted_at n k slot
 joined_after (m ∷ log) n k slot below =
     let other : (m.0 == n + k) ≡ false = eq_no m.0 (n + k) (λ e. absurd (omega (arith, e, below.0))) in
@@ -52,21 +52,21 @@ pub names_more : (log : List (ℕ × ℕ)) (n k : ℕ) → NamesBelow log n → 
 names_more [] n k below le = tt
 names_more (m ∷ log) n k below le = (omega (arith, below.0, le), names_more log n k below.1 le)
 
-names_shifted : (n c : ℕ) (slot : List (ℕ × ℕ)) → NamesBelow slot c → NamesBelow (shifted n slot) (n + c)
+names_shifted : (n c : ℕ) (slot : List (ℕ × ℕ)) → NamesBelow slot c → NamesBelow (log_later n slot) (n + c)
 names_shifted n c [] below = tt
 names_shifted n c (m ∷ slot) below = (omega (arith, below.0), names_shifted n c slot below.1)
 
 pub names_joined : (log : List (ℕ × ℕ)) (n c : ℕ) (slot : List (ℕ × ℕ)) → NamesBelow log n → NamesBelow slot c →
-    NamesBelow (log ++ shifted n slot) (n + c)
+    NamesBelow (log ++ log_later n slot) (n + c)
 names_joined [] n c slot below also = names_shifted n c slot also
 names_joined (m ∷ log) n c slot below also = (omega (arith, below.0), names_joined log n c slot below.1 also)
 
-pub shifted_length : (n : ℕ) (slot : List (ℕ × ℕ)) → length (shifted n slot) ≡ length slot
+pub shifted_length : (n : ℕ) (slot : List (ℕ × ℕ)) → length (log_later n slot) ≡ length slot
 shifted_length n [] = refl
 shifted_length n (m ∷ slot) = omega (arith, shifted_length n slot)
 
-pub joined_length : (log : List (ℕ × ℕ)) (n : ℕ) (slot : List (ℕ × ℕ)) → length (log ++ shifted n slot) ≡ length log + length slot
-joined_length log n slot = length-append log (shifted n slot) ∙ ap (λ l. length log + l) (shifted_length n slot)
+pub joined_length : (log : List (ℕ × ℕ)) (n : ℕ) (slot : List (ℕ × ℕ)) → length (log ++ log_later n slot) ≡ length log + length slot
+joined_length log n slot = length-append log (log_later n slot) ∙ ap (λ l. length log + l) (shifted_length n slot)
 
 abbrev one_if : Bool → ℕ
 one_if b = if b then 1 else 0
@@ -107,7 +107,7 @@ none_beyond (m ∷ log) n i j below le =
     )
 
 -- nor below the step where the second log begins
-pub none_before : (slot : List (ℕ × ℕ)) (n i j : ℕ) → j ≤ n → departures_within (shifted n slot) i j ≡ 0
+pub none_before : (slot : List (ℕ × ℕ)) (n i j : ℕ) → j ≤ n → departures_within (log_later n slot) i j ≡ 0
 none_before [] n i j le = refl
 none_before (m ∷ slot) n i j le =
     omega (

@@ -12,7 +12,7 @@ use Rattle.matching.specs.Inner.Candidates.{EndsNear, FollowAll, GoesInto, GoesN
 use Rattle.matching.specs.Inner.Candidates.{IsWaiting}
 use Rattle.matching.specs.Inner.Candidates.{NearFromSome, Waits, WaitsNear, begins}
 use Rattle.matching.specs.Inner.Searching.{AreMatched, IsOpening, OpensWith}
-use Rattle.matching.specs.Inner.Slots.{shifted}
+use Rattle.matching.specs.Inner.Slots.{log_later}
 use Rattle.matching.specs.declared.answer.Explanation.{Explanation}
 use Rattle.matching.specs.declared.candidates.Onward.{Onward}
 use Rattle.matching.specs.declared.candidates.Way.{Way}
@@ -60,7 +60,7 @@ pub end_stands : {S : Type 0} (r : Rules S) → IsLawful r → (rank : S → ℕ
     IsAWay r rank e × IsExplained r rank shown most w e.1.log e.1.steps
 end_stands {S} r law rank ranked slots shown most w start e base first fits alike =
     let h = fits.ends in
-    let whole : List (ℕ × ℕ) = start.log ++ shifted start.steps h.slot in
+    let whole : List (ℕ × ℕ) = start.log ++ log_later start.steps h.slot in
     let n : ℕ = start.steps + h.count in
     let at : r.same e.0 (stands r whole n) ≡ true = joined_at r law start.log start.steps base.run base.names start.state h.slot h.count
     e.0 first h.ends in
@@ -88,7 +88,7 @@ pub end_near : {S : Type 0} (r : Rules S) → IsLawful r → (rank : S → ℕ) 
     (start : SlotStart S) (e : Explanation S) → ComesTo r rank shown most w start.log start.steps →
     r.same start.state (stands r start.log start.steps) ≡ true → EndsNear r most start e → IsNearRun r rank shown most w e
 end_near {S} r law rank ranked slots shown most w start e base first h =
-    let whole : List (ℕ × ℕ) = start.log ++ shifted start.steps h.slot in
+    let whole : List (ℕ × ℕ) = start.log ++ log_later start.steps h.slot in
     let n : ℕ = start.steps + h.count in
     let at : r.same e.state (stands r whole n) ≡ true =
     joined_at r law start.log start.steps base.run base.names start.state h.slot h.count e.state first h.ends in

@@ -1,7 +1,7 @@
 // The log of a run that goes on into a slot.
 
 ghost use Rattle.std.specs.Prelude.{◌≡◌, ◌≤◌, ◌+◌, ◌++◌, IfOk, IfSome, IfNone};
-ghost use Rattle.matching.specs.Inner.Slots.{IsBeyond, shifted};
+ghost use Rattle.matching.specs.Inner.Slots.{IsBeyond, log_later};
 
 use basis::NoMemory;
 use sched_core::{Log, Member};
@@ -18,8 +18,8 @@ fn later(member: &Member, steps: u32) -> Option<Member>
 }
 
 /// The log of a run that takes so many steps under the first and then goes on under the second; None where that is no log.
-pub fn joined(log: &Log, steps: u32, slot: &Log) -> Result<Option<Log>, NoMemory>
-    ensures log { IfOk result (λ joined. IfSome joined (λ j. j ≡ log.now ++ shifted steps slot.now)) }
+pub fn joined_log(log: &Log, steps: u32, slot: &Log) -> Result<Option<Log>, NoMemory>
+    ensures log { IfOk result (λ joined. IfSome joined (λ j. j ≡ log.now ++ log_later steps slot.now)) }
     ensures none { IfOk result (λ joined. IfNone joined (IsBeyond log.now steps slot.now)) }
 {
     let mut joined = log.copy()?;

@@ -14,7 +14,7 @@ use crate::budgeted_slot::{Budgeted, BudgetedSlot};
 use crate::candidates::{Way, keep, onward_from};
 use crate::found_ends::FoundEnds;
 use crate::halt::{Halt, whole};
-use crate::joined::joined;
+use crate::joined::joined_log;
 use crate::one_slot::OneSlot;
 use crate::reference::Reference;
 use crate::search::{Nearest, Search, is_nearer};
@@ -70,7 +70,7 @@ fn end_of<P: Ranked>(
     ensures why { IfFault result (λ halt. halt ≡ Halt.Stopped → ⊥) }
 {
     let count = count_steps(space, limits, &start.state, &state, log)?;
-    let Some(log) = joined(&start.log, start.steps, log)? else {
+    let Some(log) = joined_log(&start.log, start.steps, log)? else {
         return Err(OrMemory::Fault(Halt::Steps));
     };
     match start.steps.checked_add(count) {

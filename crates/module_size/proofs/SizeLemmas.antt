@@ -3,7 +3,7 @@ use Rattle.std.proofs.Common.{◌≡◌, ◌<◌, ℕ, ◌+◌, ◌-◌, ◌^◌
 use Rattle.std.specs.Option.{option_map}
 use Rattle.basis.proofs.Lists.{left_from}
 use Rattle.vast.specs.Words.{Text}
-use Rattle.vast.specs.NumberedWords.{numbered}
+use Rattle.vast.specs.NumberedWords.{word_of}
 use Rattle.vast.specs.NumberedStatements.{StatementTree, empty, block, assign, nonblocking, trigger, if_true, if_else, case_of, while_true, repeat_times, forever, for_loop, wait_for, delay, event, task}
 use Rattle.vast.specs.NumberedTrees.{tree_of, trees_of, target_tree, target_trees, statement_tree, statement_trees, branch_trees}
 use Rattle.vast.specs.declared.expression.Expression.{Expression, Concatenation, Replication}
@@ -33,7 +33,7 @@ module _ (words : List Text) (left result : ℕ) where
       result ≡ (left - 1) - expressions_size (trees_of words items) → result ≡ left - expression_size (tree_of words e)
   concatenation_left e at parts items is same h =
       let size : expression_size (tree_of words e) ≡ 1 + expressions_size (trees_of words items) =
-      ap expression_size (ap (tree_of words) is ∙ told_concatenation (numbered words) at parts) ∙ ap (λ (xs : List Expression). 1 + expressions_size (trees_of words xs)) (sym same) in
+      ap expression_size (ap (tree_of words) is ∙ told_concatenation (word_of words) at parts) ∙ ap (λ (xs : List Expression). 1 + expressions_size (trees_of words xs)) (sym same) in
       omega (arith, h, size)
 
   pub replication_left : (e : Expression) (at : ℕ) (count : Box Expression Global) (parts : Vec Expression Global) (amount : Expression) (items : List Expression) (between : ℕ) →
@@ -41,7 +41,7 @@ module _ (words : List Text) (left result : ℕ) where
       between ≡ (left - 1) - expression_size (tree_of words amount) → result ≡ between - expressions_size (trees_of words items) → result ≡ left - expression_size (tree_of words e)
   replication_left e at count parts amount items between is counted same h g =
       let size : expression_size (tree_of words e) ≡ 1 + (expression_size (tree_of words amount) + expressions_size (trees_of words items)) =
-      ap expression_size (ap (tree_of words) is ∙ told_replication (numbered words) at count parts)
+      ap expression_size (ap (tree_of words) is ∙ told_replication (word_of words) at count parts)
       ∙ (λ i. 1 + (expression_size (tree_of words (sym counted i)) + expressions_size (trees_of words (sym same i)))) in
       omega (arith, h, g, size)
 
@@ -49,16 +49,16 @@ module _ (words : List Text) (left result : ℕ) where
       between ≡ left - 1 → result ≡ between - targets_size (target_trees words items) → result ≡ left - target_size (target_tree words t)
   joined_left t at targets items between is same g h =
       let size : target_size (target_tree words t) ≡ 1 + targets_size (target_trees words items) =
-      ap target_size (ap (target_tree words) is ∙ told_joined (numbered words) at targets) ∙ ap (λ (ts : List Target). 1 + targets_size (target_trees words ts)) (sym same) in
+      ap target_size (ap (target_tree words) is ∙ told_joined (word_of words) at targets) ∙ ap (λ (ts : List Target). 1 + targets_size (target_trees words ts)) (sym same) in
       omega (arith, g, h, size)
 
   pub block_left : (path inner : ℕ) (s : Statement) (label : Option Token) (list : Vec Statement Global) (items : List Statement) → s ≡ Block label list → items ≡ list.items →
-      left < 2 ^ 64 → inner ≡ min (size_inside path (option_map (numbered words) label)) (2 ^ 64 - 1) →
+      left < 2 ^ 64 → inner ≡ min (size_inside path (option_map (word_of words) label)) (2 ^ 64 - 1) →
       result ≡ left - statements_size inner (statement_trees words items) → result ≡ left - inner_size path (statement_tree words s)
   block_left path inner s label list items is same small counted h =
-      let whole : ℕ = size_inside path (option_map (numbered words) label) in
+      let whole : ℕ = size_inside path (option_map (word_of words) label) in
       let size : inner_size path (statement_tree words s) ≡ statements_size whole (statement_trees words items) =
-      ap (inner_size path) (ap (statement_tree words) is ∙ told_block (numbered words) label list) ∙ ap (λ (ss : List Statement). statements_size whole (statement_trees words ss)) (sym same) in
+      ap (inner_size path) (ap (statement_tree words) is ∙ told_block (word_of words) label list) ∙ ap (λ (ss : List Statement). statements_size whole (statement_trees words ss)) (sym same) in
       let alike : left - statements_size inner (statement_trees words items) ≡ left - statements_size whole (statement_trees words items) =
       statements_same left inner whole (saturated left inner whole small counted) (statement_trees words items) left (omega arith) in
       omega (arith, h, size, alike)
@@ -68,7 +68,7 @@ module _ (words : List Text) (left result : ℕ) where
       result ≡ left - branches_size path (branch_trees words items) → result ≡ left - inner_size path (statement_tree words s)
   case_left path s at kind value branches items is same h =
       let size : inner_size path (statement_tree words s) ≡ branches_size path (branch_trees words items) =
-      ap (inner_size path) (ap (statement_tree words) is ∙ told_case (numbered words) at kind value branches)
+      ap (inner_size path) (ap (statement_tree words) is ∙ told_case (word_of words) at kind value branches)
       ∙ ap (λ (bs : List Branch). branches_size path (branch_trees words bs)) (sym same) in
       omega (arith, h, size)
 
@@ -77,7 +77,7 @@ module _ (words : List Text) (left result : ℕ) where
       result ≡ left - expression_size (tree_of words amount) → result ≡ left - own_size path (statement_tree words s)
   case_value_left path s at kind value branches amount is counted h =
       let size : own_size path (statement_tree words s) ≡ expression_size (tree_of words amount) =
-      ap (own_size path) (ap (statement_tree words) is ∙ told_case (numbered words) at kind value branches)
+      ap (own_size path) (ap (statement_tree words) is ∙ told_case (word_of words) at kind value branches)
       ∙ ap (λ (e : Expression). expression_size (tree_of words e)) (sym counted) in
       omega (arith, h, size)
 

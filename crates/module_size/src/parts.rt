@@ -2,7 +2,7 @@
 
 ghost use Rattle.std.specs.Prelude.{◌≡◌, ◌-◌, List, map, option_map};
 ghost use Rattle.vast.specs.NumberedTrees.{argument_tree, delay_tree, event_tree, path_tree, selection_tree, target_tree, target_trees, task_tree, tree_of};
-ghost use Rattle.vast.specs.NumberedWords.{numbered};
+ghost use Rattle.vast.specs.NumberedWords.{word_of};
 ghost use Rattle.vast.specs.Words.{Text};
 ghost use Rattle.vexpr_parse.specs.Texts.{words_of};
 ghost use Rattle.module_size.specs.Sizes.{argument_size, assignment_size, delay_size, event_size, letter_size, pair_size, path_size, selection_size, size_if, size_of, string_size, target_size, targets_size, task_size, word_size};
@@ -99,7 +99,7 @@ pub fn take_event(event: &Event, left: usize) -> usize
 }
 
 fn take_word(tokens: &Tokens<'_>, word: Token, left: usize) -> usize
-    ensures { result ≡ left - word_size (numbered (words_of tokens.now) word) }
+    ensures { result ≡ left - word_size (word_of (words_of tokens.now) word) }
 {
     left.saturating_sub(1)
         .saturating_sub(letters(tokens, word).len())
@@ -126,7 +126,7 @@ fn take_letters(string: &[u8], path: usize, mut left: usize) -> usize
 }
 
 fn take_string(tokens: &Tokens<'_>, word: Token, path: usize, left: usize) -> usize
-    ensures { result ≡ left - string_size path (numbered (words_of tokens.now) word) }
+    ensures { result ≡ left - string_size path (word_of (words_of tokens.now) word) }
 {
     take_letters(letters(tokens, word), path, left.saturating_sub(1))
 }
@@ -158,7 +158,7 @@ fn take_arguments(
 }
 
 fn take_path(tokens: &Tokens<'_>, names: &[Token], mut left: usize) -> usize
-    ensures { result ≡ left - path_size (map (numbered (words_of tokens.now)) names.now) }
+    ensures { result ≡ left - path_size (map (word_of (words_of tokens.now)) names.now) }
 {
     for one in names {
         left = take_word(tokens, *one, left);

@@ -2,7 +2,7 @@
 
 ghost use Rattle.std.specs.Prelude.{◌≡◌, ◌-◌, ◌^◌, min, option_map};
 ghost use Rattle.vast.specs.NumberedTrees.{branch_tree, branch_trees, statement_tree, statement_trees, trees_of};
-ghost use Rattle.vast.specs.NumberedWords.{numbered};
+ghost use Rattle.vast.specs.NumberedWords.{word_of};
 ghost use Rattle.vexpr_parse.specs.Texts.{words_of};
 ghost use Rattle.module_size.specs.Sizes as spec;
 ghost use Rattle.module_size.specs.Sizes.{branch_size, branches_size, labels_size, statement_size, statements_size};
@@ -62,7 +62,7 @@ fn take_own(tokens: &Tokens<'_>, statement: &Statement, path: usize, left: usize
 // The letters of the path of a block's scope.
 fn size_inside(tokens: &Tokens<'_>, name: Option<Token>, path: usize) -> usize
     ensures { result ≡
-        min (spec.size_inside path (option_map (numbered (words_of tokens.now)) name)) (2 ^ 64 - 1) }
+        min (spec.size_inside path (option_map (word_of (words_of tokens.now)) name)) (2 ^ 64 - 1) }
 {
     match name {
         None => path,

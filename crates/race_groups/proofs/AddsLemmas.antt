@@ -9,7 +9,7 @@ use Rattle.racebook.proofs.ListLemmas.{contains_at}
 use Rattle.race_groups.specs.declared.group.Difference.{Difference}
 use Rattle.race_groups.specs.declared.group.Group.{Group}
 use Rattle.race_groups.specs.Found.{IsLogOf}
-use Rattle.race_groups.specs.Inner.{Adds, IsCaused, IsTraced, Told, Tracing, told, tolds_of}
+use Rattle.race_groups.specs.Inner.{Adds, IsCaused, IsTraced, Told, Tracing, told_of, tolds_of}
 use Rattle.race_groups.proofs.ListLemmas.{nothing_in, to_map}
 
 -- ---- lists of groups
@@ -67,15 +67,15 @@ pub adds_group : (tracing : Tracing) (difference : Difference) (old new : List G
     new ≡ old ++ group ∷ [] → group.log ≡ log → IsTraced tracing log group.cause →
     IsLogOf difference log → group.first ≡ difference → Adds tracing (λ d. d ≡ difference) (tolds_of old) (tolds_of new)
 adds_group tracing difference old new group log is log_is caused of first =
-    adds_one tracing (λ d. d ≡ difference) (tolds_of old) (tolds_of new) (told group) (ap tolds_of is ∙ map-append told old (group ∷ [])) (
+    adds_one tracing (λ d. d ≡ difference) (tolds_of old) (tolds_of new) (told_of group) (ap tolds_of is ∙ map-append told_of old (group ∷ [])) (
       subst (λ (l : List (ℕ × ℕ)). IsTraced tracing l group.cause) (sym log_is) caused,
       subst (λ (d : Difference). IsLogOf d group.log) (sym first) (subst (IsLogOf difference) (sym log_is) of),
     ) first
 
 -- what of a group is told stays, where one is changed elsewhere
-pub told_alike : (groups : List Group) (place : ℕ) (group other : Group) → told group ≡ told (get_or groups place other) →
+pub told_alike : (groups : List Group) (place : ℕ) (group other : Group) → told_of group ≡ told_of (get_or groups place other) →
     tolds_of (slice_set groups place group) ≡ tolds_of groups
-told_alike groups place group other same = map-set_same told groups place group other same
+told_alike groups place group other same = map-set_same told_of groups place group other same
 
 -- behind others, where causes are traced alike
 pub adds_then : (tracing there : Tracing) (P : Difference → Type 0) (old mid new : List Told) → there ≡ tracing → Adds tracing P old mid →

@@ -15,7 +15,7 @@ use Rattle.race_groups.specs.declared.group.Group.{Group}
 use Rattle.race_groups.specs.declared.group.Name.{Name}
 use Rattle.race_groups.specs.Found.{AllSummarize, AreNamedOnce, IsNameIn, IsNameInOne, IsNamedAt, Summarizes, name_of}
 use Rattle.race_groups.specs.Inner.{AreNamedApart, Counts, CountsStill, Follows, IsNamedIn, IsOpened, IsUntouched, NoName, Told, Widens}
-use Rattle.race_groups.specs.Inner.{told}
+use Rattle.race_groups.specs.Inner.{told_of}
 use Rattle.race_groups.proofs.ListLemmas.{nothing_in}
 
 -- ---- one after another
@@ -179,7 +179,7 @@ untouched_summary names old new rest same s = record {
 
 -- one group was set, and what it sums up then has in front what it summed up before
 module _ (names : ℕ) (groups : List Group) (place : ℕ) (old new : Group) (at : slice_get groups place ≡ Some old)
-    (same : told new ≡ told old)
+    (same : told_of new ≡ told_of old)
     (more : List Name) (sums : (rest : List Name) → Summarizes names old rest → Summarizes names new (rest ++ more)) where
   abbrev now : List Group
   now = slice_set groups place new
@@ -278,7 +278,7 @@ module _ (names : ℕ) (groups : List Group) (place : ℕ) (old new : Group) (at
 
 -- the same of one name more
 module _ (names : ℕ) (groups : List Group) (place : ℕ) (old new : Group) (at : slice_get groups place ≡ Some old)
-    (same : told new ≡ told old)
+    (same : told_of new ≡ told_of old)
     (name : Name) (sums : (rest : List Name) → Summarizes names old rest → Summarizes names new (rest ++ name ∷ []))
     (before : ℕ → List Name) (fresh : IsNameInOne groups before name → ⊥) (once : AreNamedOnce groups before) where
   abbrev then : List Group
@@ -346,7 +346,7 @@ module _ (names : ℕ) (groups : List Group) (place : ℕ) (old new : Group) (at
   pub set_named_once : AreNamedOnce then rests
   set_named_once = record { once = set_once; not_first = set_not_first }
 
-pub set_counts : (names : ℕ) (groups : List Group) (place : ℕ) (old new : Group) → slice_get groups place ≡ Some old → told new ≡ told old →
+pub set_counts : (names : ℕ) (groups : List Group) (place : ℕ) (old new : Group) → slice_get groups place ≡ Some old → told_of new ≡ told_of old →
     (name : Name) → ((rest : List Name) → Summarizes names old rest → Summarizes names new (rest ++ name ∷ [])) →
     Counts names (λ n. name ≡ n) groups (slice_set groups place new)
 set_counts names groups place old new at same name sums before summaries = record {
@@ -367,7 +367,7 @@ set_counts names groups place old new at same name sums before summaries = recor
 
 -- what of a group is told stays, whether or not it was followed
 pub followed_told : {E : Type 0} (names : ℕ) (name : Name) (old new : Group) (result : Result ⊤ E) →
-    OnOk result (Follows names name old new) → OnErr result (IsUntouched old new) → told new ≡ told old
+    OnOk result (Follows names name old new) → OnErr result (IsUntouched old new) → told_of new ≡ told_of old
 followed_told names name old new (Ok u) ok err = ok.told
 followed_told names name old new (Err e) ok err = err.told
 

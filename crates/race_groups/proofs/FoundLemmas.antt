@@ -48,7 +48,7 @@ use Rattle.race_groups.specs.Found.{AllAreCounted, AllSummarize, EachGroup, Ends
 use Rattle.race_groups.specs.Found.{IsDifference, IsNameInOne, IsClosedFrom, IsInTime, IsTimeOfRun, LacksOnlyNoCause, NoneDiffer, NoneIsCut}
 use Rattle.race_groups.specs.Found.{NoneIsMadeUp, TwoEndsDiffer, TwoRunsDifferIn, name_of}
 use Rattle.race_groups.specs.Inner.{AreGroupsOf, AreTold, CollectsGroups, IsLastSeen, IsShownBy, KeepsGroups, Shape, TellsEnds, Told}
-use Rattle.race_groups.specs.Inner.{Tracing, shape_of, told, tolds_of, traced_by}
+use Rattle.race_groups.specs.Inner.{Tracing, shape_of, told_of, tolds_of, traced_by}
 use Rattle.race_groups.proofs.ListLemmas.{at_most_one, nothing_in, to_map}
 
 abbrev Pair : Type 0
@@ -679,26 +679,26 @@ module _ (setting : Setting) (alike : Alike setting) (all : AllStand setting) (t
 
   its_cause : EachGroup (HasItsCause setting) groups
   its_cause i group at = elim (tells.each group (contains_at groups i group at)) [
-    | inl old ↦ (hands.collected.causes (told group) (to_map told kept.groups.items group old)).0.0
+    | inl old ↦ (hands.collected.causes (told_of group) (to_map told_of kept.groups.items group old)).0.0
     | inr new ↦ new.1.caused.0.0
   ]
 
   its_lack : EachGroup (LacksOnlyNoCause setting limits) groups
   its_lack i group at = elim (tells.each group (contains_at groups i group at)) [
-    | inl old ↦ (hands.collected.causes (told group) (to_map told kept.groups.items group old)).0.1
+    | inl old ↦ (hands.collected.causes (told_of group) (to_map told_of kept.groups.items group old)).0.1
     | inr new ↦ new.1.caused.0.1
   ]
 
   its_log : EachGroup HasLogOfFirst groups
   its_log i group at = elim (tells.each group (contains_at groups i group at)) [
-    | inl old ↦ (hands.collected.causes (told group) (to_map told kept.groups.items group old)).1
+    | inl old ↦ (hands.collected.causes (told_of group) (to_map told_of kept.groups.items group old)).1
     | inr new ↦ new.1.caused.1
   ]
 
   its_first : EachGroup (HasFirstDifference setting limits) groups
   its_first i group at = elim (tells.each group (contains_at groups i group at)) [
     | inl old ↦ told_first setting alike all there here mark_alike wide ranked limits scope kept.groups.items tolds ends kept.cut_runs
-        kept.seen kept.refused findings hands (told group) (to_map told kept.groups.items group old)
+        kept.seen kept.refused findings hands (told_of group) (to_map told_of kept.groups.items group old)
     | inr new ↦
         let e : length (pairs_of ends) ≡ length ends = length-map ends (λ (f : FoundMark MachineState). (f.state, f.log)) in
         let two = new.0 in
@@ -710,7 +710,7 @@ module _ (setting : Setting) (alike : Alike setting) (all : AllStand setting) (t
   its_time i group at = elim (tells.each group (contains_at groups i group at)) [
     | inl old ↦ told_in_time setting alike all there here mark_alike wide ranked limits scope kept.groups.items tolds ends
         kept.cut_runs kept.seen
-        kept.refused findings hands (told group) (to_map told kept.groups.items group old)
+        kept.refused findings hands (told_of group) (to_map told_of kept.groups.items group old)
     | inr new ↦ ends_in_time setting alike all there here mark_alike wide ranked limits scope kept.groups.items tolds ends
         kept.cut_runs kept.seen
         kept.refused findings hands group.first new.1.tells

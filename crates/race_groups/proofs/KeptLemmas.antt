@@ -30,7 +30,7 @@ use Rattle.race_groups.specs.Inner.{Adds, AllAlike, AreApartInSlot, AreGroupsOf,
 use Rattle.race_groups.specs.Inner.{CountsStill, FirstTwoUnlike, GrowsBehind, GrowsTo, HaveAllOf, IsCaused, IsEndOfSome, IsGroupOfEnds}
 use Rattle.race_groups.specs.Inner.{IsLastSeen, IsNamedByOne, IsNamedIn, IsNamedInSlot, IsOfSome, IsShownBy, KeepsGroups, OfEachFrom}
 use Rattle.race_groups.specs.Inner.{OfEnds, ShowsNamed, StaysSo, SumsUp, TakesAll, TakesSlot, TellsEnds, Told, Tracing, differences_in}
-use Rattle.race_groups.specs.Inner.{setting_of, told, tolds_of, traced_by}
+use Rattle.race_groups.specs.Inner.{setting_of, told_of, tolds_of, traced_by}
 use Rattle.race_groups.proofs.AddsLemmas.{adds_none, adds_on, adds_weaker}
 use Rattle.race_groups.proofs.CountLemmas.{counts_on, still_on, take_still}
 use Rattle.race_groups.proofs.SumLemmas.{grows_on}
@@ -677,14 +677,14 @@ pub back_again : (old mid new : RaceGroups) (g e : ℕ) → g ≡ length old.gro
     traced_by new ≡ traced_by mid → new.scope ≡ mid.scope →
     new.groups.items ≡ take g mid.groups.items → new.ends.items ≡ take e mid.ends.items → new.cut_runs ≡ mid.cut_runs → StaysSo old new
 back_again old mid new g e g_is e_is grows traced scope groups ends cut =
-    let len : length (tolds_of old.groups.items) ≡ length old.groups.items = length-map old.groups.items told in
+    let len : length (tolds_of old.groups.items) ≡ length old.groups.items = length-map old.groups.items told_of in
     record {
       traced = traced ∙ grows.traced;
       scope = scope ∙ grows.scope;
       still = subst (CountsStill old.scope.names old.groups.items) (sym (groups ∙ ap (λ (n : ℕ). take n mid.groups.items) g_is))
           (take_still old.scope.names old.groups.items mid.groups.items grows.still);
       groups = ap tolds_of (groups ∙ ap (λ (n : ℕ). take n mid.groups.items) g_is)
-          ∙ sym (take-map told (length old.groups.items) mid.groups.items) ∙ ap (take (length old.groups.items)) grows.groups.1
+          ∙ sym (take-map told_of (length old.groups.items) mid.groups.items) ∙ ap (take (length old.groups.items)) grows.groups.1
           ∙ ap (λ (n : ℕ). take n (tolds_of old.groups.items ++ grows.groups.0)) (sym len)
           ∙ take-append_seam (tolds_of old.groups.items) grows.groups.0;
       ends = ends ∙ ap (λ (n : ℕ). take n mid.ends.items) e_is ∙ ap (take (length old.ends.items)) grows.ends.1

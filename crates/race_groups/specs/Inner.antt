@@ -39,11 +39,11 @@ pub record Told : Type 0 where
   pub log : List (ℕ × ℕ)
   pub first : Difference
 
-abbrev pub told : Group → Told
-told group = record { cause = group.cause; log = group.log; first = group.first }
+abbrev pub told_of : Group → Told
+told_of group = record { cause = group.cause; log = group.log; first = group.first }
 
 abbrev pub tolds_of : List Group → List Told
-tolds_of groups = map told groups
+tolds_of groups = map told_of groups
 
 -- in which runs logs are traced to their causes, and how many steps a slot may take there
 pub record Tracing : Type 0 where
@@ -91,14 +91,14 @@ AreDefault logs count = (side : ℕ) → side < count → IsDefault logs side
 
 -- one difference more follows the group's first
 pub record Follows (names : ℕ) (name : Name) (old new : Group) : Type 0 where
-  pub told : told new ≡ told old
+  pub told : told_of new ≡ told_of old
   pub room : length old.next.items < names → new.next.items ≡ old.next.items ++ name ∷ []
   pub full : names ≤ length old.next.items → new.next.items ≡ old.next.items
   pub more : new.more ≡ min (old.more + 1) 18446744073709551615
   pub last : new.last ≡ name.time
 
 pub record IsUntouched (old new : Group) : Type 0 where
-  pub told : told new ≡ told old
+  pub told : told_of new ≡ told_of old
   pub next : new.next.items ≡ old.next.items
   pub more : new.more ≡ old.more
   pub last : new.last ≡ old.last
@@ -384,7 +384,7 @@ TellsEnds ends (Ends list) = list.items ≡ ends
 
 -- the group tells them, with their cause
 pub record IsGroupOfEnds (tracing : Tracing) (ends : List (FoundMark MachineState)) (group : Group) : Type 0 where
-  pub caused : IsCaused tracing (told group)
+  pub caused : IsCaused tracing (told_of group)
   pub next : group.next.items ≡ []
   pub more : group.more ≡ 0
   pub tells : TellsEnds ends group.first

@@ -104,7 +104,7 @@ fn put_departed<R: SlotRace>(
     ensures default { IfOk result (λ is. is ≡ false → (counted ≡ false)
         × IsDefault (logs_of (R.difference race.now)) side × (groups.new.items ≡ groups.old.items)) }
 {
-    match race.departed(side) {
+    match race.departures_of(side) {
         None => Ok(counted),
         Some(log) => {
             put_side(causes, groups, names, race, log, counted)?;

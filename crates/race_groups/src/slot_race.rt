@@ -28,7 +28,7 @@ pub(crate) trait SlotRace {
         ensures { result ≡ length (logs_of (difference self.now)) };
 
     /// The log of a side, where it has departures.
-    fn departed(&self, side: usize) -> Option<&Log>
+    fn departures_of(&self, side: usize) -> Option<&Log>
         ensures some { IfSome result (λ log. IsDeparted (logs_of (difference self.now)) side log.now) }
         ensures none { IfNone result (IsDefault (logs_of (difference self.now)) side) };
 
@@ -86,7 +86,7 @@ impl SlotRace for Race {
         self.values.len()
     }
 
-    fn departed(&self, side: usize) -> Option<&Log>
+    fn departures_of(&self, side: usize) -> Option<&Log>
         ensures some { IfSome result (λ log. IsDeparted (logs_of (Values self.now)) side log.now) }
         ensures none { IfNone result (IsDefault (logs_of (Values self.now)) side) }
     {
@@ -144,7 +144,7 @@ impl SlotRace for LineRace {
         self.sides.len()
     }
 
-    fn departed(&self, side: usize) -> Option<&Log>
+    fn departures_of(&self, side: usize) -> Option<&Log>
         ensures some { IfSome result (λ log. IsDeparted (logs_of (Lines self.now)) side log.now) }
         ensures none { IfNone result (IsDefault (logs_of (Lines self.now)) side) }
     {

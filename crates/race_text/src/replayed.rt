@@ -7,7 +7,7 @@ use vmachine::Machine;
 
 /// The time at which the run under the log stands before a step.
 pub fn time_before(machine: &Machine, log: &Log, step: u32) -> Result<u64, NoMemory> {
-    let mut state = machine.opened()?;
+    let mut state = machine.opening_state()?;
     for number in 0..step {
         state.go(machine.design(), choice_at(log.members(), number))?;
     }
@@ -16,7 +16,7 @@ pub fn time_before(machine: &Machine, log: &Log, step: u32) -> Result<u64, NoMem
 
 /// The action that the last step of the run under the log takes, if it takes one; none where the run doesn't end.
 pub fn last_action(machine: &Machine, log: &Log) -> Result<Option<usize>, NoMemory> {
-    let mut state = machine.opened()?;
+    let mut state = machine.opening_state()?;
     let mut last = None;
     for number in 0..u32::MAX {
         let index = choice_at(log.members(), number);
@@ -31,7 +31,7 @@ pub fn last_action(machine: &Machine, log: &Log) -> Result<Option<usize>, NoMemo
 
 /// Whether the default run takes more than so many steps.
 pub fn is_longer(machine: &Machine, steps: u32) -> Result<bool, NoMemory> {
-    let mut state = machine.opened()?;
+    let mut state = machine.opening_state()?;
     for _ in 0..steps {
         if state.width() == 0 {
             return Ok(false);

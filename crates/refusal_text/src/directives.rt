@@ -117,7 +117,7 @@ struct Span<'a> {
 }
 
 // What stands behind blanks.
-fn unblanked(rest: &[u8]) -> &[u8] {
+fn without_blanks(rest: &[u8]) -> &[u8] {
     from(rest, len_of(Letters::Blanks, rest))
 }
 
@@ -142,10 +142,10 @@ fn power_of(word: &[u8]) -> Option<usize> {
 
 // The length of time behind blanks.
 fn span_behind(rest: &[u8]) -> Option<Span<'_>> {
-    let number = unblanked(rest);
+    let number = without_blanks(rest);
     let digits = digits_len(number);
     let count = count_of(front(number, digits))?;
-    let unit = unblanked(from(number, digits));
+    let unit = without_blanks(from(number, digits));
     let len = len_of(Letters::OfName, unit);
     let power = power_of(front(unit, len))?;
     Some(Span {
@@ -159,7 +159,7 @@ fn of_timescale(behind: &[u8]) -> Option<Mistake> {
     let Some(unit) = span_behind(behind) else {
         return Some(Mistake::TimescaleForm);
     };
-    let Some(precision) = unblanked(unit.behind).strip_prefix(b"/") else {
+    let Some(precision) = without_blanks(unit.behind).strip_prefix(b"/") else {
         return Some(Mistake::TimescaleHalf);
     };
     match span_behind(precision) {
@@ -171,7 +171,7 @@ fn of_timescale(behind: &[u8]) -> Option<Mistake> {
 
 // What is wrong with a directive that is first on its line, where its word tells it.
 fn of_form(name: &[u8], behind: &[u8]) -> Option<Mistake> {
-    let next = unblanked(behind);
+    let next = without_blanks(behind);
     match name {
         name if is(name, "timescale") => of_timescale(behind),
         name if is(name, "line") => Some(Mistake::LineForm),

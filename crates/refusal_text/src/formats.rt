@@ -61,7 +61,7 @@ fn octal_of(digits: &[u8]) -> u8 {
 }
 
 // The letter behind a backslash.
-fn escaped(letters: &[u8]) -> Option<Letter<'_>> {
+fn escaped_letter(letters: &[u8]) -> Option<Letter<'_>> {
     let octals = octal_len(letters);
     if octals > 0 {
         let (digits, behind) = letters.split_at_checked(octals)?;
@@ -77,7 +77,7 @@ fn escaped(letters: &[u8]) -> Option<Letter<'_>> {
 fn letter_of(letters: &[u8]) -> Option<Letter<'_>> {
     let (first, behind) = letters.split_first()?;
     if *first == b'\\' {
-        return escaped(behind);
+        return escaped_letter(behind);
     }
     let letter = *first;
     Some(Letter { letter, behind })
@@ -177,7 +177,7 @@ fn behind_percent(after: &[u8]) -> Option<&[u8]> {
 }
 
 // What stands behind a letter, behind `%%` or behind a format that takes no argument, which the letters begin with; or else their format.
-fn passed(letters: &[u8]) -> Option<Result<&[u8], Format<'_>>> {
+fn pass_letters(letters: &[u8]) -> Option<Result<&[u8], Format<'_>>> {
     let next = letter_of(letters)?;
     if next.letter != b'%' {
         return Some(Ok(next.behind));
@@ -196,7 +196,7 @@ fn passed(letters: &[u8]) -> Option<Result<&[u8], Format<'_>>> {
 pub(crate) fn next_format(letters: &[u8]) -> Option<Format<'_>> {
     let mut rest = letters;
     for _ in 0..letters.len() {
-        match passed(rest)? {
+        match pass_letters(rest)? {
             Ok(behind) => rest = behind,
             Err(format) => return Some(format),
         }

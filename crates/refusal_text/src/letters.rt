@@ -101,7 +101,7 @@ pub(crate) fn use_len(rest: &[u8]) -> usize {
 }
 
 // What is told, of which so many letters become blanks.
-fn blanked(what: What, word: usize, len: usize) -> Flaw {
+fn flaw_blanked(what: What, word: usize, len: usize) -> Flaw {
     Flaw {
         what,
         before: 0,
@@ -113,7 +113,7 @@ fn blanked(what: What, word: usize, len: usize) -> Flaw {
 }
 
 /// What is told, of which so many letters become a number.
-pub(crate) fn numbered(what: What, word: usize, len: usize) -> Flaw {
+pub(crate) fn flaw_of_number(what: What, word: usize, len: usize) -> Flaw {
     Flaw {
         what,
         before: 0,
@@ -176,11 +176,11 @@ fn by_macro(rest: &[u8], files: &[Vec<u8>]) -> Flaw {
     let name = front(from(rest, 1), len_of(Letters::OfName, from(rest, 1)));
     let word = name.len().saturating_add(1);
     if name == b"include".as_slice() {
-        return blanked(What::LeftOut(Construct::Include), word, line_len(rest));
+        return flaw_blanked(What::LeftOut(Construct::Include), word, line_len(rest));
     }
     if has_macro(files, name) {
         let what = What::LeftOut(Construct::MacroArguments);
-        return numbered(what, word, use_len(rest));
+        return flaw_of_number(what, word, use_len(rest));
     }
     if is_other(name) {
         let len = if takes_line(name) {
@@ -188,9 +188,9 @@ fn by_macro(rest: &[u8], files: &[Vec<u8>]) -> Flaw {
         } else {
             word
         };
-        return blanked(What::LeftOut(Construct::Directive), word, len);
+        return flaw_blanked(What::LeftOut(Construct::Directive), word, len);
     }
-    numbered(What::Broken(111), word, use_len(rest))
+    flaw_of_number(What::Broken(111), word, use_len(rest))
 }
 
 // A directive that is ill formed, or isn't first on its line.
@@ -199,7 +199,7 @@ fn by_directive(rest: &[u8], is_first: bool) -> Flaw {
     let word = name.len().saturating_add(1);
     if defines(rest, None) {
         let what = What::LeftOut(Construct::MacroArguments);
-        return blanked(what, word, definition_len(rest));
+        return flaw_blanked(what, word, definition_len(rest));
     }
     let what = match mistake_of(
         name,
@@ -210,23 +210,23 @@ fn by_directive(rest: &[u8], is_first: bool) -> Flaw {
         Some(mistake) => What::Mistake(mistake),
     };
     if rest.starts_with(b"`define") {
-        return blanked(what, word, definition_len(rest));
+        return flaw_blanked(what, word, definition_len(rest));
     }
     let kind = word_behind(rest, word);
     let is_known = kind.is_empty() || is_one_of(kind, &["wire", "none"]);
     if rest.starts_with(b"`default_nettype") && !is_known {
         let what = What::LeftOut(Construct::NetTypeDirective);
-        return blanked(what, word, line_len(rest));
+        return flaw_blanked(what, word, line_len(rest));
     }
-    blanked(what, word, line_len(rest))
+    flaw_blanked(what, word, line_len(rest))
 }
 
 // A comment or a string that isn't ended.
 fn by_open(rest: &[u8]) -> Flaw {
     match rest.first() {
-        Some(b'`') => blanked(What::Broken(101), 0, use_len(rest)),
-        Some(b'/') => blanked(What::Broken(101), 0, rest.len()),
-        _ => blanked(What::Broken(101), 0, line_len(rest)),
+        Some(b'`') => flaw_blanked(What::Broken(101), 0, use_len(rest)),
+        Some(b'/') => flaw_blanked(What::Broken(101), 0, rest.len()),
+        _ => flaw_blanked(What::Broken(101), 0, line_len(rest)),
     }
 }
 
@@ -237,7 +237,7 @@ pub(crate) fn flaw_of(number: u16, rest: &[u8], is_first: bool, files: &[Vec<u8>
         102 => numbers::flaw_of(rest),
         110 if rest.starts_with(b"`") => by_directive(rest, is_first),
         111 if rest.starts_with(b"`") => by_macro(rest, files),
-        114 => blanked(What::Broken(114), 0, line_len(rest)),
-        _ => blanked(What::Broken(number), 0, 1),
+        114 => flaw_blanked(What::Broken(114), 0, line_len(rest)),
+        _ => flaw_blanked(What::Broken(number), 0, 1),
     }
 }

@@ -83,7 +83,7 @@ impl<'a> Files<'a> {
 }
 
 // A byte of a source line as any terminal may be shown it: `?` in place of one that isn't a letter of ASCII.
-fn shown(byte: u8) -> u8 {
+fn printable(byte: u8) -> u8 {
     if byte == b'\t' || byte.is_ascii_graphic() || byte == b' ' {
         byte
     } else {
@@ -107,7 +107,7 @@ pub(crate) fn put_all(text: &mut Vec<u8>, pieces: &[&[u8]]) -> Result<(), NoMemo
 /// The letters as any terminal may be shown them.
 pub(crate) fn put_letters(text: &mut Vec<u8>, letters: &[u8]) -> Result<(), NoMemory> {
     for letter in letters {
-        text.push(shown(*letter))?;
+        text.push(printable(*letter))?;
     }
     Ok(())
 }

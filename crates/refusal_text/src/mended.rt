@@ -113,7 +113,7 @@ fn end_conditional(texts: &mut Vec<Vec<u8>>) -> Result<(), NoMemory> {
 }
 
 // What is told of the flaw: its word is that of the files as they were.
-fn told<'a>(files: Files<'a>, place: Place, flaw: Flaw) -> Found<'a> {
+fn finding<'a>(files: Files<'a>, place: Place, flaw: Flaw) -> Found<'a> {
     let rest = letters_from(files.texts, place);
     Found {
         what: flaw.what,
@@ -162,7 +162,7 @@ fn mend<'a>(mended: &mut Mended<'a>, files: Files<'a>, refused: Refusal) -> Resu
     let is_first = is_first(&mended.texts, refused.place);
     let flaw = flaw_of(refused.number, rest, is_first, files.texts);
     if !follows(&mended.found, flaw) {
-        keep(&mut mended.found, told(files, refused.place, flaw))?;
+        keep(&mut mended.found, finding(files, refused.place, flaw))?;
     }
     match refused.number {
         112 => Ok(false),
@@ -178,7 +178,7 @@ fn mend<'a>(mended: &mut Mended<'a>, files: Files<'a>, refused: Refusal) -> Resu
 }
 
 // A copy of the files, and how many bytes they have.
-fn copied(alloc: Global, texts: &[Vec<u8>]) -> Result<Vec<Vec<u8>>, NoMemory> {
+fn copy_texts(alloc: Global, texts: &[Vec<u8>]) -> Result<Vec<Vec<u8>>, NoMemory> {
     let mut copies = Vec::new(alloc);
     for text in texts {
         copies.push(Vec::from_slice(alloc, text)?)?;
@@ -198,7 +198,7 @@ fn turns_of(texts: &[Vec<u8>]) -> usize {
 /// The files without what can't be read by words, as far as it is taken out, and what it was.
 pub(crate) fn mend_files<'a>(alloc: Global, files: Files<'a>) -> Result<Mended<'a>, NoMemory> {
     let mut mended = Mended {
-        texts: copied(alloc, files.texts)?,
+        texts: copy_texts(alloc, files.texts)?,
         found: Vec::new(alloc),
     };
     for _ in 0..turns_of(files.texts) {

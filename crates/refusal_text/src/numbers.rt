@@ -2,7 +2,7 @@
 
 use crate::construct::Construct;
 use crate::find::What;
-use crate::letters::{Flaw, Letters, len_of, numbered, use_len};
+use crate::letters::{Flaw, Letters, len_of, flaw_of_number, use_len};
 use crate::lines::{from, front};
 use crate::mistakes::Mistake;
 use crate::words::is_one_of;
@@ -41,7 +41,7 @@ pub(crate) fn is_wide(digits: &[u8]) -> bool {
 
 // What is told of a number, and what is put in its place.
 fn number(what: What, len: usize) -> Flaw {
-    numbered(what, len, len)
+    flaw_of_number(what, len, len)
 }
 
 // What is told of a cast, in which an operator takes the place of the apostrophe: its type is no call.
@@ -184,7 +184,7 @@ pub(crate) fn flaw_of(rest: &[u8]) -> Flaw {
     match rest.first() {
         Some(b'\\') => by_escape(rest),
         Some(b'"') => by_string(rest),
-        Some(b'`') => numbered(What::Broken(102), 0, use_len(rest)),
+        Some(b'`') => flaw_of_number(What::Broken(102), 0, use_len(rest)),
         Some(b'\'') => by_number(rest),
         Some(letter) if letter.is_ascii_digit() => by_number(rest),
         Some(b'$') => number(What::LeftOut(Construct::Queue), 1),

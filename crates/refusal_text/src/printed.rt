@@ -64,7 +64,7 @@ fn arguments_at<'a>(words: Words<'a>) -> Option<Words<'a>> {
 
 impl<'a> Printed<'a> {
     // What is wrong with a format of the string.
-    fn told(&self, what: What, format: Format<'a>) -> Found<'a> {
+    fn finding(&self, what: What, format: Format<'a>) -> Found<'a> {
         Found {
             what,
             word: format.word,
@@ -75,7 +75,7 @@ impl<'a> Printed<'a> {
 
     // What is wrong with a format that the profile leaves out.
     fn left_out(&self, format: Format<'a>) -> Found<'a> {
-        self.told(What::LeftOut(Construct::Format), format)
+        self.finding(What::LeftOut(Construct::Format), format)
     }
 
     // What is wrong with the next format where no argument is left.
@@ -84,11 +84,11 @@ impl<'a> Printed<'a> {
         if format.form.is_none() {
             return Some(self.left_out(format));
         }
-        Some(self.told(What::Mistake(Mistake::NoArgument), format))
+        Some(self.finding(What::Mistake(Mistake::NoArgument), format))
     }
 
     // What is wrong so, from here on.
-    fn refused(&self, wrong: Found<'a>) -> Printed<'a> {
+    fn with_refusal(&self, wrong: Found<'a>) -> Printed<'a> {
         let mut next = *self;
         next.wrong = Some(wrong);
         next
@@ -102,30 +102,30 @@ impl<'a> Printed<'a> {
     }
 
     // Behind a string that is a format.
-    fn begun(&self, words: Words<'a>) -> Printed<'a> {
+    fn at_format(&self, words: Words<'a>) -> Printed<'a> {
         let mut next = self.left(letters_of(words.word()));
         next.string = words;
         next
     }
 
     // Behind a string, which the next format takes.
-    fn shown(&self, format: Format<'a>) -> Printed<'a> {
+    fn after_string(&self, format: Format<'a>) -> Printed<'a> {
         if format.form == Some(b's') {
             return self.left(format.behind);
         }
-        self.refused(self.told(What::Mistake(Mistake::FormatOfString), format))
+        self.with_refusal(self.finding(What::Mistake(Mistake::FormatOfString), format))
     }
 
     // Behind an argument that begins with this word, or, where it is left out, ends before it; then it is shown as a string.
-    fn taken(&self, words: Words<'a>) -> Printed<'a> {
+    fn after_argument(&self, words: Words<'a>) -> Printed<'a> {
         let is_left_out = is_one_of(words.word(), &[",", ")"]);
         let is_string = words.is(TokenKind::Text) || is_left_out;
         match next_format(self.format) {
-            Some(format) if format.form.is_none() => self.refused(self.left_out(format)),
-            Some(format) if is_string => self.shown(format),
+            Some(format) if format.form.is_none() => self.with_refusal(self.left_out(format)),
+            Some(format) if is_string => self.after_string(format),
             Some(format) => self.left(format.behind),
             None if is_left_out => self.left(&[]),
-            None if is_string => self.begun(words),
+            None if is_string => self.at_format(words),
             None => self.left(&[]),
         }
     }
@@ -133,7 +133,7 @@ impl<'a> Printed<'a> {
     // Behind one more word.
     fn after(&self, words: Words<'a>) -> Printed<'a> {
         let mut next = if self.begins {
-            self.taken(words)
+            self.after_argument(words)
         } else {
             *self
         };
@@ -165,7 +165,7 @@ fn wrong_in<'a>(words: Words<'a>) -> Option<Found<'a>> {
         }
         if printed.open == 0 && is(word.word(), ")") {
             let last = if printed.begins {
-                printed.taken(word)
+                printed.after_argument(word)
             } else {
                 printed
             };

@@ -72,7 +72,7 @@ fn is_dump_path(tokens: &Tokens<'_>, at: usize) -> bool {
 }
 
 // A mistake at this word.
-fn mistaken<'a>(words: Words<'a>, mistake: Mistake) -> Found<'a> {
+fn found_mistake<'a>(words: Words<'a>, mistake: Mistake) -> Found<'a> {
     Found {
         what: What::Mistake(mistake),
         word: words.word(),
@@ -84,17 +84,17 @@ fn mistaken<'a>(words: Words<'a>, mistake: Mistake) -> Found<'a> {
 // The mistake of a port, of a parameter or of an instance that the fault is told by, if it comes of one.
 fn declared_at<'a>(tokens: &'a Tokens<'a>, at: usize, number: u16) -> Option<Found<'a>> {
     let mistake = mistake_of(tokens, at, number)?;
-    Some(mistaken(Words::new(tokens, at), mistake))
+    Some(found_mistake(Words::new(tokens, at), mistake))
 }
 
 // The mistake of the grammar that the word is refused for, if the words before it tell one.
 fn grammar_mistake_at<'a>(tokens: &'a Tokens<'a>, at: usize) -> Option<Found<'a>> {
     let words = Words::new(tokens, at);
     if at > 0 && is_long_name(words.previous()) {
-        return Some(mistaken(words.previous(), Mistake::LongName));
+        return Some(found_mistake(words.previous(), Mistake::LongName));
     }
     let mistake = grammar_mistake_of(tokens, at)?;
-    Some(mistaken(words, mistake))
+    Some(found_mistake(words, mistake))
 }
 
 // The first that there is.
@@ -114,7 +114,7 @@ fn cause_of<'a>(tokens: &'a Tokens<'a>, at: usize, number: u16) -> Option<Found<
         305 if is_connected_by_names(words) => {
             Some(found_at(words, Construct::OutputExpression, words.word()))
         }
-        305 if is(words.before(1), ".") => Some(mistaken(words, Mistake::NoPort)),
+        305 if is(words.before(1), ".") => Some(found_mistake(words, Mistake::NoPort)),
         303 | 310 if is_dump_path(tokens, at) => { Some(found_at(words, Construct::DumpPath, &[])) }
         302 | 303 | 305 => declared_at(tokens, at, number),
         306 => first_of(range_at(tokens, at), declared_at(tokens, at, number)),

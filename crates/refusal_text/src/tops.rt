@@ -24,7 +24,7 @@ fn put_names(
 }
 
 // The modules of which there are no instances.
-fn uninstantiated<'a>(alloc: Global, modules: &Modules<'a>) -> Result<Vec<Named<'a>>, NoMemory> {
+fn never_instantiated<'a>(alloc: Global, modules: &Modules<'a>) -> Result<Vec<Named<'a>>, NoMemory> {
     let mut tops = Vec::new(alloc);
     for module in &modules.modules {
         if !are_named(&modules.instances, module.name) {
@@ -42,7 +42,7 @@ pub(crate) fn put_several(
     place: Place,
     modules: &Modules<'_>,
 ) -> Result<(), NoMemory> {
-    let tops = uninstantiated(alloc, modules)?;
+    let tops = never_instantiated(alloc, modules)?;
     let mut choice = Vec::new(alloc);
     let how = b"choose one with --top; `vrace races` takes several: ";
     put_all(&mut choice, &[how])?;
@@ -67,7 +67,7 @@ fn put_missing(text: &mut Vec<u8>, modules: &Modules<'_>, tops: &[&str]) -> Resu
 
 // Why none is the top.
 fn put_reason(alloc: Global, text: &mut Vec<u8>, modules: &Modules<'_>) -> Result<(), NoMemory> {
-    let reason: &[u8] = if uninstantiated(alloc, modules)?.is_empty() {
+    let reason: &[u8] = if never_instantiated(alloc, modules)?.is_empty() {
         b"none is the top: each module is instantiated by one of the modules\n"
     } else {
         b"the top that is asked for is no module of the files\n"

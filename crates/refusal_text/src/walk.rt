@@ -372,7 +372,7 @@ impl Walk {
             return Walk::new();
         }
         if self.level == Level::Passed {
-            return self.passed(word);
+            return self.after_word(word);
         }
         if self.level == Level::Outside {
             return self.outside(words);
@@ -390,7 +390,7 @@ impl Walk {
     }
 
     // In what is passed over.
-    fn passed(&self, word: &[u8]) -> Walk {
+    fn after_word(&self, word: &[u8]) -> Walk {
         if !is_one_of(word, &PASSED_ENDS) {
             return *self;
         }
@@ -435,15 +435,15 @@ impl Walk {
                 next.attribute = true;
                 next
             }
-            word if is_one_of(word, &["(", "[", "{"]) => self.opened(words),
-            word if is_one_of(word, &[")", "]", "}"]) => self.closed(),
+            word if is_one_of(word, &["(", "[", "{"]) => self.after_opening(words),
+            word if is_one_of(word, &[")", "]", "}"]) => self.after_closing(),
             word if self.open > 0 && !is_one_of(word, &UNBRACKETED) => self.in_brackets(words),
             _ => self.along(words),
         }
     }
 
     // Behind an opening bracket.
-    fn opened(&self, words: Words<'_>) -> Walk {
+    fn after_opening(&self, words: Words<'_>) -> Walk {
         let mut next = *self;
         next.starts = false;
         next.open = self.open.saturating_add(1);
@@ -458,7 +458,7 @@ impl Walk {
     }
 
     // Behind a closing bracket.
-    fn closed(&self) -> Walk {
+    fn after_closing(&self) -> Walk {
         let mut next = *self;
         next.open = self.open.saturating_sub(1);
         if next.open < next.call {
@@ -564,11 +564,11 @@ impl Walk {
         if holds_items && (names_block || labels) {
             return self.at(Level::Items);
         }
-        self.marked(word)
+        self.with_mark(word)
     }
 
     // Behind a word that ends nothing.
-    fn marked(&self, word: &[u8]) -> Walk {
+    fn with_mark(&self, word: &[u8]) -> Walk {
         let mut next = *self;
         match word {
             word if is_one_of(word, &["=", "<="]) => next.assigned = true,
@@ -584,7 +584,7 @@ impl Walk {
     }
 
     // Where a statement ended: among items, if it was the last one.
-    fn ended(&self, words: Words<'_>) -> Walk {
+    fn after_end(&self, words: Words<'_>) -> Walk {
         if self.level == Level::Statement && self.depth == 0 && !is(words.after(1), "else") {
             return self.at(Level::Items);
         }
@@ -595,12 +595,12 @@ impl Walk {
     fn statement(&self, words: Words<'_>) -> Walk {
         let word = words.word();
         match word {
-            word if is(word, ";") => self.ended(words),
+            word if is(word, ";") => self.after_end(words),
             word if is_one_of(word, &BLOCKS) && !is_one_of(words.before(1), &WAITS) => {
                 self.at_depth(self.depth.saturating_add(1))
             }
             word if is_one_of(word, &BLOCK_ENDS) => {
-                self.at_depth(self.depth.saturating_sub(1)).ended(words)
+                self.at_depth(self.depth.saturating_sub(1)).after_end(words)
             }
             word if is(word, ":") && self.chosen == 0 && !is_of_path(words) => self.at(self.level),
             word if is(word, "else") => self.at(self.level),
@@ -609,7 +609,7 @@ impl Walk {
                 next.opening = Opening::Variable;
                 next
             }
-            _ => self.marked(word),
+            _ => self.with_mark(word),
         }
     }
 }

@@ -39,7 +39,7 @@ impl<'a> Walk<'a> {
         Ok(Walk {
             design: machine.design(),
             members: log.members(),
-            state: machine.opened()?,
+            state: machine.opening_state()?,
             step: 0,
             steps,
             begun: false,

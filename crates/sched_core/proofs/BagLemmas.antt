@@ -7,11 +7,11 @@ use Rattle.std.specs.Cmp.Lexicographic.{slice_cmp}
 use Rattle.std.proofs.lemmas.Cmp.{nat_list_cmp_total}
 use Rattle.std.specs.declared.cmp.Ordering.{Ordering}
 use Rattle.std.specs.declared.cmp.Ordering.TheVariants.{Less, Equal, Greater}
-use Rattle.sched_core.specs.Bags.{placed, with_line, AreLinesInOrder}
+use Rattle.sched_core.specs.Bags.{insert_by, with_line, AreLinesInOrder}
 use Rattle.sched_core.specs.Inner.Bags.{place_behind, place_of_line}
 
 abbrev PlacedAt : List ℕ → List ℕ → List (List ℕ) → Ordering → Type 0
-PlacedAt line first rest o = insert (first ∷ rest) (place_behind o (place_of_line line rest)) line ≡ placed o line first (with_line line rest) rest
+PlacedAt line first rest o = insert (first ∷ rest) (place_behind o (place_of_line line rest)) line ≡ insert_by o line first (with_line line rest) rest
 
 placed_at : (line first : List ℕ) (rest : List (List ℕ)) → insert rest (place_of_line line rest) line ≡ with_line line rest → (o : Ordering) →
     PlacedAt line first rest o
@@ -61,7 +61,7 @@ low_rest : (line first : List ℕ) (rest : List (List ℕ)) → IsLow line (firs
 low_rest line first rest low j b at = low (suc j) b at
 
 low_placed : (o : Ordering) (x line first : List ℕ) (behind rest : List (List ℕ)) → slice_cmp nat_cmp line x ≢ Less → IsLow x (first ∷ rest) → IsLow x behind →
-    IsLow x (placed o line first behind rest)
+    IsLow x (insert_by o line first behind rest)
 low_placed Greater x line first behind rest more low then = low_cons x first behind (low_first x first rest low) then
 low_placed Equal x line first behind rest more low then = low_cons x line (first ∷ rest) more low
 low_placed Less x line first behind rest more low then = low_cons x line (first ∷ rest) more low
@@ -89,7 +89,7 @@ before line first rest up down order = order_cons line (first ∷ rest)
     (low_cons line first rest down (λ j b at. no_less line first b up (order_first first rest order j b at))) order
 
 order_placed : (o : Ordering) (line first : List ℕ) (rest : List (List ℕ)) → slice_cmp nat_cmp line first ≡ o → AreLinesInOrder (first ∷ rest) →
-    AreLinesInOrder (with_line line rest) → AreLinesInOrder (placed o line first (with_line line rest) rest)
+    AreLinesInOrder (with_line line rest) → AreLinesInOrder (insert_by o line first (with_line line rest) rest)
 order_placed Greater line first rest is order then =
     order_cons first (with_line line rest)
     (low_with first line rest (λ less. let no : Greater ≡ Less = sym is ∙ less in cc) (order_first first rest order)) then

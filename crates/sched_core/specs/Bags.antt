@@ -9,15 +9,15 @@ use Rattle.sched_core.specs.declared.setting.Looked.{Looked}
 use Rattle.sched_core.specs.declared.setting.Looked.TheVariants.{Values, Lines}
 
 -- a line before the first of a bag, or after it, as it compares with that one
-abbrev pub placed : Ordering → List ℕ → List ℕ → List (List ℕ) → List (List ℕ) → List (List ℕ)
-placed Greater line first later rest = first ∷ later
-placed Equal line first later rest = line ∷ first ∷ rest
-placed Less line first later rest = line ∷ first ∷ rest
+abbrev pub insert_by : Ordering → List ℕ → List ℕ → List (List ℕ) → List (List ℕ) → List (List ℕ)
+insert_by Greater line first later rest = first ∷ later
+insert_by Equal line first later rest = line ∷ first ∷ rest
+insert_by Less line first later rest = line ∷ first ∷ rest
 
 -- a bag with one line more; the lines stand in the order of their bytes, each as often as it was printed
 abbrev pub with_line : List ℕ → List (List ℕ) → List (List ℕ)
 with_line line [] = line ∷ []
-with_line line (first ∷ rest) = placed (slice_cmp nat_cmp line first) line first (with_line line rest) rest
+with_line line (first ∷ rest) = insert_by (slice_cmp nat_cmp line first) line first (with_line line rest) rest
 
 -- two bags are equal where they have the same lines, each as often
 abbrev pub lines_same : List (List ℕ) → List (List ℕ) → Bool

@@ -7,7 +7,7 @@ use Rattle.statebook.specs.declared.entry.Entry.{Entry}
 use Rattle.statebook.specs.Stations.{is_station, forced_state}
 use Rattle.statebook.specs.ExplorerCore.{IsEntry, choices_of, budget_after}
 use Rattle.statebook.specs.Inner.Forced.{log_of}
-use Rattle.statebook.specs.Inner.Frontiers.{departs, used, IsOnWay, HasSuccessorIn, LeadsInto, IsFrontier}
+use Rattle.statebook.specs.Inner.Frontiers.{departs, departures_before, IsOnWay, HasSuccessorIn, LeadsInto, IsFrontier}
 use Rattle.statebook.proofs.RunLemmas.{used-le, used_grows, is_station_same, mark_is_station, GoesAlong, along}
 use Rattle.statebook.proofs.NextLemmas.{goes_on_by, same_so_far}
 
@@ -46,11 +46,11 @@ step_on {S} r k In Into log n p way on leads lt =
     let c : ℕ = choice_at log p in
     let wide : r.width on.entry.state ≡ r.width (stands r log p) = way.law.width_same on.entry.state (stands r log p) on.same in
     let choice : c < r.width on.entry.state = rw wide (way.run p lt) in
-    let spent : used log p + departs c ≤ k = omega (arith, used_grows log (suc p) n lt, used-le log n, way.short) in
-    let met : HasSuccessorIn r Into on.entry c = leads c (allowed (r.width on.entry.state) on.entry.budget c k (used log p) choice on.budget spent) in
+    let spent : departures_before log p + departs c ≤ k = omega (arith, used_grows log (suc p) n lt, used-le log n, way.short) in
+    let met : HasSuccessorIn r Into on.entry c = leads c (allowed (r.width on.entry.state) on.entry.budget c k (departures_before log p) choice on.budget spent) in
     let t : S = r.after on.entry.state c in
     let start : r.same t (stands r log (suc p)) ≡ true = way.law.after_same on.entry.state (stands r log p) c on.same choice in
-    let rest : k ≤ budget_after on.entry.budget c + used log (suc p) = left_after on.entry.budget c k (used log p) on.budget in
+    let rest : k ≤ budget_after on.entry.budget c + departures_before log (suc p) = left_after on.entry.budget c k (departures_before log p) on.budget in
     let goes : (q : ℕ) → q ≤ met.steps → suc p + q ≤ n → GoesAlong r log t (suc p) q (suc p + q) =
     along r way.law log n way.run t (suc p) met.steps start met.next.passes in
     elim (cases_lt n (suc p + met.steps)) [

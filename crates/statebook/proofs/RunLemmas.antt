@@ -5,13 +5,13 @@ use Rattle.std.proofs.lemmas.Bool.Decides.{nat_tests}
 use Rattle.basis.proofs.Bools.{same_truth}
 use Rattle.sched_core.specs.Rules.{Rules, IsLawful, stands, choice_at, IsRun}
 use Rattle.statebook.specs.Stations.{is_station, forced_state}
-use Rattle.statebook.specs.Inner.Frontiers.{departs, used}
+use Rattle.statebook.specs.Inner.Frontiers.{departs, departures_before}
 
-used_nil : (n : ℕ) → used [] n ≡ 0
+used_nil : (n : ℕ) → departures_before [] n ≡ 0
 used_nil zero = refl
 used_nil (suc n) = omega (arith, used_nil n)
 
-used_cons_before : (m : ℕ × ℕ) (log : List (ℕ × ℕ)) (n : ℕ) → n ≤ m.0 → used (m ∷ log) n ≡ used log n
+used_cons_before : (m : ℕ × ℕ) (log : List (ℕ × ℕ)) (n : ℕ) → n ≤ m.0 → departures_before (m ∷ log) n ≡ departures_before log n
 used_cons_before m log zero h = refl
 used_cons_before m log (suc n) h =
     let other : (m.0 == n) ≡ false = grind (arith, nat_tests) in
@@ -25,7 +25,7 @@ same_or_not : (m n : ℕ) (b : Bool) → (m == n) ≡ b → (m ≡ n) ⊎ ((m ==
 same_or_not m n true e = inl (grind (arith, nat_tests))
 same_or_not m n false e = inr e
 
-used_cons : (m : ℕ × ℕ) (log : List (ℕ × ℕ)) (n : ℕ) → used (m ∷ log) n ≤ used log n + 1
+used_cons : (m : ℕ × ℕ) (log : List (ℕ × ℕ)) (n : ℕ) → departures_before (m ∷ log) n ≤ departures_before log n + 1
 used_cons m log zero = omega arith
 used_cons m log (suc n) = elim (same_or_not m.0 n (m.0 == n) refl) [
   | inl e ↦ omega (arith, used_cons_before m log n (omega (arith, e)), departs-le (if m.0 == n then m.1 else choice_at log n))
@@ -33,11 +33,11 @@ used_cons m log (suc n) = elim (same_or_not m.0 n (m.0 == n) refl) [
 ]
 
 -- a run departs at most as often as its log names a step
-pub used-le : (log : List (ℕ × ℕ)) (n : ℕ) → used log n ≤ length log
+pub used-le : (log : List (ℕ × ℕ)) (n : ℕ) → departures_before log n ≤ length log
 used-le [] n = omega (arith, used_nil n)
 used-le (m ∷ log) n = omega (arith, used_cons m log n, used-le log n)
 
-pub used_grows : (log : List (ℕ × ℕ)) (p n : ℕ) → p ≤ n → used log p ≤ used log n
+pub used_grows : (log : List (ℕ × ℕ)) (p n : ℕ) → p ≤ n → departures_before log p ≤ departures_before log n
 used_grows log p zero h = let e : p ≡ 0 = omega arith in rw e (omega arith)
 used_grows log p (suc n) h = elim (cases_lt n p) [
   | inl lt ↦ let e : p ≡ suc n = omega arith in rw e (omega arith)
@@ -76,7 +76,7 @@ width_between r s h =
 -- between stations a run takes choice 0, so it goes the forced way and departs no more
 pub record GoesAlong {S : Type 0} (r : Rules S) (log : List (ℕ × ℕ)) (t : S) (from q at : ℕ) : Type 0 where
   pub same : r.same (forced_state r t q) (stands r log at) ≡ true
-  pub used_same : used log at ≡ used log from
+  pub used_same : departures_before log at ≡ departures_before log from
 
 along_one : {S : Type 0} (r : Rules S) → IsLawful r → (log : List (ℕ × ℕ)) (n : ℕ) → IsRun r log n → (t : S) (from q at : ℕ) → GoesAlong r log t from q at → is_station r (forced_state r t q) ≡ false → at < n → GoesAlong r log t from (suc q) (suc at)
 along_one r law log n run t from q at before between lt =

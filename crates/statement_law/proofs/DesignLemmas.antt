@@ -20,14 +20,14 @@ use Rattle.velab_process.specs.Waits.{any_of, names_in}
 use Rattle.velab_expr.specs.declared.fault.Rule.{Rule}
 use Rattle.velab_expr.specs.declared.fault.Rule.TheVariants as rules
 use Rattle.velab_expr.specs.declared.fault.ElabFault.{ElabFault}
-use Rattle.velab_expr.specs.Answers.{◌>>=◌, provided, required, found, value_or}
+use Rattle.velab_expr.specs.Answers.{◌>>=◌, answer_if, require, found, value_or}
 use Rattle.velab_expr.specs.Scopes.{Scope}
 use Rattle.velab_expr.specs.Written.{lower_net_target, target_of}
 use Rattle.velab_expr.specs.Resolved.{lower_expression}
 use Rattle.velab_process.specs.Connections.{lower_input, lower_output, one_process, lower_join, lower_joins}
 use Rattle.velab_process.specs.Processes.{Processes, lower_items}
 use Rattle.velab_process.specs.Statements.{Table}
-use Rattle.vhierarchy.specs.Instances.{barring, broken_ports, unbroken, top_whole, faultless, Part, Context, Instantiation, lower_names, lower_instances, lower_own_processes, with_own, few_enough, lower_own_variables, lower_own, child_context, each, elaborate_instance, nothing, no_scope, top_context, elaborate_top, Whole, design_by, broken_design, whole_of, elaborated_whole, elaborated, Elaborates}
+use Rattle.vhierarchy.specs.Instances.{barring, broken_ports, unless_fault, top_whole, faultless, Part, Context, Instantiation, lower_names, lower_instances, lower_own_processes, with_own, few_enough, lower_own_variables, lower_own, child_context, each, elaborate_instance, nothing, no_scope, top_context, elaborate_top, Whole, design_by, broken_design, whole_of, elaborated_whole, elaborated, Elaborates}
 use Rattle.vmodel.specs.Step.{frames}
 use Rattle.vmodel.specs.Run.{Setting, state_after}
 use Rattle.statement_law.specs.RunLaws.{IsSomewhere}
@@ -47,17 +47,17 @@ told_known : {A B : Type 0} (P : B → Type 0) (other : A) (answer : Result A El
 told_known P other (Ok x) next told = told refl
 told_known P other (Err fault) next told = tt
 
-told_provided : {A : Type 0} (P : A → Type 0) (holds : Bool) (rule : Rule) (word : Option Word) (answer : Result A ElabFault) → Told P answer → Told P (provided holds rule word answer)
+told_provided : {A : Type 0} (P : A → Type 0) (holds : Bool) (rule : Rule) (word : Option Word) (answer : Result A ElabFault) → Told P answer → Told P (answer_if holds rule word answer)
 told_provided P true rule word answer told = told
 told_provided P false rule word answer told = tt
 
-told_required : {A : Type 0} (P : A → Type 0) (holds : Bool) (rule : Rule) (word : Option Word) (x : A) → P x → Told P (required holds rule word x)
+told_required : {A : Type 0} (P : A → Type 0) (holds : Bool) (rule : Rule) (word : Option Word) (x : A) → P x → Told P (require holds rule word x)
 told_required P true rule word x told = told
 told_required P false rule word x told = tt
 
 told_few : (P : Part → Type 0) (name : Word) (part : Part) → P part → Told P (few_enough name part)
 told_few P name part told =
-    let answer : Result Part ElabFault = required (nat_le (length part.scopes) 1025) rules.TooMany (Some name) part in
+    let answer : Result Part ElabFault = require (nat_le (length part.scopes) 1025) rules.TooMany (Some name) part in
     told_provided P (nat_le (length part.begins) 256) rules.TooMany (Some name) answer
     (told_required P (nat_le (length part.scopes) 1025) rules.TooMany (Some name) part told)
 
@@ -70,7 +70,7 @@ told_barring : {A : Type 0} (P : A → Type 0) (word : Option Word) (rule : Rule
 told_barring P None rule answer told = told
 told_barring P (Some word) rule answer told = tt
 
-told_unbroken : {A : Type 0} (P : A → Type 0) (broken : Option ElabFault) (answer : Result A ElabFault) → Told P answer → Told P (unbroken broken answer)
+told_unbroken : {A : Type 0} (P : A → Type 0) (broken : Option ElabFault) (answer : Result A ElabFault) → Told P answer → Told P (unless_fault broken answer)
 told_unbroken P None answer told = told
 told_unbroken P (Some fault) answer told = tt
 

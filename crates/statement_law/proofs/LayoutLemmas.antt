@@ -9,7 +9,7 @@ use Rattle.vdesign.specs.declared.action.Action.TheVariants.{Trigger, Test, Case
 use Rattle.vdesign.specs.declared.action.Branch.{Branch}
 use Rattle.velab_expr.specs.Answers.{◌>>=◌}
 use Rattle.velab_expr.specs.Scopes.{Scope, lower_event, event_of}
-use Rattle.velab_expr.specs.Resolved.{no_parts, lower_expression, resolved}
+use Rattle.velab_expr.specs.Resolved.{no_parts, lower_expression, known_expression}
 use Rattle.velab_expr.specs.Written.{lower_target, row_of}
 use Rattle.velab_expr.specs.Selections.{lower_selection, selection_of}
 use Rattle.velab_process.specs.Prints.{when_of, lower_line}
@@ -61,18 +61,18 @@ Laid scope actions empty place = Unit {0}
 Laid scope actions (block label statements) place = Unit {0}
 Laid scope actions (for_loop target value condition next_target next_value body) place = Unit {0}
 Laid scope actions (assign target amount value) place =
-    slice_get actions place ≡ Some (assignment_action true (own_of scope amount) (row_of scope target) (resolved scope value))
+    slice_get actions place ≡ Some (assignment_action true (own_of scope amount) (row_of scope target) (known_expression scope value))
 Laid scope actions (nonblocking target amount value) place =
-    slice_get actions place ≡ Some (assignment_action false (own_of scope amount) (row_of scope target) (resolved scope value))
+    slice_get actions place ≡ Some (assignment_action false (own_of scope amount) (row_of scope target) (known_expression scope value))
 Laid scope actions (trigger letters) place = slice_get actions place ≡ Some (Trigger (event_of scope letters))
-Laid scope actions (if_true condition body) place = HasBody scope actions body (λ places. Test (resolved scope condition) places []) place
-Laid scope actions (if_else condition body other) place = HasBodies scope actions (resolved scope condition) body other place
-Laid scope actions (case_of kind value branches) place = HasBranches scope actions kind (resolved scope value) branches place
-Laid scope actions (while_true condition body) place = HasBody scope actions body (While (resolved scope condition)) place
-Laid scope actions (repeat_times count body) place = HasBody scope actions body (Repeat (resolved scope count)) place
+Laid scope actions (if_true condition body) place = HasBody scope actions body (λ places. Test (known_expression scope condition) places []) place
+Laid scope actions (if_else condition body other) place = HasBodies scope actions (known_expression scope condition) body other place
+Laid scope actions (case_of kind value branches) place = HasBranches scope actions kind (known_expression scope value) branches place
+Laid scope actions (while_true condition body) place = HasBody scope actions body (While (known_expression scope condition)) place
+Laid scope actions (repeat_times count body) place = HasBody scope actions body (Repeat (known_expression scope count)) place
 Laid scope actions (forever body) place = HasBody scope actions body Forever place
 Laid scope actions (wait_for condition body) place =
-    HasBody scope actions body (Wait (resolved scope condition) (any_of scope (names_in condition))) place
+    HasBody scope actions body (Wait (known_expression scope condition) (any_of scope (names_in condition))) place
 Laid scope actions (delay amount body) place = HasBody scope actions body (Delay (amount_of scope amount)) place
 Laid scope actions (event control body) place = HasBody scope actions body (EventControl (terms_of scope control body)) place
 Laid scope actions (task call) place = slice_get actions place ≡ Some (task_action scope call)
@@ -144,7 +144,7 @@ module _ (scope : Scope) (actions : List Action) (table : Table) where
       })
 
   puts_assignment : (blocking : Bool) (target : TargetTree) (amount : Option DelayTree) (value : text.ExpressionTree) →
-      Told (Puts actions (λ place. slice_get actions place ≡ Some (assignment_action blocking (own_of scope amount) (row_of scope target) (resolved scope value))))
+      Told (Puts actions (λ place. slice_get actions place ≡ Some (assignment_action blocking (own_of scope amount) (row_of scope target) (known_expression scope value))))
       (lower_assignment blocking scope table target amount value)
   puts_assignment blocking target None value =
       told_value (Puts actions _) [] (lower_target scope target) _
@@ -169,14 +169,14 @@ module _ (scope : Scope) (actions : List Action) (table : Table) where
   puts (assign target amount value) step = puts_assignment true target amount value
   puts (nonblocking target amount value) step = puts_assignment false target amount value
   puts (trigger letters) step = told_value (Puts actions _) 0 (lower_event scope letters) _ (puts_action None _)
-  puts (if_true condition body) step = told_value (Puts actions _) no_parts (lower_expression scope condition) _ (puts_body body _ (λ places. Test (resolved scope condition) places []))
-  puts (if_else condition body other) step = told_value (Puts actions _) no_parts (lower_expression scope condition) _ (puts_bodies body other _ (resolved scope condition))
-  puts (case_of kind value branches) step = told_value (Puts actions _) no_parts (lower_expression scope value) _ (puts_branches kind (resolved scope value) branches _)
-  puts (while_true condition body) step = told_value (Puts actions _) no_parts (lower_expression scope condition) _ (puts_body body _ (While (resolved scope condition)))
-  puts (repeat_times count body) step = told_value (Puts actions _) no_parts (lower_expression scope count) _ (puts_body body _ (Repeat (resolved scope count)))
+  puts (if_true condition body) step = told_value (Puts actions _) no_parts (lower_expression scope condition) _ (puts_body body _ (λ places. Test (known_expression scope condition) places []))
+  puts (if_else condition body other) step = told_value (Puts actions _) no_parts (lower_expression scope condition) _ (puts_bodies body other _ (known_expression scope condition))
+  puts (case_of kind value branches) step = told_value (Puts actions _) no_parts (lower_expression scope value) _ (puts_branches kind (known_expression scope value) branches _)
+  puts (while_true condition body) step = told_value (Puts actions _) no_parts (lower_expression scope condition) _ (puts_body body _ (While (known_expression scope condition)))
+  puts (repeat_times count body) step = told_value (Puts actions _) no_parts (lower_expression scope count) _ (puts_body body _ (Repeat (known_expression scope count)))
   puts (forever body) step = puts_body body _ Forever
   puts (wait_for condition body) step =
-      told_value (Puts actions _) no_parts (lower_expression scope condition) _ (puts_body body _ (Wait (resolved scope condition) (any_of scope (names_in condition))))
+      told_value (Puts actions _) no_parts (lower_expression scope condition) _ (puts_body body _ (Wait (known_expression scope condition) (any_of scope (names_in condition))))
   puts (delay amount body) step = told_value (Puts actions _) no_parts (lower_amount scope amount) _ (puts_body body _ (Delay (amount_of scope amount)))
   puts (event control body) step = told_value (Puts actions _) [] (lower_control scope control body) _ (puts_body body _ (EventControl (terms_of scope control body)))
   puts (task call) step = puts_task call

@@ -32,7 +32,7 @@ use Rattle.vmodel.specs.RunProgress.{opening_is, after_is}
 use Rattle.statement_law.specs.TreeSteps.{Pending, TreeStep}
 use Rattle.statement_law.specs.Standing.{StandAt, terms_in, suspension_by, tree_effect_of}
 use Rattle.statement_law.specs.Laws.{Tells, HasTreeStep}
-use Rattle.statement_law.specs.RunLaws.{Standpoint, is_heard, still_waiting, waits_behind, waited_at, IsAt, behind, unmoved, IsTreeStep, IsSomewhere}
+use Rattle.statement_law.specs.RunLaws.{Standpoint, is_heard, still_waiting, waits_behind, waited_at, IsAt, behind, after_other_step, IsTreeStep, IsSomewhere}
 use Rattle.statement_law.proofs.StepLemmas.{follows_trees}
 
 -- ---- lists of processes
@@ -231,7 +231,7 @@ module _ (design : Design) (s : State) where
         moved s.values None t t r refl (unchanged s.values design.actions (slice_get s.processes r)) t.cause
 
   pub stays_else : (i p : ℕ) (scope : Scope) (at : Standpoint) → slice_get (choices s) i ≢ Some (Run p) → IsAt design s p scope at →
-      IsAt design (next design s i).state p scope (unmoved s.values (next design s i).state.values (next design s i).effect.triggered at)
+      IsAt design (next design s i).state p scope (after_other_step s.values (next design s i).state.values (next design s i).effect.triggered at)
   stays_else i p scope at other here =
       let t : Transition = next design s i in
       let like : IsWoken s.values t.state.values t.effect.triggered design.actions (slice_get t.state.processes p) (slice_get s.processes p) = others p i (slice_get (choices s) i) other in
@@ -266,7 +266,7 @@ module _ (design : Design) (s : State) where
           }
 
       stays : slice_get (choices s) i ≢ Some (Run p) → IsSomewhere design (next design s i).state p scope
-      stays other = record { at = unmoved s.values (next design s i).state.values (next design s i).effect.triggered here.at; there = stays_else i p scope here.at other here.there }
+      stays other = record { at = after_other_step s.values (next design s i).state.values (next design s i).effect.triggered here.at; there = stays_else i p scope here.at other here.there }
 
       run : (q : ℕ) → slice_get (choices s) i ≡ Some (Run q) → (test : Bool) → (q == p) ≡ test → IsSomewhere design (next design s i).state p scope
       run q e true is =

@@ -14,7 +14,7 @@ use Rattle.vvalue.specs.Value.{Environment, holds}
 use Rattle.vvalue.specs.Cases.{turns_of}
 use Rattle.velab_expr.specs.Answers.{value_or}
 use Rattle.velab_expr.specs.Scopes.{Scope, event_of}
-use Rattle.velab_expr.specs.Resolved.{no_parts, resolved}
+use Rattle.velab_expr.specs.Resolved.{no_parts, known_expression}
 use Rattle.velab_expr.specs.Written.{row_of}
 use Rattle.velab_process.specs.Prints.{when_of}
 use Rattle.velab_process.specs.Waits.{any_of, names_in}
@@ -93,62 +93,62 @@ module _ (scope : Scope) (now : Environment) (held : Option Vector) (actions : L
       does_statement (block label statements) step here laid = absurd cc
       does_statement (for_loop target value condition next_target next_value body) step here laid = absurd cc
       does_statement (assign target None value) step here laid =
-          record { action = Assign (row_of scope target) (resolved scope value); there = laid; tells = record { effect = refl; stands = stand } }
+          record { action = Assign (row_of scope target) (known_expression scope value); there = laid; tells = record { effect = refl; stands = stand } }
       does_statement (assign target (Some amount) value) step here laid = record {
-        action = AssignDelayed (amount_of scope amount) (row_of scope target) (resolved scope value);
+        action = AssignDelayed (amount_of scope amount) (row_of scope target) (known_expression scope value);
         there = laid;
         tells = record { effect = refl; stands = (here, stand) };
       }
       does_statement (nonblocking target None value) step here laid =
-          record { action = Nonblocking (row_of scope target) (resolved scope value); there = laid; tells = record { effect = refl; stands = stand } }
+          record { action = Nonblocking (row_of scope target) (known_expression scope value); there = laid; tells = record { effect = refl; stands = stand } }
       does_statement (nonblocking target (Some amount) value) step here laid = record {
-        action = NonblockingDelayed (amount_of scope amount) (row_of scope target) (resolved scope value);
+        action = NonblockingDelayed (amount_of scope amount) (row_of scope target) (known_expression scope value);
         there = laid;
         tells = record { effect = refl; stands = stand };
       }
       does_statement (trigger letters) step here laid = record { action = Trigger (event_of scope letters); there = laid; tells = record { effect = refl; stands = stand } }
       does_statement (if_true condition body) step here laid = record {
-        action = Test (resolved scope condition) laid.places [];
+        action = Test (known_expression scope condition) laid.places [];
         there = laid.there;
         tells = record {
           effect = refl;
-          stands = chosen_places (holds now (resolved scope condition)) (before body rest) rest laid.places [] after (stands_at_places scope actions body laid.places rest after laid.stands stand) stand;
+          stands = chosen_places (holds now (known_expression scope condition)) (before body rest) rest laid.places [] after (stands_at_places scope actions body laid.places rest after laid.stands stand) stand;
         };
       }
       does_statement (if_else condition body other) step here laid = record {
-        action = Test (resolved scope condition) laid.places laid.other_places;
+        action = Test (known_expression scope condition) laid.places laid.other_places;
         there = laid.there;
         tells = record {
           effect = refl;
           stands =
-              chosen_places (holds now (resolved scope condition)) (before body rest) (before other rest) laid.places laid.other_places after
+              chosen_places (holds now (known_expression scope condition)) (before body rest) (before other rest) laid.places laid.other_places after
               (stands_at_places scope actions body laid.places rest after laid.stands stand) (stands_at_places scope actions other laid.other_places rest after laid.other_stands stand);
         };
       }
       does_statement (case_of kind value branches) step here laid = record {
-        action = Case kind (resolved scope value) laid.list laid.otherwise;
+        action = Case kind (known_expression scope value) laid.list laid.otherwise;
         there = laid.there;
         tells = record {
           effect = refl;
           stands =
-              chosen_stands scope actions now kind (resolved scope value) branches laid.start (record { table = laid.table; branches = laid.list; otherwise = laid.otherwise }) rest after
+              chosen_stands scope actions now kind (known_expression scope value) branches laid.start (record { table = laid.table; branches = laid.list; otherwise = laid.otherwise }) rest after
               laid.lowered laid.front stand;
         };
       }
       does_statement (while_true condition body) step here laid = record {
-        action = While (resolved scope condition) laid.places;
+        action = While (known_expression scope condition) laid.places;
         there = laid.there;
         tells = record {
           effect = refl;
           stands =
-              chosen (holds now (resolved scope condition)) (before body (executing (while_true condition body) ∷ rest)) rest (frames laid.places (Executing place ∷ after)) after
+              chosen (holds now (known_expression scope condition)) (before body (executing (while_true condition body) ∷ rest)) rest (frames laid.places (Executing place ∷ after)) after
               (stands_at_places scope actions body laid.places (executing (while_true condition body) ∷ rest) (Executing place ∷ after) laid.stands ((step, here), stand)) stand;
         };
       }
       does_statement (repeat_times count body) step here laid = record {
-        action = Repeat (resolved scope count) laid.places;
+        action = Repeat (known_expression scope count) laid.places;
         there = laid.there;
-        tells = record { effect = refl; stands = turns_stand (turns_of now (resolved scope count)) place count body here };
+        tells = record { effect = refl; stands = turns_stand (turns_of now (known_expression scope count)) place count body here };
       }
       does_statement (forever body) step here laid = record {
         action = Forever laid.places;
@@ -159,9 +159,9 @@ module _ (scope : Scope) (now : Environment) (held : Option Vector) (actions : L
         };
       }
       does_statement (wait_for condition body) step here laid = record {
-        action = Wait (resolved scope condition) (any_of scope (names_in condition)) laid.places;
+        action = Wait (known_expression scope condition) (any_of scope (names_in condition)) laid.places;
         there = laid.there;
-        tells = chosen_step (holds now (resolved scope condition)) _ _ _ _
+        tells = chosen_step (holds now (known_expression scope condition)) _ _ _ _
             (record { effect = refl; stands = stands_at_places scope actions body laid.places rest after laid.stands stand })
             (record { effect = ap (λ a. record nothing { suspension = waits (terms_in a) }) laid.there; stands = ((step, here), stand) });
       }
@@ -183,9 +183,9 @@ module _ (scope : Scope) (now : Environment) (held : Option Vector) (actions : L
       -- the start of a turn
 
       does_turn : (n : ℕ) (count : text.ExpressionTree) (body : StatementTree) → Stands scope actions (repeat_times count body) (place ∷ []) →
-          HasBody scope actions body (Repeat (resolved scope count)) place → Does (repeating n count body) rest (Repeating place n) after
+          HasBody scope actions body (Repeat (known_expression scope count)) place → Does (repeating n count body) rest (Repeating place n) after
       does_turn n count body here laid = record {
-        action = Repeat (resolved scope count) laid.places;
+        action = Repeat (known_expression scope count) laid.places;
         there = laid.there;
         tells = record {
           effect = refl;
@@ -215,7 +215,7 @@ module _ (scope : Scope) (now : Environment) (held : Option Vector) (actions : L
     does_first (writing target amount value) (Executing place) here = absurd here
     does_first (writing target amount value) (Repeating place m) here = absurd here
     does_first (writing target amount value) (Writing place) here = record {
-      action = AssignDelayed (amount_of scope amount) (row_of scope target) (resolved scope value);
+      action = AssignDelayed (amount_of scope amount) (row_of scope target) (known_expression scope value);
       there = laid_there scope actions (assign target (Some amount) value) place refl here;
       tells = record { effect = refl; stands = stand };
     }

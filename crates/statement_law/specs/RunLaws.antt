@@ -54,8 +54,8 @@ behind old new step = record {
 }
 
 -- behind a step of something else
-abbrev pub unmoved : List Vector → List Vector → Option ℕ → Standpoint → Standpoint
-unmoved old new triggered at = record { pending = at.pending; held = at.held; waiting = still_waiting old new triggered at.waiting }
+abbrev pub after_other_step : List Vector → List Vector → Option ℕ → Standpoint → Standpoint
+after_other_step old new triggered at = record { pending = at.pending; held = at.held; waiting = still_waiting old new triggered at.waiting }
 
 -- a step of the process is one of its trees
 pub record IsTreeStep (design : Design) (s : State) (i p : ℕ) (scope : Scope) (at : Standpoint) : Type 0 where
@@ -73,7 +73,7 @@ StepsByTrees = (design : Design) (s : State) (i p : ℕ) (scope : Scope) (at : S
 abbrev pub StaysElse : Type 0
 StaysElse = (design : Design) (s : State) (i p : ℕ) (scope : Scope) (at : Standpoint) →
     slice_get (choices s) i ≢ Some (Run p) → IsAt design s p scope at →
-    IsAt design (next design s i).state p scope (unmoved s.values (next design s i).state.values (next design s i).effect.triggered at)
+    IsAt design (next design s i).state p scope (after_other_step s.values (next design s i).state.values (next design s i).effect.triggered at)
 
 -- it stands somewhere
 pub record IsSomewhere (design : Design) (s : State) (p : ℕ) (scope : Scope) : Type 0 where

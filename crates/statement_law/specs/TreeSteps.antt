@@ -19,7 +19,7 @@ use Rattle.vvalue.specs.Value.{Environment, holds, delay_of, own, common, value_
 use Rattle.vvalue.specs.Cases.{matches, turns_of}
 use Rattle.velab_expr.specs.Answers.{value_or}
 use Rattle.velab_expr.specs.Scopes.{Scope, event_of}
-use Rattle.velab_expr.specs.Resolved.{no_parts, resolved}
+use Rattle.velab_expr.specs.Resolved.{no_parts, known_expression}
 use Rattle.velab_expr.specs.Written.{row_of, net_row_of}
 use Rattle.velab_expr.specs.Selections.{selection_of}
 use Rattle.velab_process.specs.Waits.{any_of, names_in, lower_control}
@@ -143,7 +143,7 @@ pub record Choice : Type 0 where
 
 abbrev pub labels_of : Scope → text.ExpressionTrees → StatementTree → List Choice
 labels_of scope text.none body = []
-labels_of scope (text.first item more) body = record { item = resolved scope item; body = body } ∷ labels_of scope more body
+labels_of scope (text.first item more) body = record { item = known_expression scope item; body = body } ∷ labels_of scope more body
 
 abbrev pub choices_of_branch : Scope → BranchTree → List Choice
 choices_of_branch scope (labelled items body) = labels_of scope items body
@@ -212,34 +212,34 @@ calls scope (end_run stops digits) rest = ends (if stops then causes.Stop else c
 -- what a process does in a scope at a moment that stands before this and then before the rest, with the value that it holds
 abbrev pub does : Scope → Environment → Option Vector → Pending → List Pending → TreeStep
 -- 9.2.1
-does scope now held (executing (assign target None value)) rest = writes (assigned_parts now (row_of scope target) (resolved scope value)) rest
+does scope now held (executing (assign target None value)) rest = writes (assigned_parts now (row_of scope target) (known_expression scope value)) rest
 -- 9.2.2
 does scope now held (executing (nonblocking target None value)) rest =
-    posts (post_after 0 (assigned_parts now (row_of scope target) (resolved scope value))) rest
+    posts (post_after 0 (assigned_parts now (row_of scope target) (known_expression scope value))) rest
 -- 9.7.7: it takes the value, sleeps, and then writes it
 does scope now held (executing (assign target (Some amount) value)) rest = record {
   effect = record nothing {
-    held = Some (held_value now (row_of scope target) (resolved scope value));
+    held = Some (held_value now (row_of scope target) (known_expression scope value));
     suspension = sleeps (delay_of now (amount_of scope amount));
   };
   next = writing target amount value ∷ rest;
 }
 does scope now held (writing target amount value) rest = writes (resumed_parts now (row_of scope target) held) rest
 does scope now held (executing (nonblocking target (Some amount) value)) rest =
-    posts (post_after (delay_of now (amount_of scope amount)) (assigned_parts now (row_of scope target) (resolved scope value))) rest
+    posts (post_after (delay_of now (amount_of scope amount)) (assigned_parts now (row_of scope target) (known_expression scope value))) rest
 -- 9.7.3
 does scope now held (executing (trigger letters)) rest = record { effect = record nothing { triggered = Some (event_of scope letters) }; next = rest }
 -- 9.4
-does scope now held (executing (if_true condition body)) rest = moves (if holds now (resolved scope condition) then before body rest else rest)
+does scope now held (executing (if_true condition body)) rest = moves (if holds now (known_expression scope condition) then before body rest else rest)
 does scope now held (executing (if_else condition body other)) rest =
-    moves (if holds now (resolved scope condition) then before body rest else before other rest)
+    moves (if holds now (known_expression scope condition) then before body rest else before other rest)
 -- 9.5
 does scope now held (executing (case_of kind value branches)) rest =
-    moves (chosen_before now kind (resolved scope value) (choices_of scope branches) rest (default_before branches rest))
+    moves (chosen_before now kind (known_expression scope value) (choices_of scope branches) rest (default_before branches rest))
 -- 9.6
 does scope now held (executing (while_true condition body)) rest =
-    moves (if holds now (resolved scope condition) then before body (executing (while_true condition body) ∷ rest) else rest)
-does scope now held (executing (repeat_times count body)) rest = moves (turns_before (turns_of now (resolved scope count)) count body rest)
+    moves (if holds now (known_expression scope condition) then before body (executing (while_true condition body) ∷ rest) else rest)
+does scope now held (executing (repeat_times count body)) rest = moves (turns_before (turns_of now (known_expression scope count)) count body rest)
 does scope now held (repeating n count body) rest = moves (before body (turns_before (n - 1) count body rest))
 does scope now held (executing (forever body)) rest = moves (before body (executing (forever body) ∷ rest))
 -- 9.7.1
@@ -248,12 +248,12 @@ does scope now held (executing (delay amount body)) rest = suspends (sleeps (del
 does scope now held (executing (event control body)) rest = suspends (waits (terms_of scope control body)) (before body rest)
 -- 9.7.6: where the condition doesn't hold, it waits until a variable in it changes, and tests once more
 does scope now held (executing (wait_for condition body)) rest =
-    if holds now (resolved scope condition) then moves (before body rest)
+    if holds now (known_expression scope condition) then moves (before body rest)
     else suspends (waits (any_of scope (names_in condition))) (executing (wait_for condition body) ∷ rest)
 -- 6.1, 11.6.1: it writes, waits for a change of what is read, and writes again
 does scope now held (driving outside target inside value) rest = record {
   effect = record nothing {
-    wrote = assigned_parts now (net_row_of outside target) (resolved inside value);
+    wrote = assigned_parts now (net_row_of outside target) (known_expression inside value);
     suspension = waits (any_of inside (names_in value));
   };
   next = driving outside target inside value ∷ rest;

@@ -103,7 +103,7 @@ impl<'a> DetailedRun<'a> {
             origins,
             members,
             step: 0,
-            state: machine.opened()?,
+            state: machine.opening_state()?,
             shadow,
             active,
             posts: Posts::new(alloc),
@@ -111,7 +111,7 @@ impl<'a> DetailedRun<'a> {
     }
 
     // Whom the step of this choice wakes: who is active after it and wasn't before.
-    fn woken(&mut self, choice: Choice) -> Result<Vec<u32>, NoMemory> {
+    fn processes_woken_by(&mut self, choice: Choice) -> Result<Vec<u32>, NoMemory> {
         self.shadow.take(self.machine.design(), choice)?;
         let active = self.shadow.active(self.alloc)?;
         let woken = newly_active(self.alloc, &self.active, &active)?;
@@ -163,7 +163,7 @@ impl<'a> DetailedRun<'a> {
         put_update(text, self.origins, update)?;
         let reads = self.reads(action, &effect)?;
         put_reads(text, self.machine.design(), reads.as_slice())?;
-        let woken = self.woken(choice)?;
+        let woken = self.processes_woken_by(choice)?;
         put_woken(text, &woken)
     }
 

@@ -8,7 +8,7 @@ use Rattle.vmodel.specs.declared.part.Part.{Part}
 use Rattle.vmodel.specs.declared.part.Part.TheVariants.{Whole, Bits}
 use Rattle.vmodel.specs.declared.process.Frame.{Frame}
 use Rattle.vmodel.specs.Inner.{variable_of as number_of, first_place}
-use Rattle.trace_text.specs.Traces.{variable_of, known_place, first_origin, counted, numbers_text}
+use Rattle.trace_text.specs.Traces.{variable_of, known_place, first_origin, word_and_number, numbers_text}
 
 -- the number of a part's variable
 pub same_variable : (part : Part) → number_of part ≡ variable_of part
@@ -28,7 +28,7 @@ some_origin origins (frame ∷ after) n e = ap (λ (place : ℕ). known_place (s
 numbers_from : (set : List ℕ) (i : ℕ) → numbers_text (option_to_list (slice_get set i)) ++ numbers_text (drop (suc i) set) ≡ numbers_text (drop i set)
 numbers_from [] zero = refl
 numbers_from [] (suc i) = refl
-numbers_from (p ∷ ps) zero = ap (λ (text : List ℕ). text ++ numbers_text ps) (append-nil (counted (codes " ") p))
+numbers_from (p ∷ ps) zero = ap (λ (text : List ℕ). text ++ numbers_text ps) (append-nil (word_and_number (codes " ") p))
 numbers_from (p ∷ ps) (suc i) = numbers_from ps i
 
 pub numbers_on : (text next whole set : List ℕ) (i : ℕ) (found : Option ℕ) → found ≡ slice_get set i → next ≡ text ++ numbers_text (option_to_list found) →

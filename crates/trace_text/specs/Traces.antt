@@ -31,8 +31,8 @@ use Rattle.vcd_text.specs.DumpText.{line}
 use Rattle.value_text.specs.ValueText.{binary}
 
 -- a word and a number behind it
-abbrev pub counted : List ℕ → ℕ → List ℕ
-counted word n = word ++ decimal n
+abbrev pub word_and_number : List ℕ → ℕ → List ℕ
+word_and_number word n = word ++ decimal n
 
 -- ---- who takes a step
 
@@ -53,16 +53,16 @@ origin_of origins s Advance = None
 
 abbrev pub place_text : Option Place → List ℕ
 place_text None = []
-place_text (Some place) = counted (codes " at ") place.file ++ counted (codes ":") place.line
+place_text (Some place) = word_and_number (codes " at ") place.file ++ word_and_number (codes ":") place.line
 
 abbrev pub choice_text : Choice → Option Place → List ℕ
-choice_text (Run p) place = counted (codes " process ") p ++ place_text place
+choice_text (Run p) place = word_and_number (codes " process ") p ++ place_text place
 choice_text Update place = codes " update"
 choice_text Advance place = []
 
 abbrev pub numbers_text : List ℕ → List ℕ
 numbers_text [] = []
-numbers_text (p ∷ ps) = counted (codes " ") p ++ numbers_text ps
+numbers_text (p ∷ ps) = word_and_number (codes " ") p ++ numbers_text ps
 
 -- the processes that a choice holds back, where it holds back one or more
 abbrev pub held_text : List ℕ → List ℕ
@@ -72,7 +72,7 @@ held_text (p ∷ ps) = codes " holding" ++ numbers_text (p ∷ ps)
 -- the front of the line of step n, of choice i, which is c
 abbrev pub front_text : List (Option Place) → ℕ → State → ℕ → Choice → List ℕ
 front_text origins n s i c =
-    counted (codes "step ") n ++ counted (codes " time ") s.queue.time ++ counted (codes " choice ") i ++ counted (codes " of ") (length (choices s))
+    word_and_number (codes "step ") n ++ word_and_number (codes " time ") s.queue.time ++ word_and_number (codes " choice ") i ++ word_and_number (codes " of ") (length (choices s))
     ++ held_text (held_by_choice s.held_back s.queue i) ++ choice_text c (origin_of origins s c)
 
 -- ---- what a step does
@@ -124,7 +124,7 @@ triggered_text (Some event) = codes " trigger"
 
 abbrev pub disposition_text : Disposition → List ℕ
 disposition_text Runnable = []
-disposition_text (Delayed amount) = counted (codes " delay ") amount
+disposition_text (Delayed amount) = word_and_number (codes " delay ") amount
 disposition_text (Waiting place) = codes " wait"
 
 abbrev pub command_word : DumpCommand → List ℕ
@@ -166,7 +166,7 @@ effect_text design values effect =
 abbrev pub done_text : Design → List Vector → Choice → Effect → ℕ → List ℕ
 done_text design values (Run p) effect time = effect_text design values effect
 done_text design values Update effect time = effect_text design values effect
-done_text design values Advance effect time = counted (codes " advance ") time
+done_text design values Advance effect time = word_and_number (codes " advance ") time
 
 -- ---- lines
 
@@ -177,10 +177,10 @@ step_line design origins n s i c transition =
 
 -- where the slot has ended in a state, and not the run
 abbrev pub slot_line : State → List ℕ
-slot_line s = if is_mark s && is_none s.cause then line (counted (codes "slot ") s.queue.time) else []
+slot_line s = if is_mark s && is_none s.cause then line (word_and_number (codes "slot ") s.queue.time) else []
 
 abbrev pub end_line : End → List ℕ
-end_line end = line (counted (codes "end ") end.time ++ cause_word end.cause)
+end_line end = line (word_and_number (codes "end ") end.time ++ cause_word end.cause)
 
 -- ---- the trace
 

@@ -91,7 +91,7 @@ fn put_number(text: &mut Vec<u8>, n: u64) -> Result<(), NoMemory>
 
 // A word, and a number behind it.
 fn put_counted(text: &mut Vec<u8>, word: &[u8], n: u64) -> Result<(), NoMemory>
-    ensures { OnOk result (text.new.items ≡ text.old.items ++ spec.counted word.now n) }
+    ensures { OnOk result (text.new.items ≡ text.old.items ++ spec.word_and_number word.now n) }
 {
     text.extend_from_slice(word)?;
     put_number(text, n)
@@ -99,7 +99,7 @@ fn put_counted(text: &mut Vec<u8>, word: &[u8], n: u64) -> Result<(), NoMemory>
 
 // ` delay D`, in units of the precision.
 fn put_delay(text: &mut Vec<u8>, amount: u128) -> Result<(), NoMemory>
-    ensures { OnOk result (text.new.items ≡ text.old.items ++ spec.counted (codes " delay ") amount) }
+    ensures { OnOk result (text.new.items ≡ text.old.items ++ spec.word_and_number (codes " delay ") amount) }
 {
     let mut digits = Buffer::new();
     text.extend_from_slice(b" delay ")?;

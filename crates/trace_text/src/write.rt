@@ -65,7 +65,7 @@ pub fn write_trace<W: Write>(
     ensures err { IfErr result (λ fault. (n : ℕ) × IsTold machine.now log.now steps n ×
         Stops W.contents writer.old writer.new (trace machine.now origins.now log.now n) fault) }
 {
-    let mut state = match machine.opened() {
+    let mut state = match machine.opening_state() {
         Ok(state) => state,
         Err(refused) => return Err(OrMemory::Memory(refused)),
     };

@@ -6,7 +6,7 @@ use Rattle.std.proofs.lemmas.Bool.Decides.{nat_tests}
 use Rattle.std.proofs.Common.{arith}
 use Rattle.basis.proofs.Bools.{and_left, and_right, and_both}
 use Rattle.basis.specs.Letters.{begins_name, is_in_name}
-use Rattle.vast.specs.Words.{Text, is_name, is_reserved, reserved_words, is_printable, are_printable, unescaped}
+use Rattle.vast.specs.Words.{Text, is_name, is_reserved, reserved_words, is_printable, are_printable, without_backslash}
 
 -- a simple name: a letter or `_`, then letters, digits, `_` and `$`, and no reserved word
 pub record IsSimple (c : ℕ) (cs : Text) : Type 0 where
@@ -70,12 +70,12 @@ letter_no_backslash : (c : ℕ) → begins_name c ≡ true → (c == 92) ≡ fal
 letter_no_backslash c e = grind (arith, nat_tests)
 
 -- what a name names is printable
-pub name_printable : (word : Text) → is_name word ≡ true → are_printable (unescaped word) ≡ true
+pub name_printable : (word : Text) → is_name word ≡ true → are_printable (without_backslash word) ≡ true
 name_printable [] e = let no : false ≡ true = e in absurd cc
 name_printable (c ∷ cs) e =
     elim (simple_or_escaped c cs e) [
       | inl simple ↦
           ap (λ b. are_printable (if b then cs else c ∷ cs)) (letter_no_backslash c simple.first)
           ∙ and_both (is_printable c) (list_all is_printable cs) (begins_printable c simple.first) (all_printable cs simple.rest)
-      | inr escaped ↦ subst (λ b. are_printable (unescaped (b ∷ cs)) ≡ true) (sym escaped.backslash) escaped.printable
+      | inr escaped ↦ subst (λ b. are_printable (without_backslash (b ∷ cs)) ≡ true) (sym escaped.backslash) escaped.printable
     ]

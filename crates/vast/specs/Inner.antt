@@ -5,7 +5,7 @@ use Rattle.vast.specs.declared.statement.CaseKind.{CaseKind}
 use Rattle.vast.specs.Words.{Text}
 use Rattle.vast.specs.Spellings.{texts_of}
 use Rattle.vast.specs.Expressions.{ExpressionTree, ExpressionTrees, spell_expression, spell_parts, spell_more_parts}
-use Rattle.vast.specs.Statements.{TargetTree, TargetTrees, DelayTree, spell_target, spell_optional_delay, spell_setting, spell_condition, spell_path, case_word, spell_targets, spell_more_targets, listed, BranchTrees, spell_branches, StatementTrees, spell_statements, spell_block_name}
+use Rattle.vast.specs.Statements.{TargetTree, TargetTrees, DelayTree, spell_target, spell_optional_delay, spell_setting, spell_condition, spell_path, case_word, spell_targets, spell_more_targets, with_commas, BranchTrees, spell_branches, StatementTrees, spell_statements, spell_block_name}
 
 -- where nothing was refused, these words were put behind those that there were
 abbrev pub Puts : {A T E : Type 0} → Vec Spelling A → Vec Spelling A → Result T E → List Text → Type 0
@@ -25,7 +25,7 @@ targets_from true = spell_targets
 targets_from false = spell_more_targets
 
 abbrev pub listed_from : {A : Type 0} → Bool → (A → List Text) → List A → List Text
-listed_from true spell list = listed spell list
+listed_from true spell list = with_commas spell list
 listed_from false spell list = flat_map (λ other. codes "," ∷ spell other) list
 
 -- { part, .. }, and the same with another brace behind it

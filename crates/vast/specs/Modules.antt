@@ -4,7 +4,7 @@ use Rattle.std.specs.Prelude.{◌≡◌, IsTrue, ℕ, nat_le, Bool, true, false,
 use Rattle.std.specs.List.{list_all}
 use Rattle.vast.specs.Words.{Text, is_name}
 use Rattle.vast.specs.Expressions.{ExpressionOf, ExpressionTree, spell_expression, depth, fits_expression}
-use Rattle.vast.specs.Statements.{TargetOf, spell_target, target_depth, fits_target, StatementOf, StatementTree, listed, in_parentheses, spell_statement, statement_depth, fits_statement}
+use Rattle.vast.specs.Statements.{TargetOf, spell_target, target_depth, fits_target, StatementOf, StatementTree, with_commas, in_parentheses, spell_statement, statement_depth, fits_statement}
 use Rattle.vast.specs.declared.module.NetKind.{NetKind}
 use Rattle.vast.specs.declared.module.NetKind.TheVariants as net
 
@@ -215,8 +215,8 @@ abbrev pub spell_connection : ConnectionTree → List Text
 spell_connection connection = codes "." ∷ connection.name ∷ in_parentheses (spell_optional connection.value)
 
 abbrev pub spell_connections : ConnectionsTree → List Text
-spell_connections (by_order values) = in_parentheses (listed spell_expression values)
-spell_connections (by_name connections) = in_parentheses (listed spell_connection connections)
+spell_connections (by_order values) = in_parentheses (with_commas spell_expression values)
+spell_connections (by_name connections) = in_parentheses (with_commas spell_connection connections)
 
 abbrev pub spell_overrides : Option ConnectionsTree → List Text
 spell_overrides None = []
@@ -235,22 +235,22 @@ parameter_word local = if local then codes "localparam" else codes "parameter"
 
 abbrev pub spell_item : ItemTree → List Text
 spell_item (parameters local type settings) =
-    parameter_word local ∷ (spell_parameter_type type ++ (listed spell_setting settings ++ codes ";" ∷ []))
-spell_item (declaration kind declared) = spell_declaration_kind kind ++ (listed spell_declared declared ++ codes ";" ∷ [])
-spell_item (events names) = codes "event" ∷ (listed (λ letters. letters ∷ []) names ++ codes ";" ∷ [])
-spell_item (assignments list) = codes "assign" ∷ (listed spell_net_assignment list ++ codes ";" ∷ [])
+    parameter_word local ∷ (spell_parameter_type type ++ (with_commas spell_setting settings ++ codes ";" ∷ []))
+spell_item (declaration kind declared) = spell_declaration_kind kind ++ (with_commas spell_declared declared ++ codes ";" ∷ [])
+spell_item (events names) = codes "event" ∷ (with_commas (λ letters. letters ∷ []) names ++ codes ";" ∷ [])
+spell_item (assignments list) = codes "assign" ∷ (with_commas spell_net_assignment list ++ codes ";" ∷ [])
 spell_item (initial statement) = codes "initial" ∷ spell_statement statement
 spell_item (always statement) = codes "always" ∷ spell_statement statement
 spell_item (instances name overrides list) =
-    name ∷ (spell_overrides overrides ++ (listed spell_instance list ++ codes ";" ∷ []))
+    name ∷ (spell_overrides overrides ++ (with_commas spell_instance list ++ codes ";" ∷ []))
 
 abbrev pub spell_head_parameters : Option (List HeadParameter) → List Text
 spell_head_parameters None = []
-spell_head_parameters (Some list) = codes "#" ∷ in_parentheses (listed spell_head_parameter list)
+spell_head_parameters (Some list) = codes "#" ∷ in_parentheses (with_commas spell_head_parameter list)
 
 abbrev pub spell_ports : Option (List PortTree) → List Text
 spell_ports None = []
-spell_ports (Some list) = in_parentheses (listed spell_port list)
+spell_ports (Some list) = in_parentheses (with_commas spell_port list)
 
 abbrev pub spell_module : ModuleTree → List Text
 spell_module m =

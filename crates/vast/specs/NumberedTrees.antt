@@ -1,7 +1,7 @@
 -- *internal*: Trees of the program, their words with their numbers.
 use Rattle.std.specs.Prelude.{List, Box}
 use Rattle.vast.specs.Words.{Text}
-use Rattle.vast.specs.NumberedWords.{Word, numbered}
+use Rattle.vast.specs.NumberedWords.{Word, word_of}
 use Rattle.vast.specs.declared.expression.Expression.{Expression, Row_of-Expression}
 use Rattle.vast.specs.declared.statement.Target.{Target, Row_of-Target}
 use Rattle.vast.specs.declared.statement.Delay.{Delay}
@@ -39,112 +39,112 @@ use Rattle.vast.specs.ModuleTrees.{range_told, type_told, parameter_type_told, s
 
 module _ (words : List Text) where
   abbrev pub tree_of : Expression → ExpressionTree
-  tree_of = expression_told (numbered words)
+  tree_of = expression_told (word_of words)
 
   abbrev pub row_trees : {m : _} → Row_of-Expression m → ExpressionTrees
-  row_trees = row_told (numbered words)
+  row_trees = row_told (word_of words)
 
   abbrev pub trees_of : List Expression → ExpressionTrees
-  trees_of = expressions_told (numbered words)
+  trees_of = expressions_told (word_of words)
 
   abbrev pub boxed_tree : {A : Type 0} → Box Expression A → ExpressionTree
   boxed_tree expression = tree_of expression.value
 
   abbrev pub target_tree : Target → TargetTree
-  target_tree = target_told (numbered words)
+  target_tree = target_told (word_of words)
 
   abbrev pub delay_tree : Delay → DelayTree
-  delay_tree = delay_told (numbered words)
+  delay_tree = delay_told (word_of words)
 
   abbrev pub term_tree : Term → TermTree
-  term_tree = term_told (numbered words)
+  term_tree = term_told (word_of words)
 
   abbrev pub further_term : FurtherWords → FurtherTerm
-  further_term = further_told (numbered words)
+  further_term = further_told (word_of words)
 
   abbrev pub event_tree : Event → EventTree
-  event_tree = event_told (numbered words)
+  event_tree = event_told (word_of words)
 
   abbrev pub argument_tree : Argument → ArgumentTree
-  argument_tree = argument_told (numbered words)
+  argument_tree = argument_told (word_of words)
 
   abbrev pub path_tree : Path → List Word
-  path_tree = path_told (numbered words)
+  path_tree = path_told (word_of words)
 
   abbrev pub selection_tree : Selection → SelectionTree
-  selection_tree = selection_told (numbered words)
+  selection_tree = selection_told (word_of words)
 
   abbrev pub task_tree : Task → TaskTree
-  task_tree = task_told (numbered words)
+  task_tree = task_told (word_of words)
 
   abbrev pub statement_tree : Statement → StatementTree
-  statement_tree = statement_told (numbered words)
+  statement_tree = statement_told (word_of words)
 
   abbrev pub branch_tree : Branch → BranchTree
-  branch_tree = branch_told (numbered words)
+  branch_tree = branch_told (word_of words)
 
   abbrev pub target_trees : List Target → TargetTrees
-  target_trees = targets_told (numbered words)
+  target_trees = targets_told (word_of words)
 
   abbrev pub statement_trees : List Statement → StatementTrees
-  statement_trees = statements_told (numbered words)
+  statement_trees = statements_told (word_of words)
 
   abbrev pub branch_trees : List Branch → BranchTrees
-  branch_trees = branches_told (numbered words)
+  branch_trees = branches_told (word_of words)
 
   abbrev pub target_row : {m : _} → Row_of-Target m → TargetTrees
-  target_row = target_row_told (numbered words)
+  target_row = target_row_told (word_of words)
 
   abbrev pub statement_row : {m : _} → Row_of-Statement m → StatementTrees
-  statement_row = statement_row_told (numbered words)
+  statement_row = statement_row_told (word_of words)
 
   abbrev pub branch_row : {m : _} → Row_of-Branch m → BranchTrees
-  branch_row = branch_row_told (numbered words)
+  branch_row = branch_row_told (word_of words)
 
   abbrev pub range_tree : Bounds → RangeTree
-  range_tree = range_told (numbered words)
+  range_tree = range_told (word_of words)
 
   abbrev pub type_tree : SignAndRange → TypeTree
-  type_tree = type_told (numbered words)
+  type_tree = type_told (word_of words)
 
   abbrev pub parameter_type : ParameterWords → ParameterType
-  parameter_type = parameter_type_told (numbered words)
+  parameter_type = parameter_type_told (word_of words)
 
   abbrev pub setting_tree : Setting → SettingTree
-  setting_tree = setting_told (numbered words)
+  setting_tree = setting_told (word_of words)
 
   abbrev pub net_assignment : NetAssignmentWords → NetAssignment
-  net_assignment = net_assignment_told (numbered words)
+  net_assignment = net_assignment_told (word_of words)
 
   abbrev pub declared_tree : Declared → DeclaredTree
-  declared_tree = declared_told (numbered words)
+  declared_tree = declared_told (word_of words)
 
   abbrev pub direction_tree : Direction → DirectionTree
-  direction_tree = direction_told (numbered words)
+  direction_tree = direction_told (word_of words)
 
   abbrev pub port_tree : Port → PortTree
-  port_tree = port_told (numbered words)
+  port_tree = port_told (word_of words)
 
   abbrev pub head_parameter : HeadWords → HeadParameter
-  head_parameter = head_told (numbered words)
+  head_parameter = head_told (word_of words)
 
   abbrev pub connection_tree : Connection → ConnectionTree
-  connection_tree = connection_told (numbered words)
+  connection_tree = connection_told (word_of words)
 
   abbrev pub connections_tree : Connections → ConnectionsTree
-  connections_tree = connections_told (numbered words)
+  connections_tree = connections_told (word_of words)
 
   abbrev pub instance_tree : Instance → InstanceTree
-  instance_tree = instance_told (numbered words)
+  instance_tree = instance_told (word_of words)
 
   abbrev pub declaration_kind : DeclarationWords → DeclarationKind
-  declaration_kind = declaration_kind_told (numbered words)
+  declaration_kind = declaration_kind_told (word_of words)
 
   abbrev pub item_tree : ModuleItem → ItemTree
-  item_tree = item_told (numbered words)
+  item_tree = item_told (word_of words)
 
   abbrev pub module_tree : ModuleWords → ModuleTree
-  module_tree = module_told (numbered words)
+  module_tree = module_told (word_of words)
 
   abbrev pub source_tree : TextTree → SourceTree
-  source_tree = source_told (numbered words)
+  source_tree = source_told (word_of words)

@@ -2,7 +2,7 @@
 -- place; and of a string that a task prints the path of the scope that the task stands in (17.1.1.6), once its instance is known (`placed_items` of
 -- `vmodules`): it is empty before that, and in all other words.
 use Rattle.std.specs.Prelude.{ℕ, suc, if◌then◌else◌, List, [], ◌∷◌}
-use Rattle.vast.specs.Words.{Text, is_leaf, unescaped}
+use Rattle.vast.specs.Words.{Text, is_leaf, without_backslash}
 use Rattle.vast.specs.TokenTexts.{token_text}
 use Rattle.vast.specs.declared.token.Token.{Token}
 
@@ -12,12 +12,12 @@ pub record Word : Type 0 where
   pub path : Text
 
 -- that of a token, among the words of the text
-abbrev pub numbered : List Text → Token → Word
-numbered words token = record { letters = unescaped (token_text words token); number = token.number; path = [] }
+abbrev pub word_of : List Text → Token → Word
+word_of words token = record { letters = without_backslash (token_text words token); number = token.number; path = [] }
 
 -- the words of a text that trees keep, with their numbers, the first of which is this one
 abbrev pub words_from : ℕ → List Text → List Word
 words_from number [] = []
 words_from number (word ∷ words) =
-    if is_leaf word then record { letters = unescaped word; number = number; path = [] } ∷ words_from (suc number) words
+    if is_leaf word then record { letters = without_backslash word; number = number; path = [] } ∷ words_from (suc number) words
     else words_from (suc number) words

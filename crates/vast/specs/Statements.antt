@@ -150,9 +150,9 @@ BranchTrees = BranchesOf Text
 -- The words of a tree
 
 -- one and then the others, a comma between two
-abbrev pub listed : {A : Type 0} → (A → List Text) → List A → List Text
-listed spell [] = []
-listed spell (one ∷ more) = spell one ++ flat_map (λ other. codes "," ∷ spell other) more
+abbrev pub with_commas : {A : Type 0} → (A → List Text) → List A → List Text
+with_commas spell [] = []
+with_commas spell (one ∷ more) = spell one ++ flat_map (λ other. codes "," ∷ spell other) more
 
 abbrev mutual
   pub spell_target : TargetTree → List Text
@@ -248,7 +248,7 @@ dump_word dumping.Flush = codes "$dumpflush"
 -- without arguments no parentheses stand; between parentheses with nothing one is left out (17.1.1)
 abbrev pub spell_arguments : List ArgumentTree → List Text
 spell_arguments [] = []
-spell_arguments (one ∷ more) = in_parentheses (listed spell_argument (one ∷ more))
+spell_arguments (one ∷ more) = in_parentheses (with_commas spell_argument (one ∷ more))
 
 -- name . name ..
 abbrev pub spell_path : List Text → List Text

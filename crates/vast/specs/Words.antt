@@ -57,9 +57,9 @@ abbrev pub is_name : List ℕ → Bool
 is_name word = is_simple_name word || is_escaped_name word
 
 -- 3.7.1: what the word of a name names: the backslash isn't part of it
-abbrev pub unescaped : List ℕ → List ℕ
-unescaped [] = []
-unescaped (c ∷ cs) = if c == 92 then cs else c ∷ cs
+abbrev pub without_backslash : List ℕ → List ℕ
+without_backslash [] = []
+without_backslash (c ∷ cs) = if c == 92 then cs else c ∷ cs
 
 -- 3.5.1: among tokens the numbers are those that begin with a digit or an apostrophe
 abbrev pub is_number : List ℕ → Bool

@@ -4,7 +4,7 @@ ghost use Rattle.std.specs.Prelude.{◌≡◌, ◌∷◌, [], Some, map, option_
 ghost use Rattle.vast.specs.TokenTexts.{token_text, texts};
 ghost use Rattle.vast.specs.ExpressionTrees.{tree_of, boxed_tree};
 ghost use Rattle.vast.specs.Expressions.{spell_expression};
-ghost use Rattle.vast.specs.Statements.{listed};
+ghost use Rattle.vast.specs.Statements.{with_commas};
 ghost use Rattle.vast.specs.Modules.{spell_range, spell_signed, spell_type, integer_word as integer_text, spell_parameter_type, spell_setting, spell_net_assignment, spell_value, spell_declared, net_word as net_text, spell_net, spell_wire, spell_direction, spell_port, spell_kind, spell_head_parameter, spell_optional, spell_connection, spell_connections, spell_instance};
 ghost use Rattle.vast.specs.ModuleTrees.{range_tree, type_tree, parameter_type, setting_tree, net_assignment, declared_tree, direction_tree, port_tree, head_parameter, connection_tree, connections_tree, instance_tree};
 ghost use Rattle.vast.specs.Inner.{Puts};
@@ -99,7 +99,7 @@ pub fn put_settings<'t>(
     settings: &[Setting],
 ) -> Result<(), NoMemory>
     ensures { Puts out.old out.new result
-        (listed spell_setting (map (setting_tree (texts words.now)) settings.now)) }
+        (with_commas spell_setting (map (setting_tree (texts words.now)) settings.now)) }
 {
     let mut first = true;
     for setting in settings {
@@ -129,7 +129,7 @@ pub fn put_net_assignments<'t>(
     list: &[NetAssignment],
 ) -> Result<(), NoMemory>
     ensures { Puts out.old out.new result
-        (listed spell_net_assignment (map (net_assignment (texts words.now)) list.now)) }
+        (with_commas spell_net_assignment (map (net_assignment (texts words.now)) list.now)) }
 {
     let mut first = true;
     for one in list {
@@ -178,7 +178,7 @@ pub fn put_declared<'t>(
     declared: &[Declared],
 ) -> Result<(), NoMemory>
     ensures { Puts out.old out.new result
-        (listed spell_declared (map (declared_tree (texts words.now)) declared.now)) }
+        (with_commas spell_declared (map (declared_tree (texts words.now)) declared.now)) }
 {
     let mut first = true;
     for one in declared {
@@ -278,7 +278,7 @@ pub fn put_ports<'t>(
     ports: &[Port],
 ) -> Result<(), NoMemory>
     ensures { Puts out.old out.new result
-        (listed spell_port (map (port_tree (texts words.now)) ports.now)) }
+        (with_commas spell_port (map (port_tree (texts words.now)) ports.now)) }
 {
     let mut first = true;
     for port in ports {
@@ -326,7 +326,7 @@ pub fn put_head_parameters<'t>(
     parameters: &[HeadParameter],
 ) -> Result<(), NoMemory>
     ensures { Puts out.old out.new result
-        (listed spell_head_parameter (map (head_parameter (texts words.now)) parameters.now)) }
+        (with_commas spell_head_parameter (map (head_parameter (texts words.now)) parameters.now)) }
 {
     let mut first = true;
     for parameter in parameters {
@@ -373,7 +373,7 @@ fn put_each_connection<'t>(
     connections: &[Connection],
 ) -> Result<(), NoMemory>
     ensures { Puts out.old out.new result
-        (listed spell_connection (map (connection_tree (texts words.now)) connections.now)) }
+        (with_commas spell_connection (map (connection_tree (texts words.now)) connections.now)) }
 {
     let mut first = true;
     for connection in connections {
@@ -391,7 +391,7 @@ fn put_values<'t>(
     values: &[Expression],
 ) -> Result<(), NoMemory>
     ensures { Puts out.old out.new result
-        (listed spell_expression (map (tree_of (texts words.now)) values.now)) }
+        (with_commas spell_expression (map (tree_of (texts words.now)) values.now)) }
 {
     let mut first = true;
     for value in values {
@@ -439,7 +439,7 @@ pub fn put_instances<'t>(
     instances: &[Instance],
 ) -> Result<(), NoMemory>
     ensures { Puts out.old out.new result
-        (listed spell_instance (map (instance_tree (texts words.now)) instances.now)) }
+        (with_commas spell_instance (map (instance_tree (texts words.now)) instances.now)) }
 {
     let mut first = true;
     for instance in instances {

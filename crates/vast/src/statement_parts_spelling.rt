@@ -4,7 +4,7 @@
 ghost use Rattle.std.specs.Prelude.{◌≡◌, ◌∷◌, [], flat_map, map, option_map};
 ghost use Rattle.vast.specs.TokenTexts.{token_text, texts};
 ghost use Rattle.vast.specs.ExpressionTrees.{tree_of};
-ghost use Rattle.vast.specs.Statements.{spell_target, spell_targets, spell_delay, spell_optional_delay, edge_word as edge_text, spell_edge, spell_term, spell_further_term, spell_event, spell_argument, print_word as print_text, file_word as file_text, idle_word as idle_text, dump_word as dump_text, spell_arguments, spell_path, spell_selection, spell_number, end_word as end_text, spell_task, case_word as case_text, spell_setting, spell_condition, listed, spell_block_name};
+ghost use Rattle.vast.specs.Statements.{spell_target, spell_targets, spell_delay, spell_optional_delay, edge_word as edge_text, spell_edge, spell_term, spell_further_term, spell_event, spell_argument, print_word as print_text, file_word as file_text, idle_word as idle_text, dump_word as dump_text, spell_arguments, spell_path, spell_selection, spell_number, end_word as end_text, spell_task, case_word as case_text, spell_setting, spell_condition, with_commas, spell_block_name};
 ghost use Rattle.vast.specs.StatementTrees.{target_tree, target_trees, delay_tree, term_tree, further_term, event_tree, argument_tree, path_tree, selection_tree, task_tree};
 ghost use Rattle.vast.specs.Inner.{Puts, joined_words, assigned_words, dotted_words, paths_words};
 
@@ -255,7 +255,7 @@ fn put_each_argument<'t>(
     arguments: &[Argument],
 ) -> Result<(), NoMemory>
     ensures { Puts out.old out.new result
-        (listed spell_argument (map (argument_tree (texts words.now)) arguments.now)) }
+        (with_commas spell_argument (map (argument_tree (texts words.now)) arguments.now)) }
 {
     let mut first = true;
     for argument in arguments {

@@ -2,7 +2,7 @@
 
 ghost use Rattle.std.specs.Prelude.{◌≡◌, ◌∷◌, [], IfOk, flat_map, map, option_map};
 ghost use Rattle.vast.specs.TokenTexts.{token_text, texts};
-ghost use Rattle.vast.specs.Statements.{listed};
+ghost use Rattle.vast.specs.Statements.{with_commas};
 ghost use Rattle.vast.specs.Modules.{spell_overrides, spell_declaration_kind, parameter_word as parameter_text, spell_item, spell_head_parameters, spell_ports, spell_module, spell as spell_tree};
 ghost use Rattle.vast.specs.ModuleTrees.{port_tree, head_parameter, connections_tree, declaration_kind, item_tree, module_tree, source_tree};
 ghost use Rattle.vast.specs.Spellings.{texts_of};
@@ -28,7 +28,7 @@ fn put_names<'t>(
     names: &[Token],
 ) -> Result<(), NoMemory>
     ensures { Puts out.old out.new result
-        (listed alone (map (token_text (texts words.now)) names.now)) }
+        (with_commas alone (map (token_text (texts words.now)) names.now)) }
 {
     let mut first = true;
     for name in names {

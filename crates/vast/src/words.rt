@@ -3,7 +3,7 @@
 ghost use Rattle.std.specs.Prelude.{◌≡◌};
 ghost use Rattle.std.specs.List.{list_any, list_all};
 ghost use Rattle.std.specs.Str.{bytes_eq};
-ghost use Rattle.vast.specs.Words.{is_reserved as is_reserved_word, is_name as is_name_text, is_simple_name as is_simple_name_text, is_escaped_name as is_escaped_name_text, is_printable as is_printable_code, are_printable as are_printable_codes, unescaped as unescaped_text, is_number as is_number_text, is_string as is_string_text, is_time as is_time_text};
+ghost use Rattle.vast.specs.Words.{is_reserved as is_reserved_word, is_name as is_name_text, is_simple_name as is_simple_name_text, is_escaped_name as is_escaped_name_text, is_printable as is_printable_code, are_printable as are_printable_codes, without_backslash as unescaped_text, is_number as is_number_text, is_string as is_string_text, is_time as is_time_text};
 ghost use Rattle.basis.specs.Letters.{is_in_name as is_in_name_code};
 
 use basis::{begins_name, is_in_name};
@@ -177,7 +177,7 @@ fn is_printable(byte: u8) -> bool
 }
 
 /// What the word of a name names: the backslash of an escaped one isn't part of it (3.7.1).
-pub fn unescaped(text: &[u8]) -> &[u8]
+pub fn without_backslash(text: &[u8]) -> &[u8]
     ensures { result.now ≡ unescaped_text text.now }
 {
     match text.split_first() {

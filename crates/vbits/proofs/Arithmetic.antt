@@ -4,10 +4,10 @@ use Rattle.std.specs.Prelude.{bit_and, bit_or, nat_eq, unsigned_abs, pos, ℤ, O
 use Rattle.std.proofs.lemmas.Bool.{cases_eq}
 use Rattle.std.proofs.lemmas.Nat.{le_or_l, le_or_r}
 use Rattle.vbits.specs.declared.bit4.Bit4.TheVariants.{Zero, One, X}
-use Rattle.vbits.specs.Numbers.{read, integer, wrapped}
+use Rattle.vbits.specs.Numbers.{read, integer, wrap}
 use Rattle.vbits.specs.Planes.{letters_of, Planes, sign_bit, signed_number}
 use Rattle.vbits.specs.PlanesBack.{length-letters_of}
-use Rattle.vbits.specs.Vectors.{Vector, filled, with_sign, single, combined, result_letters, arithmetic, compared, test_letter, neg, add, sub, mul, div, rem, sum_of, difference_of, product_of, quotient_of, remainder_of}
+use Rattle.vbits.specs.Vectors.{Vector, filled, with_sign, single, combine_integers, result_letters, arithmetic, compared, test_letter, neg, add, sub, mul, div, rem, sum_of, difference_of, product_of, quotient_of, remainder_of}
 use Rattle.vbits.proofs.NumbersOf.{number-known, number-unknown}
 use Rattle.vbits.proofs.Operands.{Operands, same_len, four_of}
 use Rattle.vbits.proofs.Views.{view_of}
@@ -44,7 +44,7 @@ arithmetic-views op n a c s t x h g e =
 
 -- a word with the digits of the result
 pub arithmetic-word : (op : ℤ → ℤ → Option ℤ) (n m a b c d : ℕ) (s t : Bool) (v w : Vector) → Operands n m a b c d s t v w → bit_or b d ≡ 0 →
-    (z : ℤ) → op (read (s && t) n a) (read (s && t) n c) ≡ Some z → (u : ℕ) → letters_of n u 0 ≡ wrapped n z →
+    (z : ℤ) → op (read (s && t) n a) (read (s && t) n c) ≡ Some z → (u : ℕ) → letters_of n u 0 ≡ wrap n z →
     view_of n u 0 (s && t) ≡ arithmetic op v w
 arithmetic-word op n m a b c d s t v w o known z e u f =
     let four = four_of n m a b c d s t v w o in
@@ -76,7 +76,7 @@ compared-known test n m a b c d s t v w o known =
 -- ---- one unknown
 
 combined-unknown : (op : ℤ → ℤ → Option ℤ) (s : Bool) (n a b c d : ℕ) → b < 2 ^ n → d < 2 ^ n → (bit_or b d ≡ 0 → ⊥) →
-    combined op (integer s (letters_of n a b)) (integer s (letters_of n c d)) ≡ None
+    combine_integers op (integer s (letters_of n a b)) (integer s (letters_of n c d)) ≡ None
 combined-unknown op s n a b c d h g ne =
     elim (cases_eq b 0) [
       | inl e ↦
@@ -85,7 +85,7 @@ combined-unknown op s n a b c d h g ne =
       | inr more ↦ rw (integer-unknown s n a b h more) refl
     ]
   where
-    combined-none : (op : ℤ → ℤ → Option ℤ) (x : Option ℤ) → combined op x None ≡ None
+    combined-none : (op : ℤ → ℤ → Option ℤ) (x : Option ℤ) → combine_integers op x None ≡ None
     combined-none op None = refl
     combined-none op (Some x) = refl
 
@@ -134,7 +134,7 @@ compared-unknown test n m a b c d s t v w o ne =
 
 -- ---- negation
 
-pub neg-known : (n a : ℕ) (s : Bool) (v : Vector) → a < 2 ^ n → view_of n a 0 s ≡ v → (u : ℕ) → letters_of n u 0 ≡ wrapped n (neg_ℤ (read s n a)) →
+pub neg-known : (n a : ℕ) (s : Bool) (v : Vector) → a < 2 ^ n → view_of n a 0 s ≡ v → (u : ℕ) → letters_of n u 0 ≡ wrap n (neg_ℤ (read s n a)) →
     view_of n u 0 s ≡ neg v
 unfolding neg
 neg-known n a s v h e u f =
@@ -173,7 +173,7 @@ mul-view n m a b c d s t v w o known =
 
 pub div-view : (n m a b c d : ℕ) (s t : Bool) (v w : Vector) → Operands n m a b c d s t v w → bit_or b d ≡ 0 →
     (unsigned_abs (read (s && t) n c) ≡ 0 → ⊥) → (u : ℕ) →
-    letters_of n u 0 ≡ wrapped n (signed_number (not (nat_eq (sign_bit a n (s && t)) (sign_bit c n (s && t)))) (unsigned_abs (read (s && t) n a) / unsigned_abs (read (s && t) n c))) →
+    letters_of n u 0 ≡ wrap n (signed_number (not (nat_eq (sign_bit a n (s && t)) (sign_bit c n (s && t)))) (unsigned_abs (read (s && t) n a) / unsigned_abs (read (s && t) n c))) →
     view_of n u 0 (s && t) ≡ div v w
 div-view n m a b c d s t v w o known ne u e =
     let four = four_of n m a b c d s t v w o in
@@ -183,7 +183,7 @@ div-view n m a b c d s t v w o known ne u e =
 
 pub rem-view : (n m a b c d : ℕ) (s t : Bool) (v w : Vector) → Operands n m a b c d s t v w → bit_or b d ≡ 0 →
     (unsigned_abs (read (s && t) n c) ≡ 0 → ⊥) → (u : ℕ) →
-    letters_of n u 0 ≡ wrapped n (signed_number (nat_eq (sign_bit a n (s && t)) 1) (unsigned_abs (read (s && t) n a) % unsigned_abs (read (s && t) n c))) →
+    letters_of n u 0 ≡ wrap n (signed_number (nat_eq (sign_bit a n (s && t)) 1) (unsigned_abs (read (s && t) n a) % unsigned_abs (read (s && t) n c))) →
     view_of n u 0 (s && t) ≡ rem v w
 rem-view n m a b c d s t v w o known ne u e =
     let four = four_of n m a b c d s t v w o in

@@ -7,7 +7,7 @@ use Rattle.std.proofs.lemmas.Int.{ints, int_rem_euclid_is}
 use Rattle.std.proofs.lemmas.Nat.{and_mask, pow_pos, pow-add, div_below, le-div}
 use Rattle.std.proofs.Math.Nat.{add-mul-mod_self_right}
 use Rattle.std.proofs.Math.Pow.{mod-mod-pow}
-use Rattle.vbits.specs.Numbers.{read, wrapped}
+use Rattle.vbits.specs.Numbers.{read, wrap}
 use Rattle.vbits.specs.Planes.{letters_of, sign_bit, signed_number}
 use Rattle.vbits.specs.Vectors.{quotient_of, remainder_of}
 use Rattle.vbits.proofs.LettersOf.{digits-letters_of}
@@ -65,7 +65,7 @@ read-above s n a some h =
     ]
 
 -- the word's low digits are those of the integer
-pub wrapped-letters : (n v : ℕ) (z : ℤ) → n ≤ 64 → Same n z v → letters_of n (bit_and (v % 2 ^ 64) (2 ^ n - 1)) 0 ≡ wrapped n z
+pub wrapped-letters : (n v : ℕ) (z : ℤ) → n ≤ 64 → Same n z v → letters_of n (bit_and (v % 2 ^ 64) (2 ^ n - 1)) 0 ≡ wrap n z
 wrapped-letters n v z few h =
     let whole : 64 - n + n ≡ 64 = omega arith in
     let low : v % 2 ^ 64 % 2 ^ n ≡ v % 2 ^ n = subst (λ w. v % 2 ^ w % 2 ^ n ≡ v % 2 ^ n) whole (mod-mod-pow v (64 - n) n) in
@@ -251,7 +251,7 @@ magnitude-below s n a some h z =
       | below k e w _ ↦ rw e (omega arith)
     ]
 
-pub signed-letters : (s : Bool) (n m : ℕ) → n ≤ 64 → m < 2 ^ 64 → letters_of n (bit_and (cond s (0 + (2 ^ 64 - m)) m % 2 ^ 64) (2 ^ n - 1)) 0 ≡ wrapped n (signed_number s m)
+pub signed-letters : (s : Bool) (n m : ℕ) → n ≤ 64 → m < 2 ^ 64 → letters_of n (bit_and (cond s (0 + (2 ^ 64 - m)) m % 2 ^ 64) (2 ^ n - 1)) 0 ≡ wrap n (signed_number s m)
 signed-letters s n m few h =
     wrapped-letters n (cond s (0 + (2 ^ 64 - m)) m) (signed_number s m) few
     (exact n (signed_number s m) (cond s (0 + (2 ^ 64 - m)) m) (signed-above s n m few (omega arith)))

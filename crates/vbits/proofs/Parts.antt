@@ -7,7 +7,7 @@ use Rattle.std.proofs.lemmas.Option.{get_or_from_slice_get}
 use Rattle.std.proofs.Math.Seq.{take-append-add}
 use Rattle.vbits.specs.declared.bit4.Bit4.{Bit4}
 use Rattle.vbits.specs.declared.bit4.Bit4.TheVariants.{Zero}
-use Rattle.vbits.specs.Planes.{letter, letters_of, value_bit, unknown_bit, run, sign_bit, spliced, Planes}
+use Rattle.vbits.specs.Planes.{letter, letters_of, value_bit, unknown_bit, run, sign_bit, splice, Planes}
 use Rattle.vbits.specs.PlanesBack.{length-letters_of, value_bit-letter, unknown_bit-letter}
 use Rattle.vbits.specs.Vectors.{Vector, resize, sign_letter, select, put, concat}
 use Rattle.vbits.proofs.LettersOf.{letters_of-run, take-letters_of, drop-letters_of, letters_of-low, letters_of-cat, slice_get-letters_of}
@@ -106,12 +106,12 @@ pub part_whole : (part high low : ℕ) → low ≤ high → high < 64 → part <
 part_whole part high low order few within = shl_whole part (high + 1 - low) low 64 within (omega arith)
 
 pub spliced-at : (p high low part : ℕ) → low ≤ high →
-    p - bit_and (p / 2 ^ low) (2 ^ (high + 1 - low) - 1) * 2 ^ low + part * 2 ^ low ≡ spliced p high low part
+    p - bit_and (p / 2 ^ low) (2 ^ (high + 1 - low) - 1) * 2 ^ low + part * 2 ^ low ≡ splice p high low part
 spliced-at p high low part order =
     let place : low + (high + 1 - low) ≡ high + 1 = omega arith in
     rw place at (spliced-is p low (high + 1 - low) part)
 
-pub spliced_below : (p high low part n : ℕ) → low ≤ high → high < n → p < 2 ^ n → part < 2 ^ (high + 1 - low) → spliced p high low part < 2 ^ n
+pub spliced_below : (p high low part n : ℕ) → low ≤ high → high < n → p < 2 ^ n → part < 2 ^ (high + 1 - low) → splice p high low part < 2 ^ n
 spliced_below p high low part n order within h f =
     let place : low + (high + 1 - low) ≡ high + 1 = omega arith in
     let whole : n - (high + 1) + (low + (high + 1 - low)) ≡ n = omega arith in
@@ -139,7 +139,7 @@ put-letters low w k a b c d h g =
 
 pub put-view : (n a b m c d high low : ℕ) (s t : Bool) (v w : Vector) → view_of n a b s ≡ v → view_of m c d t ≡ w → Planes m c d →
     low ≤ high → high < n → m ≡ high + 1 - low →
-    view_of n (spliced a high low c) (spliced b high low d) s ≡ put v high low w
+    view_of n (splice a high low c) (splice b high low d) s ≡ put v high low w
 unfolding put
 put-view n a b m c d high low s t v w e f h order within len =
     let at_j : low + m ≡ high + 1 = omega arith in
@@ -235,7 +235,7 @@ concat-code n a b m c d s t v w h g e f few =
     (concat-view n a b s m c d t v w g e f)
 
 pub put-planes : (n a b m c d high low : ℕ) → Planes n a b → Planes m c d → low ≤ high → high < n → m ≡ high + 1 - low →
-    Planes n (spliced a high low c) (spliced b high low d)
+    Planes n (splice a high low c) (splice b high low d)
 put-planes n a b m c d high low h g order within len = record {
   some = h.some;
   few = h.few;

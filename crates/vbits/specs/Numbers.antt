@@ -34,5 +34,5 @@ abbrev pub integer : Bool → List Bit4 → Option ℤ
 integer signed letters = option_map (read signed (length letters)) (number letters)
 
 -- the digits of an integer modulo 2 ^ count: sums and products wrap (4.3.1)
-abbrev pub wrapped : ℕ → ℤ → List Bit4
-wrapped count z = digits count (unsigned_abs (int_rem_euclid z (pos (2 ^ count))))
+abbrev pub wrap : ℕ → ℤ → List Bit4
+wrap count z = digits count (unsigned_abs (int_rem_euclid z (pos (2 ^ count))))

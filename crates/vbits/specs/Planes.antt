@@ -53,8 +53,8 @@ abbrev pub sign_bit : ℕ → ℕ → Bool → ℕ
 sign_bit plane len signed = if signed then plane / 2 ^ (len - 1) % 2 else 0
 
 -- the bits from low to high are those of the part
-abbrev pub spliced : ℕ → ℕ → ℕ → ℕ → ℕ
-spliced plane high low part =
+abbrev pub splice : ℕ → ℕ → ℕ → ℕ → ℕ
+splice plane high low part =
     plane / 2 ^ (high + 1) * 2 ^ (high + 1) + part * 2 ^ low + plane % 2 ^ low
 
 -- a magnitude and whether it is below 0

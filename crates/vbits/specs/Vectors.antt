@@ -7,7 +7,7 @@ use Rattle.vbits.specs.declared.bit4.Bit4.TheVariants.{Zero, One, X}
 use Rattle.vbits.specs.declared.reduction.Reduction.{Reduction}
 use Rattle.vbits.specs.declared.reduction.Reduction.TheVariants.{And, Nand, Or, Nor, Xor, Xnor}
 use Rattle.vbits.specs.Letters.{is_unknown, is_one, is_same, differ, not_letter, and_letter, or_letter, xor_letter, xnor_letter, join_letter}
-use Rattle.vbits.specs.Numbers.{number, digits, integer, wrapped}
+use Rattle.vbits.specs.Numbers.{number, digits, integer, wrap}
 
 -- 1 to 64 letters with a sign mark
 pub record Vector : Type 0 where
@@ -171,21 +171,21 @@ ashr v amount = record {
 -- ---- arithmetic (5.1.5) and order (5.1.7): on integers, read as signed where both operands are
 
 -- what an operation makes of two integers, or None where one is not known
-abbrev pub combined : (ℤ → ℤ → Option ℤ) → Option ℤ → Option ℤ → Option ℤ
-combined operation (Some x) (Some y) = operation x y
-combined operation _ _ = None
+abbrev pub combine_integers : (ℤ → ℤ → Option ℤ) → Option ℤ → Option ℤ → Option ℤ
+combine_integers operation (Some x) (Some y) = operation x y
+combine_integers operation _ _ = None
 
 -- the letters of a result: wrapped, or all x where there is none
 abbrev pub result_letters : ℕ → Option ℤ → List Bit4
 result_letters count None = replicate count X
-result_letters count (Some z) = wrapped count z
+result_letters count (Some z) = wrap count z
 
 unfoldable pub arithmetic : (ℤ → ℤ → Option ℤ) → Vector → Vector → Vector
 arithmetic operation v w =
     let signed = v.signed && w.signed in
     record {
       letters = result_letters (length v.letters)
-          (combined operation (integer signed v.letters) (integer signed w.letters));
+          (combine_integers operation (integer signed v.letters) (integer signed w.letters));
       signed = signed;
     }
 

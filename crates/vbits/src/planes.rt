@@ -15,7 +15,7 @@ pub fn ones(len: u32) -> u64
 }
 
 /// The word whose lowest `len` bits are this bit.
-pub fn filled(len: u32, bit: u64) -> u64
+pub fn fill(len: u32, bit: u64) -> u64
     requires some { 1 ≤ len }
     requires few { len ≤ 64 }
     ensures { result ≡ planes.run bit len }
@@ -33,7 +33,7 @@ pub fn sign_bit(plane: u64, len: u32, signed: bool) -> u64
 }
 
 /// A plane of `len` bits with copies of a bit above it, up to `wide` bits.
-pub fn extended(plane: u64, len: u32, wide: u32, top: u64) -> u64
+pub fn extend(plane: u64, len: u32, wide: u32, top: u64) -> u64
     requires some { 1 ≤ len }
     requires longer { len ≤ wide }
     requires few { wide ≤ 64 }
@@ -48,11 +48,11 @@ pub fn extended(plane: u64, len: u32, wide: u32, top: u64) -> u64
 }
 
 /// The plane with the part's bits in the places from `low` to `high`.
-pub fn spliced(plane: u64, high: u32, low: u32, part: u64) -> u64
+pub fn splice(plane: u64, high: u32, low: u32, part: u64) -> u64
     requires order { low ≤ high }
     requires few { high < 64 }
     requires within { part < 2 ^ (high + 1 - low) }
-    ensures { result ≡ planes.spliced plane high low part }
+    ensures { result ≡ planes.splice plane high low part }
 {
     let old = (plane >> low) & ones(high + 1 - low);
     plane - (old << low) + (part << low)
@@ -73,10 +73,10 @@ pub fn magnitude(plane: u64, len: u32, signed: bool) -> u64
 }
 
 /// The lowest `len` bits of a magnitude or of its negative.
-pub fn wrapped(negative: bool, magnitude: u64, len: u32) -> u64
+pub fn wrap(negative: bool, magnitude: u64, len: u32) -> u64
     requires some { 1 ≤ len }
     requires few { len ≤ 64 }
-    ensures digits { planes.letters_of len result 0 ≡ numbers.wrapped len
+    ensures digits { planes.letters_of len result 0 ≡ numbers.wrap len
         (planes.signed_number negative magnitude) }
     ensures within { result < 2 ^ len }
 {

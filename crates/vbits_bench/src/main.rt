@@ -7,10 +7,10 @@
 mod operators;
 mod words;
 
-use operators::{named, run};
+use operators::{operator_of, run};
 use std::{env, io};
 use vbits::{Bit4, Vec4};
-use words::called;
+use words::value_of_call;
 
 fn print_letters(rt: &impl Print, vector: Vec4) -> io::Result<()> {
     for i in 0..vector.len() {
@@ -47,10 +47,10 @@ fn main(rt: HostRuntime) -> io::Result<()> {
     match words.as_slice() {
         [_, "repeat", name, turns] => {
             let turns = turns.parse::<u64>().unwrap_or(0);
-            let sum = run(named(name), turns);
+            let sum = run(operator_of(name), turns);
             println!(rt; "{name} {turns} {sum}")
         }
         [] | [_] => Ok(()),
-        [_, call @ ..] => show(&rt, called(call)),
+        [_, call @ ..] => show(&rt, value_of_call(call)),
     }
 }

@@ -87,7 +87,7 @@ const NAMES: [(&str, Operator); 36] = [
 ];
 
 /// The operator of this name; of another one a copy.
-pub fn named(name: &str) -> Operator {
+pub fn operator_of(name: &str) -> Operator {
     for (word, operator) in &NAMES {
         if *word == name {
             return *operator;
@@ -97,7 +97,7 @@ pub fn named(name: &str) -> Operator {
 }
 
 /// What it makes of operands of one length.
-pub fn applied(operator: Operator, left: Vec4, right: Vec4) -> Vec4
+pub fn apply(operator: Operator, left: Vec4, right: Vec4) -> Vec4
     requires { length left.letters ≡ length right.letters }
 {
     match operator {
@@ -136,7 +136,7 @@ pub fn applied(operator: Operator, left: Vec4, right: Vec4) -> Vec4
 }
 
 /// What it makes of an operand whose length is free: a shift's amount, or what is written or joined.
-pub fn applied_to_free(operator: Operator, left: Vec4, free: Vec4) -> Vec4 {
+pub fn apply_to_free(operator: Operator, left: Vec4, free: Vec4) -> Vec4 {
     match operator {
         Operator::Shl => left.shl(free),
         Operator::Shr => left.shr(free),
@@ -219,9 +219,9 @@ pub fn run(operator: Operator, turns: u64) -> u64 {
         let left = lefts[i];
         let right = rights[i];
         if free {
-            results[i] = applied_to_free(operator, left, frees[i]);
+            results[i] = apply_to_free(operator, left, frees[i]);
         } else if left.len() == right.len() {
-            results[i] = applied(operator, left, right);
+            results[i] = apply(operator, left, right);
         }
     }
     let mut sum = 0u64;

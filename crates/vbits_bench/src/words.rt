@@ -2,7 +2,7 @@
 
 ghost use Rattle.std.specs.Prelude.{◌≤◌, IfSome};
 
-use crate::operators::{applied, applied_to_free, named, takes_free};
+use crate::operators::{apply, apply_to_free, operator_of, takes_free};
 use vbits::{Bit4, Vec4};
 
 fn letter_of(byte: u8) -> Option<Bit4> {
@@ -60,7 +60,7 @@ fn length_of(word: &str) -> Option<u32>
 }
 
 // What a constructor makes, whose first number is a length.
-fn made(name: &str, length: &str, number: &str) -> Option<Vec4> {
+fn value_of(name: &str, length: &str, number: &str) -> Option<Vec4> {
     let length = length_of(length)?;
     match name {
         "zeros" => Some(Vec4::zeros(length)),
@@ -70,7 +70,7 @@ fn made(name: &str, length: &str, number: &str) -> Option<Vec4> {
     }
 }
 
-fn selected(vector: Vec4, high: u32, low: u32) -> Option<Vec4> {
+fn select(vector: Vec4, high: u32, low: u32) -> Option<Vec4> {
     if low <= high && high < vector.len() {
         Some(vector.select(high, low))
     } else {
@@ -96,26 +96,26 @@ fn bit(vector: Vec4, place: u32) -> Option<Vec4> {
 
 // What the operator of this name makes of the operands, where they go together.
 fn result_of(name: &str, left: Vec4, right: Vec4) -> Option<Vec4> {
-    let operator = named(name);
+    let operator = operator_of(name);
     if takes_free(operator) {
-        return Some(applied_to_free(operator, left, right));
+        return Some(apply_to_free(operator, left, right));
     }
     if left.len() == right.len() {
-        Some(applied(operator, left, right))
+        Some(apply(operator, left, right))
     } else {
         None
     }
 }
 
 /// The result of the call that these words name, an operator with one operand too; none where they don't go together.
-pub fn called(words: &[&str]) -> Option<Vec4> {
+pub fn value_of_call(words: &[&str]) -> Option<Vec4> {
     match words {
-        ["zeros" | "all_x" | "all_z", length] => made(words[0], length, "0"),
-        ["from_u64", length, number] => made(words[0], length, number),
+        ["zeros" | "all_x" | "all_z", length] => value_of(words[0], length, "0"),
+        ["from_u64", length, number] => value_of(words[0], length, number),
         ["bit", vector, place] => bit(operand_of(vector)?, count_of(place)?),
         ["resize", vector, length] => Some(operand_of(vector)?.resize(length_of(length)?)),
         ["select", vector, high, low] => {
-            selected(operand_of(vector)?, count_of(high)?, count_of(low)?)
+            select(operand_of(vector)?, count_of(high)?, count_of(low)?)
         }
         ["put", vector, high, low, part] => put(
             operand_of(vector)?,

@@ -20,11 +20,11 @@ use Rattle.vdesign.specs.declared.design.Kind.{Kind}
 use Rattle.vdesign.specs.declared.design.Kind.TheVariants.{Reg, Integer, Wire, Time}
 use Rattle.vdesign.specs.Design.{Variable}
 use Rattle.vcd_read.specs.Words.{Text, words_of}
-use Rattle.vcd_read.specs.Timescale.{count_of, spanned, unit_of}
-use Rattle.vcd_read.specs.Declarations.{HaveNoEnd, declared, end_word, Declares, note, scope, timescale, upscope, variable}
+use Rattle.vcd_read.specs.Timescale.{count_of, span_of_parts, unit_of}
+use Rattle.vcd_read.specs.Declarations.{HaveNoEnd, variable_with, end_word, Declares, note, scope, timescale, upscope, variable}
 use Rattle.vcd_read.specs.Declarations as declarations
 use Rattle.vcd_text.specs.DumpText.{bounds_text, closings, code, identifier, kind_word, line, scope_line, timescale_line, variable_line, variable_lines}
-use Rattle.vcd_law.specs.Headers.{AreNamed, AreSmall, IsNamed, IsWord, Plain, all_seen, inmost, inner, own_name, seen}
+use Rattle.vcd_law.specs.Headers.{AreNamed, AreSmall, IsNamed, IsWord, Plain, all_seen, inmost, inner, own_name, variable_seen}
 use Rattle.vcd_law.proofs.WordsBack.{decimal_is, plain_code, plain_numbers, plain_word, word_comes}
 use Rattle.vcd_law.proofs.PartsBack.{code_some}
 
@@ -195,7 +195,7 @@ lead_scope prefixes name word before =
       goes_on = λ rest unit more d. scope before unit (inmost prefixes) (outer prefixes) (codes "module") name rest more d;
     }
 
-lead_variable : (prefixes : List Text) (n : ℕ) (v : Variable) → IsNamed (inmost prefixes) v → Leads prefixes prefixes (variable_line n v) (seen n v ∷ [])
+lead_variable : (prefixes : List Text) (n : ℕ) (v : Variable) → IsNamed (inmost prefixes) v → Leads prefixes prefixes (variable_line n v) (variable_seen n v ∷ [])
 lead_variable prefixes n v named before = record {
   words = variable_words n v;
   are = variable_of n (inmost prefixes) v named;
@@ -206,7 +206,7 @@ lead_variable prefixes n v named before = record {
       (record { name = text; width = v.length; code = code n } ∷ more)) name
       (subst (λ (ws : List Text). Declares before (inmost prefixes) (outer prefixes)
       (codes "$var" ∷ kind_word v.kind ∷ decimal v.length ∷ code n ∷ identifier (own_name v) ∷ ws) unit
-      (declared (inmost prefixes) (identifier (own_name v)) v.length (code n) ∷ more)) (sym (append_assoc range (end_word ∷ []) rest))
+      (variable_with (inmost prefixes) (identifier (own_name v)) v.length (code n) ∷ more)) (sym (append_assoc range (end_word ∷ []) rest))
       (variable before unit (inmost prefixes) (outer prefixes) (kind_word v.kind) (decimal v.length) (code n) (identifier (own_name v)) range rest v.length more
       (decimal_is v.length named.length) (no_end_range v.bounds) d));
 }
@@ -214,7 +214,7 @@ lead_variable prefixes n v named before = record {
 pub lead_variables : (prefixes : List Text) (n : ℕ) (vs : List Variable) → AreNamed (inmost prefixes) vs → Leads prefixes prefixes (variable_lines n vs) (all_seen n vs)
 lead_variables prefixes n [] named = lead_none prefixes
 lead_variables prefixes n (v ∷ vs) named =
-    lead_then prefixes prefixes prefixes (variable_line n v) (variable_lines (suc n) vs) (seen n v ∷ []) (all_seen (suc n) vs)
+    lead_then prefixes prefixes prefixes (variable_line n v) (variable_lines (suc n) vs) (variable_seen n v ∷ []) (all_seen (suc n) vs)
     (lead_variable prefixes n v named.0) (lead_variables prefixes (suc n) vs named.1)
 
 -- ---- notes
@@ -301,5 +301,5 @@ lead_timescale span =
           ∙ ap (λ (ws : List Text). codes "$timescale" ∷ number ∷ ws) (tail_words word fine.2.0 fine.2.1 None fine.2.2 fine.1 tt rest);
       goes_on = λ rest unit more d. timescale unit [] [] (number ∷ word ∷ []) rest span more
           (λ same. count_fine span.count (ap (λ (w : Text). get_or w 0 0) same), (λ same. fine.0 (ap (λ (w : Text). get_or w 0 0) same), tt))
-          (λ i. spanned (count_back span.count i) (unit_back span.unit i)) d;
+          (λ i. span_of_parts (count_back span.count i) (unit_back span.unit i)) d;
     }

@@ -6,7 +6,7 @@ use Rattle.vcd_read.specs.Words.{words_of}
 use Rattle.vcd_read.specs.Declarations.{Declares}
 use Rattle.vcd_read.specs.Declarations as declarations
 use Rattle.vcd_text.specs.DumpText.{DumpSlot, body, dump_of, dump_slots, nonempty_pieces, pieces, scope_marks, slots_after, spread, variable_marks}
-use Rattle.vcd_law.specs.Headers.{AreNested, all_seen, seen, seen_in}
+use Rattle.vcd_law.specs.Headers.{AreNested, all_seen, variable_seen, seen_in}
 use Rattle.vcd_law.specs.ReadBack.{HaveValues, RiseTo, body_read}
 use Rattle.vcd_law.specs.WholeDumps.{IsReadBack, seen_marked}
 use Rattle.vcd_law.proofs.HeaderBack.{header_told}
@@ -28,8 +28,8 @@ marked_front true (suc count) n marks [] = sym (none_marked (n + suc count) mark
 marked_front false (suc count) n marks [] = sym (none_marked (n + suc count) marks)
 marked_front true (suc count) n marks (v ∷ vs) =
     let same : suc n + count ≡ n + suc count = omega arith in
-    ap (λ (list : List declarations.Variable). seen n v ∷ list) (marked_front true count (suc n) marks vs)
-    ∙ ap (λ (k : ℕ). seen n v ∷ (all_seen (suc n) (take count vs) ++ seen_marked k marks (drop count vs))) same
+    ap (λ (list : List declarations.Variable). variable_seen n v ∷ list) (marked_front true count (suc n) marks vs)
+    ∙ ap (λ (k : ℕ). variable_seen n v ∷ (all_seen (suc n) (take count vs) ++ seen_marked k marks (drop count vs))) same
 marked_front false (suc count) n marks (v ∷ vs) =
     let same : suc n + count ≡ n + suc count = omega arith in
     marked_front false count (suc n) marks vs ∙ ap (λ (k : ℕ). seen_marked k marks (drop count vs)) same

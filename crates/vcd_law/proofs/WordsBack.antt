@@ -10,7 +10,7 @@ use Rattle.std.proofs.lemmas.List.Elements.{All-head, All-tail}
 use Rattle.basis.proofs.Bools.{and_left, and_right}
 use Rattle.basis.proofs.Decimals.{decimal_digits}
 use Rattle.basis.proofs.Digits.{decimal_numerals}
-use Rattle.vcd_read.specs.Words.{Text, closed, words_behind, words_of}
+use Rattle.vcd_read.specs.Words.{Text, with_word, words_behind, words_of}
 use Rattle.vcd_read.specs.Numbers.{IsDecimal}
 use Rattle.vcd_read.specs.Commands.{Item, Tells, at, time}
 use Rattle.vcd_read.specs.Telling.{Tell}
@@ -39,14 +39,14 @@ no_blank c h =
 pub letters_come : (w : Text) (rest : List ℕ) (letters : Text) → Plain w → words_behind (w ++ rest) letters ≡ words_behind rest (letters ++ w)
 letters_come [] rest letters plain = ap (words_behind rest) (sym (append-nil letters))
 letters_come (c ∷ cs) rest letters plain =
-    ap (λ (b : Bool). if b then closed letters (words_behind (cs ++ rest) []) else words_behind (cs ++ rest) (letters ++ c ∷ [])) (no_blank c plain.0)
+    ap (λ (b : Bool). if b then with_word letters (words_behind (cs ++ rest) []) else words_behind (cs ++ rest) (letters ++ c ∷ [])) (no_blank c plain.0)
     ∙ letters_come cs rest (letters ++ c ∷ []) plain.1 ∙ ap (words_behind rest) (append_assoc letters (c ∷ []) cs)
 
 pub word_comes : (c : ℕ) (cs : Text) (blank : ℕ) (rest : List ℕ) → Plain (c ∷ cs) → is_ascii_whitespace blank ≡ true →
     words_of ((c ∷ cs) ++ blank ∷ rest) ≡ (c ∷ cs) ∷ words_of rest
 word_comes c cs blank rest plain is =
     letters_come (c ∷ cs) (blank ∷ rest) [] plain
-    ∙ ap (λ (b : Bool). if b then closed (c ∷ cs) (words_behind rest []) else words_behind rest ((c ∷ cs) ++ blank ∷ [])) is
+    ∙ ap (λ (b : Bool). if b then with_word (c ∷ cs) (words_behind rest []) else words_behind rest ((c ∷ cs) ++ blank ∷ [])) is
 
 -- the text tells these items, and leads into a block or out of it: whatever is told behind it goes on from there
 abbrev pub TellsText : Bool → Bool → List ℕ → List Item → Type 0

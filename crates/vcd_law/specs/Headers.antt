@@ -61,12 +61,12 @@ AreNested prefixes (s ∷ scopes) variables =
 
 -- ---- what is declared
 
-abbrev pub seen : ℕ → Variable → declarations.Variable
-seen n v = record { name = v.name; width = v.length; code = code n }
+abbrev pub variable_seen : ℕ → Variable → declarations.Variable
+variable_seen n v = record { name = v.name; width = v.length; code = code n }
 
 abbrev pub all_seen : ℕ → List Variable → List declarations.Variable
 all_seen n [] = []
-all_seen n (v ∷ vs) = seen n v ∷ all_seen (suc n) vs
+all_seen n (v ∷ vs) = variable_seen n v ∷ all_seen (suc n) vs
 
 -- the variables of the scopes that are marked, the first of which has number n
 abbrev pub seen_in : ℕ → List Bool → List Scope → List Variable → List declarations.Variable

@@ -8,14 +8,14 @@ use Rattle.vcd_read.specs.Declarations as declarations
 use Rattle.vcd_read.specs.Commands.{Item, Tells}
 use Rattle.vcd_slots.specs.Slots.{DoNotFall}
 use Rattle.vcd_text.specs.DumpText.{DumpSlot, dump_slots, slots_after, variable_marks, vcd}
-use Rattle.vcd_law.specs.Headers.{AreNested, seen}
+use Rattle.vcd_law.specs.Headers.{AreNested, variable_seen}
 use Rattle.vcd_law.specs.ReadBack.{HaveValues, RiseTo, ShowSlots}
 
 -- the variables that are marked, the first of which has number n
 abbrev pub seen_marked : ℕ → List Bool → List Variable → List declarations.Variable
 seen_marked n marks [] = []
 seen_marked n [] (v ∷ vs) = []
-seen_marked n (mark ∷ marks) (v ∷ vs) = if mark then seen n v ∷ seen_marked (suc n) marks vs else seen_marked (suc n) marks vs
+seen_marked n (mark ∷ marks) (v ∷ vs) = if mark then variable_seen n v ∷ seen_marked (suc n) marks vs else seen_marked (suc n) marks vs
 
 -- What the dump of a design and a history says, in slots of which the first starts it: its words declare the precision as the unit of times,
 -- and the variables that are selected, and tell items that show each slot's values.

@@ -2,15 +2,15 @@
 use Rattle.std.proofs.Common.{◌≡◌, ℕ, Bool, true, false, if◌then◌else◌, List, [], ◌∷◌, ◌++◌, Option, None, Some, refl, ap, sym, ◌∙◌, append_assoc, append-nil, subst}
 use Rattle.std.specs.Char.{is_ascii_whitespace}
 use Rattle.std.specs.Io.KnownBytes.{Consumes, IsAtEnd}
-use Rattle.vcd_read.specs.Words.{Text, words_behind, words_of, closed}
+use Rattle.vcd_read.specs.Words.{Text, words_behind, words_of, with_word}
 use Rattle.vcd_read.specs.Declarations.{IsNoEnd, HaveNoEnd}
 use Rattle.vcd_read.specs.Bytes.{AreWords, AreAll, Come, IsNextWord, NoneIsLeft, HaveCome}
 
 one_behind : (c : ℕ) (cs : List ℕ) (letters : Text) → is_ascii_whitespace c ≡ false → words_behind (c ∷ cs) letters ≡ words_behind cs (letters ++ c ∷ [])
-one_behind c cs letters other = ap (λ (b : Bool). if b then closed letters (words_behind cs []) else words_behind cs (letters ++ c ∷ [])) other
+one_behind c cs letters other = ap (λ (b : Bool). if b then with_word letters (words_behind cs []) else words_behind cs (letters ++ c ∷ [])) other
 
-blank_behind : (c : ℕ) (cs : List ℕ) (letters : Text) → is_ascii_whitespace c ≡ true → words_behind (c ∷ cs) letters ≡ closed letters (words_of cs)
-blank_behind c cs letters blank = ap (λ (b : Bool). if b then closed letters (words_behind cs []) else words_behind cs (letters ++ c ∷ [])) blank
+blank_behind : (c : ℕ) (cs : List ℕ) (letters : Text) → is_ascii_whitespace c ≡ true → words_behind (c ∷ cs) letters ≡ with_word letters (words_of cs)
+blank_behind c cs letters blank = ap (λ (b : Bool). if b then with_word letters (words_behind cs []) else words_behind cs (letters ++ c ∷ [])) blank
 
 -- whatever is taken, the words are those of a step further on, if a step keeps them
 pub steps : (these those : List ℕ → List Text) (first old new : Option (List ℕ)) (bytes : List ℕ) → AreWords these first old → Consumes old new bytes →

@@ -7,11 +7,11 @@ use Rattle.vcd_read.specs.declared.header.Header.{Header}
 use Rattle.vcd_read.specs.declared.header.VcdVariable.{VcdVariable}
 
 -- a variable as definitions see it
-abbrev pub seen : VcdVariable → Variable
-seen v = record { name = v.name.items; width = v.width; code = v.code.items }
+abbrev pub view_of : VcdVariable → Variable
+view_of v = record { name = v.name.items; width = v.width; code = v.code.items }
 
 abbrev pub all_seen : List VcdVariable → List Variable
-all_seen = map seen
+all_seen = map view_of
 
 -- the prefixes outside of the open scope, the innermost first
 abbrev pub outer_of : Header → List Text

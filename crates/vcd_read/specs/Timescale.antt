@@ -27,18 +27,18 @@ unit_of word =
     else if bytes_eq word (codes "fs") then Some Femtosecond
     else None
 
-abbrev pub spanned : Option Count → Option Unit → Option Span
-spanned None unit = None
-spanned (Some count) None = None
-spanned (Some count) (Some unit) = Some (record { count = count; unit = unit })
+abbrev pub span_of_parts : Option Count → Option Unit → Option Span
+span_of_parts None unit = None
+span_of_parts (Some count) None = None
+span_of_parts (Some count) (Some unit) = Some (record { count = count; unit = unit })
 
 -- a number and a unit, in one word
 abbrev pub span_of : Text → Option Span
-span_of word = spanned (count_of (take (prefix_len is_ascii_digit word) word)) (unit_of (drop (prefix_len is_ascii_digit word) word))
+span_of word = span_of_parts (count_of (take (prefix_len is_ascii_digit word) word)) (unit_of (drop (prefix_len is_ascii_digit word) word))
 
 -- and in one or two
 abbrev pub span_in : List Text → Option Span
 span_in [] = None
 span_in (word ∷ []) = span_of word
-span_in (number ∷ unit ∷ []) = spanned (count_of number) (unit_of unit)
+span_in (number ∷ unit ∷ []) = span_of_parts (count_of number) (unit_of unit)
 span_in (number ∷ unit ∷ word ∷ words) = None

@@ -6,15 +6,15 @@ abbrev pub Text : Type 0
 Text = List ℕ
 
 -- where letters end that have come since the blank before, they are a word
-abbrev pub closed : Text → List Text → List Text
-closed [] words = words
-closed (c ∷ cs) words = (c ∷ cs) ∷ words
+abbrev pub with_word : Text → List Text → List Text
+with_word [] words = words
+with_word (c ∷ cs) words = (c ∷ cs) ∷ words
 
 -- the words of these bytes, behind letters that have come since the blank before
 abbrev pub words_behind : List ℕ → Text → List Text
-words_behind [] letters = closed letters []
+words_behind [] letters = with_word letters []
 words_behind (c ∷ cs) letters =
-    if is_ascii_whitespace c then closed letters (words_behind cs []) else words_behind cs (letters ++ c ∷ [])
+    if is_ascii_whitespace c then with_word letters (words_behind cs []) else words_behind cs (letters ++ c ∷ [])
 
 -- those of a text
 abbrev pub words_of : List ℕ → List Text

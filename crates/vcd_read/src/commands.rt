@@ -218,7 +218,7 @@ impl<R: Read + Drop> Commands<R> {
                     Ok(None)
                 };
             }
-            let word = self.words.taken(alloc);
+            let word = self.words.take_word(alloc);
             if let Some(item) = self.command(alloc, &word)? {
                 return Ok(Some(item));
             }

@@ -4,7 +4,7 @@ ghost use Rattle.std.specs.Prelude.{◌≡◌, ◌∷◌, [], ◌<◌, List, IfO
 ghost use Rattle.vcd_read.specs.Words.{Text};
 ghost use Rattle.vcd_read.specs.Bytes.{IsReady, Takes};
 ghost use Rattle.vcd_read.specs.Declarations.{HaveNoEnd};
-ghost use Rattle.vcd_read.specs.Timescale.{count_of, span_in, span_of, spanned, unit_of};
+ghost use Rattle.vcd_read.specs.Timescale.{count_of, span_in, span_of, span_of_parts, unit_of};
 
 use crate::fault::VcdFault;
 use crate::words::WordReader;
@@ -47,8 +47,8 @@ fn unit_of(word: &[u8]) -> Option<Unit>
 }
 
 // The length of time of a number and a unit.
-fn spanned(number: &[u8], unit: &[u8]) -> Option<Span>
-    ensures { result ≡ spanned (count_of number.now) (unit_of unit.now) }
+fn span_of_parts(number: &[u8], unit: &[u8]) -> Option<Span>
+    ensures { result ≡ span_of_parts (count_of number.now) (unit_of unit.now) }
 {
     let count = count_of(number)?;
     let unit = unit_of(unit)?;
@@ -60,7 +60,7 @@ fn span_of(word: &[u8]) -> Option<Span>
     ensures { result ≡ span_of word.now }
 {
     let digits = digits_len(word);
-    spanned(word.split_at(digits).0, word.split_at(digits).1)
+    span_of_parts(word.split_at(digits).0, word.split_at(digits).1)
 }
 
 // Whether letters stand behind the digits of the word.
@@ -83,5 +83,5 @@ pub(crate) fn read_span<R: Read + Drop>(
         return Ok(span_of(&first));
     }
     let second = words.take_inner(alloc)?;
-    Ok(spanned(&first, &second))
+    Ok(span_of_parts(&first, &second))
 }

@@ -116,7 +116,7 @@ impl<R: Read + Drop> WordReader<R> {
     }
 
     /// The last word, to keep.
-    pub(crate) fn taken(&mut self, alloc: Global) -> Vec<u8>
+    pub(crate) fn take_word(&mut self, alloc: Global) -> Vec<u8>
         ensures word { result.items ≡ self.old.word.items }
         ensures bytes { self.new.bytes ≡ self.old.bytes }
     {
@@ -131,7 +131,7 @@ impl<R: Read + Drop> WordReader<R> {
         ensures budget { IfOk result (λ _. self.new.bytes.budget < self.old.bytes.budget) }
     {
         self.must()?;
-        Ok(self.taken(alloc))
+        Ok(self.take_word(alloc))
     }
 
     // Whether the last word is the end of a declaration or of a command.
@@ -154,7 +154,7 @@ impl<R: Read + Drop> WordReader<R> {
         if self.is_end() {
             return Err(self.no_dump(VcdFlaw::Word));
         }
-        Ok(self.taken(alloc))
+        Ok(self.take_word(alloc))
     }
 
     /// The words up to the next `$end`, with it.

@@ -5,15 +5,15 @@ use Rattle.std.proofs.lemmas.List.{length-replicate}
 use Rattle.vbits.specs.declared.bit4.Bit4.{Bit4}
 use Rattle.vbits.specs.Vectors.{Vector, concat, filled, single}
 use Rattle.vcd_read.specs.Words.{Text}
-use Rattle.vcd_slots.specs.Slots.{counted, extension, letter_of, put_digits}
-use Rattle.vcd_slots.specs.Digits.{begun, put_all}
+use Rattle.vcd_slots.specs.Slots.{without_extra_zeros, extension, letter_of, put_digits}
+use Rattle.vcd_slots.specs.Digits.{extend_letter, put_all}
 
-pub begun_alone : (letter : Bit4) (more : ℕ) → more ≡ 0 → single letter ≡ begun letter more
+pub begun_alone : (letter : Bit4) (more : ℕ) → more ≡ 0 → single letter ≡ extend_letter letter more
 unfolding single
-begun_alone letter more none = ap (begun letter) (sym none)
+begun_alone letter more none = ap (extend_letter letter) (sym none)
 
 pub begun_behind : (letter : Bit4) (more : ℕ) (left right : Vector) → left ≡ filled more (extension letter) → right ≡ single letter →
-    concat left right ≡ begun letter more
+    concat left right ≡ extend_letter letter more
 unfolding concat filled single
 begun_behind letter more left right p q = λ i. concat (p i) (q i)
 
@@ -34,8 +34,8 @@ put_more letters digits i digit lt is =
     ∙ (λ k. put_digits (letter_of (sym is k) ∷ letters) (drop (sym (add-one i) k) digits))
 
 -- where there are no more digits than bits all of them count
-pub none_counted : (more : ℕ) (digits : Text) → more ≡ 0 → counted more digits ≡ digits
-none_counted more digits none = ap (λ (m : ℕ). counted m digits) none
+pub none_counted : (more : ℕ) (digits : Text) → more ≡ 0 → without_extra_zeros more digits ≡ digits
+none_counted more digits none = ap (λ (m : ℕ). without_extra_zeros m digits) none
 
 pub left_letters : (count : ℕ) (letter : Bit4) (v : Vector) → v ≡ filled count letter → length v.letters ≡ count
 unfolding filled

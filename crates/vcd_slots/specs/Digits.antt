@@ -6,8 +6,8 @@ use Rattle.vcd_read.specs.Words.{Text}
 use Rattle.vcd_slots.specs.Slots.{extension, put_digits}
 
 -- a letter, with so many to its left
-abbrev pub begun : Bit4 → ℕ → Vector
-begun letter more = record { letters = letter ∷ replicate more (extension letter); signed = false }
+abbrev pub extend_letter : Bit4 → ℕ → Vector
+extend_letter letter more = record { letters = letter ∷ replicate more (extension letter); signed = false }
 
 -- with the letters of digits to its right
 abbrev pub put_all : Vector → Text → Vector

@@ -5,7 +5,7 @@ use Rattle.vbits.specs.Vectors.{Vector}
 use Rattle.vcd_read.specs.Words.{Text}
 use Rattle.vcd_read.specs.Commands.{Item}
 use Rattle.vcd_read.specs.declared.header.VcdVariable.{VcdVariable}
-use Rattle.vcd_slots.specs.Slots.{Fit, on_behind, shown, vector_of}
+use Rattle.vcd_slots.specs.Slots.{Fit, on_behind, value_shown, vector_of}
 use Rattle.vcd_slots.specs.declared.column.Column.{Column}
 use Rattle.vcd_slots.specs.declared.columns.Columns.{Columns}
 
@@ -56,7 +56,7 @@ pub record Follows (old new : Columns) (variable : VcdVariable) (place : ℕ) : 
 pub record Show (columns : Columns) (items : List Item) : Type 0 where
   pub on : columns.is_on ≡ on_behind true items
   pub values : (place : ℕ) (column : Column) → slice_get columns.watched.items place ≡ Some column →
-      told_at columns.told.items place ≡ shown items column.code.items column.width
+      told_at columns.told.items place ≡ value_shown items column.code.items column.width
   pub fit : (place : ℕ) (column : Column) → slice_get columns.watched.items place ≡ Some column →
       Fit column.code.items column.width items
 

@@ -66,15 +66,15 @@ whole_vector width (c ∷ cs) = if nat_le (length (c ∷ cs)) width then Some (v
 abbrev pub is_zero : ℕ → Bool
 is_zero c = c == 48
 
-abbrev pub counted : ℕ → Text → Text
-counted more digits = if list_all is_zero (take more digits) then drop more digits else digits
+abbrev pub without_extra_zeros : ℕ → Text → Text
+without_extra_zeros more digits = if list_all is_zero (take more digits) then drop more digits else digits
 
 abbrev pub vector_of : ℕ → Text → Option Vector
-vector_of width digits = whole_vector width (counted (length digits - width) digits)
+vector_of width digits = whole_vector width (without_extra_zeros (length digits - width) digits)
 
 -- what a variable of this code and of so many bits is worth behind items, if that is known
-abbrev pub shown : List Item → Text → ℕ → Option Vector
-shown items code width = option_and_then (vector_of width) (value_after items code)
+abbrev pub value_shown : List Item → Text → ℕ → Option Vector
+value_shown items code width = option_and_then (vector_of width) (value_after items code)
 
 -- each value of the code has digits of a variable of so many bits
 abbrev pub Fit : Text → ℕ → List Item → Type 0
@@ -129,4 +129,4 @@ items_until now items = if is_begun now items then before_later now items else [
 
 -- what is shown at a time
 abbrev pub shown_at : ℕ → List Item → Text → ℕ → Option Vector
-shown_at now items = shown (items_until now items)
+shown_at now items = value_shown (items_until now items)

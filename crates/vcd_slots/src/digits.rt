@@ -3,8 +3,8 @@
 ghost use Rattle.std.specs.Prelude.{◌≡◌, ◌+◌, ◌≤◌, ◌∷◌, length, replicate, false};
 ghost use Rattle.vbits.specs.Vectors.{filled, single};
 ghost use Rattle.std.specs.List.{list_all};
-ghost use Rattle.vcd_slots.specs.Slots.{counted, extension, is_zero, letter_of, vector_of, whole_vector};
-ghost use Rattle.vcd_slots.specs.Digits.{begun, put_all};
+ghost use Rattle.vcd_slots.specs.Slots.{without_extra_zeros, extension, is_zero, letter_of, vector_of, whole_vector};
+ghost use Rattle.vcd_slots.specs.Digits.{extend_letter, put_all};
 
 use vbits::{Bit4, Vec4};
 
@@ -40,7 +40,7 @@ fn left_of(letter: Bit4, count: u32) -> Vec4
 // The letter, with so many to its left.
 fn letter_before(letter: Bit4, more: u32) -> Vec4
     requires { more ≤ 63 }
-    ensures { result ≡ begun letter more }
+    ensures { result ≡ extend_letter letter more }
 {
     if more == 0 {
         Vec4::of_bit(letter)
@@ -79,7 +79,7 @@ fn are_zeros(digits: &[u8]) -> bool
 // Without so many in front, if these are 0.
 fn without_zeros(more: usize, digits: &[u8]) -> &[u8]
     requires { more ≤ length digits.now }
-    ensures { result.now ≡ counted more digits.now }
+    ensures { result.now ≡ without_extra_zeros more digits.now }
 {
     if are_zeros(digits.split_at(more).0) {
         digits.split_at(more).1

@@ -182,7 +182,7 @@ impl<'a, O: ByteSink> DumpSink<'a, O> {
     }
 
     /// A dump that has come so far, whose text so far the byte sink has.
-    pub fn resumed(
+    pub fn resume(
         alloc: Global,
         design: &'a Design,
         byte_sink: &'a mut O,

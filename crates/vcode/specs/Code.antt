@@ -65,13 +65,13 @@ abbrev pub past : Code → Point → Point
 past code point = past_place code (place_of_point point)
 
 -- past so many of these at most
-abbrev pub settled : Code → List ℕ → ℕ → Point → Point
-settled code turns zero point = point
-settled code turns (suc most) point = if is_spent code turns point then settled code turns most (past code point) else point
+abbrev pub pass_spent : Code → List ℕ → ℕ → Point → Point
+pass_spent code turns zero point = point
+pass_spent code turns (suc most) point = if is_spent code turns point then pass_spent code turns most (past code point) else point
 
 -- where a process comes that comes to a point; no more are passed than there are places
 abbrev pub settle : Code → List ℕ → Point → Point
-settle code turns point = settled code turns (length code.links) point
+settle code turns point = pass_spent code turns (length code.links) point
 
 -- where it comes that is done with a place
 abbrev pub behind : Code → List ℕ → ℕ → Point

@@ -162,7 +162,7 @@ impl Code {
     }
 
     /// The point at which a process comes that is done with this place.
-    pub fn behind(&self, turns: &[u64], place: usize) -> Point
+    pub fn next_point(&self, turns: &[u64], place: usize) -> Point
         ensures { result ≡ spec.behind self.now turns.now place }
     {
         self.settle(turns, link_at(&self.links, place).next)

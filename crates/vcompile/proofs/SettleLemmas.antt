@@ -4,7 +4,7 @@ use Rattle.std.proofs.lemmas.Bool.Decides.{nat_tests}
 use Rattle.vcode.specs.declared.point.Point.{Point}
 use Rattle.vcode.specs.declared.point.Point.TheVariants.{Ended, Executing, Repeating, Writing, Waiting}
 use Rattle.vcode.specs.Points.{place_of_point}
-use Rattle.vcode.specs.Code.{Code, link_at, counter_at, turns_by, turns_at, with_counter, with_turns, is_spent, past, past_place, settled, settle, behind}
+use Rattle.vcode.specs.Code.{Code, link_at, counter_at, turns_by, turns_at, with_counter, with_turns, is_spent, past, past_place, pass_spent, settle, behind}
 use Rattle.vcompile.proofs.LinkLemmas.{IsNext, LeadOn}
 
 -- ---- counters
@@ -68,7 +68,7 @@ module _ (code : Code) (leads : LeadOn code.links) where
           let above : place < other = b.0 in
           (omega (arith, few, above), b.1)
 
-  none_needed : (turns : List ℕ) (point : Point) → Enough (length code.links) 0 (place_of_point point) → settled code turns 1 point ≡ point
+  none_needed : (turns : List ℕ) (point : Point) → Enough (length code.links) 0 (place_of_point point) → pass_spent code turns 1 point ≡ point
   none_needed turns Ended h = refl
   none_needed turns (Executing place) h = refl
   none_needed turns (Repeating place) h =
@@ -78,7 +78,7 @@ module _ (code : Code) (leads : LeadOn code.links) where
   none_needed turns (Writing place) h = refl
   none_needed turns (Waiting place) h = refl
 
-  one_more : (turns : List ℕ) (most : ℕ) (point : Point) → Enough (length code.links) most (place_of_point point) → settled code turns (suc most) point ≡ settled code turns most point
+  one_more : (turns : List ℕ) (most : ℕ) (point : Point) → Enough (length code.links) most (place_of_point point) → pass_spent code turns (suc most) point ≡ pass_spent code turns most point
   one_more turns zero point h = none_needed turns point h
   one_more turns (suc most) point h =
       ap (λ p. if is_spent code turns point then p else point) (one_more turns most (past code point) (enough_past most (place_of_point point) h))
@@ -94,21 +94,21 @@ module _ (code : Code) (leads : LeadOn code.links) where
       settle code turns (Repeating place) ≡ behind code turns place
   spent_leads turns place within none = by (length code.links) refl
     where
-      by : (count : ℕ) → length code.links ≡ count → settled code turns count (Repeating place) ≡ settled code turns count (link_at code.links place).next
+      by : (count : ℕ) → length code.links ≡ count → pass_spent code turns count (Repeating place) ≡ pass_spent code turns count (link_at code.links place).next
       by zero is = absurd (omega (arith, is, within))
       by (suc most) is =
           let spent : (turns_at code turns place == 0) ≡ true = ap (λ n. n == 0) none in
-          ap (λ b. if b then settled code turns most (link_at code.links place).next else Repeating place) spent
+          ap (λ b. if b then pass_spent code turns most (link_at code.links place).next else Repeating place) spent
           ∙ sym (one_more turns most (link_at code.links place).next (enough_behind most place (place_of_point (link_at code.links place).next) is (leads place within)))
 
   -- and one of which some are left stays
-  pub turning_stays : (turns : List ℕ) (most place n : ℕ) → turns_at code turns place ≡ suc n → settled code turns most (Repeating place) ≡ Repeating place
+  pub turning_stays : (turns : List ℕ) (most place n : ℕ) → turns_at code turns place ≡ suc n → pass_spent code turns most (Repeating place) ≡ Repeating place
   turning_stays turns zero place n some = refl
   turning_stays turns (suc most) place n some =
       let spent : (turns_at code turns place == 0) ≡ false = ap (λ m. m == 0) some ∙ some_left n in
-      ap (λ b. if b then settled code turns most (link_at code.links place).next else Repeating place) spent
+      ap (λ b. if b then pass_spent code turns most (link_at code.links place).next else Repeating place) spent
 
-  pub executing_stays : (turns : List ℕ) (most place : ℕ) → settled code turns most (Executing place) ≡ Executing place
+  pub executing_stays : (turns : List ℕ) (most place : ℕ) → pass_spent code turns most (Executing place) ≡ Executing place
   executing_stays turns zero place = refl
   executing_stays turns (suc most) place = refl
 
@@ -123,10 +123,10 @@ module _ (code : Code) (leads : LeadOn code.links) where
     choose Q true one other p q = p
     choose Q false one other p q = q
 
-    pub settled_on : (turns : List ℕ) (most : ℕ) (point : Point) → On P (place_of_point point) → On P (place_of_point (settled code turns most point))
+    pub settled_on : (turns : List ℕ) (most : ℕ) (point : Point) → On P (place_of_point point) → On P (place_of_point (pass_spent code turns most point))
     settled_on turns zero point h = h
     settled_on turns (suc most) point h =
-        choose (λ p. On P (place_of_point p)) (is_spent code turns point) (settled code turns most (past code point)) point
+        choose (λ p. On P (place_of_point p)) (is_spent code turns point) (pass_spent code turns most (past code point)) point
         (settled_on turns most (past code point) (past_on (place_of_point point) h)) h
 
     -- where the turns of another place change, no turns of these do
@@ -141,10 +141,10 @@ module _ (code : Code) (leads : LeadOn code.links) where
       spent_else (Writing place) h = refl
       spent_else (Waiting place) h = refl
 
-      settled_else : (most : ℕ) (point : Point) → On P (place_of_point point) → settled code (with_turns code low n turns) most point ≡ settled code turns most point
+      settled_else : (most : ℕ) (point : Point) → On P (place_of_point point) → pass_spent code (with_turns code low n turns) most point ≡ pass_spent code turns most point
       settled_else zero point h = refl
       settled_else (suc most) point h =
-          ap (λ b. if b then settled code (with_turns code low n turns) most (past code point) else point) (spent_else point h)
+          ap (λ b. if b then pass_spent code (with_turns code low n turns) most (past code point) else point) (spent_else point h)
           ∙ ap (λ p. if is_spent code turns point then p else point) (settled_else most (past code point) (past_on (place_of_point point) h))
 
       -- and the same stands behind what leads to them

@@ -8,7 +8,7 @@ use Rattle.vcode.specs.declared.point.Point.{Point}
 use Rattle.vcode.specs.declared.point.Point.TheVariants.{Ended, Executing, Repeating}
 use Rattle.vcode.specs.declared.link.Link.{Link}
 use Rattle.vcode.specs.Points.{place_of_point}
-use Rattle.vcode.specs.Code.{Code, link_at, begin_of, counter_at, turns_at, with_turns, settled, settle, behind}
+use Rattle.vcode.specs.Code.{Code, link_at, begin_of, counter_at, turns_at, with_turns, pass_spent, settle, behind}
 use Rattle.vdesign.specs.Design.{Design}
 use Rattle.vdesign.specs.Expressions.{ExpressionTree}
 use Rattle.vdesign.specs.declared.action.Branch.{Branch}
@@ -617,7 +617,7 @@ module _ (design : Design) (code : Code) (facts : Holds design code) where
   first_of_places process [] chain = refl
   first_of_places process (place ∷ places) chain = ap Executing (number place (first_leads code.links process place places Ended chain).within)
 
-  ended_stays : (turns : List ℕ) (most : ℕ) → settled code turns most Ended ≡ Ended
+  ended_stays : (turns : List ℕ) (most : ℕ) → pass_spent code turns most Ended ≡ Ended
   ended_stays turns zero = refl
   ended_stays turns (suc most) = refl
 

@@ -19,7 +19,7 @@ use Rattle.velab_declaration.specs.ActionFlaws.{blank, blank_environment}
 use Rattle.velab_expr.specs.declared.fault.Rule.TheVariants as rule
 use Rattle.velab_declaration.specs.Right.{is_net}
 use Rattle.velab_declaration.specs.Drives.{Place, same_place, is_driven, places_from, drives_again, drivers_fault, places_of, driven_by, driven_by_all, start_letter, start_of}
-use Rattle.velab_declaration.specs.DriveMarks.{mark_letter, mark_of, marks_from, AreMarks, marked, size_in, Marks, Tells, starts_from}
+use Rattle.velab_declaration.specs.DriveMarks.{mark_letter, mark_of, marks_from, AreMarks, with_mark, size_in, Marks, Tells, starts_from}
 
 or_none : (b : Bool) → (b || false) ≡ b
 or_none true = refl
@@ -167,14 +167,14 @@ module _ (driven : List Place) (n size bit : ℕ) (letters : Vector) (within : b
       cc
 
   pub free_bit : (letter : Bit4) (more : Vector) → slice_get letters.letters bit ≡ Some letter → letter ≡ Z → more ≡ put letters bit bit (filled 1 X) →
-      Some more ≡ marked driven n size bit
+      Some more ≡ with_mark driven n size bit
   free_bit letter more at is same = by (is_driven driven (n, bit)) refl
     where
       by : (b : Bool) → is_driven driven (n, bit) ≡ b → Some more ≡ (if b then None else Some (mark_of (driven ++ (n, bit) ∷ []) n size))
       by true e = let no : X ≡ Z = sym (ap (λ b. if b then X else Z) e) ∙ told_letter letter at ∙ is in absurd cc
       by false e = ap Some (same ∙ ap (λ (v : Vector). put v bit bit (filled 1 X)) are ∙ put_marked driven n size bit within)
 
-  pub taken_bit : (letter : Bit4) → slice_get letters.letters bit ≡ Some letter → (letter ≡ Z → ⊥) → None ≡ marked driven n size bit
+  pub taken_bit : (letter : Bit4) → slice_get letters.letters bit ≡ Some letter → (letter ≡ Z → ⊥) → None ≡ with_mark driven n size bit
   taken_bit letter at other = by (is_driven driven (n, bit)) refl
     where
       by : (b : Bool) → is_driven driven (n, bit) ≡ b → None ≡ (if b then None else Some (mark_of (driven ++ (n, bit) ∷ []) n size))
@@ -222,14 +222,14 @@ module _ (driven : List Place) (variables : List Variable) (old : List Vector) (
       let here : n ≡ 0 + n = omega arith in
       mark_in driven 0 variables n n letters here (ap (λ (l : List Vector). slice_get l n) (sym are) ∙ is)
 
-  pub bit_taken : None ≡ marked driven n (size_in variables n) bit → Marks driven (places_from n bit 1) variables false old
+  pub bit_taken : None ≡ with_mark driven n (size_in variables n) bit → Marks driven (places_from n bit 1) variables false old
   bit_taken is = record { told = by (is_driven driven (n, bit)) is; are = λ no. absurd cc }
     where
       by : (b : Bool) → None ≡ (if b then None else Some (mark_of (driven ++ (n, bit) ∷ []) n (size_in variables n))) → false ≡ not (b || false)
       by true e = refl
       by false e = absurd cc
 
-  pub bit_free : (more : Vector) (new : List Vector) → Some more ≡ marked driven n (size_in variables n) bit → new ≡ slice_set old n more →
+  pub bit_free : (more : Vector) (new : List Vector) → Some more ≡ with_mark driven n (size_in variables n) bit → new ≡ slice_set old n more →
       Marks driven (places_from n bit 1) variables true new
   bit_free more new is set = by (is_driven driven (n, bit)) refl is
     where
@@ -449,7 +449,7 @@ pub starts_step : (driven : List Place) (vs : List Variable) (i : ℕ) (v : Vari
 starts_step driven vs i v within is marks are mark one mark_is told done all same =
     let rest : List Vector = starts_from driven (i + 1) (drop (i + 1) vs) in
     let here : i ≡ 0 + i = omega arith in
-    let marked : mark ≡ mark_of driven i v.length =
+    let with_mark : mark ≡ mark_of driven i v.length =
     mark_is ∙ ap (λ (l : List Vector). unwrap_or (slice_get l i) (filled 1 X)) are ∙ mark_there driven 0 vs i i v (filled 1 X) here within is in
-    append_assoc done (one ∷ []) rest ∙ (λ j. done ++ told marked j ∷ rest)
+    append_assoc done (one ∷ []) rest ∙ (λ j. done ++ told with_mark j ∷ rest)
     ∙ ap (λ (l : List Variable). done ++ starts_from driven i l) (sym (drop_at vs i v within is)) ∙ same

@@ -4,7 +4,7 @@ use Rattle.std.specs.Prelude.{option_map}
 use Rattle.std.proofs.lemmas.List.{map-append}
 use Rattle.std.specs.List.{flat_map}
 use Rattle.vast.specs.Words.{Text}
-use Rattle.vast.specs.NumberedWords.{Word, numbered}
+use Rattle.vast.specs.NumberedWords.{Word, word_of}
 use Rattle.vast.specs.NumberedModules.{RangeTree, DeclaredTree, ItemTree, parameters, declaration, events, assignments, initial, always, instances}
 use Rattle.vast.specs.NumberedTrees.{range_tree, declared_tree, item_tree, module_tree}
 use Rattle.vast.specs.declared.module.Declared.{Declared}
@@ -28,21 +28,21 @@ use Rattle.vmodules.specs.Ports.{Port, own_item, own_items, plain_names}
 use Rattle.vmodules.specs.declared.ports.PortForm.{PortForm}
 use Rattle.vast.specs.declared.module.ModuleTree.{ModuleTree as Parsed}
 use Rattle.vmodules.specs.Inner.{own_in, HoldSame}
-use Rattle.velab_declaration.specs.Variables.{Declaration as Declared_as, declared, all_declared, declarations_of, kind_of, variable_in, variables_in, lower_port, lower_ports, lower_declaration, lower_variables, integer_kind}
+use Rattle.velab_declaration.specs.Variables.{Declaration as Declared_as, declaration_with, all_declared, declarations_of, kind_of, variable_in, variables_in, lower_port, lower_ports, lower_declaration, lower_variables, integer_kind}
 use Rattle.velab_declaration.specs.declared.variable.Form.{Form}
 use Rattle.velab_declaration.specs.Inner.{names_of, declared_in, texts_of, own_texts, own_trees, own_tree, own_kind, own_variables, port_texts, names_before, names_declared}
 
 -- ---- one item
 
 module _ (kind : Kind) (signed : Bool) (range : Option RangeTree) where
-  map_names : (ts : List Word) → map (λ (d : Declared_as). d.name) (map (declared kind signed range) ts) ≡ ts
+  map_names : (ts : List Word) → map (λ (d : Declared_as). d.name) (map (declaration_with kind signed range) ts) ≡ ts
   map_names [] = refl
   map_names (t ∷ ts) = ap (λ l. t ∷ l) (map_names ts)
 
   module _ (words : List Text) (list : List Declared) where
     names_view : (ds : List Declared) → map (λ (d : DeclaredTree). d.name) (map (declared_tree words) ds) ≡ texts_of words ds
     names_view [] = refl
-    names_view (d ∷ ds) = ap (λ l. numbered words d.name ∷ l) (names_view ds)
+    names_view (d ∷ ds) = ap (λ l. word_of words d.name ∷ l) (names_view ds)
 
     pub item_names : texts_of words list ≡ map (λ (d : Declared_as). d.name) (all_declared kind signed range (map (declared_tree words) list))
     item_names = sym (map_names _ ∙ names_view list)
@@ -50,13 +50,13 @@ module _ (kind : Kind) (signed : Bool) (range : Option RangeTree) where
     module _ (made : List Text) where
       own_view : (ds : List Declared) → map (λ (d : DeclaredTree). d.name) (own_trees words made ds) ≡ own_texts words made ds
       own_view [] = refl
-      own_view (d ∷ ds) = by (is_declared made (numbered words d.name).letters) (own_view ds)
+      own_view (d ∷ ds) = by (is_declared made (word_of words d.name).letters) (own_view ds)
         where
           by : (b : Bool) → map (λ (d : DeclaredTree). d.name) (own_trees words made ds) ≡ own_texts words made ds →
               map (λ (d : DeclaredTree). d.name) (if not b then declared_tree words d ∷ own_trees words made ds else own_trees words made ds)
-              ≡ (if not b then numbered words d.name ∷ own_texts words made ds else own_texts words made ds)
+              ≡ (if not b then word_of words d.name ∷ own_texts words made ds else own_texts words made ds)
           by true same = same
-          by false same = ap (λ l. numbered words d.name ∷ l) same
+          by false same = ap (λ l. word_of words d.name ∷ l) same
 
       pub own_item_names : own_texts words made list ≡ map (λ (d : Declared_as). d.name) (all_declared kind signed range (own_trees words made list))
       own_item_names = sym (map_names _ ∙ own_view list)
@@ -71,14 +71,14 @@ module _ (words made : List Text) (list : List Declared) (kind : DeclarationWord
   pub integers_names : (long : Bool) → kind ≡ declaring.Integers long → texts_of words list ≡ names_of (own_kind words made kind list)
   integers_names long is = item_names (integer_kind long) (not long) None words list ∙ sym (ap (λ (k : DeclarationWords). names_of (own_kind words made k list)) is)
 
-pub item_of_names : (words made : List Text) (item : ModuleItem) (place : ℕ) (kind : DeclarationWords) (declared : Vec Declared Global) (list : List Declared) →
-    item ≡ Declaration place kind declared → list ≡ declared.items → names_of (own_kind words made kind list) ≡ names_of (own_tree words made item)
-item_of_names words made item place kind declared list is same =
+pub item_of_names : (words made : List Text) (item : ModuleItem) (place : ℕ) (kind : DeclarationWords) (declaration_with : Vec Declared Global) (list : List Declared) →
+    item ≡ Declaration place kind declaration_with → list ≡ declaration_with.items → names_of (own_kind words made kind list) ≡ names_of (own_tree words made item)
+item_of_names words made item place kind declaration_with list is same =
     ap (λ (l : List Declared). names_of (own_kind words made kind l)) same ∙ sym (ap (λ (m : ModuleItem). names_of (own_tree words made m)) is)
 
 -- the names of a declaration one by one, and of items, item by item
 pub own_first : (words made : List Text) (one : Declared) (more : List Declared) → own_texts words made (one ∷ more) ≡ own_texts words made (one ∷ []) ++ own_texts words made more
-own_first words made one more = filter-append (λ (word : Word). not (is_declared made word.letters)) (numbered words one.name ∷ []) (texts_of words more)
+own_first words made one more = filter-append (λ (word : Word). not (is_declared made word.letters)) (word_of words one.name ∷ []) (texts_of words more)
 
 pub in_order : (words made : List Text) (item : ModuleItem) (items : List ModuleItem) → declared_in (own_in words made (item ∷ items)) ≡ names_of (own_tree words made item) ++ declared_in (own_in words made items)
 in_order words made item items =
@@ -97,9 +97,9 @@ names_are words made ports unit items are same =
 
 -- ---- the variables of items, and of ports, one after another
 
-pub declaration_is : (words made : List Text) (item : ModuleItem) (place : ℕ) (kind : DeclarationWords) (declared : Vec Declared Global) (list : List Declared) →
-    item ≡ Declaration place kind declared → list ≡ declared.items → own_kind words made kind list ≡ own_tree words made item
-declaration_is words made item place kind declared list is same = ap (own_kind words made kind) same ∙ sym (ap (own_tree words made) is)
+pub declaration_is : (words made : List Text) (item : ModuleItem) (place : ℕ) (kind : DeclarationWords) (declaration_with : Vec Declared Global) (list : List Declared) →
+    item ≡ Declaration place kind declaration_with → list ≡ declaration_with.items → own_kind words made kind list ≡ own_tree words made item
+declaration_is words made item place kind declaration_with list is same = ap (own_kind words made kind) same ∙ sym (ap (own_tree words made) is)
 
 -- the variables of a declaration one by one
 pub own_opens : (words made : List Text) (path : Text) (form : Form) (one : Declared) (more : List Declared) →
@@ -110,13 +110,13 @@ own_opens words made path form one more =
     ∙ map-append (λ (d : DeclaredTree). variable_in path form d.name.letters) (own_trees words made (one ∷ [])) (own_trees words made more)
 
 -- one that is a port has none, and one that isn't has its own
-pub own_made : (words made : List Text) (path : Text) (form : Form) (one : Declared) → is_declared made (numbered words one.name).letters ≡ true →
+pub own_made : (words made : List Text) (path : Text) (form : Form) (one : Declared) → is_declared made (word_of words one.name).letters ≡ true →
     own_variables words made path form (one ∷ []) ≡ []
 own_made words made path form one is =
     ap (λ b. variables_in path form (if not b then declared_tree words one ∷ [] else [])) is
 
-pub own_put : (words made : List Text) (path : Text) (form : Form) (one : Declared) → is_declared made (numbered words one.name).letters ≡ false →
-    own_variables words made path form (one ∷ []) ≡ variable_in path form (numbered words one.name).letters ∷ []
+pub own_put : (words made : List Text) (path : Text) (form : Form) (one : Declared) → is_declared made (word_of words one.name).letters ≡ false →
+    own_variables words made path form (one ∷ []) ≡ variable_in path form (word_of words one.name).letters ∷ []
 own_put words made path form one is =
     ap (λ b. variables_in path form (if not b then declared_tree words one ∷ [] else [])) is
 

@@ -7,7 +7,7 @@ use Rattle.vdesign.specs.Design.{Variable}
 use Rattle.vdesign.specs.declared.action.Action.{Action}
 use Rattle.vvalue.specs.Value.{Environment}
 use Rattle.velab_expr.specs.declared.fault.ElabFault.{ElabFault}
-use Rattle.velab_declaration.specs.Drives.{Place, is_driven, places_from, drives_again, drivers_fault, driven_by_all, started}
+use Rattle.velab_declaration.specs.Drives.{Place, is_driven, places_from, drives_again, drivers_fault, driven_by_all, with_start_values}
 
 abbrev pub mark_letter : List Place → Place → Bit4
 mark_letter driven place = if is_driven driven place then X else Z
@@ -24,8 +24,8 @@ abbrev pub AreMarks : List Place → List Variable → List Vector → Type 0
 AreMarks driven variables marks = marks ≡ marks_from driven 0 variables
 
 -- with one bit more, if it isn't driven
-abbrev pub marked : List Place → ℕ → ℕ → ℕ → Option Vector
-marked driven n size bit = if is_driven driven (n, bit) then None else Some (mark_of (driven ++ (n, bit) ∷ []) n size)
+abbrev pub with_mark : List Place → ℕ → ℕ → ℕ → Option Vector
+with_mark driven n size bit = if is_driven driven (n, bit) then None else Some (mark_of (driven ++ (n, bit) ∷ []) n size)
 
 abbrev pub length_if : Option Variable → ℕ
 length_if None = 0
@@ -47,4 +47,4 @@ pub record Tells (driven : List Place) (now : Environment) (variables : List Var
 
 -- what the variables from number n on are at first
 abbrev pub starts_from : List Place → ℕ → List Variable → List Vector
-starts_from driven n variables = map (λ v. v.start) (started driven n variables)
+starts_from driven n variables = map (λ v. v.start) (with_start_values driven n variables)

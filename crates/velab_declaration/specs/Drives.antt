@@ -66,6 +66,6 @@ abbrev pub start_of : List Place → ℕ → Variable → Vector
 start_of driven n v = record { letters = map (start_letter driven v) (places_from n 0 v.length); signed = false }
 
 -- the variables from number n on, each with what it is at first
-abbrev pub started : List Place → ℕ → List Variable → List Variable
-started driven n [] = []
-started driven n (v ∷ more) = record v { start = start_of driven n v } ∷ started driven (n + 1) more
+abbrev pub with_start_values : List Place → ℕ → List Variable → List Variable
+with_start_values driven n [] = []
+with_start_values driven n (v ∷ more) = record v { start = start_of driven n v } ∷ with_start_values driven (n + 1) more

@@ -4,7 +4,7 @@ use Rattle.std.specs.Borrow.{Bor}
 use Rattle.std.specs.List.{filter, flat_map}
 use Rattle.vdesign.specs.Design as design
 use Rattle.vast.specs.Words.{Text}
-use Rattle.vast.specs.NumberedWords.{Word, numbered}
+use Rattle.vast.specs.NumberedWords.{Word, word_of}
 use Rattle.vast.specs.NumberedModules.{ParameterType, DeclaredTree, ItemTree, declaration}
 use Rattle.vmodules.specs.Names.{is_declared, again_behind}
 use Rattle.vmodules.specs.Inner.{ConnectionEntry, entries_tree, port_form, own_in}
@@ -62,7 +62,7 @@ abbrev pub instance_symbols : List Text → List Instance → List Symbol
 instance_symbols words list = map (λ one. instance_symbol one.name) (map (instance_tree words) list)
 
 abbrev pub event_symbols : List Text → List Token → List Symbol
-event_symbols words names = map event_symbol (map (numbered words) names)
+event_symbols words names = map event_symbol (map (word_of words) names)
 
 abbrev pub valueless_in : List Text → List ModuleItem → List Symbol
 valueless_in words items = flat_map valueless_by (map (item_tree words) items)
@@ -72,7 +72,7 @@ symbols_at_head {X = X} words list = symbols_in_head (option_map (λ (heads : Ve
 
 -- the names that are declared together, in the words of a text
 abbrev pub texts_of : List Text → List Declared → List Word
-texts_of words list = map (λ one. numbered words one.name) list
+texts_of words list = map (λ one. word_of words one.name) list
 
 -- the names of ports, and those behind them that items declare
 abbrev pub port_texts : List Text → List PortForm → List Word

@@ -14,7 +14,7 @@ use Rattle.velab_expr.specs.declared.fault.ElabFault.{ElabFault}
 use Rattle.velab_expr.specs.declared.fault.Rule.TheVariants as rule
 use Rattle.velab_expr.specs.declared.scope.Meaning.{Meaning}
 use Rattle.velab_expr.specs.declared.scope.Meaning.TheVariants.{Parameter, Event, Instance}
-use Rattle.velab_expr.specs.Answers.{◌>>=◌, required}
+use Rattle.velab_expr.specs.Answers.{◌>>=◌, require}
 use Rattle.velab_expr.specs.Scopes.{Scope, at}
 use Rattle.velab_expr.specs.Constants.{nothing, worth}
 use Rattle.velab_expr.specs.Resolved.{lower_constant}
@@ -64,7 +64,7 @@ lower_meaning overrides scope (parameter_symbol type setting) =
     lower_type scope type >>= λ bounds.
     lower_setting overrides scope setting >>= λ value.
     Ok (Parameter (parameter_by type bounds value) bounds scope.known)
-lower_meaning overrides scope (event_symbol name) = required (nat_lt scope.events 4294967295) rule.TooMany (Some name) (Event scope.events)
+lower_meaning overrides scope (event_symbol name) = require (nat_lt scope.events 4294967295) rule.TooMany (Some name) (Event scope.events)
 lower_meaning overrides scope (instance_symbol name) = Ok Instance
 
 -- a parameter is known from its place on, to what stands behind it
@@ -83,7 +83,7 @@ with_meaning scope one meaning = record {
 abbrev pub add_symbol : Overrides → Scope → Symbol → Result Scope ElabFault
 add_symbol overrides scope one =
     lower_meaning overrides scope one >>= λ meaning.
-    required (not (is_declared scope.names (name_in one).letters)) rule.Doubled (Some (name_in one)) (with_meaning scope one meaning)
+    require (not (is_declared scope.names (name_in one).letters)) rule.Doubled (Some (name_in one)) (with_meaning scope one meaning)
 
 -- one after another, each known to those behind it
 abbrev pub add_symbols : Overrides → Scope → List Symbol → Result Scope ElabFault

@@ -16,7 +16,7 @@ use Rattle.vdesign.specs.declared.expression.Bounds.{Bounds}
 use Rattle.velab_expr.specs.declared.fault.ElabFault.{ElabFault}
 use Rattle.velab_expr.specs.Scopes.{Scope, at}
 use Rattle.velab_expr.specs.Ranges.{span, lower_bounds}
-use Rattle.velab_expr.specs.Answers.{◌>>=◌, required}
+use Rattle.velab_expr.specs.Answers.{◌>>=◌, require}
 use Rattle.velab_expr.specs.declared.fault.Rule.TheVariants as rule
 use Rattle.velab_declaration.specs.declared.variable.Form.{Form}
 use Rattle.velab_expr.specs.Symbols.{behind_item}
@@ -27,12 +27,12 @@ pub record Declaration : Type 0 where
   pub signed : Bool
   pub range : Option RangeTree
 
-abbrev pub declared : Kind → Bool → Option RangeTree → Word → Declaration
-declared kind signed range name = record { name = name; kind = kind; signed = signed; range = range }
+abbrev pub declaration_with : Kind → Bool → Option RangeTree → Word → Declaration
+declaration_with kind signed range name = record { name = name; kind = kind; signed = signed; range = range }
 
 -- the name of each, declared as of this kind, with this sign and this range
 abbrev pub all_declared : Kind → Bool → Option RangeTree → List DeclaredTree → List Declaration
-all_declared kind signed range list = map (declared kind signed range) (map (λ one. one.name) list)
+all_declared kind signed range list = map (declaration_with kind signed range) (map (λ one. one.name) list)
 
 -- 4.2.1, 4.2.2
 abbrev pub kind_of : NetKind → Kind
@@ -85,7 +85,7 @@ port_signed p = signed_with p.type.signed p.long
 
 -- 12.3.3: a port is declared where it stands
 abbrev pub port_declaration : Port → Declaration
-port_declaration p = declared (port_kind p) (port_signed p) p.type.range p.name
+port_declaration p = declaration_with (port_kind p) (port_signed p) p.type.range p.name
 
 -- without a range a `reg` or a `wire` has 1 bit, an `integer` 32, a `time` 64 (4.8)
 abbrev pub length_of : Kind → Option Bounds → ℕ
@@ -95,7 +95,7 @@ length_of Integer None = 32
 length_of Time None = 64
 length_of Wire None = 1
 
--- its name stands behind its instance's path and a dot; which of its bits are z at first is told by the whole design (`started`)
+-- its name stands behind its instance's path and a dot; which of its bits are z at first is told by the whole design (`with_start_values`)
 abbrev pub variable_in : Text → Form → Text → design.Variable
 variable_in path form text = record {
   name = path ++ 46 ∷ text;
@@ -158,7 +158,7 @@ same_bounds (Some bounds) (Some other) = bounds.left == other.left && bounds.rig
 abbrev pub lower_again : Scope → Option Second → Option Bounds → Result (Option Bounds) ElabFault
 lower_again scope None bounds = Ok bounds
 lower_again scope (Some second) bounds =
-    lower_bounds scope second.type.range >>= λ other. required (same_bounds bounds other) rule.Width (Some second.name) bounds
+    lower_bounds scope second.type.range >>= λ other. require (same_bounds bounds other) rule.Width (Some second.name) bounds
 
 -- 12.3.3: a port is declared where it stands
 abbrev pub lower_port : Text → Scope → Port → Result design.Variable ElabFault

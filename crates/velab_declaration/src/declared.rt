@@ -202,7 +202,7 @@ fn all_names<'t>(
 }
 
 /// The names of ports, and of the variables that items declare, in the order of the text. E302 where two are alike.
-pub fn declared<'t>(
+pub fn names_declared<'t>(
     alloc: Global,
     tokens: &Tokens<'t>,
     ports: &[PortForm<'_>],

@@ -7,7 +7,7 @@ ghost use Rattle.vdesign.specs.Design as design;
 ghost use Rattle.velab_declaration.specs.ActionFlaws.{blank_environment};
 ghost use Rattle.velab_declaration.specs.Drives as spec;
 ghost use Rattle.velab_declaration.specs.Drives.{Place, drivers_fault, places_from, places_of, places_of_all, driven_by, driven_by_all};
-ghost use Rattle.velab_declaration.specs.DriveMarks.{AreMarks, Marks, Tells, mark_of, marked, size_in, starts_from};
+ghost use Rattle.velab_declaration.specs.DriveMarks.{AreMarks, Marks, Tells, mark_of, with_mark, size_in, starts_from};
 ghost use Rattle.velab_expr.specs.Rules.{IsBroken};
 
 use crate::right::is_net;
@@ -22,7 +22,7 @@ use vvalue::environment::Environment;
 use vvalue::target::{Span, span_of, variable_of};
 
 // The marks of each variable while nothing drives it: a letter a bit, z.
-fn unmarked(alloc: Global, variables: &[Variable]) -> Result<Vec<Vec4>, NoMemory>
+fn no_marks(alloc: Global, variables: &[Variable]) -> Result<Vec<Vec4>, NoMemory>
     ensures { IfOk result (λ marks. AreMarks [] variables.now marks.items) }
 {
     let mut marks = Vec::new(alloc);
@@ -35,7 +35,7 @@ fn unmarked(alloc: Global, variables: &[Variable]) -> Result<Vec<Vec4>, NoMemory
 // The marks of a variable with one more. None where the bit is marked already, or there is none.
 fn with_mark(letters: Vec4, bit: u64) -> Option<Vec4>
     ensures { (driven : List Place) (n size : ℕ) → bit < size → letters ≡ mark_of driven n size →
-        result ≡ marked driven n size bit }
+        result ≡ with_mark driven n size bit }
 {
     if u64::from(letters.len()) <= bit {
         return None;
@@ -200,7 +200,7 @@ pub fn starts_of(
         time: 0,
         factor: 1,
     };
-    let mut marks = unmarked(alloc, variables)?;
+    let mut marks = no_marks(alloc, variables)?;
     match first_again(actions, words, &environment, &mut marks) {
         None => Ok(starts_by(alloc, variables, &marks)?),
         Some(fault) => Err(OrMemory::Fault(fault)),

@@ -6,7 +6,7 @@ ghost use Rattle.vmodules.specs.Names.{has_double, is_declared};
 
 use basis::OrMemory;
 use velab_expr::fault::{ElabFault, Rule};
-use velab_expr::refusal::refused;
+use velab_expr::refusal::refusal;
 use vmodules::names::Names;
 
 /// Adds a name, the token of this number, behind the others. E302 where it is among them.
@@ -19,7 +19,7 @@ pub fn note<'t>(names: &mut Names<'t>, text: &'t [u8], at: u32) -> Result<(), Or
 {
     let new = names.add(text)?;
     if !new {
-        return Err(refused(Rule::Doubled, Some(at)));
+        return Err(refusal(Rule::Doubled, Some(at)));
     }
     Ok(())
 }

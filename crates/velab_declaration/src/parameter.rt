@@ -3,7 +3,7 @@
 ghost use Rattle.std.specs.Prelude.{◌≡◌, ◌<◌, ◌≤◌, ◌^◌, List, None, map, length, IfOk};
 ghost use Rattle.std.specs.Option.{option_or};
 ghost use Rattle.vast.specs.Words.{Text};
-ghost use Rattle.vast.specs.NumberedWords.{numbered};
+ghost use Rattle.vast.specs.NumberedWords.{word_of};
 ghost use Rattle.vast.specs.NumberedTrees.{head_parameter, item_tree, parameter_type, setting_tree};
 ghost use Rattle.vexpr_parse.specs.Texts.{words_of};
 ghost use Rattle.velab_declaration.specs.Parameters as spec;
@@ -25,7 +25,7 @@ use velab_expr::constant::nothing;
 use velab_expr::expression::constant_expression;
 use velab_expr::fault::{ElabFault, Rule};
 use velab_expr::range::{range_bounds, span};
-use velab_expr::refusal::refused;
+use velab_expr::refusal::refusal;
 use velab_expr::scope::{Meaning, Scope};
 use vlex::Tokens;
 use vmodules::connect::ConnectionMap;
@@ -235,11 +235,11 @@ fn add_event<'t>(
 ) -> Result<(), OrMemory<ElabFault>>
     ensures makes { Makes result into.new
         (add_symbol (overrides_tree (words_of tokens.now) overrides.now)
-        into.old (event_symbol (numbered (words_of tokens.now) name))) }
+        into.old (event_symbol (word_of (words_of tokens.now) name))) }
     ensures variables { into.new.variables ≡ into.old.variables }
 {
     if into.events >= MOST_EVENTS {
-        return Err(refused(Rule::TooMany, Some(name.number)));
+        return Err(refusal(Rule::TooMany, Some(name.number)));
     }
     note(&mut into.names, letters(tokens, name), name.number)?;
     into.others.push(Meaning::Event(into.events))?;
@@ -274,7 +274,7 @@ fn add_instance<'t>(
 ) -> Result<(), OrMemory<ElabFault>>
     ensures makes { Makes result into.new
         (add_symbol (overrides_tree (words_of tokens.now) overrides.now)
-        into.old (instance_symbol (numbered (words_of tokens.now) name))) }
+        into.old (instance_symbol (word_of (words_of tokens.now) name))) }
     ensures variables { into.new.variables ≡ into.old.variables }
 {
     note(&mut into.names, letters(tokens, name), name.number)?;

@@ -20,7 +20,7 @@ use vdesign::design::{Kind, Variable};
 use vdesign::expression::Bounds;
 use velab_expr::fault::{ElabFault, Rule};
 use velab_expr::range::{range_bounds, span};
-use velab_expr::refusal::refused;
+use velab_expr::refusal::refusal;
 use velab_expr::scope::Scope;
 use velab_expr::symbol::symbol_count;
 use vlex::Tokens;
@@ -372,7 +372,7 @@ fn whole_bounds(
             if same_bounds(bounds, other) {
                 Ok(bounds)
             } else {
-                Err(refused(Rule::Width, Some(second.name.number)))
+                Err(refusal(Rule::Width, Some(second.name.number)))
             }
         }
     }

@@ -6,7 +6,7 @@ use Rattle.vast.specs.Words.{Text}
 use Rattle.vast.specs.NumberedExpressions.{concatenation, replication}
 use Rattle.vast.specs.NumberedTrees.{tree_of, trees_of}
 use Rattle.vast.specs.declared.expression.Expression.{Expression, Concatenation, Replication}
-use Rattle.vast.specs.NumberedWords.{numbered}
+use Rattle.vast.specs.NumberedWords.{word_of}
 use Rattle.vast.proofs.ToldTrees.{told_concatenation, told_replication}
 use Rattle.vdesign.specs.Expressions.{ExpressionTree, conversion, joined}
 use Rattle.vdesign.specs.Nodes.{nodes_of}
@@ -28,12 +28,12 @@ module _ (words : List Text) where
   module _ (e : Expression) (at : ℕ) (parts : Vec Expression Global) (items : List Expression) (is : e ≡ Concatenation at parts) (same : items ≡ parts.items) where
     pub concatenation_is : concatenation (trees_of words items) ≡ tree_of words e
     concatenation_is =
-        ap (λ (xs : List Expression). concatenation (trees_of words xs)) same ∙ sym (ap (tree_of words) is ∙ told_concatenation (numbered words) at parts)
+        ap (λ (xs : List Expression). concatenation (trees_of words xs)) same ∙ sym (ap (tree_of words) is ∙ told_concatenation (word_of words) at parts)
 
   module _ (e : Expression) (at : ℕ) (count : Box Expression Global) (parts : Vec Expression Global) (amount : Expression) (items : List Expression) (is : e ≡ Replication at count parts) (counted : amount ≡ count.value) (same : items ≡ parts.items) where
     pub replication_is : replication (tree_of words amount) (trees_of words items) ≡ tree_of words e
     replication_is =
-        (λ i. replication (tree_of words (counted i)) (trees_of words (same i))) ∙ sym (ap (tree_of words) is ∙ told_replication (numbered words) at count parts)
+        (λ i. replication (tree_of words (counted i)) (trees_of words (same i))) ∙ sym (ap (tree_of words) is ∙ told_replication (word_of words) at count parts)
 
   module _ (fixed : Bool) (scope : Scope) where
     -- these nodes, and behind them those of what is left of the parts

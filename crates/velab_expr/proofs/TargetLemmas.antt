@@ -5,7 +5,7 @@ use Rattle.vast.specs.NumberedExpressions.{ExpressionTree}
 use Rattle.vast.specs.NumberedStatements.{bit, part, joined}
 use Rattle.vast.specs.NumberedTrees.{target_tree, target_trees}
 use Rattle.vast.specs.declared.statement.Target.{Target, Joined}
-use Rattle.vast.specs.NumberedWords.{Word, numbered}
+use Rattle.vast.specs.NumberedWords.{Word, word_of}
 use Rattle.vast.proofs.ToldTrees.{told_joined}
 use Rattle.vdesign.specs.Expressions.{ExpressionTree as Lowered}
 use Rattle.vdesign.specs.declared.action.Target.{Target as LoweredTarget}
@@ -20,7 +20,7 @@ use Rattle.velab_expr.specs.InnerTargets.{lower_bit, lower_part}
 pub joined_is : (words : List Text) (target : Target) (at : ℕ) (targets : Vec Target Global) (items : List Target) →
     target ≡ Joined at targets → items ≡ targets.items → joined (target_trees words items) ≡ target_tree words target
 joined_is words target at targets items is same =
-    ap (λ (xs : List Target). joined (target_trees words xs)) same ∙ sym (ap (target_tree words) is ∙ told_joined (numbered words) at targets)
+    ap (λ (xs : List Target). joined (target_trees words xs)) same ∙ sym (ap (target_tree words) is ∙ told_joined (word_of words) at targets)
 
 module _ (fixed : Bool) (scope : Scope) (done : List LoweredTarget) (letters : Word) (fault : ElabFault) where
   pub bit_refused : (index : ExpressionTree) → lower_bit fixed scope letters index ≡ Err fault →

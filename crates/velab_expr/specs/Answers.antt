@@ -6,7 +6,7 @@ use Rattle.vast.specs.NumberedWords.{Word}
 use Rattle.vvalue.specs.declared.flaw.Flaw.{Flaw}
 use Rattle.velab_expr.specs.declared.fault.Rule.{Rule}
 use Rattle.velab_expr.specs.declared.fault.ElabFault.{ElabFault}
-use Rattle.velab_expr.specs.Rules.{told, rule_of}
+use Rattle.velab_expr.specs.Rules.{fault_at, rule_of}
 
 -- the second step takes what the first gives; the first fault ends both
 infixl 10 ◌>>=◌
@@ -15,28 +15,28 @@ Ok x >>= next = next x
 Err fault >>= next = Err fault
 
 -- the rule is broken at this word
-abbrev pub refused : {A : Type 0} → Rule → Option Word → Result A ElabFault
-refused rule word = Err (told rule word)
+abbrev pub refuse : {A : Type 0} → Rule → Option Word → Result A ElabFault
+refuse rule word = Err (fault_at rule word)
 
 -- this, where it holds; else the rule is broken at this word
-abbrev pub required : {A : Type 0} → Bool → Rule → Option Word → A → Result A ElabFault
-required true rule word x = Ok x
-required false rule word x = refused rule word
+abbrev pub require : {A : Type 0} → Bool → Rule → Option Word → A → Result A ElabFault
+require true rule word x = Ok x
+require false rule word x = refuse rule word
 
 -- this answer, where it holds; else the rule is broken at this word
-abbrev pub provided : {A : Type 0} → Bool → Rule → Option Word → Result A ElabFault → Result A ElabFault
-provided true rule word answer = answer
-provided false rule word answer = refused rule word
+abbrev pub answer_if : {A : Type 0} → Bool → Rule → Option Word → Result A ElabFault → Result A ElabFault
+answer_if true rule word answer = answer
+answer_if false rule word answer = refuse rule word
 
 -- what there is; where there is nothing, the rule is broken at this word
 abbrev pub found : {A : Type 0} → Option A → Rule → Option Word → Result A ElabFault
-found None rule word = refused rule word
+found None rule word = refuse rule word
 found (Some x) rule word = Ok x
 
 -- this, where no size is wrong
-abbrev pub unflawed : {A : Type 0} → Option Flaw → Option Word → A → Result A ElabFault
-unflawed None word x = Ok x
-unflawed (Some flaw) word x = refused (rule_of flaw) word
+abbrev pub unless_flawed : {A : Type 0} → Option Flaw → Option Word → A → Result A ElabFault
+unless_flawed None word x = Ok x
+unless_flawed (Some flaw) word x = refuse (rule_of flaw) word
 
 -- what the answer lists, behind these
 abbrev pub behind : {A F : Type 0} → List A → Result (List A) F → Result (List A) F

@@ -8,7 +8,7 @@ use Rattle.vdesign.specs.declared.expression.Bounds.{Bounds}
 use Rattle.vvalue.specs.Value.{Environment, by_itself}
 use Rattle.vvalue.specs.Flaws.{flaw_of}
 use Rattle.vast.specs.NumberedWords.{Word}
-use Rattle.velab_expr.specs.Answers.{unflawed}
+use Rattle.velab_expr.specs.Answers.{unless_flawed}
 use Rattle.velab_expr.specs.declared.fault.ElabFault.{ElabFault}
 
 -- there are no variables
@@ -20,8 +20,8 @@ abbrev pub worth : ExpressionTree → Vector
 worth tree = by_itself nothing tree
 
 -- the same where its sizes are right; else this is told by its first word
-abbrev pub measured : Option Word → ExpressionTree → Result Vector ElabFault
-measured word tree = unflawed (flaw_of nothing tree) word (worth tree)
+abbrev pub checked_worth : Option Word → ExpressionTree → Result Vector ElabFault
+checked_worth word tree = unless_flawed (flaw_of nothing tree) word (worth tree)
 
 abbrev pub is_negative : Vector → Bool
 is_negative value = is_one (sign_letter value)

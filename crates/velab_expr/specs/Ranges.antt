@@ -9,7 +9,7 @@ use Rattle.velab_expr.specs.declared.fault.Rule.TheVariants as rule
 use Rattle.velab_expr.specs.FirstWords.{first_in}
 use Rattle.velab_expr.specs.Scopes.{Scope}
 use Rattle.velab_expr.specs.Constants.{bound_in}
-use Rattle.velab_expr.specs.Answers.{◌>>=◌, required, found}
+use Rattle.velab_expr.specs.Answers.{◌>>=◌, require, found}
 use Rattle.velab_expr.specs.Resolved.{lower_value}
 
 -- rising or falling
@@ -22,7 +22,7 @@ lower_bound scope tree = lower_value scope tree >>= λ value. found (bound_in va
 
 -- at most 64 bits from one bound to the other
 abbrev pub narrow : Option Word → Bounds → Result Bounds ElabFault
-narrow word bounds = required (nat_le (span bounds) 64) rule.Width word bounds
+narrow word bounds = require (nat_le (span bounds) 64) rule.Width word bounds
 
 abbrev pub lower_range : Scope → RangeTree → Result Bounds ElabFault
 lower_range scope range =

@@ -9,11 +9,11 @@ use Rattle.vdesign.specs.Expressions.{ExpressionTree, constant, variable, bit, b
 use Rattle.vdesign.specs.declared.expression.Bounds.{Bounds}
 use Rattle.vvalue.specs.Value.{part_of, part_size}
 use Rattle.vvalue.specs.Flaws.{is_part, flaw_of}
-use Rattle.velab_expr.specs.Answers.{◌>>=◌, required, provided, unflawed, value_or}
+use Rattle.velab_expr.specs.Answers.{◌>>=◌, require, answer_if, unless_flawed, value_or}
 use Rattle.velab_expr.specs.Literals.{constant_of}
 use Rattle.velab_expr.specs.FirstWords.{first_in, first_among}
 use Rattle.velab_expr.specs.Scopes.{Scope, lower_name}
-use Rattle.velab_expr.specs.Constants.{nothing, measured, part_bounds, count_in}
+use Rattle.velab_expr.specs.Constants.{nothing, checked_worth, part_bounds, count_in}
 use Rattle.velab_expr.specs.declared.fault.ElabFault.{ElabFault}
 use Rattle.velab_expr.specs.declared.fault.Rule.TheVariants.{Width, Constant}
 use Rattle.velab_expr.specs.declared.scope.Operand.{Operand}
@@ -45,7 +45,7 @@ bit_in (Parameter value bounds) index = bit_of value bounds index
 -- name [ left : right ]; the part of a variable is looked at in the finished design
 abbrev pub part_in : Operand → Bounds → Word → Result ExpressionTree ElabFault
 part_in (Variable number) selection_of name = Ok (part number selection_of)
-part_in (Parameter value bounds) selection_of name = required (is_part bounds selection_of) Width (Some name) (plain (part_of value bounds selection_of (part_size selection_of)))
+part_in (Parameter value bounds) selection_of name = require (is_part bounds selection_of) Width (Some name) (plain (part_of value bounds selection_of (part_size selection_of)))
 
 -- how many parts a concatenation has
 abbrev pub count_of : text.ExpressionTrees → ℕ
@@ -54,7 +54,7 @@ count_of (text.first one more) = count_of more + 1
 
 -- a vector has at most 64 bits (own), and each part has one at least
 abbrev pub few : text.ExpressionTrees → Result ExpressionTree ElabFault → Result ExpressionTree ElabFault
-few parts whole = provided (nat_le (count_of parts) 64) Width (first_among parts) whole
+few parts whole = answer_if (nat_le (count_of parts) 64) Width (first_among parts) whole
 
 -- the whole, so many times
 abbrev pub times : Vector → Result ExpressionTree ElabFault → Result ExpressionTree ElabFault
@@ -66,18 +66,18 @@ abbrev mutual
   pub lower : Bool → Scope → text.ExpressionTree → Result ExpressionTree ElabFault
   lower fixed scope (text.number digits) = Ok (constant (constant_of digits.letters))
   lower fixed scope (text.name letters) = lower_name fixed scope letters >>= λ operand. Ok (operand_tree operand)
-  lower fixed scope (text.time word) = required (not fixed) Constant (Some word) time
+  lower fixed scope (text.time word) = require (not fixed) Constant (Some word) time
   lower fixed scope (text.bit letters index) =
       lower_name fixed scope letters >>= λ operand. lower fixed scope index >>= λ place. Ok (bit_in operand place)
   lower fixed scope (text.part letters left right) =
       lower_name fixed scope letters >>= λ operand.
-      (lower true scope left >>= measured (first_in left)) >>= λ high.
-      (lower true scope right >>= measured (first_in right)) >>= λ low.
+      (lower true scope left >>= checked_worth (first_in left)) >>= λ high.
+      (lower true scope right >>= checked_worth (first_in right)) >>= λ low.
       part_in operand (part_bounds high low) letters
   lower fixed scope (text.parentheses inner) = lower fixed scope inner
   lower fixed scope (text.concatenation parts) = few parts (lower_parts fixed scope parts)
   lower fixed scope (text.replication count parts) =
-      (lower true scope count >>= measured (first_in count)) >>= λ amount. times amount (few parts (lower_parts fixed scope parts))
+      (lower true scope count >>= checked_worth (first_in count)) >>= λ amount. times amount (few parts (lower_parts fixed scope parts))
   lower fixed scope (text.conversion signed inner) = lower fixed scope inner >>= λ operand. Ok (conversion signed operand)
   lower fixed scope (text.apply operator inner) = lower fixed scope inner >>= λ operand. Ok (apply operator operand)
   lower fixed scope (text.combine operator left right) =
@@ -104,11 +104,11 @@ lower_expression scope tree = lower false scope tree
 
 -- a constant, and what it is worth
 abbrev pub lower_constant : Scope → text.ExpressionTree → Result ExpressionTree ElabFault
-lower_constant scope tree = lower true scope tree >>= λ e. unflawed (flaw_of nothing e) (first_in tree) e
+lower_constant scope tree = lower true scope tree >>= λ e. unless_flawed (flaw_of nothing e) (first_in tree) e
 
 abbrev pub lower_value : Scope → text.ExpressionTree → Result Vector ElabFault
-lower_value scope tree = lower true scope tree >>= measured (first_in tree)
+lower_value scope tree = lower true scope tree >>= checked_worth (first_in tree)
 
 -- the expression, for those who know that there is one
-abbrev pub resolved : Scope → text.ExpressionTree → ExpressionTree
-resolved scope tree = value_or no_parts (lower_expression scope tree)
+abbrev pub known_expression : Scope → text.ExpressionTree → ExpressionTree
+known_expression scope tree = value_or no_parts (lower_expression scope tree)

@@ -12,22 +12,22 @@ abbrev pub number_in : Option Word → Option ℕ
 number_in word = option_map (λ w. w.number) word
 
 -- a rule that is broken, and the word where, if there is one
-abbrev pub told : Rule → Option Word → ElabFault
-told rule word = record { rule = rule; at = number_in word }
+abbrev pub fault_at : Rule → Option Word → ElabFault
+fault_at rule word = record { rule = rule; at = number_in word }
 
 -- the rule is broken there where this doesn't hold
 abbrev pub unless : Bool → Rule → Option Word → Option ElabFault
 unless true rule word = None
-unless false rule word = Some (told rule word)
+unless false rule word = Some (fault_at rule word)
 
 -- the rule is broken there where this holds
 abbrev pub broken_if : Bool → Rule → Option Word → Option ElabFault
-broken_if true rule word = Some (told rule word)
+broken_if true rule word = Some (fault_at rule word)
 broken_if false rule word = None
 
 -- the rule is broken at this word, if there is one
 abbrev pub broken_at : Rule → Option Word → Option ElabFault
-broken_at rule word = option_map (λ (w : Word). told rule (Some w)) word
+broken_at rule word = option_map (λ (w : Word). fault_at rule (Some w)) word
 
 abbrev pub rule_of : Flaw → Rule
 rule_of NoBits = Kind

@@ -6,7 +6,7 @@ use Rattle.vast.specs.Words.{Text}
 use Rattle.vast.specs.NumberedWords.{Word}
 use Rattle.vdesign.specs.declared.expression.Bounds.{Bounds}
 use Rattle.vvalue.specs.Value.{whole_bounds}
-use Rattle.velab_expr.specs.Answers.{refused, required, value_or}
+use Rattle.velab_expr.specs.Answers.{refuse, require, value_or}
 use Rattle.velab_expr.specs.declared.fault.ElabFault.{ElabFault}
 use Rattle.velab_expr.specs.declared.fault.Rule.TheVariants.{Unknown, Constant, Kind}
 use Rattle.velab_expr.specs.declared.scope.Meaning.{Meaning}
@@ -55,34 +55,34 @@ bounds_for value bounds = unwrap_or bounds (whole_bounds value)
 -- 5.2: a name in an expression is a variable or a parameter; in a constant expression a parameter that stands before (4.10.1, 12.2). Events
 -- and instances have no value.
 abbrev pub operand_by : Bool → ℕ → Word → Option Meaning → Result Operand ElabFault
-operand_by constant known name None = refused Unknown (Some name)
-operand_by constant known name (Some (Variable number)) = required (not constant) Constant (Some name) (operand.Variable number)
+operand_by constant known name None = refuse Unknown (Some name)
+operand_by constant known name (Some (Variable number)) = require (not constant) Constant (Some name) (operand.Variable number)
 operand_by constant known name (Some (Parameter value bounds before)) =
-    required (not constant || nat_lt before known) Unknown (Some name) (operand.Parameter value (bounds_for value bounds))
-operand_by constant known name (Some (Event number)) = refused Kind (Some name)
-operand_by constant known name (Some Instance) = refused Kind (Some name)
+    require (not constant || nat_lt before known) Unknown (Some name) (operand.Parameter value (bounds_for value bounds))
+operand_by constant known name (Some (Event number)) = refuse Kind (Some name)
+operand_by constant known name (Some Instance) = refuse Kind (Some name)
 
 abbrev pub lower_name : Bool → Scope → Word → Result Operand ElabFault
 lower_name constant scope name = operand_by constant scope.known name (meaning_of scope name)
 
 -- the number of what is written, which is a variable
 abbrev pub variable_by : Word → Option Meaning → Result ℕ ElabFault
-variable_by name None = refused Unknown (Some name)
+variable_by name None = refuse Unknown (Some name)
 variable_by name (Some (Variable number)) = Ok number
-variable_by name (Some (Parameter value bounds before)) = refused Kind (Some name)
-variable_by name (Some (Event number)) = refused Kind (Some name)
-variable_by name (Some Instance) = refused Kind (Some name)
+variable_by name (Some (Parameter value bounds before)) = refuse Kind (Some name)
+variable_by name (Some (Event number)) = refuse Kind (Some name)
+variable_by name (Some Instance) = refuse Kind (Some name)
 
 abbrev pub lower_variable : Scope → Word → Result ℕ ElabFault
 lower_variable scope name = variable_by name (meaning_of scope name)
 
 -- the number of what is triggered, which is a named event (9.7.3)
 abbrev pub event_by : Word → Option Meaning → Result ℕ ElabFault
-event_by name None = refused Unknown (Some name)
-event_by name (Some (Variable number)) = refused Kind (Some name)
-event_by name (Some (Parameter value bounds before)) = refused Kind (Some name)
+event_by name None = refuse Unknown (Some name)
+event_by name (Some (Variable number)) = refuse Kind (Some name)
+event_by name (Some (Parameter value bounds before)) = refuse Kind (Some name)
 event_by name (Some (Event number)) = Ok number
-event_by name (Some Instance) = refused Kind (Some name)
+event_by name (Some Instance) = refuse Kind (Some name)
 
 abbrev pub lower_event : Scope → Word → Result ℕ ElabFault
 lower_event scope name = event_by name (meaning_of scope name)

@@ -11,7 +11,7 @@ ghost use Rattle.velab_expr.specs.Answers.{Gives};
 
 use crate::fault::{ElabFault, Rule};
 use crate::first::first_in;
-use crate::refusal::refused;
+use crate::refusal::refusal;
 use basis::OrMemory;
 use vast::expression::Expression as Written;
 use vbits::{Bit4, Vec4};
@@ -50,12 +50,12 @@ pub fn rule_of(flaw: Flaw) -> Rule
 /// What a constant expression is worth, which is written so. E306, or E310, where its sizes are wrong, at the first word that is written.
 pub fn worth_of(expression: &Expression, written: &Written) -> Result<Vec4, OrMemory<ElabFault>>
     ensures { (words : List Text) → Gives result
-        (spec.measured (first_in (tree_of words written.now)) expression.now) }
+        (spec.checked_worth (first_in (tree_of words written.now)) expression.now) }
 {
     let environment = nothing();
     match flaw_of(expression, &environment) {
         None => Ok(by_itself(expression, &environment)),
-        Some(flaw) => { Err(refused(rule_of(flaw), first_in(written))) }
+        Some(flaw) => { Err(refusal(rule_of(flaw), first_in(written))) }
     }
 }
 

@@ -4,7 +4,7 @@ ghost use Rattle.std.specs.Prelude.{◌≡◌, ◌≤◌, [], ◌∷◌, ◌++�
 ghost use Rattle.basis.specs.Reasons.{IfFault};
 ghost use Rattle.vast.specs.NumberedTrees as text;
 ghost use Rattle.vast.specs.NumberedExpressions as written;
-ghost use Rattle.vast.specs.NumberedWords.{numbered};
+ghost use Rattle.vast.specs.NumberedWords.{word_of};
 ghost use Rattle.vast.specs.Words.{Text};
 ghost use Rattle.vdesign.specs.Expressions.{ExpressionTree};
 ghost use Rattle.vdesign.specs.Nodes.{nodes_of};
@@ -20,7 +20,7 @@ use crate::constant::{count_in, part_bounds, worth_of};
 use crate::fault::{ElabFault, Rule};
 use crate::first::first_among;
 use crate::number::constant_of;
-use crate::refusal::refused;
+use crate::refusal::refusal;
 use crate::scope::{Operand, Scope, operand_of};
 use basis::{NoMemory, OrMemory};
 use std::alloc::Global;
@@ -101,7 +101,7 @@ fn put_part(
     nodes: &mut Vec<Node>,
 ) -> Result<(), OrMemory<ElabFault>>
     ensures { (words : List Text) → Makes result nodes.new.items
-        (nodes_behind nodes.old.items (spec.part_in operand selection_of (numbered words at))) }
+        (nodes_behind nodes.old.items (spec.part_in operand selection_of (word_of words at))) }
 {
     match operand {
         Operand::Variable(variable) => Ok(put(
@@ -113,7 +113,7 @@ fn put_part(
         )?),
         Operand::Parameter { value, bounds } => {
             if !is_part(bounds, selection_of) {
-                return Err(refused(Rule::Width, Some(at.number)));
+                return Err(refusal(Rule::Width, Some(at.number)));
             }
             Ok(put(nodes, plain(part_of(value, bounds, selection_of)))?)
         }
@@ -174,7 +174,7 @@ fn put_bit(
     nodes: &mut Vec<Node>,
 ) -> Result<(), OrMemory<ElabFault>>
     ensures { Makes result nodes.new.items (nodes_behind nodes.old.items (lower fixed scope.now
-        (written.bit (numbered (words_of tokens.now) name)
+        (written.bit (word_of (words_of tokens.now) name)
         (text.tree_of (words_of tokens.now) index.now)))) }
 {
     let operand = operand_of(scope, fixed, tokens, name)?;
@@ -197,7 +197,7 @@ fn put_joined(
         (lower_joined fixed scope.now (text.trees_of (words_of tokens.now) parts.now))) }
 {
     if parts.len() > MOST_PARTS {
-        return Err(refused(Rule::Width, first_among(parts)));
+        return Err(refusal(Rule::Width, first_among(parts)));
     }
     put_parts(alloc, scope, fixed, tokens, parts, nodes)
 }
@@ -244,7 +244,7 @@ fn put_expression(
         }
         Value::Time(word) => {
             if fixed {
-                return Err(refused(Rule::Constant, Some(word.number)));
+                return Err(refusal(Rule::Constant, Some(word.number)));
             }
             Ok(put(nodes, Node::Time)?)
         }
@@ -317,7 +317,7 @@ pub fn expression_of_name(
     name: Token,
 ) -> Result<Expression, OrMemory<ElabFault>>
     ensures gives { Gives result
-        (lower_expression scope.now (written.name (numbered (words_of tokens.now) name))) }
+        (lower_expression scope.now (written.name (word_of (words_of tokens.now) name))) }
 {
     let operand = operand_of(scope, false, tokens, name)?;
     let mut nodes = Vec::new(alloc);

@@ -12,7 +12,7 @@ use crate::expression::worth;
 use crate::fault::{ElabFault, Rule};
 use crate::first::first_in;
 use crate::number::WIDEST;
-use crate::refusal::refused;
+use crate::refusal::refusal;
 use crate::scope::Scope;
 use basis::OrMemory;
 use std::alloc::Global;
@@ -35,7 +35,7 @@ fn right_bound(
     let value = worth(alloc, scope, tokens, bound)?;
     match bound_in(value) {
         Some(bound) => Ok(bound),
-        None => Err(refused(Rule::Width, first_in(bound))),
+        None => Err(refusal(Rule::Width, first_in(bound))),
     }
 }
 
@@ -62,7 +62,7 @@ fn bounds_of(
     let right = right_bound(alloc, scope, tokens, &range.right)?;
     let bounds = Bounds { left, right };
     if span(bounds) > WIDEST {
-        return Err(refused(Rule::Width, first_in(&range.left)));
+        return Err(refusal(Rule::Width, first_in(&range.left)));
     }
     Ok(bounds)
 }

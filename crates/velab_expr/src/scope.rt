@@ -1,14 +1,14 @@
 // What a module's names stand for (IEEE 1364-2005, 4.10, 12.1.2, 12.7).
 
 ghost use Rattle.std.specs.Prelude.{◌≡◌, ◌≤◌, List, Some, None, IfOk, OnOk};
-ghost use Rattle.vast.specs.NumberedWords.{numbered};
+ghost use Rattle.vast.specs.NumberedWords.{word_of};
 ghost use Rattle.vast.specs.Words.{Text};
 ghost use Rattle.vexpr_parse.specs.Texts.{words_of};
 ghost use Rattle.velab_expr.specs.Answers.{Gives};
 ghost use Rattle.velab_expr.specs.Scopes as spec;
 
 use crate::fault::{ElabFault, Rule};
-use crate::refusal::refused;
+use crate::refusal::refusal;
 use basis::OrMemory;
 use std::marker::Model;
 use vast::token::Token;
@@ -107,7 +107,7 @@ fn meaning_at(scope: &Scope<'_, '_>, place: usize) -> Option<Meaning>
 
 /// What a name stands for, where it is declared.
 pub fn meaning_of(scope: &Scope<'_, '_>, tokens: &Tokens<'_>, token: Token) -> Option<Meaning>
-    ensures { result ≡ spec.meaning_of scope.now (numbered (words_of tokens.now) token) }
+    ensures { result ≡ spec.meaning_of scope.now (word_of (words_of tokens.now) token) }
 {
     match scope.names.place(letters(tokens, token)) {
         Some(place) => meaning_at(scope, place),
@@ -133,12 +133,12 @@ fn operand_in(
     token: Token,
 ) -> Result<Operand, OrMemory<ElabFault>>
     ensures { (words : List Text) → Gives result
-        (spec.operand_by fixed scope.now.known (numbered words token) (Some meaning)) }
+        (spec.operand_by fixed scope.now.known (word_of words token) (Some meaning)) }
 {
     match meaning {
         Meaning::Variable(number) => {
             if fixed {
-                return Err(refused(Rule::Constant, Some(token.number)));
+                return Err(refusal(Rule::Constant, Some(token.number)));
             }
             Ok(Operand::Variable(number))
         }
@@ -148,14 +148,14 @@ fn operand_in(
             before,
         } => {
             if fixed && before >= scope.known {
-                return Err(refused(Rule::Unknown, Some(token.number)));
+                return Err(refusal(Rule::Unknown, Some(token.number)));
             }
             Ok(Operand::Parameter {
                 value,
                 bounds: bounds_for(value, bounds),
             })
         }
-        Meaning::Event(_) | Meaning::Instance => Err(refused(Rule::Kind, Some(token.number))),
+        Meaning::Event(_) | Meaning::Instance => Err(refusal(Rule::Kind, Some(token.number))),
     }
 }
 
@@ -168,10 +168,10 @@ pub fn operand_of(
     token: Token,
 ) -> Result<Operand, OrMemory<ElabFault>>
     ensures { Gives result
-        (spec.lower_name fixed scope.now (numbered (words_of tokens.now) token)) }
+        (spec.lower_name fixed scope.now (word_of (words_of tokens.now) token)) }
 {
     match meaning_of(scope, tokens, token) {
-        None => Err(refused(Rule::Unknown, Some(token.number))),
+        None => Err(refusal(Rule::Unknown, Some(token.number))),
         Some(meaning) => operand_in(scope, fixed, meaning, token),
     }
 }
@@ -183,14 +183,14 @@ pub fn number_of(
     token: Token,
 ) -> Result<u32, OrMemory<ElabFault>>
     ensures gives { Gives result
-        (spec.lower_variable scope.now (numbered (words_of tokens.now) token)) }
+        (spec.lower_variable scope.now (word_of (words_of tokens.now) token)) }
 {
     match meaning_of(scope, tokens, token) {
-        None => Err(refused(Rule::Unknown, Some(token.number))),
+        None => Err(refusal(Rule::Unknown, Some(token.number))),
         Some(Meaning::Variable(number)) => Ok(number),
-        Some(Meaning::Parameter { .. }) => Err(refused(Rule::Kind, Some(token.number))),
-        Some(Meaning::Event(_)) => Err(refused(Rule::Kind, Some(token.number))),
-        Some(Meaning::Instance) => Err(refused(Rule::Kind, Some(token.number))),
+        Some(Meaning::Parameter { .. }) => Err(refusal(Rule::Kind, Some(token.number))),
+        Some(Meaning::Event(_)) => Err(refusal(Rule::Kind, Some(token.number))),
+        Some(Meaning::Instance) => Err(refusal(Rule::Kind, Some(token.number))),
     }
 }
 
@@ -201,13 +201,13 @@ pub fn event_of(
     token: Token,
 ) -> Result<usize, OrMemory<ElabFault>>
     ensures gives { Gives result
-        (spec.lower_event scope.now (numbered (words_of tokens.now) token)) }
+        (spec.lower_event scope.now (word_of (words_of tokens.now) token)) }
 {
     match meaning_of(scope, tokens, token) {
-        None => Err(refused(Rule::Unknown, Some(token.number))),
+        None => Err(refusal(Rule::Unknown, Some(token.number))),
         Some(Meaning::Event(number)) => Ok(number),
-        Some(Meaning::Variable(_)) => Err(refused(Rule::Kind, Some(token.number))),
-        Some(Meaning::Parameter { .. }) => Err(refused(Rule::Kind, Some(token.number))),
-        Some(Meaning::Instance) => Err(refused(Rule::Kind, Some(token.number))),
+        Some(Meaning::Variable(_)) => Err(refusal(Rule::Kind, Some(token.number))),
+        Some(Meaning::Parameter { .. }) => Err(refusal(Rule::Kind, Some(token.number))),
+        Some(Meaning::Instance) => Err(refusal(Rule::Kind, Some(token.number))),
     }
 }

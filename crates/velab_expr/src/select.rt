@@ -3,7 +3,7 @@
 ghost use Rattle.std.specs.Prelude.{◌≡◌, ◌++◌, ◌∷◌, List, None, map, option_map, IfOk, OnOk};
 ghost use Rattle.std.specs.List.{flat_map};
 ghost use Rattle.vast.specs.NumberedTrees.{path_tree, selection_tree};
-ghost use Rattle.vast.specs.NumberedWords.{numbered};
+ghost use Rattle.vast.specs.NumberedWords.{word_of};
 ghost use Rattle.vexpr_parse.specs.Texts.{words_of};
 ghost use Rattle.velab_expr.specs.Inner.{all_chosen};
 ghost use Rattle.vast.specs.Words.{Text as TextLetters};
@@ -13,7 +13,7 @@ ghost use Rattle.velab_expr.specs.Selections as spec;
 
 use crate::fault::{ElabFault, Rule};
 use crate::number::constant_of;
-use crate::refusal::refused;
+use crate::refusal::refusal;
 use crate::scope::Scope;
 use basis::{NoMemory, OrMemory};
 use std::alloc::Global;
@@ -27,7 +27,7 @@ use vmodules::letters::letters;
 // Names, a dot before each.
 fn put_names(tokens: &Tokens<'_>, names: &[Token], into: &mut Vec<u8>) -> Result<(), NoMemory>
     ensures { OnOk result (into.new.items ≡
-        into.old.items ++ flat_map (λ one. 46 ∷ one.letters) (map (numbered (words_of tokens.now))
+        into.old.items ++ flat_map (λ one. 46 ∷ one.letters) (map (word_of (words_of tokens.now))
         names.now)) }
 {
     for name in names {
@@ -40,7 +40,7 @@ fn put_names(tokens: &Tokens<'_>, names: &[Token], into: &mut Vec<u8>) -> Result
 // A path: its names, joined by dots.
 fn dotted_path(alloc: Global, tokens: &Tokens<'_>, names: &[Token]) -> Result<Text, NoMemory>
     ensures { IfOk result (λ text.
-        text ≡ spec.dotted_path (map (numbered (words_of tokens.now)) names.now)) }
+        text ≡ spec.dotted_path (map (word_of (words_of tokens.now)) names.now)) }
 {
     match names.split_first() {
         None => Ok(Text::new(Vec::new(alloc))),
@@ -118,7 +118,7 @@ pub fn selection_of(
             .value
             .to_u64()
         {
-            None => Err(refused(Rule::Kind, Some(selection.levels.number))),
+            None => Err(refusal(Rule::Kind, Some(selection.levels.number))),
             Some(levels) => {
                 let list = chosen_by(alloc, tokens, scope.top, levels, &selection.paths)?;
                 Ok(list)

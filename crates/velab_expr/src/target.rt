@@ -3,7 +3,7 @@
 ghost use Rattle.std.specs.Prelude.{◌≡◌, List, is_some};
 ghost use Rattle.vast.specs.Words.{Text};
 ghost use Rattle.vast.specs.NumberedTrees.{tree_of as text_tree, trees_of as text_trees};
-ghost use Rattle.vast.specs.NumberedWords.{numbered};
+ghost use Rattle.vast.specs.NumberedWords.{word_of};
 ghost use Rattle.vast.specs.NumberedTrees.{target_tree, target_trees};
 ghost use Rattle.vexpr_parse.specs.Texts.{words_of};
 ghost use Rattle.velab_expr.specs.Answers.{Gives, Makes, behind};
@@ -66,7 +66,7 @@ fn bit_target(
     name: Token,
     index: &Value,
 ) -> Result<Target, OrMemory<ElabFault>>
-    ensures { Gives result (lower_bit fixed scope.now (numbered (words_of tokens.now) name)
+    ensures { Gives result (lower_bit fixed scope.now (word_of (words_of tokens.now) name)
         (text_tree (words_of tokens.now) index.now)) }
 {
     let variable = number_of(scope, tokens, name)?;
@@ -83,7 +83,7 @@ fn part_target(
     left: &Value,
     right: &Value,
 ) -> Result<Target, OrMemory<ElabFault>>
-    ensures { Gives result (lower_part scope.now (numbered (words_of tokens.now) name)
+    ensures { Gives result (lower_part scope.now (word_of (words_of tokens.now) name)
         (text_tree (words_of tokens.now) left.now) (text_tree (words_of tokens.now) right.now)) }
 {
     let variable = number_of(scope, tokens, name)?;

@@ -10,7 +10,7 @@ use Rattle.vast.specs.declared.expression.Expression.{Expression}
 use Rattle.vast.specs.declared.statement.CaseKind.{CaseKind}
 use Rattle.vast.specs.declared.statement.Branch.{Branch as WrittenBranch}
 use Rattle.vast.specs.declared.statement.Statement.{Statement, Case}
-use Rattle.vast.specs.NumberedWords.{numbered}
+use Rattle.vast.specs.NumberedWords.{word_of}
 use Rattle.vast.proofs.ToldTrees.{told_case}
 use Rattle.vdesign.specs.declared.action.Branch.{Branch}
 use Rattle.velab_expr.specs.declared.fault.ElabFault.{ElabFault}
@@ -24,7 +24,7 @@ pub case_tree : (words : List Text) (statement : Statement) (at : ℕ) (kind : C
 case_tree words statement at kind value branches amount items is same these =
     sym
     (
-    ap (statement_tree words) is ∙ told_case (numbered words) at kind value branches
+    ap (statement_tree words) is ∙ told_case (word_of words) at kind value branches
     ∙ ap (λ (v : Expression). case_of kind (tree_of words v) (branch_trees words branches.items)) (sym same)
     ∙ ap (λ (bs : List WrittenBranch). case_of kind (tree_of words amount) (branch_trees words bs)) (sym these)
     )

@@ -6,7 +6,7 @@ use Rattle.vdesign.specs.declared.print.Piece.{Piece}
 use Rattle.vast.specs.NumberedWords.{Word}
 use Rattle.vast.specs.NumberedStatements.{ArgumentTree, quoted, printed, left_out}
 use Rattle.vast.specs.declared.statement.Printing.{Printing}
-use Rattle.velab_process.specs.Prints.{default_form, ends_line, given, lower_arguments, lower_line}
+use Rattle.velab_process.specs.Prints.{default_form, ends_line, arguments_given, lower_arguments, lower_line}
 use Rattle.velab_expr.specs.declared.fault.Rule.TheVariants.{Kind}
 use Rattle.velab_expr.specs.declared.fault.ElabFault.{ElabFault}
 use Rattle.velab_expr.specs.Answers.{◌>>=◌, found, Refuses, Gives}
@@ -82,7 +82,7 @@ line_by default form ends line_ends (Ok all) is_right old new pieces right word 
 line_by default form ends line_ends (Err fault) is_right old new pieces right word form_is ends_is starts prints is same = absurd prints
 
 -- what is said of empty parentheses as of no argument is said of what is given
-pub given_same : {A : Type 0} (f : List ArgumentTree → A) → f [] ≡ f (left_out ∷ []) → (arguments : List ArgumentTree) → f (given arguments) ≡ f arguments
+pub given_same : {A : Type 0} (f : List ArgumentTree → A) → f [] ≡ f (left_out ∷ []) → (arguments : List ArgumentTree) → f (arguments_given arguments) ≡ f arguments
 given_same f alike [] = refl
 given_same f alike (left_out ∷ []) = alike
 given_same f alike (quoted letters ∷ []) = refl
@@ -91,7 +91,7 @@ given_same f alike (one ∷ other ∷ more) = refl
 
 -- a fault of the arguments that are given is the line's
 pub line_refused : (scope : Scope) (kind : Printing) (arguments trees : List ArgumentTree) (result : Result (List Piece) (OrMemory ElabFault)) (e : OrMemory ElabFault) →
-    IsErrAnd result (λ y. y ≡ e) → trees ≡ given arguments → Refuses e (lower_arguments scope trees) → Gives result (lower_line scope kind arguments)
+    IsErrAnd result (λ y. y ≡ e) → trees ≡ arguments_given arguments → Refuses e (lower_arguments scope trees) → Gives result (lower_line scope kind arguments)
 line_refused scope kind arguments trees (Ok x) e h is refused = absurd h
 line_refused scope kind arguments trees (Err y) e h is refused =
     subst (λ (o : OrMemory ElabFault). Refuses o (lower_line scope kind arguments)) (sym h)

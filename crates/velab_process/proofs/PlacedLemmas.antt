@@ -12,7 +12,7 @@ use Rattle.velab_expr.specs.FirstWords.{head, first_argument}
 use Rattle.velab_expr.specs.Rules.{number_in}
 use Rattle.velab_expr.specs.Scopes.{Scope}
 use Rattle.velab_expr.specs.Symbols.{symbols_by}
-use Rattle.velab_process.specs.Prints.{given}
+use Rattle.velab_process.specs.Prints.{arguments_given}
 use Rattle.velab_process.specs.Waits.{any_of, names_in, read_by_delay, read_by_assignment, read_by_argument, read_by_arguments, read_by_task, read_by_items, read_by, read_by_all, read_by_branch, read_by_branches, lower_control}
 
 -- ---- what is read
@@ -75,7 +75,7 @@ control_placed path scope (by_terms term further) body = refl
 
 -- ---- arguments
 
-pub given_placed : (path : Text) (arguments : List ArgumentTree) → map (placed_argument path) (given arguments) ≡ given (map (placed_argument path) arguments)
+pub given_placed : (path : Text) (arguments : List ArgumentTree) → map (placed_argument path) (arguments_given arguments) ≡ arguments_given (map (placed_argument path) arguments)
 given_placed path [] = refl
 given_placed path (quoted word ∷ []) = refl
 given_placed path (printed value ∷ []) = refl

@@ -6,7 +6,7 @@ use Rattle.vast.specs.Words.{Text}
 use Rattle.vast.specs.NumberedStatements.{block}
 use Rattle.vast.specs.NumberedTrees.{statement_tree, statement_trees}
 use Rattle.vast.specs.declared.statement.Statement.{Statement, Block}
-use Rattle.vast.specs.NumberedWords.{numbered}
+use Rattle.vast.specs.NumberedWords.{word_of}
 use Rattle.vast.proofs.ToldTrees.{told_block}
 use Rattle.velab_expr.specs.declared.fault.ElabFault.{ElabFault}
 use Rattle.velab_expr.specs.Answers.{◌>>=◌, Makes}
@@ -17,10 +17,10 @@ use Rattle.vast.specs.declared.token.Token.{Token}
 
 -- the statements of a block
 module _ (words : List Text) (statement : Statement) (label : Option Token) (statements : Vec Statement Global) (items : List Statement) (is : statement ≡ Block label statements) (same : items ≡ statements.items) where
-  pub block_trees : block (option_map (numbered words) label) (statement_trees words items) ≡ statement_tree words statement
+  pub block_trees : block (option_map (word_of words) label) (statement_trees words items) ≡ statement_tree words statement
   block_trees =
-      sym (ap (statement_tree words) is ∙ told_block (numbered words) label statements
-      ∙ ap (λ (xs : List Statement). block (option_map (numbered words) label) (statement_trees words xs)) (sym same))
+      sym (ap (statement_tree words) is ∙ told_block (word_of words) label statements
+      ∙ ap (λ (xs : List Statement). block (option_map (word_of words) label) (statement_trees words xs)) (sym same))
 
 -- nothing stands in front
 pub none_in_front : (answer : Result Lowered ElabFault) → with_places_before [] answer ≡ answer

@@ -5,7 +5,7 @@ use Rattle.vast.specs.Words.{Text}
 use Rattle.vast.specs.NumberedTrees.{statement_tree, statement_trees}
 use Rattle.vast.specs.NumberedStatements.{StatementTree, empty, block, assign, nonblocking, trigger, if_true, if_else, case_of, while_true, repeat_times, forever, for_loop, wait_for, delay, event, task}
 use Rattle.vast.specs.declared.statement.Statement.{Statement, Block}
-use Rattle.vast.specs.NumberedWords.{Word, numbered}
+use Rattle.vast.specs.NumberedWords.{Word, word_of}
 use Rattle.vast.specs.NumberedTrees.{further_term}
 use Rattle.vast.specs.declared.statement.FurtherTerm.{FurtherTerm}
 use Rattle.vdesign.specs.declared.action.Term.{Term}
@@ -60,14 +60,14 @@ refused_behind done (Err other) rest fault is = let same : other ≡ fault = cc 
 -- the terms behind the first, one after another
 module _ (words : List Text) (scope : Scope) (left rest : List FurtherTerm) (x : FurtherTerm) (is : left ≡ x ∷ rest) (done : List Term) (all : Result (List Term) ElabFault) (same : behind done (lower_further scope (map (further_term words) left)) ≡ all) where
   opened : behind done (lower_further scope (map (further_term words) left))
-      ≡ behind done (lower_term scope (edge_of x.term.edge) (numbered words x.term.name) >>= λ front. lower_further scope (map (further_term words) rest) >>= λ others. Ok (front ++ others))
+      ≡ behind done (lower_term scope (edge_of x.term.edge) (word_of words x.term.name) >>= λ front. lower_further scope (map (further_term words) rest) >>= λ others. Ok (front ++ others))
   opened = ap (λ (l : List FurtherTerm). behind done (lower_further scope (map (further_term words) l))) is
 
-  pub further_put : (next : List Term) → behind done (lower_term scope (edge_of x.term.edge) (numbered words x.term.name)) ≡ Ok next →
+  pub further_put : (next : List Term) → behind done (lower_term scope (edge_of x.term.edge) (word_of words x.term.name)) ≡ Ok next →
       behind next (lower_further scope (map (further_term words) rest)) ≡ all
   further_put next put =
-      goes_behind done (lower_term scope (edge_of x.term.edge) (numbered words x.term.name)) (lower_further scope (map (further_term words) rest)) next put
+      goes_behind done (lower_term scope (edge_of x.term.edge) (word_of words x.term.name)) (lower_further scope (map (further_term words) rest)) next put
       ∙ sym opened ∙ same
 
-  pub further_refused : (fault : ElabFault) → behind done (lower_term scope (edge_of x.term.edge) (numbered words x.term.name)) ≡ Err fault → all ≡ Err fault
-  further_refused fault put = sym same ∙ opened ∙ refused_behind done (lower_term scope (edge_of x.term.edge) (numbered words x.term.name)) _ fault put
+  pub further_refused : (fault : ElabFault) → behind done (lower_term scope (edge_of x.term.edge) (word_of words x.term.name)) ≡ Err fault → all ≡ Err fault
+  further_refused fault put = sym same ∙ opened ∙ refused_behind done (lower_term scope (edge_of x.term.edge) (word_of words x.term.name)) _ fault put

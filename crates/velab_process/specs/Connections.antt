@@ -9,7 +9,7 @@ use Rattle.vdesign.specs.declared.action.Action.{Action}
 use Rattle.velab_expr.specs.declared.fault.ElabFault.{ElabFault}
 use Rattle.vdesign.specs.declared.action.Action.TheVariants.{ContinuousAssign}
 use Rattle.velab_expr.specs.declared.fault.Rule.TheVariants.{Ports}
-use Rattle.velab_expr.specs.Answers.{◌>>=◌, refused}
+use Rattle.velab_expr.specs.Answers.{◌>>=◌, refuse}
 use Rattle.velab_expr.specs.Rules.{number_in}
 use Rattle.velab_expr.specs.Scopes.{Scope}
 use Rattle.velab_expr.specs.Resolved.{lower_expression}
@@ -28,7 +28,7 @@ lower_input outer inner port value =
 -- an output drives nets outside, or bits of them: what it is connected to is a name, a bit, a part, or a concatenation of such, or this is told by
 -- the name of the instance
 abbrev pub lower_output : Word → Scope → Scope → Word → Option TargetTree → Result Action ElabFault
-lower_output whose outer inner port None = refused Ports (Some whose)
+lower_output whose outer inner port None = refuse Ports (Some whose)
 lower_output whose outer inner port (Some target) =
     lower_net_target outer target >>= λ targets.
     lower_expression inner (text.name port) >>= λ e.

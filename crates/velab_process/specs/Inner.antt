@@ -3,7 +3,7 @@ use Rattle.std.specs.Prelude.{◌≡◌, ℕ, List, [], ◌∷◌, ◌++◌, Vec
 use Rattle.std.specs.List.{filter_map}
 use Rattle.basis.specs.declared.memory.OrMemory.{OrMemory}
 use Rattle.vast.specs.Words.{Text}
-use Rattle.vast.specs.NumberedWords.{Word, numbered}
+use Rattle.vast.specs.NumberedWords.{Word, word_of}
 use Rattle.vast.specs.NumberedModules.{ItemTree, variables}
 use Rattle.vast.specs.NumberedTrees.{argument_tree, task_tree, statement_tree, statement_trees, branch_tree, branch_trees, declared_tree, net_assignment, item_tree, port_tree}
 use Rattle.vast.specs.declared.statement.Argument.{Argument as Written}
@@ -148,11 +148,11 @@ values_of words scope table ports = lower_processes scope table (starts_of (vari
 -- those of port connections
 abbrev pub joins_of : List Text → Token → Scope → Scope → List ConnectionEntry → Table → List PortForm → Result Processes ElabFault
 joins_of words whose outer inner connections table ports =
-    lower_joins (numbered words whose) outer inner (entries_tree words connections) table (map (port_form words) ports)
+    lower_joins (word_of words whose) outer inner (entries_tree words connections) table (map (port_form words) ports)
 
 abbrev pub join_of : List Text → Token → Scope → Scope → List ConnectionEntry → Table → PortForm → Result Processes ElabFault
 join_of words whose outer inner connections table port =
-    lower_join (numbered words whose) outer inner table (port_form words port) (value_for (entries_tree words connections) (port_form words port).name.letters)
+    lower_join (word_of words whose) outer inner table (port_form words port) (value_for (entries_tree words connections) (port_form words port).name.letters)
 
 -- what an output drives outside, where that can be driven
 abbrev pub lower_driven : Scope → Scope → Word → text.ExpressionTree → Result Action ElabFault

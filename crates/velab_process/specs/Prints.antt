@@ -77,12 +77,12 @@ is_left_out (printed tree) = false
 is_left_out left_out = true
 
 -- in empty parentheses there is no argument (own)
-abbrev pub given : List ArgumentTree → List ArgumentTree
-given [] = []
-given (one ∷ []) = if is_left_out one then [] else one ∷ []
-given (one ∷ other ∷ more) = one ∷ other ∷ more
+abbrev pub arguments_given : List ArgumentTree → List ArgumentTree
+arguments_given [] = []
+arguments_given (one ∷ []) = if is_left_out one then [] else one ∷ []
+arguments_given (one ∷ other ∷ more) = one ∷ other ∷ more
 
 -- the pieces that a task prints, where its formats are right (17.1.1); they are told by the first word of the arguments
 abbrev pub lower_line : Scope → Printing → List ArgumentTree → Result (List Piece) ElabFault
 lower_line scope kind arguments =
-    lower_arguments scope (given arguments) >>= λ all. found (pieces_of (default_form kind) (ends_line kind) all) Kind (first_argument arguments)
+    lower_arguments scope (arguments_given arguments) >>= λ all. found (pieces_of (default_form kind) (ends_line kind) all) Kind (first_argument arguments)

@@ -15,7 +15,7 @@ use Rattle.velab_expr.specs.declared.fault.ElabFault.{ElabFault}
 use Rattle.velab_expr.specs.declared.fault.Rule.TheVariants.{Unknown, Kind}
 use Rattle.velab_expr.specs.declared.scope.Meaning.{Meaning}
 use Rattle.velab_expr.specs.declared.scope.Meaning.TheVariants.{Variable, Parameter, Event, Instance}
-use Rattle.velab_expr.specs.Answers.{◌>>=◌, refused}
+use Rattle.velab_expr.specs.Answers.{◌>>=◌, refuse}
 use Rattle.velab_expr.specs.Scopes.{Scope, meaning_of}
 
 -- ---- terms (9.7.2)
@@ -28,13 +28,13 @@ edge_of (Some Falling) = Fall
 
 -- what is waited for, in a list of one: a change of a variable, or a named event (9.7.3), which has no edges
 abbrev pub term_by : Edge → Word → Option Meaning → Result (List Term) ElabFault
-term_by edge name None = refused Unknown (Some name)
+term_by edge name None = refuse Unknown (Some name)
 term_by edge name (Some (Variable number)) = Ok (Change edge number ∷ [])
-term_by edge name (Some (Parameter value bounds before)) = refused Kind (Some name)
+term_by edge name (Some (Parameter value bounds before)) = refuse Kind (Some name)
 term_by Any name (Some (Event number)) = Ok (Triggered number ∷ [])
-term_by Rise name (Some (Event number)) = refused Kind (Some name)
-term_by Fall name (Some (Event number)) = refused Kind (Some name)
-term_by edge name (Some Instance) = refused Kind (Some name)
+term_by Rise name (Some (Event number)) = refuse Kind (Some name)
+term_by Fall name (Some (Event number)) = refuse Kind (Some name)
+term_by edge name (Some Instance) = refuse Kind (Some name)
 
 abbrev pub lower_term : Scope → Edge → Word → Result (List Term) ElabFault
 lower_term scope edge name = term_by edge name (meaning_of scope name)

@@ -2,7 +2,7 @@
 
 ghost use Rattle.std.specs.Prelude.{◌≡◌, Some, option_map, IfOk};
 ghost use Rattle.vast.specs.NumberedTrees.{tree_of as text_tree, delay_tree, event_tree};
-ghost use Rattle.vast.specs.NumberedWords.{numbered};
+ghost use Rattle.vast.specs.NumberedWords.{word_of};
 ghost use Rattle.vmodules.specs.Placed.{inside};
 ghost use Rattle.vexpr_parse.specs.Texts.{words_of};
 ghost use Rattle.velab_expr.specs.Answers.{Gives};
@@ -76,7 +76,7 @@ impl<'a> Elaborator<'a> {
     /// The path of a block of this name (9.8.3, 12.5).
     pub(crate) fn path_inside(&self, name: Token) -> Result<Vec<u8>, NoMemory>
         ensures { IfOk result (λ path. path.items ≡
-            inside self.now.path.now (Some (numbered (words_of self.now.tokens.now) name))) }
+            inside self.now.path.now (Some (word_of (words_of self.now.tokens.now) name))) }
     {
         let mut path = Vec::from_slice(self.alloc, self.path)?;
         path.push(b'.')?;

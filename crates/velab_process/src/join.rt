@@ -3,7 +3,7 @@
 ghost use Rattle.std.specs.Prelude.{◌≡◌, [], ◌∷◌, None, Some, Ok, option_map, List, map, IfOk, OnOk};
 ghost use Rattle.vast.specs.Words.{Text};
 ghost use Rattle.vast.specs.NumberedTrees.{tree_of as text_tree};
-ghost use Rattle.vast.specs.NumberedWords.{numbered};
+ghost use Rattle.vast.specs.NumberedWords.{word_of};
 ghost use Rattle.vexpr_parse.specs.Texts.{words_of};
 ghost use Rattle.vmodules.specs.Inner.{port_form, value_tree};
 ghost use Rattle.velab_expr.specs.Answers.{Gives, Makes};
@@ -23,7 +23,7 @@ use vast::token::Token;
 use vdesign::action::{Action, Places, Target, Targets};
 use velab_expr::expression::{expression_of, expression_of_name};
 use velab_expr::fault::{ElabFault, Rule};
-use velab_expr::refusal::refused;
+use velab_expr::refusal::refusal;
 use velab_expr::scope::{Scope, number_of};
 use velab_expr::target::{connected_targets_of, is_drivable};
 use vlex::Tokens;
@@ -52,7 +52,7 @@ impl<'a> Connector<'a> {
     ) -> Result<(), OrMemory<ElabFault>>
         ensures { Makes result (record { table = table.new; begins = into.new.items })
             (with_begins_before into.old.items (Ok (spec.one_process table.old
-            (Some (numbered (words_of self.now.tokens.now) self.now.whose)) action))) }
+            (Some (word_of (words_of self.now.tokens.now) self.now.whose)) action))) }
     {
         let mut begins = Vec::new(self.alloc);
         put(table, &mut begins, Some(self.whose.number), action)?;
@@ -72,7 +72,7 @@ impl<'a> Connector<'a> {
     // What drives an input from outside.
     fn input_action(&self, port: Token, value: &Value) -> Result<Action, OrMemory<ElabFault>>
         ensures { Gives result (lower_input self.now.outer.now self.now.inner.now
-            (numbered (words_of self.now.tokens.now) port) (text_tree (words_of self.now.tokens.now) value.now)) }
+            (word_of (words_of self.now.tokens.now) port) (text_tree (words_of self.now.tokens.now) value.now)) }
     {
         let net = number_of(self.inner, self.tokens, port)?;
         let targets = self.whole(net)?;
@@ -88,7 +88,7 @@ impl<'a> Connector<'a> {
     // What an output drives outside, where that can be driven.
     fn driven_action(&self, port: Token, value: &Value) -> Result<Action, OrMemory<ElabFault>>
         ensures { Gives result (lower_driven self.now.outer.now self.now.inner.now
-            (numbered (words_of self.now.tokens.now) port) (text_tree (words_of self.now.tokens.now) value.now)) }
+            (word_of (words_of self.now.tokens.now) port) (text_tree (words_of self.now.tokens.now) value.now)) }
     {
         let targets = connected_targets_of(self.alloc, self.outer, self.tokens, value)?;
         let terms = name_terms(self.alloc, self.inner, self.tokens, port)?;
@@ -102,12 +102,12 @@ impl<'a> Connector<'a> {
 
     // The same; E305 where it can't be driven.
     fn output_action(&self, port: Token, value: &Value) -> Result<Action, OrMemory<ElabFault>>
-        ensures { Gives result (lower_output (numbered (words_of self.now.tokens.now) self.now.whose)
-            self.now.outer.now self.now.inner.now (numbered (words_of self.now.tokens.now) port)
+        ensures { Gives result (lower_output (word_of (words_of self.now.tokens.now) self.now.whose)
+            self.now.outer.now self.now.inner.now (word_of (words_of self.now.tokens.now) port)
             (target_of (text_tree (words_of self.now.tokens.now) value.now))) }
     {
         if !is_drivable(value) {
-            return Err(refused(Rule::Ports, Some(self.whose.number)));
+            return Err(refusal(Rule::Ports, Some(self.whose.number)));
         }
         self.driven_action(port, value)
     }
@@ -118,7 +118,7 @@ impl<'a> Connector<'a> {
         port: &PortForm<'_>,
         value: &Value,
     ) -> Result<Action, OrMemory<ElabFault>>
-        ensures { Gives result (lower_connection (numbered (words_of self.now.tokens.now) self.now.whose)
+        ensures { Gives result (lower_connection (word_of (words_of self.now.tokens.now) self.now.whose)
             self.now.outer.now self.now.inner.now (port_form (words_of self.now.tokens.now) port.now)
             (text_tree (words_of self.now.tokens.now) value.now)) }
     {
@@ -139,7 +139,7 @@ impl<'a> Connector<'a> {
     ) -> Result<(), OrMemory<ElabFault>>
         ensures { Makes result (record { table = table.new; begins = into.new.items })
             (with_begins_before into.old.items (spec.lower_join
-            (numbered (words_of self.now.tokens.now) self.now.whose) self.now.outer.now
+            (word_of (words_of self.now.tokens.now) self.now.whose) self.now.outer.now
             self.now.inner.now table.old (port_form (words_of self.now.tokens.now) port.now)
             (Some (text_tree (words_of self.now.tokens.now) value.now)))) }
     {

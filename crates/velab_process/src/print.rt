@@ -19,7 +19,7 @@ use vast::statement::{Argument, Base, Printing};
 use vdesign::print::{Form, Notation, Pieces, When, Width};
 use velab_expr::fault::{ElabFault, Rule};
 use velab_expr::first::first_argument;
-use velab_expr::refusal::refused;
+use velab_expr::refusal::refusal;
 use vmodules::letters::letters;
 
 /// When a print task prints (17.1.1, 17.1.2, 17.1.3).
@@ -112,9 +112,9 @@ fn is_left_out(argument: &Argument) -> bool
 }
 
 // The arguments, where there are some: none stands in empty parentheses.
-fn given(arguments: &[Argument]) -> &[Argument]
+fn without_empty_parentheses(arguments: &[Argument]) -> &[Argument]
     ensures { (words : List Text) → map (argument_tree words) result.now
-        ≡ spec.given (map (argument_tree words) arguments.now) }
+        ≡ spec.arguments_given (map (argument_tree words) arguments.now) }
 {
     let Some((first, rest)) = arguments.split_first() else {
         return arguments;
@@ -185,11 +185,11 @@ impl<'a> Elaborator<'a> {
             (arguments_at (words_of self.now.tokens.now) self.now.path.now arguments.now)) }
     {
         let mut printer = Printer::new(self.alloc, default_form(kind));
-        let is_right = self.put_arguments(&mut printer, given(arguments))?;
+        let is_right = self.put_arguments(&mut printer, without_empty_parentheses(arguments))?;
         let pieces = printer.finish(ends_line(kind))?;
         match right_pieces(is_right, pieces) {
             Some(line) => Ok(line),
-            None => Err(refused(Rule::Kind, first_argument(arguments))),
+            None => Err(refusal(Rule::Kind, first_argument(arguments))),
         }
     }
 }

@@ -12,7 +12,7 @@ ghost use Rattle.velab_process.specs.Inner.{Begins, statement_at, statements_at,
 ghost use Rattle.vast.specs.Words.{Text};
 ghost use Rattle.vast.specs.NumberedTrees.{tree_of as text_tree, trees_of};
 ghost use Rattle.vast.specs.NumberedTrees.{target_tree, delay_tree, event_tree};
-ghost use Rattle.vast.specs.NumberedWords.{numbered};
+ghost use Rattle.vast.specs.NumberedWords.{word_of};
 ghost use Rattle.vexpr_parse.specs.Texts.{words_of};
 ghost use Rattle.vast.specs.NumberedStatements.{case_of, assign, whole, print};
 ghost use Rattle.vast.specs.NumberedStatements as written;
@@ -311,7 +311,7 @@ impl<'a> Elaborator<'a> {
     ) -> Result<(), OrMemory<ElabFault>>
         ensures { Makes result (record { table = table.new; places = into.new.items })
             (with_places_before into.old.items (lower_statement self.now.scope.now table.old
-            (written.trigger (numbered (words_of self.now.tokens.now) name)))) }
+            (written.trigger (word_of (words_of self.now.tokens.now) name)))) }
     {
         let event = event_of(self.scope, self.tokens, name)?;
         put(table, into, None, Action::Trigger(event))
@@ -606,7 +606,7 @@ impl<'a> Elaborator<'a> {
         ensures { Makes result (record { table = table.new; places = into.new.items })
             (with_places_before into.old.items (spec.lower_all self.now.scope.now table.old
             (statements_at (words_of self.now.tokens.now)
-            (inside self.now.path.now (option_map (numbered (words_of self.now.tokens.now)) name)) statements.now))) }
+            (inside self.now.path.now (option_map (word_of (words_of self.now.tokens.now)) name)) statements.now))) }
     {
         let Some(name) = name else {
             return self.lower_all(statements, table, into);
@@ -771,7 +771,7 @@ impl<'a> Elaborator<'a> {
     ) -> Result<(), OrMemory<ElabFault>>
         ensures { Makes result (record { table = table.new; begins = into.new.items })
             (with_begins_before into.old.items (lower_processes self.now.scope.now table.old (procedural (assign
-            (whole (numbered (words_of self.now.tokens.now) name)) None
+            (whole (word_of (words_of self.now.tokens.now) name)) None
             (text_tree (words_of self.now.tokens.now) value.now)) ∷ []))) }
     {
         let target = Written::Whole(name);

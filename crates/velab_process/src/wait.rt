@@ -2,7 +2,7 @@
 
 ghost use Rattle.std.specs.Prelude.{◌≡◌, ◌≤◌, List, None, Some, [], ◌∷◌, ◌++◌, length, map, option_map, IfOk, OnOk};
 ghost use Rattle.vast.specs.NumberedTrees.{tree_of as text_tree, trees_of as text_trees};
-ghost use Rattle.vast.specs.NumberedWords.{numbered};
+ghost use Rattle.vast.specs.NumberedWords.{word_of};
 ghost use Rattle.vast.specs.NumberedTrees.{target_tree, target_trees, argument_tree, task_tree, delay_tree, further_term, event_tree, statement_tree, statement_trees, branch_tree, branch_trees};
 ghost use Rattle.vast.specs.Words.{Text};
 ghost use Rattle.vexpr_parse.specs.Texts.{words_of};
@@ -21,7 +21,7 @@ use vast::statement::{
 use vast::token::Token;
 use vdesign::action::{Edge, Term, Terms};
 use velab_expr::fault::{ElabFault, Rule};
-use velab_expr::refusal::refused;
+use velab_expr::refusal::refusal;
 use velab_expr::scope::{Meaning, Scope, meaning_of};
 use vlex::Tokens;
 
@@ -44,13 +44,13 @@ fn put_term(
     terms: &mut Vec<Term>,
 ) -> Result<(), OrMemory<ElabFault>>
     ensures { Makes result terms.new.items (behind terms.old.items
-        (lower_term scope.now edge (numbered (words_of tokens.now) name))) }
+        (lower_term scope.now edge (word_of (words_of tokens.now) name))) }
 {
     match meaning_of(scope, tokens, name) {
-        None => Err(refused(Rule::Unknown, Some(name.number))),
+        None => Err(refusal(Rule::Unknown, Some(name.number))),
         Some(Meaning::Variable(variable)) => Ok(terms.push(Term::Change { edge, variable })?),
         Some(Meaning::Event(number)) if edge == Edge::Any => Ok(terms.push(Term::Event(number))?),
-        Some(_) => Err(refused(Rule::Kind, Some(name.number))),
+        Some(_) => Err(refusal(Rule::Kind, Some(name.number))),
     }
 }
 
@@ -62,7 +62,7 @@ fn put_name(
     terms: &mut Vec<Term>,
 ) -> Result<(), NoMemory>
     ensures { OnOk result (terms.new.items ≡ terms.old.items
-        ++ heard (spec_meaning scope.now (numbered (words_of tokens.now) name))) }
+        ++ heard (spec_meaning scope.now (word_of (words_of tokens.now) name))) }
 {
     match meaning_of(scope, tokens, name) {
         Some(Meaning::Variable(variable)) => {
@@ -453,7 +453,7 @@ fn put_edge(
     terms: &mut Vec<Term>,
 ) -> Result<(), OrMemory<ElabFault>>
     ensures { Makes result terms.new.items (behind terms.old.items
-        (lower_term scope.now (spec.edge_of side) (numbered (words_of tokens.now) name))) }
+        (lower_term scope.now (spec.edge_of side) (word_of (words_of tokens.now) name))) }
 {
     put_term(scope, tokens, edge_of(side), name, terms)
 }
@@ -466,7 +466,7 @@ fn put_further_term(
     terms: &mut Vec<Term>,
 ) -> Result<(), OrMemory<ElabFault>>
     ensures { Makes result terms.new.items (behind terms.old.items (lower_term scope.now
-        (spec.edge_of one.now.term.edge) (numbered (words_of tokens.now) one.now.term.name))) }
+        (spec.edge_of one.now.term.edge) (word_of (words_of tokens.now) one.now.term.name))) }
 {
     put_edge(scope, tokens, one.term.edge, one.term.name, terms)
 }
@@ -552,7 +552,7 @@ pub fn name_terms(
     name: Token,
 ) -> Result<Terms, NoMemory>
     ensures { IfOk result (λ terms. terms ≡ any_of scope.now
-        (numbered (words_of tokens.now) name ∷ [])) }
+        (word_of (words_of tokens.now) name ∷ [])) }
 {
     let mut terms = Vec::new(alloc);
     put_name(scope, tokens, name, &mut terms)?;

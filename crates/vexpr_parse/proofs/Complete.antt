@@ -18,9 +18,9 @@ use Rattle.vast.proofs.ExpressionLemmas.{depth_positive}
 use Rattle.vexpr_parse.specs.declared.beginning.Beginning.{Beginning}
 use Rattle.vexpr_parse.specs.declared.beginning.Beginning.TheVariants as start
 use Rattle.vexpr_parse.specs.declared.beginning.Round.TheVariants as round
-use Rattle.vexpr_parse.specs.Readers.{got, Reader, front, is_front, and_then, goes, refused, lower, follow, led, room, past, choose, turns}
+use Rattle.vexpr_parse.specs.Readers.{got, Reader, front, is_front, and_then, goes, refused, lower, follow, by_word, room, past, choose, turns}
 use Rattle.vexpr_parse.specs.Words.{beginning_of, unary_of, binary_of, is_ranked, is_joined, is_asked, ends_primary, ends_operators, ends}
-use Rattle.vexpr_parse.specs.Reading.{trees_in, one_more, parts, repeated, joined, braces, enclosed, part_of, index_lead, selected, primary_by, primary, operator_by, operator_lead, operator, branches, question, onward, expression_by, expression}
+use Rattle.vexpr_parse.specs.Reading.{trees_in, one_more, parts, rest_of_replication, rest_of_concatenation, braces, rest_of_parentheses, part_of, index_lead, rest_of_select, primary_by, primary, operator_by, operator_lead, operator, branches, question, onward, expression_by, expression}
 use Rattle.vexpr_parse.specs.Lawful.{Rule}
 use Rattle.vexpr_parse.proofs.ReaderRules.{chosen, passed_over, same_text, text_same, then_got}
 use Rattle.vexpr_parse.proofs.ReaderLoops.{turns_end, turns_on}
@@ -235,10 +235,10 @@ module _ (tree : ExpressionTree) (c : Complete tree) where
 
   enclosed_complete : (below : ℕ) (make : ExpressionTree → ExpressionTree) (rest : List Text) → fits_expression tree ≡ true →
       nat_le (depth tree) below ≡ true →
-      enclosed (expression below) make ((spell_expression tree ++ codes ")" ∷ []) ++ rest) ≡ got (make tree) rest
+      rest_of_parentheses (expression below) make ((spell_expression tree ++ codes ")" ∷ []) ++ rest) ≡ got (make tree) rest
   unfolding binary_of
   enclosed_complete below make rest fit within =
-      ap (enclosed (expression below) make) (append_assoc (spell_expression tree) (codes ")" ∷ []) rest)
+      ap (rest_of_parentheses (expression below) make) (append_assoc (spell_expression tree) (codes ")" ∷ []) rest)
       ∙ inner below (λ t. past (codes ")") (got (make t))) (codes ")" ∷ rest) fit within refl
 
 leaf_complete_number : (digits : Text) → Complete (number digits)
@@ -260,7 +260,7 @@ parentheses_complete tree c =
     primary_complete (parentheses tree) refl
     (λ below rest fit within ended.
     led_to below (codes "(") ((spell_expression tree ++ codes ")" ∷ []) ++ rest) (start.Round round.Parenthesis) start_parenthesis
-    ∙ roomy below 1 (enclosed (expression below) parentheses) (codes "(") ((spell_expression tree ++ codes ")" ∷ []) ++ rest)
+    ∙ roomy below 1 (rest_of_parentheses (expression below) parentheses) (codes "(") ((spell_expression tree ++ codes ")" ∷ []) ++ rest)
     (enough tree below (upper (depth tree) below within))
     ∙ enclosed_complete tree c below parentheses rest fit (upper (depth tree) below within))
 
@@ -270,9 +270,9 @@ conversion_complete signed tree c =
     (λ below rest fit within ended.
     let inside = (spell_expression tree ++ codes ")" ∷ []) ++ rest in
     led_to below (conversion_word signed) (codes "(" ∷ inside) (start.Round (round.Conversion signed)) (start_conversion signed)
-    ∙ roomy below 1 (past (codes "(") (enclosed (expression below) (conversion signed))) (conversion_word signed)
+    ∙ roomy below 1 (past (codes "(") (rest_of_parentheses (expression below) (conversion signed))) (conversion_word signed)
     (codes "(" ∷ inside) (enough tree below (upper (depth tree) below within))
-    ∙ past_word (codes "(") (enclosed (expression below) (conversion signed)) inside
+    ∙ past_word (codes "(") (rest_of_parentheses (expression below) (conversion signed)) inside
     ∙ enclosed_complete tree c below (conversion signed) rest fit (upper (depth tree) below within))
 
 apply_complete : (operator : UnaryOperator) (tree : ExpressionTree) → Complete tree → Complete (apply operator tree)
@@ -291,10 +291,10 @@ apply_complete operator tree c =
 -- selects
 
 selected_to : (below : ℕ) (letters : Text) (after : List Text) → is_name letters ≡ true → nat_le 1 below ≡ true →
-    primary below (expression below) (letters ∷ codes "[" ∷ after) ≡ selected (expression below) letters after
+    primary below (expression below) (letters ∷ codes "[" ∷ after) ≡ rest_of_select (expression below) letters after
 selected_to below letters after is e =
     led_to below letters (codes "[" ∷ after) start.Name (start_name letters is)
-    ∙ roomy below 1 (selected (expression below) letters) (codes "[") after e
+    ∙ roomy below 1 (rest_of_select (expression below) letters) (codes "[") after e
 
 bit_complete : (letters : Text) (tree : ExpressionTree) → Complete tree → Complete (bit letters tree)
 unfolding binary_of
@@ -303,8 +303,8 @@ bit_complete letters tree c =
     (λ below rest fit within ended.
     selected_to below letters ((spell_expression tree ++ codes "]" ∷ []) ++ rest)
     (and_left (is_name letters) (fits_expression tree) fit) (enough tree below (upper (depth tree) below within))
-    ∙ ap (selected (expression below) letters) (append_assoc (spell_expression tree) (codes "]" ∷ []) rest)
-    ∙ inner tree c below (λ index. led (index_lead (expression below) letters index)) (codes "]" ∷ rest)
+    ∙ ap (rest_of_select (expression below) letters) (append_assoc (spell_expression tree) (codes "]" ∷ []) rest)
+    ∙ inner tree c below (λ index. by_word (index_lead (expression below) letters index)) (codes "]" ∷ rest)
     (and_right (is_name letters) (fits_expression tree) fit)
     (upper (depth tree) below within) refl)
 
@@ -318,8 +318,8 @@ part_complete letters left right c d =
     let behind : List Text = codes ":" ∷ (spell_expression right ++ codes "]" ∷ []) in
     selected_to below letters ((spell_expression left ++ behind) ++ rest) (and_left (is_name letters) (fits_expression left) fits_left)
     (enough left below left_within)
-    ∙ ap (selected (expression below) letters) (append_assoc (spell_expression left) behind rest)
-    ∙ inner left c below (λ index. led (index_lead (expression below) letters index)) (behind ++ rest)
+    ∙ ap (rest_of_select (expression below) letters) (append_assoc (spell_expression left) behind rest)
+    ∙ inner left c below (λ index. by_word (index_lead (expression below) letters index)) (behind ++ rest)
     (and_right (is_name letters) (fits_expression left) fits_left) left_within refl
     ∙ ap (part_of (expression below) letters left) (append_assoc (spell_expression right) (codes "]" ∷ []) rest)
     ∙ inner right d below (λ t. past (codes "]") (got (part letters left t))) (codes "]" ∷ rest)
@@ -396,8 +396,8 @@ concatenation_complete (first one more) each =
     led_to below (codes "{") ((spell_parts (first one more) ++ codes "}" ∷ []) ++ rest) (start.Round round.Brace) start_brace
     ∙ roomy below 1 (braces (expression below)) (codes "{") ((spell_parts (first one more) ++ codes "}" ∷ []) ++ rest) level
     ∙ ap (braces (expression below)) (append_assoc (spell_parts (first one more)) (codes "}" ∷ []) rest)
-    ∙ first_complete below (λ tree. choose (is_front (codes "{")) (repeated (expression below) tree)
-    (joined (expression below) tree)) one more each.0 after
+    ∙ first_complete below (λ tree. choose (is_front (codes "{")) (rest_of_replication (expression below) tree)
+    (rest_of_concatenation (expression below) tree)) one more each.0 after
     (and_left (fits_expression one) (fits_parts more) fit) one_within refl
     ∙ passed_over (is_front (codes "{") (front (spell_more_parts more ++ after))) _ _ (no_brace more rest)
     ∙ then_got (turns (one_more (expression below)) (is_front (codes ",")) (one ∷ []) (spell_more_parts more ++ after))
@@ -434,7 +434,7 @@ replication_complete count (first one more) c each =
     led_to below (codes "{") ((spell_expression count ++ behind) ++ rest) (start.Round round.Brace) start_brace
     ∙ roomy below 1 (braces (expression below)) (codes "{") ((spell_expression count ++ behind) ++ rest) level
     ∙ ap (braces (expression below)) (append_assoc (spell_expression count) behind rest)
-    ∙ inner count c below (λ tree. choose (is_front (codes "{")) (repeated (expression below) tree) (joined (expression below) tree))
+    ∙ inner count c below (λ tree. choose (is_front (codes "{")) (rest_of_replication (expression below) tree) (rest_of_concatenation (expression below) tree))
     (behind ++ rest) fits_count count_within refl
     ∙ ap (λ ws. and_then (parts (expression below) ws) (λ trees. past (codes "}") (past (codes "}")
     (got (replication count (trees_in trees)))))) (append_assoc (spell_parts (first one more)) ending rest)

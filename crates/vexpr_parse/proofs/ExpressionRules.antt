@@ -12,9 +12,9 @@ use Rattle.vast.proofs.ExpressionLemmas.{depth_positive}
 use Rattle.vexpr_parse.specs.declared.beginning.Beginning.{Beginning}
 use Rattle.vexpr_parse.specs.declared.beginning.Beginning.TheVariants as start
 use Rattle.vexpr_parse.specs.declared.beginning.Round.TheVariants as round
-use Rattle.vexpr_parse.specs.Readers.{got, front, is_front, and_then, goes, refused, led, room, past, choose, turns}
+use Rattle.vexpr_parse.specs.Readers.{got, front, is_front, and_then, goes, refused, by_word, room, past, choose, turns}
 use Rattle.vexpr_parse.specs.Words.{beginning_of, binary_of, is_ranked, is_joined, is_asked, ends_primary, ends_operators, ends}
-use Rattle.vexpr_parse.specs.Reading.{Below, trees_in, one_more, parts, repeated, joined, braces, enclosed, part_of, index_lead, selected, select_lead, named, primary_by, primary_lead, primary, operator_by, operator_lead, operator, branches, question_lead, question, onward, expression_by, expression}
+use Rattle.vexpr_parse.specs.Reading.{Below, trees_in, one_more, parts, rest_of_replication, rest_of_concatenation, braces, rest_of_parentheses, part_of, index_lead, rest_of_select, select_lead, rest_of_name, primary_by, primary_lead, primary, operator_by, operator_lead, operator, branches, question_lead, question, onward, expression_by, expression}
 use Rattle.vexpr_parse.specs.Lawful.{Ends, Rule}
 use Rattle.vexpr_parse.proofs.ReaderRules.{Eats, got_rule, IsLead, rule_lead, led_sees, led_eats}
 use Rattle.vexpr_parse.proofs.ReaderLoops.{led_rule, lead_if, lead_room, past_rule, past_eats, links_eats, links_ends, then_rule, option_rule, either_rule, turns_keep, turns_rule, then_eats, choose_eats}
@@ -126,7 +126,7 @@ module _ (read : Below) (r : (least : ℕ) → Rule (read least) (ends least) ex
   closed_eats text tree = past_eats text (got tree) ends_primary [] (got_rule tree ends_primary)
 
   -- ( tree )
-  pub enclosed_rule : (make : ExpressionTree → ExpressionTree) → Rule (enclosed read make) ends_primary (example ++ codes ")" ∷ [])
+  pub enclosed_rule : (make : ExpressionTree → ExpressionTree) → Rule (rest_of_parentheses read make) ends_primary (example ++ codes ")" ∷ [])
   unfolding binary_of
   enclosed_rule make =
       then_rule (read 0) (λ tree. past (codes ")") (got (make tree))) (ends 0) ends_primary example (codes ")" ∷ [])
@@ -148,10 +148,10 @@ module _ (read : Below) (r : (least : ℕ) → Rule (read least) (ends least) ex
       (lead_if ends_primary (bytes_eq (codes ":") word) _ _ (rule_lead (part_of read letters index) ends_primary (example ++ codes "]" ∷ [])
       (part_rule letters index)) tt)
 
-  pub selected_rule : (letters : Text) → Rule (selected read letters) ends_primary (example ++ codes "]" ∷ [])
+  pub selected_rule : (letters : Text) → Rule (rest_of_select read letters) ends_primary (example ++ codes "]" ∷ [])
   unfolding binary_of
   selected_rule letters =
-      then_rule (read 0) (λ index. led (index_lead read letters index)) (ends 0) ends_primary example (codes "]" ∷ [])
+      then_rule (read 0) (λ index. by_word (index_lead read letters index)) (ends 0) ends_primary example (codes "]" ∷ [])
       (links_eats _ (ends 0) ends_primary (λ index. led_eats (index_lead read letters index) ends_primary (index_leads letters index)))
       (λ rest e. refl) (r 0)
       (λ index. led_rule (index_lead read letters index) ends_primary (codes "]") [] (got (bit letters index))
@@ -202,14 +202,14 @@ module _ (read : Below) (r : (least : ℕ) → Rule (read least) (ends least) ex
       (replication count (trees_in trees)))))
       (λ rest e. refl) parts_rule (λ trees. twice_closed (replication count (trees_in trees)))
 
-  repeated_rule : (count : ExpressionTree) → Rule (repeated read count) ends_primary
+  repeated_rule : (count : ExpressionTree) → Rule (rest_of_replication read count) ends_primary
       (codes "{" ∷ ((example ++ []) ++ codes "}" ∷ codes "}" ∷ []))
   repeated_rule count = past_rule (codes "{") _ ends_primary ((example ++ []) ++ codes "}" ∷ codes "}" ∷ []) (held_rule count)
 
-  repeated_eats : (count : ExpressionTree) → Eats (repeated read count)
+  repeated_eats : (count : ExpressionTree) → Eats (rest_of_replication read count)
   repeated_eats count = past_eats (codes "{") _ ends_primary ((example ++ []) ++ codes "}" ∷ codes "}" ∷ []) (held_rule count)
 
-  joined_rule : (tree : ExpressionTree) → Rule (joined read tree) ends_primary ([] ++ codes "}" ∷ [])
+  joined_rule : (tree : ExpressionTree) → Rule (rest_of_concatenation read tree) ends_primary ([] ++ codes "}" ∷ [])
   unfolding binary_of
   joined_rule tree =
       then_rule (turns (one_more read) (is_front (codes ",")) (tree ∷ [])) (λ trees. past (codes "}")
@@ -218,7 +218,7 @@ module _ (read : Below) (r : (least : ℕ) → Rule (read least) (ends least) ex
       (list_rule (tree ∷ []))
       (λ trees. closed_rule (codes "}") (concatenation (trees_in trees)))
 
-  joined_eats : (tree : ExpressionTree) → Eats (joined read tree)
+  joined_eats : (tree : ExpressionTree) → Eats (rest_of_concatenation read tree)
   joined_eats tree =
       then_eats (turns (one_more read) (is_front (codes ",")) (tree ∷ [])) (λ trees. past (codes "}")
       (got (concatenation (trees_in trees))))
@@ -229,11 +229,11 @@ module _ (read : Below) (r : (least : ℕ) → Rule (read least) (ends least) ex
   pub braces_rule : Rule (braces read) ends_primary (example ++ codes "}" ∷ [])
   unfolding binary_of
   braces_rule =
-      then_rule (read 0) (λ tree. choose (is_front (codes "{")) (repeated read tree) (joined read tree)) (ends 0) ends_primary example
+      then_rule (read 0) (λ tree. choose (is_front (codes "{")) (rest_of_replication read tree) (rest_of_concatenation read tree)) (ends 0) ends_primary example
       (codes "}" ∷ [])
-      (links_eats _ (ends 0) ends_primary (λ tree. choose_eats (is_front (codes "{")) (repeated read tree) (joined read tree)
+      (links_eats _ (ends 0) ends_primary (λ tree. choose_eats (is_front (codes "{")) (rest_of_replication read tree) (rest_of_concatenation read tree)
       (repeated_eats tree) (joined_eats tree))) (λ rest e. refl) (r 0)
-      (λ tree. either_rule (is_front (codes "{")) (repeated read tree) (joined read tree) ends_primary (codes "}" ∷ []) (repeated_eats tree)
+      (λ tree. either_rule (is_front (codes "{")) (rest_of_replication read tree) (rest_of_concatenation read tree) ends_primary (codes "}" ∷ []) (repeated_eats tree)
       (joined_eats tree) (repeated_rule tree).lawful (joined_rule tree)
       (λ rest. refl))
 
@@ -279,29 +279,29 @@ module _ (below : ℕ) (read : Below) (rules : nat_le 1 below ≡ true → (leas
   select_leads : (letters word : Text) → IsLead ends_primary (select_lead below read letters word)
   select_leads letters word =
       lead_if ends_primary (bytes_eq (codes "[") word) _ _
-      (lead_room ends_primary below 1 (goes (selected read letters))
-      (λ e. rule_lead (selected read letters) ends_primary (example ++ codes "]" ∷ []) (selected_rule read (rules e) letters))) tt
+      (lead_room ends_primary below 1 (goes (rest_of_select read letters))
+      (λ e. rule_lead (rest_of_select read letters) ends_primary (example ++ codes "]" ∷ []) (selected_rule read (rules e) letters))) tt
 
-  named_rule : (letters : Text) → Rule (named below read letters) ends_primary []
+  named_rule : (letters : Text) → Rule (rest_of_name below read letters) ends_primary []
   named_rule letters =
-      option_rule (is_front (codes "[")) (led (select_lead below read letters)) (name letters) ends_primary
+      option_rule (is_front (codes "[")) (by_word (select_lead below read letters)) (name letters) ends_primary
       (led_eats (select_lead below read letters) ends_primary (select_leads letters))
       (λ first e. not-true (is_front (codes "[") first) e) (led_sees (select_lead below read letters) ends_primary (select_leads letters))
 
   primary_leads_by : (word : Text) (b : Beginning) → IsLead ends_primary (primary_by below read word b)
   primary_leads_by word start.Number = rule_lead (got (number word)) ends_primary [] (got_rule (number word) ends_primary)
-  primary_leads_by word start.Name = rule_lead (named below read word) ends_primary [] (named_rule word)
+  primary_leads_by word start.Name = rule_lead (rest_of_name below read word) ends_primary [] (named_rule word)
   primary_leads_by word start.Time = rule_lead (got (time word)) ends_primary [] (got_rule (time word) ends_primary)
   primary_leads_by word (start.Round round.Parenthesis) =
-      lead_room ends_primary below 1 (goes (enclosed read parentheses))
-      (λ e. rule_lead (enclosed read parentheses) ends_primary (example ++ codes ")" ∷ []) (enclosed_rule read (rules e) parentheses))
+      lead_room ends_primary below 1 (goes (rest_of_parentheses read parentheses))
+      (λ e. rule_lead (rest_of_parentheses read parentheses) ends_primary (example ++ codes ")" ∷ []) (enclosed_rule read (rules e) parentheses))
   primary_leads_by word (start.Round round.Brace) =
       lead_room ends_primary below 1 (goes (braces read)) (λ e. rule_lead (braces read) ends_primary (example ++ codes "}" ∷ [])
       (braces_rule read (rules e)))
   primary_leads_by word (start.Round (round.Conversion signed)) =
-      lead_room ends_primary below 1 (goes (past (codes "(") (enclosed read (conversion signed))))
-      (λ e. rule_lead (past (codes "(") (enclosed read (conversion signed))) ends_primary (codes "(" ∷ (example ++ codes ")" ∷ []))
-      (past_rule (codes "(") (enclosed read (conversion signed)) ends_primary (example ++ codes ")" ∷ [])
+      lead_room ends_primary below 1 (goes (past (codes "(") (rest_of_parentheses read (conversion signed))))
+      (λ e. rule_lead (past (codes "(") (rest_of_parentheses read (conversion signed))) ends_primary (codes "(" ∷ (example ++ codes ")" ∷ []))
+      (past_rule (codes "(") (rest_of_parentheses read (conversion signed)) ends_primary (example ++ codes ")" ∷ [])
       (enclosed_rule read (rules e) (conversion signed))))
   primary_leads_by word (start.Round (round.Operator operator)) =
       lead_room ends_primary below 1 _ (λ e. rule_lead _ ends_primary (example ++ []) (applied_rule read (rules e) operator))
@@ -310,7 +310,7 @@ module _ (below : ℕ) (read : Below) (rules : nat_le 1 below ≡ true → (leas
   pub primary_rule : Rule (primary below read) ends_primary example
   unfolding beginning_of reserved_words
   primary_rule =
-      led_rule (primary_lead below read) ends_primary (codes "a") [] (named below read (codes "a"))
+      led_rule (primary_lead below read) ends_primary (codes "a") [] (rest_of_name below read (codes "a"))
       (λ word. primary_leads_by word (beginning_of word)) refl (named_rule (codes "a")).starts
 
   enough_below : (tree : ExpressionTree) → nat_le (depth tree) below ≡ true → nat_le 1 below ≡ true
@@ -366,7 +366,7 @@ module _ (below : ℕ) (read : Below) (rules : nat_le 1 below ≡ true → (leas
 
   question_rule : (least : ℕ) (condition : ExpressionTree) → Rule (question below read least condition) (ends least) []
   question_rule least condition =
-      option_rule (is_asked least) (led (question_lead below read least condition)) condition (ends least)
+      option_rule (is_asked least) (by_word (question_lead below read least condition)) condition (ends least)
       (led_eats (question_lead below read least condition) (ends least) (question_leads least condition)) (not_asked least)
       (led_sees (question_lead below read least condition) (ends least) (question_leads least condition))
 

@@ -5,12 +5,12 @@ use Rattle.std.specs.Str.{bytes_eq}
 use Rattle.std.proofs.lemmas.Bool.{cases_Bool}
 use Rattle.basis.proofs.Bools.{and_left, and_right, clash}
 use Rattle.vast.specs.Words.{Text}
-use Rattle.vexpr_parse.specs.Words.{written, begins_among}
+use Rattle.vexpr_parse.specs.Words.{by_spelling, begins_among}
 use Rattle.vexpr_parse.proofs.ReaderRules.{passed_over, same_text}
 
 -- where all begin with one of these bytes, and a word doesn't, it is none of them
 pub written_none : {A : Type 0} (spell : A → Text) (all : List A) (bytes : List ℕ) (word : Text) →
-    list_all (λ one. begins_among bytes (spell one)) all ≡ true → begins_among bytes word ≡ false → written spell all word ≡ None
+    list_all (λ one. begins_among bytes (spell one)) all ≡ true → begins_among bytes word ≡ false → by_spelling spell all word ≡ None
 written_none spell [] bytes word e f = refl
 written_none spell (one ∷ more) bytes word e f =
     passed_over (bytes_eq (spell one) word) _ _ differs

@@ -10,9 +10,9 @@ use Rattle.vexpr_parse.specs.declared.beginning.Beginning.{Beginning}
 use Rattle.vexpr_parse.specs.declared.beginning.Beginning.TheVariants as start
 use Rattle.vexpr_parse.specs.declared.beginning.Round.TheVariants as round
 use Rattle.vexpr_parse.specs.declared.stop.Stop.TheVariants.{NoTree, TooDeep}
-use Rattle.vexpr_parse.specs.Readers.{Answer, got, stop, Reader, front, is_front, and_then, Lead, goes, refused, lower, follow, led, room, past, choose, rounds, turns}
+use Rattle.vexpr_parse.specs.Readers.{Answer, got, stop, Reader, front, is_front, and_then, Lead, goes, refused, lower, follow, by_word, room, past, choose, rounds, turns}
 use Rattle.vexpr_parse.specs.Words.{beginning_of, binary_of, is_joined, is_asked, ends}
-use Rattle.vexpr_parse.specs.Reading.{Below, trees_in, one_more, parts, repeated, joined, braces, enclosed, part_of, index_lead, selected, select_lead, named, primary_by, primary_lead, primary, operator_by, operator_lead, operator, branches, question_lead, question, onward, expression_by, expression}
+use Rattle.vexpr_parse.specs.Reading.{Below, trees_in, one_more, parts, rest_of_replication, rest_of_concatenation, braces, rest_of_parentheses, part_of, index_lead, rest_of_select, select_lead, rest_of_name, primary_by, primary_lead, primary, operator_by, operator_lead, operator, branches, question_lead, question, onward, expression_by, expression}
 use Rattle.vexpr_parse.specs.Lawful.{rest_of}
 use Rattle.vast.proofs.ExpressionLemmas.{depth_positive}
 use Rattle.vexpr_parse.proofs.ReaderRules.{chosen, passed_over, keeps, stop_got, got_tree, parts_of}
@@ -43,7 +43,7 @@ LeadKeeps (goes read) = Keeps read
 LeadKeeps refused = Unit {0}
 LeadKeeps lower = Unit {0}
 
-pub led_keep : {A : Type 0} (lead : Text → Lead A) → ((word : Text) → LeadKeeps (lead word)) → Keeps (led lead)
+pub led_keep : {A : Type 0} (lead : Text → Lead A) → ((word : Text) → LeadKeeps (lead word)) → Keeps (by_word lead)
 led_keep lead k [] = no_more 0
 led_keep {A = A} lead k (word ∷ words) = by_lead (lead word) (k word)
   where
@@ -111,7 +111,7 @@ LeadGrows lower refused = ⊥
 LeadGrows lower lower = ⊥
 
 pub led_grows : {A : Type 0} (lead more : Text → Lead A) → ((word : Text) → LeadGrows (lead word) (more word)) → (words : List Text) →
-    Grows (led lead words) (led more words)
+    Grows (by_word lead words) (by_word more words)
 led_grows lead more g [] = refl
 led_grows {A = A} lead more g (word ∷ words) = by_leads (lead word) (more word) (g word)
   where
@@ -193,7 +193,7 @@ module _ (read more : Below) (g : (least : ℕ) (words : List Text) → Grows (r
   closed_keep text tree = past_keep text (got tree) (got_keep tree)
 
   enclosed_grows : (make : ExpressionTree → ExpressionTree) (words : List Text) →
-      Grows (enclosed read make words) (enclosed more make words)
+      Grows (rest_of_parentheses read make words) (rest_of_parentheses more make words)
   enclosed_grows make words =
       then_grows (read 0 words) (more 0 words) (λ tree. past (codes ")") (got (make tree))) (λ tree. past (codes ")") (got (make tree)))
       (g 0 words)
@@ -210,9 +210,9 @@ module _ (read more : Below) (g : (least : ℕ) (words : List Text) → Grows (r
   part_keep letters left words = then_keep words (more 0 words) (λ right. past (codes "]") (got (part letters left right))) (k 0 words)
       (λ right. closed_keep (codes "]") (part letters left right))
 
-  selected_grows : (letters : Text) (words : List Text) → Grows (selected read letters words) (selected more letters words)
+  selected_grows : (letters : Text) (words : List Text) → Grows (rest_of_select read letters words) (rest_of_select more letters words)
   selected_grows letters words =
-      then_grows (read 0 words) (more 0 words) (λ index. led (index_lead read letters index)) (λ index. led (index_lead more letters index))
+      then_grows (read 0 words) (more 0 words) (λ index. by_word (index_lead read letters index)) (λ index. by_word (index_lead more letters index))
       (g 0 words)
       (λ index left e. led_grows (index_lead read letters index) (index_lead more letters index)
       (λ word. if_grows (bytes_eq (codes "]") word) (goes (got (bit letters index))) _ (goes (got (bit letters index))) _ (λ e ws. refl)
@@ -220,15 +220,15 @@ module _ (read more : Below) (g : (least : ℕ) (words : List Text) → Grows (r
       (λ e. part_grows letters index) tt)) left)
       index_keep
     where
-      index_keep : (index : ExpressionTree) → Keeps (led (index_lead more letters index))
+      index_keep : (index : ExpressionTree) → Keeps (by_word (index_lead more letters index))
       index_keep index =
           led_keep (index_lead more letters index)
           (λ word. if_keep (bytes_eq (codes "]") word) (goes (got (bit letters index))) _ (got_keep (bit letters index))
           (if_keep (bytes_eq (codes ":") word) (goes (part_of more letters index)) refused (part_keep letters index) tt))
 
-  selected_keep : (letters : Text) → Keeps (selected more letters)
+  selected_keep : (letters : Text) → Keeps (rest_of_select more letters)
   selected_keep letters words =
-      then_keep words (more 0 words) (λ index. led (index_lead more letters index)) (k 0 words)
+      then_keep words (more 0 words) (λ index. by_word (index_lead more letters index)) (k 0 words)
       (λ index. led_keep (index_lead more letters index)
       (λ word. if_keep (bytes_eq (codes "]") word) (goes (got (bit letters index))) _ (got_keep (bit letters index))
       (if_keep (bytes_eq (codes ":") word) (goes (part_of more letters index)) refused (part_keep letters index) tt)))
@@ -256,10 +256,10 @@ module _ (read more : Below) (g : (least : ℕ) (words : List Text) → Grows (r
 
   braces_grow : (words : List Text) → Grows (braces read words) (braces more words)
   braces_grow words =
-      then_grows (read 0 words) (more 0 words) (λ tree. choose (is_front (codes "{")) (repeated read tree) (joined read tree))
-      (λ tree. choose (is_front (codes "{")) (repeated more tree) (joined more tree))
-      (g 0 words) (λ tree left e. choose_grows (is_front (codes "{")) (repeated read tree) (joined read tree) (repeated more tree)
-      (joined more tree) left (repeated_grows tree left) (joined_grows tree left)) after_keep
+      then_grows (read 0 words) (more 0 words) (λ tree. choose (is_front (codes "{")) (rest_of_replication read tree) (rest_of_concatenation read tree))
+      (λ tree. choose (is_front (codes "{")) (rest_of_replication more tree) (rest_of_concatenation more tree))
+      (g 0 words) (λ tree left e. choose_grows (is_front (codes "{")) (rest_of_replication read tree) (rest_of_concatenation read tree) (rest_of_replication more tree)
+      (rest_of_concatenation more tree) left (repeated_grows tree left) (joined_grows tree left)) after_keep
     where
       after_parts : ExpressionTree → List ExpressionTree → Reader ExpressionTree
       after_parts count trees = past (codes "}") (past (codes "}") (got (replication count (trees_in trees))))
@@ -274,7 +274,7 @@ module _ (read more : Below) (g : (least : ℕ) (words : List Text) → Grows (r
       parts_keep ws = then_keep ws (more 0 ws) (λ tree. turns (one_more more) (is_front (codes ",")) (tree ∷ [])) (k 0 ws)
           (λ tree. list_keep (tree ∷ []))
 
-      repeated_grows : (count : ExpressionTree) (ws : List Text) → Grows (repeated read count ws) (repeated more count ws)
+      repeated_grows : (count : ExpressionTree) (ws : List Text) → Grows (rest_of_replication read count ws) (rest_of_replication more count ws)
       repeated_grows count =
           past_grows (codes "{") (λ ws. and_then (parts read ws) (λ trees. past (codes "}") (past (codes "}")
           (got (replication count (trees_in trees))))))
@@ -288,7 +288,7 @@ module _ (read more : Below) (g : (least : ℕ) (words : List Text) → Grows (r
           (λ trees. past_keep (codes "}") (past (codes "}") (got (replication count (trees_in trees)))) (closed_keep (codes "}")
           (replication count (trees_in trees)))))
 
-      joined_grows : (tree : ExpressionTree) (ws : List Text) → Grows (joined read tree ws) (joined more tree ws)
+      joined_grows : (tree : ExpressionTree) (ws : List Text) → Grows (rest_of_concatenation read tree ws) (rest_of_concatenation more tree ws)
       joined_grows tree ws =
           then_grows (turns (one_more read) (is_front (codes ",")) (tree ∷ []) ws)
           (turns (one_more more) (is_front (codes ",")) (tree ∷ []) ws)
@@ -297,9 +297,9 @@ module _ (read more : Below) (g : (least : ℕ) (words : List Text) → Grows (r
           (λ trees left e. closed_grows (codes "}") (concatenation (trees_in trees)) left) (λ trees. closed_keep (codes "}")
           (concatenation (trees_in trees)))
 
-      after_keep : (tree : ExpressionTree) → Keeps (choose (is_front (codes "{")) (repeated more tree) (joined more tree))
+      after_keep : (tree : ExpressionTree) → Keeps (choose (is_front (codes "{")) (rest_of_replication more tree) (rest_of_concatenation more tree))
       after_keep tree =
-          choose_keep (is_front (codes "{")) (repeated more tree) (joined more tree)
+          choose_keep (is_front (codes "{")) (rest_of_replication more tree) (rest_of_concatenation more tree)
           (past_keep (codes "{") (λ ws. and_then (parts more ws) (λ trees. past (codes "}") (past (codes "}")
           (got (replication tree (trees_in trees))))))
           (λ ws. then_keep ws (parts more ws) (λ trees. past (codes "}") (past (codes "}") (got (replication tree (trees_in trees)))))
@@ -333,12 +333,12 @@ module _ (below : ℕ) (read more : Below) (g : nat_le 1 below ≡ true → (lea
   one_within : (n : ℕ) → nat_le 1 (suc n) ≡ true
   one_within n = grind (arith, nat_tests)
 
-  enclosed_keep : (make : ExpressionTree → ExpressionTree) → Keeps (enclosed more make)
+  enclosed_keep : (make : ExpressionTree → ExpressionTree) → Keeps (rest_of_parentheses more make)
   enclosed_keep make words = then_keep words (more 0 words) (λ tree. past (codes ")") (got (make tree))) (k 0 words)
       (λ tree. past_keep (codes ")") (got (make tree)) (got_keep (make tree)))
 
-  selected_keeps : (letters : Text) → Keeps (selected more letters)
-  selected_keeps letters words = then_keep words (more 0 words) (λ index. led (index_lead more letters index)) (k 0 words)
+  selected_keeps : (letters : Text) → Keeps (rest_of_select more letters)
+  selected_keeps letters words = then_keep words (more 0 words) (λ index. by_word (index_lead more letters index)) (k 0 words)
       (λ index. led_keep (index_lead more letters index)
       (λ word. if_keep (bytes_eq (codes "]") word) (goes (got (bit letters index))) _ (got_keep (bit letters index))
       (if_keep (bytes_eq (codes ":") word) (goes (part_of more letters index)) refused
@@ -348,19 +348,19 @@ module _ (below : ℕ) (read more : Below) (g : nat_le 1 below ≡ true → (lea
   select_grows : (letters word : Text) → LeadGrows (select_lead below read letters word) (select_lead (suc below) more letters word)
   select_grows letters word =
       if_grows (bytes_eq (codes "[") word) _ refused _ refused
-      (λ e. room_grows below 1 (selected read letters) (selected more letters) (one_within below)
+      (λ e. room_grows below 1 (rest_of_select read letters) (rest_of_select more letters) (one_within below)
       (λ f. selected_grows read more (g f) k letters) (selected_keeps letters)) tt
 
-  named_grows : (letters : Text) (words : List Text) → Grows (named below read letters words) (named (suc below) more letters words)
+  named_grows : (letters : Text) (words : List Text) → Grows (rest_of_name below read letters words) (rest_of_name (suc below) more letters words)
   named_grows letters words =
-      choose_grows (is_front (codes "[")) (led (select_lead below read letters)) (got (name letters))
-      (led (select_lead (suc below) more letters)) (got (name letters)) words
+      choose_grows (is_front (codes "[")) (by_word (select_lead below read letters)) (got (name letters))
+      (by_word (select_lead (suc below) more letters)) (got (name letters)) words
       (led_grows (select_lead below read letters) (select_lead (suc below) more letters) (select_grows letters) words) refl
 
   braces_keeps : Keeps (braces more)
   braces_keeps words =
-      then_keep words (more 0 words) (λ tree. choose (is_front (codes "{")) (repeated more tree) (joined more tree)) (k 0 words)
-      (λ tree. choose_keep (is_front (codes "{")) (repeated more tree) (joined more tree)
+      then_keep words (more 0 words) (λ tree. choose (is_front (codes "{")) (rest_of_replication more tree) (rest_of_concatenation more tree)) (k 0 words)
+      (λ tree. choose_keep (is_front (codes "{")) (rest_of_replication more tree) (rest_of_concatenation more tree)
       (past_keep (codes "{") (λ ws. and_then (parts more ws) (λ trees. past (codes "}") (past (codes "}")
       (got (replication tree (trees_in trees))))))
       (λ ws. then_keep ws (parts more ws) (λ trees. past (codes "}") (past (codes "}") (got (replication tree (trees_in trees)))))
@@ -388,16 +388,16 @@ module _ (below : ℕ) (read more : Below) (g : nat_le 1 below ≡ true → (lea
   primary_grows_by word start.Name = named_grows word
   primary_grows_by word start.Time = λ words. refl
   primary_grows_by word (start.Round round.Parenthesis) =
-      room_grows below 1 (enclosed read parentheses) (enclosed more parentheses) (one_within below)
+      room_grows below 1 (rest_of_parentheses read parentheses) (rest_of_parentheses more parentheses) (one_within below)
       (λ f. enclosed_grows read more (g f) k parentheses) (enclosed_keep parentheses)
   primary_grows_by word (start.Round round.Brace) = room_grows below 1 (braces read) (braces more) (one_within below)
       (λ f. braces_grow read more (g f) k) braces_keeps
   primary_grows_by word (start.Round (round.Conversion signed)) =
-      room_grows below 1 (past (codes "(") (enclosed read (conversion signed)))
-      (past (codes "(") (enclosed more (conversion signed))) (one_within below)
-      (λ f. past_grows (codes "(") (enclosed read (conversion signed)) (enclosed more (conversion signed))
+      room_grows below 1 (past (codes "(") (rest_of_parentheses read (conversion signed)))
+      (past (codes "(") (rest_of_parentheses more (conversion signed))) (one_within below)
+      (λ f. past_grows (codes "(") (rest_of_parentheses read (conversion signed)) (rest_of_parentheses more (conversion signed))
       (enclosed_grows read more (g f) k (conversion signed)))
-      (past_keep (codes "(") (enclosed more (conversion signed)) (enclosed_keep (conversion signed)))
+      (past_keep (codes "(") (rest_of_parentheses more (conversion signed)) (enclosed_keep (conversion signed)))
   primary_grows_by word (start.Round (round.Operator o)) =
       room_grows below 1 (λ words. and_then (read unary_rank words) (λ tree. got (apply o tree)))
       (λ words. and_then (more unary_rank words) (λ tree. got (apply o tree))) (one_within below)
@@ -490,8 +490,8 @@ module _ (below : ℕ) (read more : Below) (g : nat_le 1 below ≡ true → (lea
   question_grows : (least : ℕ) (condition : ExpressionTree) (words : List Text) → I condition →
       Grows (question below read least condition words) (question (suc below) more least condition words)
   question_grows least condition words i =
-      choose_grows (is_asked least) (led (question_lead below read least condition)) (got condition)
-      (led (question_lead (suc below) more least condition)) (got condition) words
+      choose_grows (is_asked least) (by_word (question_lead below read least condition)) (got condition)
+      (by_word (question_lead (suc below) more least condition)) (got condition) words
       (led_grows (question_lead below read least condition) (question_lead (suc below) more least condition)
       (λ word. if_grows (is_asked least (Some word)) _ refused _ refused
       (λ e. room_grows below (depth condition) (branches read condition) (branches more condition) i
@@ -500,7 +500,7 @@ module _ (below : ℕ) (read more : Below) (g : nat_le 1 below ≡ true → (lea
 
   question_keep : (least : ℕ) (condition : ExpressionTree) → Keeps (question (suc below) more least condition)
   question_keep least condition =
-      choose_keep (is_asked least) (led (question_lead (suc below) more least condition)) (got condition)
+      choose_keep (is_asked least) (by_word (question_lead (suc below) more least condition)) (got condition)
       (led_keep (question_lead (suc below) more least condition)
       (λ word. if_keep (is_asked least (Some word)) _ refused
       (if_keep (nat_le (depth condition) (suc below)) _ lower (branches_keep condition) tt) tt))

@@ -12,8 +12,8 @@ use Rattle.vexpr_parse.specs.declared.beginning.Beginning.TheVariants as start
 use Rattle.vexpr_parse.specs.declared.beginning.Round.{Round}
 use Rattle.vexpr_parse.specs.declared.beginning.Round.TheVariants as round
 use Rattle.vexpr_parse.specs.Readers.{front, is_front}
-use Rattle.vexpr_parse.specs.Words.{written, unary_of, unary_operators, binary_of, binary_operators, by_operator, beginning_of, is_asked}
-use Rattle.vexpr_parse.specs.Answers.{ranked, joining, ahead, leaf_here}
+use Rattle.vexpr_parse.specs.Words.{by_spelling, unary_of, unary_operators, binary_of, binary_operators, by_operator, beginning_of, is_asked}
+use Rattle.vexpr_parse.specs.Answers.{operator_of_rank, joining, ahead, leaf_here}
 use Rattle.basis.proofs.Bools.{and_right, by_if}
 use Rattle.std.proofs.lemmas.List.{append-nil}
 use Rattle.vast.specs.TokenTexts.{leaf_at, leaves_from}
@@ -26,13 +26,13 @@ use Rattle.vexpr_parse.proofs.ReaderRules.{same_text, chosen, passed_over}
 
 -- what is written so is no leaf, where nothing that is written is one
 none_written : {A : Type 0} (spell : A → Text) (plain : (one : A) → is_leaf (spell one) ≡ false) (all : List A) (word : Text) (one : A) →
-    written spell all word ≡ Some one → is_leaf word ≡ false
+    by_spelling spell all word ≡ Some one → is_leaf word ≡ false
 none_written spell plain [] word one e = absurd (nothing e)
   where
     nothing : None ≡ Some one → ⊥
     nothing e = cc
 none_written spell plain (first ∷ more) word one e =
-    by_if (λ o. o ≡ Some one → is_leaf word ≡ false) (bytes_eq (spell first) word) (Some first) (written spell more word)
+    by_if (λ o. o ≡ Some one → is_leaf word ≡ false) (bytes_eq (spell first) word) (Some first) (by_spelling spell more word)
     (λ same f. subst (λ w. is_leaf w ≡ false) (same_text (spell first) word same) (plain first))
     (λ differs f. none_written spell plain more word one f) e
 
@@ -133,7 +133,7 @@ pub joining_leaf : (word : Text) (least : ℕ) (operator : BinaryOperator) → j
 unfolding binary_of
 joining_leaf word least operator e = by (binary_of word) refl e
   where
-    by : (o : Option BinaryOperator) → binary_of word ≡ o → ranked least o ≡ Some operator → is_leaf word ≡ false
+    by : (o : Option BinaryOperator) → binary_of word ≡ o → operator_of_rank least o ≡ Some operator → is_leaf word ≡ false
     by None is e = absurd (nothing e)
       where
         nothing : None ≡ Some operator → ⊥

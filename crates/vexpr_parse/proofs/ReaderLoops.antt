@@ -4,7 +4,7 @@ use Rattle.std.specs.Str.{bytes_eq}
 use Rattle.std.proofs.lemmas.Bool.{cases_Bool}
 use Rattle.std.proofs.lemmas.List.{append-nil}
 use Rattle.vast.specs.Words.{Text}
-use Rattle.vexpr_parse.specs.Readers.{Answer, got, stop, Reader, front, and_then, Lead, goes, refused, lower, follow, led, room, past, choose, rounds, turns}
+use Rattle.vexpr_parse.specs.Readers.{Answer, got, stop, Reader, front, and_then, Lead, goes, refused, lower, follow, by_word, room, past, choose, rounds, turns}
 use Rattle.vexpr_parse.specs.Lawful.{rest_of, Ends, IsWhole, Begins, GoesOn, Sees, Lawful, Rule}
 use Rattle.vexpr_parse.proofs.ReaderRules.{chosen, passed_over, text_same, front_same, stop_got, then_got, parts_of, got_left, keeps, Eats, sees_same, got_rule, IsLead, rule_lead, led_sees, led_eats}
 
@@ -12,7 +12,7 @@ use Rattle.vexpr_parse.proofs.ReaderRules.{chosen, passed_over, text_same, front
 
 pub led_rule : {A : Type 0} (lead : Text → Lead A) (ends : Ends) (word : Text) (text : List Text) (read : Reader A) →
     ((word : Text) → IsLead ends (lead word)) →
-    lead word ≡ goes read → IsWhole read ends text → Rule (led lead) ends (word ∷ text)
+    lead word ≡ goes read → IsWhole read ends text → Rule (by_word lead) ends (word ∷ text)
 led_rule lead ends word text read leads is starts = record {
   lawful = led_sees lead ends leads;
   starts = (starts.0, λ rest e. ap (λ l. follow l word (text ++ rest)) is ∙ starts.1 rest e);

@@ -5,7 +5,7 @@ use Rattle.std.proofs.lemmas.Slice.Eq.{bytes_eq-Decides}
 use Rattle.vast.specs.Words.{Text}
 use Rattle.vexpr_parse.specs.declared.stop.Stop.{Stop}
 use Rattle.vexpr_parse.specs.declared.stop.Stop.TheVariants.{NoTree, TooDeep}
-use Rattle.vexpr_parse.specs.Readers.{Answer, got, stop, Reader, front, and_then, Lead, goes, refused, lower, follow, led}
+use Rattle.vexpr_parse.specs.Readers.{Answer, got, stop, Reader, front, and_then, Lead, goes, refused, lower, follow, by_word}
 use Rattle.vexpr_parse.specs.Lawful.{rest_of, Ends, Begins, GoesOn, Sees, Lawful, Rule}
 
 -- choices by a test
@@ -125,11 +125,11 @@ IsLead ends lower = Unit {0}
 pub rule_lead : {A : Type 0} (read : Reader A) (ends : Ends) (text : List Text) → Rule read ends text → IsLead ends (goes read)
 rule_lead read ends text r = (r.lawful, (text, r.starts))
 
-pub led_sees : {A : Type 0} (lead : Text → Lead A) (ends : Ends) (leads : (word : Text) → IsLead ends (lead word)) → Lawful (led lead) ends
+pub led_sees : {A : Type 0} (lead : Text → Lead A) (ends : Ends) (leads : (word : Text) → IsLead ends (lead word)) → Lawful (by_word lead) ends
 led_sees {A = A} lead ends leads [] = record {
   before = [];
   whole = refl;
-  near = λ other e. let P : List Text → Type 0 = λ ws. led lead ws ≡ stop NoTree ws in subst P (sym (front_none other e)) refl;
+  near = λ other e. let P : List Text → Type 0 = λ ws. by_word lead ws ≡ stop NoTree ws in subst P (sym (front_none other e)) refl;
   more = λ p. absurd (below_zero 0 p);
 }
   where
@@ -142,13 +142,13 @@ led_sees {A = A} lead ends leads (word ∷ words) = by_lead (lead word) refl (le
 
     at_once : (l : Lead A) → lead word ≡ l → (answer : List Text → Answer A) → ((ws : List Text) → follow l word ws ≡ answer (word ∷ ws)) →
         (other : List Text) →
-        front other ≡ Some word → led lead other ≡ answer other
+        front other ≡ Some word → by_word lead other ≡ answer other
     at_once l is answer same other e =
-        let P : List Text → Type 0 = λ ws. led lead ws ≡ answer ws in
+        let P : List Text → Type 0 = λ ws. by_word lead ws ≡ answer ws in
         let o = front_some other word e in
         subst P (sym o.1) (ap (λ m. follow m word o.0) is ∙ same o.0)
 
-    by_lead : (l : Lead A) → lead word ≡ l → IsLead ends l → Sees (led lead) ends (word ∷ words) (follow l word words)
+    by_lead : (l : Lead A) → lead word ≡ l → IsLead ends l → Sees (by_word lead) ends (word ∷ words) (follow l word words)
     by_lead refused is t = record {
       before = [];
       whole = refl;
@@ -174,14 +174,14 @@ led_sees {A = A} lead ends leads (word ∷ words) = by_lead (lead word) refl (le
         begun [] m = t.1
         begun (one ∷ more) m = m (omega arith)
 
-        begins : (before : List Text) → Begins read ends before → Begins (led lead) ends (word ∷ before)
+        begins : (before : List Text) → Begins read ends before → Begins (by_word lead) ends (word ∷ before)
         begins before b = (b.0, (b.1.0, λ rest e. ap (λ m. follow m word ((before ++ b.0) ++ rest)) is ∙ b.1.1 rest e))
 
-        onward : (before : List Text) (a : Answer A) → GoesOn read ends before a → GoesOn (led lead) ends (word ∷ before) a
+        onward : (before : List Text) (a : Answer A) → GoesOn read ends before a → GoesOn (by_word lead) ends (word ∷ before) a
         onward before (got tree left) m = λ other e. ap (λ l. follow l word (before ++ other)) is ∙ m other e
         onward before (stop why left) m = λ p. begins before (begun before m)
 
-pub led_eats : {A : Type 0} (lead : Text → Lead A) (ends : Ends) (leads : (word : Text) → IsLead ends (lead word)) → Eats (led lead)
+pub led_eats : {A : Type 0} (lead : Text → Lead A) (ends : Ends) (leads : (word : Text) → IsLead ends (lead word)) → Eats (by_word lead)
 led_eats {A = A} lead ends leads [] tree left e = absurd (stop_got e)
 led_eats {A = A} lead ends leads (word ∷ words) tree left e = by_lead (lead word) (leads word) e
   where

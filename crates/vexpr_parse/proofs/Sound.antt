@@ -14,9 +14,9 @@ use Rattle.vast.specs.declared.expression.BinaryOperator.TheVariants as binary
 use Rattle.vexpr_parse.specs.declared.beginning.Beginning.{Beginning}
 use Rattle.vexpr_parse.specs.declared.beginning.Beginning.TheVariants as start
 use Rattle.vexpr_parse.specs.declared.beginning.Round.TheVariants as round
-use Rattle.vexpr_parse.specs.Readers.{Answer, got, stop, Reader, front, is_front, and_then, Lead, goes, refused, lower, follow, led, room, past, choose, rounds, turns}
-use Rattle.vexpr_parse.specs.Words.{beginning_of, by_operator, written, unary_operators, binary_operators, unary_of, binary_of, is_ranked, is_joined, is_asked}
-use Rattle.vexpr_parse.specs.Reading.{Below, trees_in, one_more, parts, repeated, joined, braces, enclosed, part_of, index_lead, selected, select_lead, named, primary_by, primary_lead, primary, operator_by, operator, branches, question_lead, question, onward, expression_by, expression}
+use Rattle.vexpr_parse.specs.Readers.{Answer, got, stop, Reader, front, is_front, and_then, Lead, goes, refused, lower, follow, by_word, room, past, choose, rounds, turns}
+use Rattle.vexpr_parse.specs.Words.{beginning_of, by_operator, by_spelling, unary_operators, binary_operators, unary_of, binary_of, is_ranked, is_joined, is_asked}
+use Rattle.vexpr_parse.specs.Reading.{Below, trees_in, one_more, parts, rest_of_replication, rest_of_concatenation, braces, rest_of_parentheses, part_of, index_lead, rest_of_select, select_lead, rest_of_name, primary_by, primary_lead, primary, operator_by, operator, branches, question_lead, question, onward, expression_by, expression}
 use Rattle.vexpr_parse.specs.Found.{IsExpression}
 use Rattle.vexpr_parse.proofs.ReaderRules.{same_text, chosen, passed_over, stop_got, got_tree, got_left, parts_of}
 
@@ -68,7 +68,7 @@ follow_found Q word refused f words = tt
 follow_found Q word lower f words = tt
 
 led_found : {A : Type 0} (Q : A → List Text → Type 0) (lead : Text → Lead A) → ((word : Text) → LeadFinds Q word (lead word)) →
-    Finds Q (led lead)
+    Finds Q (by_word lead)
 led_found Q lead leads [] = tt
 led_found Q lead leads (word ∷ words) = follow_found Q word (lead word) (leads word) words
 
@@ -130,7 +130,7 @@ turns_found Q turn test goes_on tree before q words =
 
 -- operators as they are written
 
-operator_written : {A : Type 0} (spell : A → Text) (all : List A) (word : Text) (operator : A) → written spell all word ≡ Some operator →
+operator_written : {A : Type 0} (spell : A → Text) (all : List A) (word : Text) (operator : A) → by_spelling spell all word ≡ Some operator →
     spell operator ≡ word
 operator_written spell [] word operator e = let clash : None ≡ Some operator = e in absurd cc
 operator_written spell (one ∷ more) word operator e =
@@ -386,12 +386,12 @@ module _ (below : ℕ) (read : Below) (stops : (least : ℕ) → Stops least (re
       elim (cases_Bool (is_asked least (front words))) [
         | inl holds ↦ by_words words (sym (chosen (is_asked least (front words)) _ (got condition words) holds) ∙ e)
         | inr fails ↦
-            let same = sym (passed_over (is_asked least (front words)) (led (question_lead below read least condition) words) _ fails)
+            let same = sym (passed_over (is_asked least (front words)) (by_word (question_lead below read least condition) words) _ fails)
             ∙ e in
             subst (λ ws. is_joined least (front ws) ≡ false) (got_left same) ended
       ]
     where
-      by_words : (ws : List Text) → led (question_lead below read least condition) ws ≡ got tree left → is_joined least (front left) ≡ false
+      by_words : (ws : List Text) → by_word (question_lead below read least condition) ws ≡ got tree left → is_joined least (front left) ≡ false
       by_words [] e = absurd (stop_got e)
       by_words (word ∷ ws) e =
           let f = lead_got (is_asked least (Some word)) (room below (depth condition)
@@ -425,7 +425,7 @@ module _ (below : ℕ) (read : Below) (stops : (least : ℕ) → Stops least (re
 
   enclosed_found : (make : ExpressionTree → ExpressionTree) (head : List Text → List Text) →
       ((tree : ExpressionTree) (words : List Text) → S tree words → Q (make tree) (head (words ++ codes ")" ∷ []))) →
-      Finds (λ tree words. Q tree (head words)) (enclosed read make)
+      Finds (λ tree words. Q tree (head words)) (rest_of_parentheses read make)
   enclosed_found make head made words =
       then_found S (λ tree words. Q tree (head words)) (λ tree. past (codes ")") (got (make tree)))
       (λ one before o. past_found (λ tree after. Q tree (head (before ++ after))) (codes ")") (got (make one))
@@ -433,9 +433,9 @@ module _ (below : ℕ) (read : Below) (stops : (least : ℕ) → Stops least (re
       words (read 0 words) (sound 0 refl words)
 
   selected_found : (letters : Text) → is_name letters ≡ true → Finds
-      (λ tree words. Q tree (letters ∷ codes "[" ∷ words)) (selected read letters)
+      (λ tree words. Q tree (letters ∷ codes "[" ∷ words)) (rest_of_select read letters)
   selected_found letters is words =
-      then_found S (λ tree words. Q tree (letters ∷ codes "[" ∷ words)) (λ index. led (index_lead read letters index))
+      then_found S (λ tree words. Q tree (letters ∷ codes "[" ∷ words)) (λ index. by_word (index_lead read letters index))
       (λ index before i. led_found (λ tree after. Q tree (letters ∷ codes "[" ∷ (before ++ after))) (index_lead read letters index)
       (λ word. index_found index before i word))
       words (read 0 words) (sound 0 refl words)
@@ -496,9 +496,9 @@ module _ (below : ℕ) (read : Below) (stops : (least : ℕ) → Stops least (re
     ranked = r;
   }
 
-  named_found : (letters : Text) → is_name letters ≡ true → Finds (λ tree words. Q tree (letters ∷ words)) (named below read letters)
+  named_found : (letters : Text) → is_name letters ≡ true → Finds (λ tree words. Q tree (letters ∷ words)) (rest_of_name below read letters)
   named_found letters is words =
-      choose_found (λ tree words. Q tree (letters ∷ words)) (is_front (codes "[")) (led (select_lead below read letters))
+      choose_found (λ tree words. Q tree (letters ∷ words)) (is_front (codes "[")) (by_word (select_lead below read letters))
       (got (name letters))
       (led_found (λ tree words. Q tree (letters ∷ words)) (select_lead below read letters) select_found)
       (found_got (λ tree words. Q tree (letters ∷ words)) (name letters) (leaf (name letters) (letters ∷ []) refl is refl refl)) words
@@ -506,8 +506,8 @@ module _ (below : ℕ) (read : Below) (stops : (least : ℕ) → Stops least (re
       select_found : (word : Text) → LeadFinds (λ tree words. Q tree (letters ∷ words)) word (select_lead below read letters word)
       select_found word =
           lead_found_if (λ tree words. Q tree (letters ∷ words)) word (bytes_eq (codes "[") word) _ refused
-          (λ e. room_found (λ tree words. Q tree (letters ∷ words)) word below 1 (goes (selected read letters))
-          (λ f. subst (λ w. LeadFinds (λ tree words. Q tree (letters ∷ words)) w (goes (selected read letters)))
+          (λ e. room_found (λ tree words. Q tree (letters ∷ words)) word below 1 (goes (rest_of_select read letters))
+          (λ f. subst (λ w. LeadFinds (λ tree words. Q tree (letters ∷ words)) w (goes (rest_of_select read letters)))
           (same_text (codes "[") word e) (selected_found letters is)))
           tt
 
@@ -533,9 +533,9 @@ module _ (below : ℕ) (read : Below) (stops : (least : ℕ) → Stops least (re
   braces_found : Finds (λ tree words. Q tree (codes "{" ∷ words)) (braces read)
   braces_found words =
       then_found S (λ tree words. Q tree (codes "{" ∷ words)) (λ tree. choose
-      (is_front (codes "{")) (repeated read tree) (joined read tree))
+      (is_front (codes "{")) (rest_of_replication read tree) (rest_of_concatenation read tree))
       (λ tree before t. choose_found (λ found after. Q found (codes "{" ∷ (before ++ after)))
-      (is_front (codes "{")) (repeated read tree) (joined read tree) (repeated_found tree before t) (joined_found tree before t))
+      (is_front (codes "{")) (rest_of_replication read tree) (rest_of_concatenation read tree) (repeated_found tree before t) (joined_found tree before t))
       words (read 0 words) (sound 0 refl words)
     where
       repeated_made : (count : ExpressionTree) (trees : List ExpressionTree) (before after : List Text) → S count before → L trees after →
@@ -561,7 +561,7 @@ module _ (below : ℕ) (read : Below) (stops : (least : ℕ) → Stops least (re
       }
 
       repeated_found : (count : ExpressionTree) (before : List Text) → S count before →
-          Finds (λ found after. Q found (codes "{" ∷ (before ++ after))) (repeated read count)
+          Finds (λ found after. Q found (codes "{" ∷ (before ++ after))) (rest_of_replication read count)
       repeated_found count before c =
           past_found (λ found after. Q found (codes "{" ∷ (before ++ after))) (codes "{") _
           (λ words. then_found L (λ found after. Q found (codes "{" ∷ (before ++ codes "{" ∷ after))) (λ trees. past (codes "}")
@@ -573,7 +573,7 @@ module _ (below : ℕ) (read : Below) (stops : (least : ℕ) → Stops least (re
           words (parts read words) (parts_found words))
 
       joined_found : (tree : ExpressionTree) (before : List Text) → S tree before →
-          Finds (λ found after. Q found (codes "{" ∷ (before ++ after))) (joined read tree)
+          Finds (λ found after. Q found (codes "{" ∷ (before ++ after))) (rest_of_concatenation read tree)
       joined_found tree before t words =
           then_found (λ trees between. L trees (before ++ between))
           (λ found after. Q found (codes "{" ∷ (before ++ after))) (λ trees. past (codes "}") (got (concatenation (trees_in trees))))
@@ -605,7 +605,7 @@ module _ (below : ℕ) (read : Below) (stops : (least : ℕ) → Stops least (re
       (λ f. subst (λ w. LeadFinds Q w (goes (braces read))) e braces_found)
   primary_found_by word (start.Round (round.Conversion signed)) e =
       room_found Q word below 1 _
-      (λ f. past_found (λ tree after. Q tree (word ∷ after)) (codes "(") (enclosed read (conversion signed))
+      (λ f. past_found (λ tree after. Q tree (word ∷ after)) (codes "(") (rest_of_parentheses read (conversion signed))
       (enclosed_found (conversion signed) (λ ws. word ∷ codes "(" ∷ ws)
       (λ tree words s. record {
         spelled = ap (λ ws. conversion_word signed ∷ codes "(" ∷ (ws ++ codes ")" ∷ [])) s.spelled
@@ -763,7 +763,7 @@ module _ (below : ℕ) (read : Below) (stops : (least : ℕ) → Stops least (re
   question_found : (least : ℕ) (condition : ExpressionTree) (before : List Text) → O least condition before →
       Finds (R least before) (question below read least condition)
   question_found least condition before c =
-      choose_found (R least before) (is_asked least) (led (question_lead below read least condition)) (got condition)
+      choose_found (R least before) (is_asked least) (by_word (question_lead below read least condition)) (got condition)
       (led_found (R least before) (question_lead below read least condition) (question_lead_found least condition before c))
       (found_got (R least before) condition (subst (IsExpression (suc below) least condition) (sym (append-nil before)) c.0))
 

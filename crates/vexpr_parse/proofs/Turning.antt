@@ -14,9 +14,9 @@ use Rattle.vexpr_parse.specs.declared.stop.Stop.{Stop}
 use Rattle.vexpr_parse.specs.declared.stop.Stop.TheVariants.{NoTree, TooDeep}
 use Rattle.vexpr_parse.specs.Readers.{Answer, got, stop, Reader, front, is_front, and_then, goes, refused, lower, follow, room, past, turns}
 use Rattle.vexpr_parse.specs.Words.{binary_of, is_ranked, is_joined, is_asked}
-use Rattle.vexpr_parse.specs.Reading.{trees_in, one_more, named, joined, repeated, operator_by, operator, branches, question, expression_by, expression}
+use Rattle.vexpr_parse.specs.Reading.{trees_in, one_more, rest_of_name, rest_of_concatenation, rest_of_replication, operator_by, operator, branches, question, expression_by, expression}
 use Rattle.vexpr_parse.specs.declared.found.Found.{Found}
-use Rattle.vexpr_parse.specs.Answers.{joining, ranked, Stops, IsMade, IsMeasured, Finds}
+use Rattle.vexpr_parse.specs.Answers.{joining, operator_of_rank, Stops, IsMade, IsMeasured, Finds}
 use Rattle.vexpr_parse.proofs.ReaderRules.{Eats, chosen, passed_over, stop_got}
 use Rattle.vexpr_parse.proofs.ReaderLoops.{turns_on, turns_end}
 use Rattle.vexpr_parse.proofs.ExpressionRules.{more_eats, operator_eats, expression_rule}
@@ -37,7 +37,7 @@ past_on text read (word ∷ words) e = ap (λ l. follow l word words) (chosen (b
 
 pub named_alone : (below : ℕ) (letters : Text) (words : List Text) (tree : ExpressionTree) (seen : Bool) →
     seen ≡ is_front (codes "[") (front words) → seen ≡ false → tree ≡ name letters →
-    named below (expression below) letters words ≡ got tree words
+    rest_of_name below (expression below) letters words ≡ got tree words
 named_alone below letters words tree seen is none made =
     passed_over (is_front (codes "[") (front words)) _ _ (sym is ∙ none) ∙ ap (λ t. got t words) (sym made)
 
@@ -123,7 +123,7 @@ joined_here least (word ∷ words) operator e = by_operator (binary_of word) e
     by_test true one e = refl
     by_test false one e = let clash : None ≡ Some operator = e in absurd cc
 
-    by_operator : (o : Option BinaryOperator) → ranked least o ≡ Some operator → is_ranked least o ≡ true
+    by_operator : (o : Option BinaryOperator) → operator_of_rank least o ≡ Some operator → is_ranked least o ≡ true
     by_operator None e = let clash : None ≡ Some operator = e in absurd cc
     by_operator (Some one) e = by_test (nat_le least (rank one)) one e
 
@@ -135,7 +135,7 @@ joined_not least (word ∷ words) e = by_operator (binary_of word) e
     by_test true one e = let clash : Some one ≡ None = e in absurd cc
     by_test false one e = refl
 
-    by_operator : (o : Option BinaryOperator) → ranked least o ≡ None → is_ranked least o ≡ false
+    by_operator : (o : Option BinaryOperator) → operator_of_rank least o ≡ None → is_ranked least o ≡ false
     by_operator None e = refl
     by_operator (Some one) e = by_test (nat_le least (rank one)) one e
 
@@ -182,7 +182,7 @@ both_deep a b c d p q = ap (λ n. 1 + max n b) p ∙ ap (λ n. 1 + max c n) q
 
 pub joined_so : (text : List Text) (below : ℕ) (one made : ExpressionTree) (parts : List Expression) (words between left : List Text) →
     part_turns below (one ∷ []) words ≡ got (map (tree_of text) parts) between → between ≡ codes "}" ∷ left →
-    made ≡ concatenation (trees_of text parts) → joined (expression below) one words ≡ got made left
+    made ≡ concatenation (trees_of text parts) → rest_of_concatenation (expression below) one words ≡ got made left
 joined_so text below one made parts words between left e closed same =
     ap (λ a. and_then a (λ trees. past (codes "}") (got (concatenation (trees_in trees))))) (e ∙ ap (got (map (tree_of text) parts)) closed)
     ∙ past_word (codes "}") (got (concatenation (trees_in (map (tree_of text) parts)))) left
@@ -192,9 +192,9 @@ joined_so text below one made parts words between left e closed same =
 pub repeated_so : (text : List Text) (below : ℕ) (count one made : ExpressionTree) (parts : List Expression) (words ws xs ys zs left : List Text) →
     words ≡ codes "{" ∷ ws → expression below 0 ws ≡ got one xs → part_turns below (one ∷ []) xs ≡ got (map (tree_of text) parts) ys →
     ys ≡ codes "}" ∷ zs → zs ≡ codes "}" ∷ left → made ≡ replication count (trees_of text parts) →
-    repeated (expression below) count words ≡ got made left
+    rest_of_replication (expression below) count words ≡ got made left
 repeated_so text below count one made parts words ws xs ys zs left opened e more closed again same =
-    ap (repeated (expression below) count) opened
+    ap (rest_of_replication (expression below) count) opened
     ∙ past_word (codes "{") (λ vs. and_then (and_then (expression below 0 vs) (λ tree. part_turns below (tree ∷ []))) ends_both) ws
     ∙ ap (λ a. and_then (and_then a (λ tree. part_turns below (tree ∷ []))) ends_both) e
     ∙ ap (λ a. and_then a ends_both) (more ∙ ap (got (map (tree_of text) parts)) closed)
@@ -263,7 +263,7 @@ turn_enters below least left (word ∷ words) one e fits = by_operator (binary_o
         ∙ ap (λ o. and_then (expression below (suc (rank o)) words) (λ right. got (combine o left right))) is
     by_test false other e = let clash : None ≡ Some one = e in absurd cc
 
-    by_operator : (o : Option BinaryOperator) → ranked least o ≡ Some one →
+    by_operator : (o : Option BinaryOperator) → operator_of_rank least o ≡ Some one →
         follow (operator_by below (expression below) least left o) word words
         ≡ and_then (expression below (suc (rank one)) words) (λ right. got (combine one left right))
     by_operator None e = let clash : None ≡ Some one = e in absurd cc
@@ -281,7 +281,7 @@ turn_low below least left (word ∷ words) one e fits = by_operator (binary_of w
     by_test true other e = ap (λ l. follow l word words) (passed_over (nat_le (depth left) below) _ lower fits)
     by_test false other e = let clash : None ≡ Some one = e in absurd cc
 
-    by_operator : (o : Option BinaryOperator) → ranked least o ≡ Some one →
+    by_operator : (o : Option BinaryOperator) → operator_of_rank least o ≡ Some one →
         follow (operator_by below (expression below) least left o) word words ≡ stop TooDeep (word ∷ words)
     by_operator None e = let clash : None ≡ Some one = e in absurd cc
     by_operator (Some other) e = by_test (nat_le least (rank other)) other e

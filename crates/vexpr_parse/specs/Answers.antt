@@ -79,13 +79,13 @@ abbrev pub EntersAt : {T : Type 0} → Tokenized → ℕ → ℕ → Cursor → 
 EntersAt tokens below levels old new = Enters below levels (ahead tokens old) (ahead tokens new)
 
 -- the binary operator that stands first, if it is of this rank at least
-abbrev pub ranked : ℕ → Option BinaryOperator → Option BinaryOperator
-ranked least None = None
-ranked least (Some operator) = if nat_le least (rank operator) then Some operator else None
+abbrev pub operator_of_rank : ℕ → Option BinaryOperator → Option BinaryOperator
+operator_of_rank least None = None
+operator_of_rank least (Some operator) = if nat_le least (rank operator) then Some operator else None
 
 abbrev pub joining : ℕ → Option Text → Option BinaryOperator
 joining least None = None
-joining least (Some word) = ranked least (binary_of word)
+joining least (Some word) = operator_of_rank least (binary_of word)
 
 -- the trees of what was found
 abbrev pub tree_in : List Text → Found → ExpressionTree

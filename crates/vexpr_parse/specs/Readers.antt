@@ -41,9 +41,9 @@ follow refused word words = stop NoTree (word ∷ words)
 follow lower word words = stop TooDeep (word ∷ words)
 
 -- by the first word
-abbrev pub led : {A : Type 0} → (Text → Lead A) → Reader A
-led lead [] = stop NoTree []
-led lead (word ∷ words) = follow (lead word) word words
+abbrev pub by_word : {A : Type 0} → (Text → Lead A) → Reader A
+by_word lead [] = stop NoTree []
+by_word lead (word ∷ words) = follow (lead word) word words
 
 -- where so many levels at least are left below
 abbrev pub room : {A : Type 0} → ℕ → ℕ → Lead A → Lead A
@@ -51,7 +51,7 @@ room below levels lead = if nat_le levels below then lead else lower
 
 -- this very word, and what is read behind it
 abbrev pub past : {A : Type 0} → Text → Reader A → Reader A
-past text read = led (λ word. if bytes_eq text word then goes read else refused)
+past text read = by_word (λ word. if bytes_eq text word then goes read else refused)
 
 -- one reader or another, by what stands first
 abbrev pub choose : {A : Type 0} → (Option Text → Bool) → Reader A → Reader A → Reader A

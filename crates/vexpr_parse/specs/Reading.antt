@@ -10,7 +10,7 @@ use Rattle.vexpr_parse.specs.declared.beginning.Beginning.TheVariants as start
 use Rattle.vexpr_parse.specs.declared.beginning.Round.{Round}
 use Rattle.vexpr_parse.specs.declared.beginning.Round.TheVariants as round
 use Rattle.vexpr_parse.specs.declared.stop.Stop.TheVariants.{NoTree}
-use Rattle.vexpr_parse.specs.Readers.{Reader, Lead, goes, refused, got, stop, and_then, led, room, past, choose, turns, is_front}
+use Rattle.vexpr_parse.specs.Readers.{Reader, Lead, goes, refused, got, stop, and_then, by_word, room, past, choose, turns, is_front}
 use Rattle.vexpr_parse.specs.Words.{beginning_of, binary_of, is_joined, is_asked}
 
 -- the parts of a concatenation, from a list of them
@@ -31,24 +31,24 @@ abbrev pub parts : Below → Reader (List ExpressionTree)
 parts read words = and_then (read 0 words) (λ tree. turns (one_more read) (is_front (codes ",")) (tree ∷ []))
 
 -- { tree, .. } }
-abbrev pub repeated : Below → ExpressionTree → Reader ExpressionTree
-repeated read count =
+abbrev pub rest_of_replication : Below → ExpressionTree → Reader ExpressionTree
+rest_of_replication read count =
     past (codes "{") (λ words. and_then (parts read words) (λ trees. past (codes "}") (past (codes "}")
     (got (replication count (trees_in trees))))))
 
 -- , tree, .. }
-abbrev pub joined : Below → ExpressionTree → Reader ExpressionTree
-joined read tree words =
+abbrev pub rest_of_concatenation : Below → ExpressionTree → Reader ExpressionTree
+rest_of_concatenation read tree words =
     and_then (turns (one_more read) (is_front (codes ",")) (tree ∷ []) words) (λ trees. past (codes "}")
     (got (concatenation (trees_in trees))))
 
 -- what follows {
 abbrev pub braces : Below → Reader ExpressionTree
-braces read words = and_then (read 0 words) (λ tree. choose (is_front (codes "{")) (repeated read tree) (joined read tree))
+braces read words = and_then (read 0 words) (λ tree. choose (is_front (codes "{")) (rest_of_replication read tree) (rest_of_concatenation read tree))
 
 -- what follows (
-abbrev pub enclosed : Below → (ExpressionTree → ExpressionTree) → Reader ExpressionTree
-enclosed read make words = and_then (read 0 words) (λ tree. past (codes ")") (got (make tree)))
+abbrev pub rest_of_parentheses : Below → (ExpressionTree → ExpressionTree) → Reader ExpressionTree
+rest_of_parentheses read make words = and_then (read 0 words) (λ tree. past (codes ")") (got (make tree)))
 
 -- right ]
 abbrev pub part_of : Below → Text → ExpressionTree → Reader ExpressionTree
@@ -61,26 +61,26 @@ index_lead read letters index word =
     else refused
 
 -- what follows name [
-abbrev pub selected : Below → Text → Reader ExpressionTree
-selected read letters words = and_then (read 0 words) (λ index. led (index_lead read letters index))
+abbrev pub rest_of_select : Below → Text → Reader ExpressionTree
+rest_of_select read letters words = and_then (read 0 words) (λ index. by_word (index_lead read letters index))
 
 abbrev pub select_lead : ℕ → Below → Text → Text → Lead ExpressionTree
-select_lead below read letters word = if bytes_eq (codes "[") word then room below 1 (goes (selected read letters)) else refused
+select_lead below read letters word = if bytes_eq (codes "[") word then room below 1 (goes (rest_of_select read letters)) else refused
 
 -- what follows a name
-abbrev pub named : ℕ → Below → Text → Reader ExpressionTree
-named below read letters = choose (is_front (codes "[")) (led (select_lead below read letters)) (got (name letters))
+abbrev pub rest_of_name : ℕ → Below → Text → Reader ExpressionTree
+rest_of_name below read letters = choose (is_front (codes "[")) (by_word (select_lead below read letters)) (got (name letters))
 
 -- what follows a word that begins a tree round another
 abbrev pub round_by : Below → Round → Reader ExpressionTree
-round_by read round.Parenthesis = enclosed read parentheses
+round_by read round.Parenthesis = rest_of_parentheses read parentheses
 round_by read round.Brace = braces read
-round_by read (round.Conversion signed) = past (codes "(") (enclosed read (conversion signed))
+round_by read (round.Conversion signed) = past (codes "(") (rest_of_parentheses read (conversion signed))
 round_by read (round.Operator operator) = λ words. and_then (read unary_rank words) (λ tree. got (apply operator tree))
 
 abbrev pub primary_by : ℕ → Below → Text → Beginning → Lead ExpressionTree
 primary_by below read word start.Number = goes (got (number word))
-primary_by below read word start.Name = goes (named below read word)
+primary_by below read word start.Name = goes (rest_of_name below read word)
 primary_by below read word start.Time = goes (got (time word))
 primary_by below read word (start.Round kind) = room below 1 (goes (round_by read kind))
 primary_by below read word start.Other = refused
@@ -90,7 +90,7 @@ primary_lead below read word = primary_by below read word (beginning_of word)
 
 -- a tree that no binary operator makes
 abbrev pub primary : ℕ → Below → Reader ExpressionTree
-primary below read = led (primary_lead below read)
+primary below read = by_word (primary_lead below read)
 
 -- an operator of the rank or above, and its right side, which holds more tightly
 abbrev pub operator_by : ℕ → Below → ℕ → ExpressionTree → Option BinaryOperator → Lead ExpressionTree
@@ -104,7 +104,7 @@ abbrev pub operator_lead : ℕ → Below → ℕ → ExpressionTree → Text →
 operator_lead below read least left word = operator_by below read least left (binary_of word)
 
 abbrev pub operator : ℕ → Below → ℕ → ExpressionTree → Reader ExpressionTree
-operator below read least left = led (operator_lead below read least left)
+operator below read least left = by_word (operator_lead below read least left)
 
 -- what follows ?
 abbrev pub branches : Below → ExpressionTree → Reader ExpressionTree
@@ -117,7 +117,7 @@ question_lead below read least condition word =
     if is_asked least (Some word) then room below (depth condition) (goes (branches read condition)) else refused
 
 abbrev pub question : ℕ → Below → ℕ → ExpressionTree → Reader ExpressionTree
-question below read least condition = choose (is_asked least) (led (question_lead below read least condition)) (got condition)
+question below read least condition = choose (is_asked least) (by_word (question_lead below read least condition)) (got condition)
 
 -- operators from a left side on, and then a conditional, where the rank lets one stand
 abbrev pub onward : ℕ → Below → ℕ → ExpressionTree → Reader ExpressionTree

@@ -14,7 +14,7 @@ use Rattle.vexpr_parse.specs.declared.found.Parts.{Parts}
 use Rattle.vexpr_parse.specs.declared.stop.Stop.{Stop}
 use Rattle.vexpr_parse.specs.Readers.{Reader, is_front, past, turns}
 use Rattle.vexpr_parse.specs.Words.{is_joined}
-use Rattle.vexpr_parse.specs.Reading.{enclosed, selected, named, round_by, primary, one_more, joined, repeated, braces, operator, branches, question, expression_by, expression}
+use Rattle.vexpr_parse.specs.Reading.{rest_of_parentheses, rest_of_select, rest_of_name, round_by, primary, one_more, rest_of_concatenation, rest_of_replication, braces, operator, branches, question, expression_by, expression}
 use Rattle.vexpr_parse.specs.Texts.{words_of}
 use Rattle.vexpr_parse.specs.Places.{IsFound, IsStopped}
 use Rattle.vexpr_parse.specs.Answers.{Finds, FindsParts, IsMeasured, ahead, tree_in}
@@ -42,10 +42,10 @@ IsMeasuredIn tokens = IsMeasured (words_of tokens)
 
 -- behind ( , behind $signed or $unsigned, behind an operator
 abbrev pub enclosed_at : ℕ → Reader ExpressionTree
-enclosed_at below = enclosed (expression below) parentheses
+enclosed_at below = rest_of_parentheses (expression below) parentheses
 
 abbrev pub converted_at : ℕ → Bool → Reader ExpressionTree
-converted_at below signed = past (codes "(") (enclosed (expression below) (conversion signed))
+converted_at below signed = past (codes "(") (rest_of_parentheses (expression below) (conversion signed))
 
 abbrev pub operand_at : ℕ → UnaryOperator → Reader ExpressionTree
 operand_at below operator = round_by (expression below) (round.Operator operator)
@@ -56,10 +56,10 @@ round_at below kind = round_by (expression below) kind
 
 -- behind name [ , and behind a name
 abbrev pub index_at : Tokenized → ℕ → Token → Reader ExpressionTree
-index_at tokens below name = selected (expression below) (token_text (words_of tokens) name)
+index_at tokens below name = rest_of_select (expression below) (token_text (words_of tokens) name)
 
 abbrev pub named_at : Tokenized → ℕ → Token → Reader ExpressionTree
-named_at tokens below name = named below (expression below) (token_text (words_of tokens) name)
+named_at tokens below name = rest_of_name below (expression below) (token_text (words_of tokens) name)
 
 abbrev pub primary_at : ℕ → Reader ExpressionTree
 primary_at below = primary below (expression below)
@@ -69,10 +69,10 @@ abbrev pub parts_at : Tokenized → ℕ → Found → Reader (List ExpressionTre
 parts_at tokens below one = turns (one_more (expression below)) (is_front (codes ",")) (tree_in (words_of tokens) one ∷ [])
 
 abbrev pub joined_at : Tokenized → ℕ → Found → Reader ExpressionTree
-joined_at tokens below one = joined (expression below) (tree_in (words_of tokens) one)
+joined_at tokens below one = rest_of_concatenation (expression below) (tree_in (words_of tokens) one)
 
 abbrev pub repeated_at : Tokenized → ℕ → Found → Reader ExpressionTree
-repeated_at tokens below count = repeated (expression below) (tree_in (words_of tokens) count)
+repeated_at tokens below count = rest_of_replication (expression below) (tree_in (words_of tokens) count)
 
 abbrev pub braces_at : ℕ → Reader ExpressionTree
 braces_at below = braces (expression below)

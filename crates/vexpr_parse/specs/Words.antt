@@ -26,9 +26,9 @@ binary_operators =
     ∷ binary.Or ∷ binary.LogicalAnd ∷ binary.LogicalOr ∷ []
 
 -- the one that is written so
-abbrev pub written : {A : Type 0} → (A → Text) → List A → Text → Option A
-written spell [] word = None
-written spell (one ∷ more) word = if bytes_eq (spell one) word then Some one else written spell more word
+abbrev pub by_spelling : {A : Type 0} → (A → Text) → List A → Text → Option A
+by_spelling spell [] word = None
+by_spelling spell (one ∷ more) word = if bytes_eq (spell one) word then Some one else by_spelling spell more word
 
 -- whether one of these bytes stands first
 abbrev pub begins_among : List ℕ → Text → Bool
@@ -36,10 +36,10 @@ begins_among bytes [] = false
 begins_among bytes (c ∷ cs) = list_any (λ byte. byte == c) bytes
 
 unfoldable pub unary_of : Text → Option UnaryOperator
-unary_of word = written unary_word unary_operators word
+unary_of word = by_spelling unary_word unary_operators word
 
 unfoldable pub binary_of : Text → Option BinaryOperator
-binary_of word = written binary_word binary_operators word
+binary_of word = by_spelling binary_word binary_operators word
 
 abbrev pub by_operator : Option UnaryOperator → Beginning
 by_operator None = start.Other

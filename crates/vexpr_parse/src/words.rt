@@ -4,7 +4,7 @@ ghost use Rattle.std.specs.Prelude.{◌≡◌, ◌==◌};
 ghost use Rattle.std.specs.List.{list_any};
 ghost use Rattle.std.specs.Str.{bytes_eq};
 ghost use Rattle.vast.specs.Expressions.{unary_word as unary_text, binary_word as binary_text};
-ghost use Rattle.vexpr_parse.specs.Words.{written, begins_among as begins_among_text, beginning_of as beginning_of_text, unary_of as unary_of_text, binary_of as binary_of_text};
+ghost use Rattle.vexpr_parse.specs.Words.{by_spelling, begins_among as begins_among_text, beginning_of as beginning_of_text, unary_of as unary_of_text, binary_of as binary_of_text};
 
 use crate::beginning::{Beginning, Round};
 use vast::expression::{BinaryOperator, UnaryOperator};
@@ -65,7 +65,7 @@ pub fn is(word: &[u8], text: &[u8]) -> bool
 }
 
 fn unary_among(word: &[u8], operators: &[UnaryOperator]) -> Option<UnaryOperator>
-    ensures { result ≡ written unary_text operators.now word.now }
+    ensures { result ≡ by_spelling unary_text operators.now word.now }
 {
     for operator in operators {
         if is(word, unary_word(*operator)) {
@@ -83,7 +83,7 @@ pub fn unary_of(word: &[u8]) -> Option<UnaryOperator>
 }
 
 fn binary_among(word: &[u8], operators: &[BinaryOperator]) -> Option<BinaryOperator>
-    ensures { result ≡ written binary_text operators.now word.now }
+    ensures { result ≡ by_spelling binary_text operators.now word.now }
 {
     for operator in operators {
         if is(word, binary_word(*operator)) {

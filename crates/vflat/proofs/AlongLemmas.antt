@@ -28,7 +28,7 @@ use Rattle.vcompile.specs.Listening.{events_in}
 use Rattle.vcompile.specs.Whole.{are_all, lead_on, are_linked, begin_well, holds_links, all_listed}
 use Rattle.vcompile.specs.CodeOf.{no_code, code_by, code_of}
 use Rattle.vcompile.specs.Laws.{point_of, first_of as first_point_of, AreLed, turns_behind, TakesStep, IsLinked, IsHeardByAll}
-use Rattle.vflat.specs.Flat.{point_in, with_terms, told, numbered, comes_to, goes_from, stands_by, waits_in, left_in, stand_of, IsSuspended, StandsAlong, StandsFor}
+use Rattle.vflat.specs.Flat.{point_in, with_terms, terms_told, point_of_frame, comes_to, goes_from, stands_by, waits_in, left_in, stand_of, IsSuspended, StandsAlong, StandsFor}
 use Rattle.vflat.proofs.ContinueLemmas.{before_left, continues, no_turns, own_turns, has_counters}
 use Rattle.vflat.proofs.ToldLemmas.{covers}
 use Rattle.vflat.proofs.WakeLemmas.{IsParked, Stand, set_else, set_length, AreWoken, woken_by_lists}
@@ -67,7 +67,7 @@ many_links design h = many_by design (nat_le (length design.actions) 4294967295)
 
 -- ---- points
 
-numbered_is : (frame : Frame) → place_of frame ≤ 4294967295 → numbered frame ≡ point_of frame
+numbered_is : (frame : Frame) → place_of frame ≤ 4294967295 → point_of_frame frame ≡ point_of frame
 numbered_is (Executing place) le = ap point.Executing (number_of_place place le)
 numbered_is (Repeating place n) le = ap point.Repeating (number_of_place place le)
 numbered_is (Writing place) le = ap point.Writing (number_of_place place le)
@@ -292,13 +292,13 @@ module _ (design : Design) (whole : (code_of design).whole ≡ true) (linked : I
   pub woken : (heard : IsHeardByAll) (turns : List ℕ) (before : List Vector) (wrote : List Part) (triggered : Option ℕ) (processes : List Process) (ps : List Point) (active : List ℕ) →
       StandsFor design turns processes ps → RisesFrom 0 active →
       StandsFor design turns (map (awake (wakes design.actions before (with_parts wrote before) triggered)) processes)
-      (with_terms (code_of design) turns before (with_parts wrote before) triggered (told wrote triggered) (record { points = ps; active = active })).points
-      × ((with_terms (code_of design) turns before (with_parts wrote before) triggered (told wrote triggered) (record { points = ps; active = active })).active
+      (with_terms (code_of design) turns before (with_parts wrote before) triggered (terms_told wrote triggered) (record { points = ps; active = active })).points
+      × ((with_terms (code_of design) turns before (with_parts wrote before) triggered (terms_told wrote triggered) (record { points = ps; active = active })).active
       ≡ with_awake (wakes design.actions before (with_parts wrote before) triggered) 0 processes active)
   woken heard turns before wrote triggered processes ps active h rising =
       let w : AreWoken design turns (wakes design.actions before (with_parts wrote before) triggered) processes active
-      (with_terms (code_of design) turns before (with_parts wrote before) triggered (told wrote triggered) (record { points = ps; active = active })) =
-      woken_by_lists design turns before (with_parts wrote before) triggered processes ps active (told wrote triggered) whole (few_places design whole) heard
+      (with_terms (code_of design) turns before (with_parts wrote before) triggered (terms_told wrote triggered) (record { points = ps; active = active })) =
+      woken_by_lists design turns before (with_parts wrote before) triggered processes ps active (terms_told wrote triggered) whole (few_places design whole) heard
       (stand_parked turns processes ps h) (covers before wrote triggered) rising in (
         record {
           many = w.stand.many;

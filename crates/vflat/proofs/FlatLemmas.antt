@@ -25,8 +25,8 @@ use Rattle.vmodel.specs.Step.{StepResult, place_of, execute_at, complete, no_tra
 use Rattle.vcompile.specs.Laws.{turns_behind}
 use Rattle.vflat.specs.declared.flat_step.News.{News}
 use Rattle.vflat.specs.declared.flat_step.News.TheVariants.{Changed, Triggered}
-use Rattle.vflat.specs.Flat.{Flat, FlatTransition, point_in, held_by, wakes_listener, with_resumed, frame_at, with_listeners, told, told_of_event, flat_woken, comes_to, flat_placed, step_alone, flat_after, flat_updated, flat_action, flat_frame, flat_transition_of, flat_viewed, rest_of, with_rest}
-use Rattle.vflat.specs.InnerFlat.{is_heard, woken_of, with_woken, heard_by, told_of, moved, finished, with_left, action_there, held_view, flat_to}
+use Rattle.vflat.specs.Flat.{Flat, FlatTransition, point_in, held_by, wakes_listener, with_resumed, frame_at, with_listeners, terms_told, told_of_event, flat_woken, comes_to, flat_placed, step_alone, flat_after, flat_updated, flat_action, flat_frame, flat_transition_of, flat_viewed, rest_of, with_rest}
+use Rattle.vflat.specs.InnerFlat.{is_heard, woken_of, with_woken, heard_by, told_of, place_process, finish, with_left, action_there, held_view, flat_to}
 use Rattle.vflat.proofs.PointLemmas.{hears_itself}
 
 -- ---- waking
@@ -56,8 +56,8 @@ told_event code parts event f = ap (λ b. with_heard (λ edge. b)) (sym (hears_i
     with_heard heard = with_woken (with_listeners code f.turns heard (listeners_at code.by_event event) (woken_of f)) f
 
 pub told_next : (code : Code) (parts : List Part) (triggered : Option ℕ) (part : Part) (more : List Part) (f : Flat) →
-    told_of code parts triggered (told (part ∷ more) triggered) f
-    ≡ told_of code parts triggered (told more triggered) (told_of code parts triggered (Change Any (variable_of part) ∷ []) f)
+    told_of code parts triggered (terms_told (part ∷ more) triggered) f
+    ≡ told_of code parts triggered (terms_told more triggered) (told_of code parts triggered (Change Any (variable_of part) ∷ []) f)
 told_next code parts triggered part more f = refl
 
 -- ---- a step of a process
@@ -68,7 +68,7 @@ pub ran_flat : (design : Design) (code : Code) (p : ℕ) (frame : Frame) (action
     held ≡ held_by f.held p → now ≡ environment_of design f.rest →
     ((after : List Frame) → execute_at frame action after held now ≡ step_result and_then next after effect) →
     ((code : Code) (turns : List ℕ) → turns_behind code frame action now turns ≡ with_left code (place_of frame) left turns) →
-    flat_transition_of design code (Run p) f ≡ finished code effect (moved code p frame left next and_then effect f)
+    flat_transition_of design code (Run p) f ≡ finish code effect (place_process code p frame left next and_then effect f)
 ran_flat design code p frame action held now and_then next effect left f at there held_is now_is does turns =
     ap (λ o. flat_frame design code p o f) at
     ∙ ap (λ o. flat_action design code p frame o f) there

@@ -15,7 +15,7 @@ use Rattle.vmodel.specs.Inner.{variable_of}
 use Rattle.vmodel.specs.Parts.{value_in, with_bits, write, with_parts}
 use Rattle.vmodel.specs.Waking.{is_triggered, hears}
 use Rattle.vcompile.specs.Laws.{with_edge}
-use Rattle.vflat.specs.Flat.{told, told_of_event}
+use Rattle.vflat.specs.Flat.{terms_told, told_of_event}
 use Rattle.vflat.proofs.WakeLemmas.{listed_first, listed_later}
 use Rattle.vmodel.proofs.WakingLemmas.{edge_none}
 
@@ -54,7 +54,7 @@ event_told (Some one) event e =
 
 -- what hears is told
 pub covers : (before : List Vector) (wrote : List Part) (triggered : Option ℕ) (term : Term) → hears before (with_parts wrote before) triggered term ≡ true →
-    Contains (told wrote triggered) (with_edge term Any)
+    Contains (terms_told wrote triggered) (with_edge term Any)
 covers before wrote triggered (Change edge variable) h = elim (told_or_same wrote before variable) [
   | inl there ↦ Contains-append_left (map (λ part. Change Any (variable_of part)) wrote) (told_of_event triggered) (Change Any variable) there
   | inr same ↦ absurd (true≢false (sym h ∙ edge_none edge (value_in before variable) (value_in (with_parts wrote before) variable) (sym same)))

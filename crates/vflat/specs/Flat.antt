@@ -90,13 +90,13 @@ told_of_event None = []
 told_of_event (Some event) = Event event ∷ []
 
 -- what a step tells: of each variable that it writes, and of the event that it triggers
-abbrev pub told : List Part → Option ℕ → List Term
-told wrote triggered = map (λ part. Change Any (variable_of part)) wrote ++ told_of_event triggered
+abbrev pub terms_told : List Part → Option ℕ → List Term
+terms_told wrote triggered = map (λ part. Change Any (variable_of part)) wrote ++ told_of_event triggered
 
 -- those who wait for it wake
 abbrev pub flat_woken : Code → List Vector → List Part → Option ℕ → Flat → Flat
 flat_woken code before wrote triggered f =
-    let w = with_terms code f.turns before f.rest.values triggered (told wrote triggered)
+    let w = with_terms code f.turns before f.rest.values triggered (terms_told wrote triggered)
     (record { points = f.points; active = f.rest.queue.active }) in
     record f { points = w.points; rest = record f.rest { queue = with_active w.active f.rest.queue } }
 
@@ -111,15 +111,15 @@ frame_at code turns (point.Writing place) = Some (Writing place)
 frame_at code turns (point.Waiting place) = None
 
 -- the point of a frame, by the number of its place
-abbrev pub numbered : Frame → Point
-numbered (Executing place) = point.Executing (place_number place)
-numbered (Repeating place n) = point.Repeating (place_number place)
-numbered (Writing place) = point.Writing (place_number place)
+abbrev pub point_of_frame : Frame → Point
+point_of_frame (Executing place) = point.Executing (place_number place)
+point_of_frame (Repeating place n) = point.Repeating (place_number place)
+point_of_frame (Writing place) = point.Writing (place_number place)
 
 -- where a process comes by a step at a place: to the first that the step puts before what was left, else behind the place
 abbrev pub comes_to : Code → List ℕ → ℕ → List Frame → Point
 comes_to code turns place [] = behind code turns place
-comes_to code turns place (frame ∷ more) = numbered frame
+comes_to code turns place (frame ∷ more) = point_of_frame frame
 
 -- the process, where it has something left
 abbrev pub goes_from : ℕ → Point → Option ℕ

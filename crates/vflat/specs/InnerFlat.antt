@@ -65,20 +65,20 @@ abbrev pub flat_to : Flat → Effect → List ℕ → FlatTransition
 flat_to flat effect monitors = record { flat = flat; effect = effect; monitors = monitors }
 
 -- the parts are written, and those wake who wait for what that changes, or for the event
-abbrev pub written : Code → List Part → Option ℕ → Flat → Flat
-written code wrote triggered f =
+abbrev pub write_and_wake : Code → List Part → Option ℕ → Flat → Flat
+write_and_wake code wrote triggered f =
     flat_woken code f.rest.values wrote triggered (record f { rest = record f.rest { values = with_parts wrote f.rest.values } })
 
 -- a process is placed that executed a frame, after which so many turns are left, these places come, and then this frame
-abbrev pub moved : Code → ℕ → Frame → Option ℕ → List ℕ → Option Frame → Effect → Flat → Flat
-moved code p frame left next then effect f =
+abbrev pub place_process : Code → ℕ → Frame → Option ℕ → List ℕ → Option Frame → Effect → Flat → Flat
+place_process code p frame left next then effect f =
     let turns = with_left code (place_of frame) left f.turns in
     with_move p effect turns (comes_to code turns (place_of frame) (frames next (behind then []))) f
 
 -- what the step of a process that is placed did besides, and the region moves
-abbrev pub finished : Code → Effect → Flat → FlatTransition
-finished code effect f =
-    let after = written code effect.wrote effect.triggered f in
+abbrev pub finish : Code → Effect → Flat → FlatTransition
+finish code effect f =
+    let after = write_and_wake code effect.wrote effect.triggered f in
     with_rest after (complete effect (record after.rest { cause = effect.cause }))
 
 -- the action at the place of a frame, if there is one

@@ -9,9 +9,9 @@ ghost use Rattle.vmodel.specs.InnerStep.{behind};
 ghost use Rattle.vmodel.specs.Step.{frames, place_of};
 ghost use Rattle.vcompile.specs.Links as links;
 ghost use Rattle.vflat.specs.Flat as spec;
-ghost use Rattle.vflat.specs.Flat.{told, told_of_event, flat_transition_of, flat_viewed, flat_next};
+ghost use Rattle.vflat.specs.Flat.{terms_told, told_of_event, flat_transition_of, flat_viewed, flat_next};
 ghost use Rattle.vflat.specs.InnerFlat as inner;
-ghost use Rattle.vflat.specs.InnerFlat.{IsNext, IsSilent, heard_by, told_of, written, finished, with_left, moved, held_view, flat_to};
+ghost use Rattle.vflat.specs.InnerFlat.{IsNext, IsSilent, heard_by, told_of, write_and_wake, finish, with_left, place_process, held_view, flat_to};
 ghost use Rattle.vcode.specs.Code.{Code as CodeOf};
 ghost use Rattle.vdesign.specs.Design.{Design as DesignOf};
 ghost use Rattle.vmodel.specs.Choices.{IsWithin};
@@ -117,7 +117,7 @@ fn place_number(place: usize) -> u32
 
 // The point of a frame.
 fn numbered(frame: Frame) -> Point
-    ensures { result ≡ spec.numbered frame }
+    ensures { result ≡ spec.point_of_frame frame }
 {
     match frame {
         Frame::Executing(place) => Point::Executing(place_number(place)),
@@ -150,7 +150,7 @@ fn comes_to(code: &Code, turns: &[u64], place: usize, next: &[usize], then: Opti
         Some((first, _)) => Point::Executing(place_number(*first)),
         None => match then {
             Some(frame) => numbered(frame),
-            None => code.behind(turns, place),
+            None => code.next_point(turns, place),
         },
     }
 }
@@ -268,7 +268,7 @@ impl Flat {
     // Those who listen to what these parts are to change, or to the event.
     #[tactic(auto, using(crate::proofs::FlatLemmas::told_next))]
     fn tell(&mut self, code: &Code, parts: &[Part], triggered: Option<usize>)
-        ensures { self.new ≡ told_of code.now parts.now triggered (told parts.now triggered) self.old }
+        ensures { self.new ≡ told_of code.now parts.now triggered (terms_told parts.now triggered) self.old }
     {
         for part in parts {
             self.tell_change(code, parts, part);
@@ -278,7 +278,7 @@ impl Flat {
 
     // The parts are written, and those wake who wait for what that changes, or for the event.
     fn write_parts(&mut self, code: &Code, parts: &[Part], triggered: Option<usize>)
-        ensures { self.new ≡ written code.now parts.now triggered self.old }
+        ensures { self.new ≡ write_and_wake code.now parts.now triggered self.old }
     {
         self.tell(code, parts, triggered);
         self.rest.write_parts(parts);
@@ -286,7 +286,7 @@ impl Flat {
 
     // The same of what a step wrote.
     fn write(&mut self, code: &Code, wrote: &Parts, triggered: Option<usize>)
-        ensures { self.new ≡ written code.now wrote.now triggered self.old }
+        ensures { self.new ≡ write_and_wake code.now wrote.now triggered self.old }
     {
         match wrote.kept() {
             Kept::One(part) => self.write_parts(code, &[part], triggered),
@@ -308,7 +308,7 @@ impl Flat {
     ) -> Result<(), NoMemory>
         requires { process < 256 }
         ensures ok { OnOk result
-            (self.new ≡ moved code.now process frame left next.now then effect.now self.old) }
+            (self.new ≡ place_process code.now process frame left next.now then effect.now self.old) }
         ensures err { OnErr result (self.new ≡ self.old) }
     {
         let place = frame.place();
@@ -330,7 +330,7 @@ impl Flat {
 
     // What the step wrote is written, it may end the run, and the regions move.
     fn finish(&mut self, code: &Code, effect: &Effect, monitors: &mut Vec<usize>)
-        ensures { flat_to self.new effect.now monitors.new.items ≡ finished code.now effect.now self.old }
+        ensures { flat_to self.new effect.now monitors.new.items ≡ finish code.now effect.now self.old }
     {
         self.write(code, &effect.wrote, effect.triggered);
         self.rest.end_by(effect.cause);

@@ -15,7 +15,7 @@ use Rattle.vexpr_parse.specs.Words.{beginning_of, binary_of, unary_of, ends}
 use Rattle.vexpr_parse.specs.Reading.{trees_in}
 use Rattle.vexpr_parse.specs.Lawful.{Ends}
 use Rattle.vexpr_parse.proofs.ReaderRules.{passed_over, same_text, stop_got, parts_of}
-use Rattle.vgrammar.specs.Parts.{Both, both, one_way, other_way, made, paired, many, maybe, either}
+use Rattle.vgrammar.specs.Parts.{Both, both, one_way, other_way, map_tree, pair, many, maybe, either}
 use Rattle.vgrammar.specs.Statements.{value, List_of, comma_list, word_only, has_default, Branch, branch_of, default_branch, branch, branches_in, Case, case_parts_of, branches, case_parts, ends_statement}
 use Rattle.vgrammar.proofs.Phrases.{Shape, Phrase, Example, Worded, Makes, From, AreLinked, always, of_these, made_phrase, past_shape, past_phrase, nothing_phrase, linked_shape, linked_phrase, paired_shape, before_phrase, paired_example, next_phrase}
 use Rattle.vgrammar.proofs.PhraseChoices.{maybe_shape, maybe_phrase, either_shape, either_phrase, Tested, ends_many, allows_all, many_shape, many_phrase}
@@ -88,7 +88,7 @@ module _ (below : ℕ) (level : nat_le 1 below ≡ true) (read : Reader Statemen
   a_statement = record { tree = empty; valid = level }
 
   new_default_phrase : Phrase
-      (past (codes "default") (paired (maybe colon_next (word_only (codes ":"))) read)) ends_statement Default
+      (past (codes "default") (pair (maybe colon_next (word_only (codes ":"))) read)) ends_statement Default
   new_default_phrase =
       past_phrase (codes "default")
       (next_phrase (maybe_phrase colon_next (only_phrase (codes ":")) (λ tree v. zero-lt-suc _)
@@ -116,7 +116,7 @@ module _ (below : ℕ) (level : nat_le 1 below ≡ true) (read : Reader Statemen
       false_true : false ≡ true → ⊥
       false_true e = cc
 
-  labelled_phrase : Phrase (paired (comma_list (value below)) (past (codes ":") read)) ends_statement Labelled
+  labelled_phrase : Phrase (pair (comma_list (value below)) (past (codes ":") read)) ends_statement Labelled
   unfolding binary_of
   labelled_phrase = before_phrase (codes ":")
       (comma_phrase (value_phrase below) (value_example below level) refl) p a_statement refl
@@ -129,11 +129,11 @@ module _ (below : ℕ) (level : nat_le 1 below ≡ true) (read : Reader Statemen
   -- a word that begins no expression begins no labels
   labels_refuse : (word : Text) → beginning_of word ≡ start.Other →
       (words : List Text) (tree : Both (List_of ExpressionTree) StatementTree)
-      (left : List Text) → paired (comma_list (value below)) (past (codes ":") read) (word ∷ words) ≡ got tree left → ⊥
+      (left : List Text) → pair (comma_list (value below)) (past (codes ":") read) (word ∷ words) ≡ got tree left → ⊥
   labels_refuse word is words tree left e =
-      let a = parts_of (comma_list (value below) (word ∷ words)) (λ t. made (both t) (past (codes ":") read)) tree left e in
+      let a = parts_of (comma_list (value below) (word ∷ words)) (λ t. map_tree (both t) (past (codes ":") read)) tree left e in
       let b = parts_of (value below (word ∷ words))
-      (λ t. made (both t) (many (is_front (codes ",")) (λ list. past (codes ",") (value below))))
+      (λ t. map_tree (both t) (many (is_front (codes ",")) (λ list. past (codes ",") (value below))))
       a.one a.between a.first in
       value_refuses below word is words b.one b.between b.first
 
@@ -147,7 +147,7 @@ module _ (below : ℕ) (level : nat_le 1 below ≡ true) (read : Reader Statemen
 
   parts_phrase : (list : List BranchTree) →
       Phrase (either default_next (default_branch read (has_default list))
-      (paired (comma_list (value below)) (past (codes ":") read)))
+      (pair (comma_list (value below)) (past (codes ":") read)))
       ends_statement (Parts list)
   parts_phrase list =
       either_phrase default_next (default_phrase (has_default list)) labelled_phrase (λ tree v. zero-lt-suc _) labelled_worded
@@ -231,12 +231,12 @@ module _ (below : ℕ) (level : nat_le 1 below ≡ true) (read : Reader Statemen
       (words : List Text) (tree : BranchTree) (left : List Text) → branch below read list (word ∷ words) ≡ got tree left → ⊥
   branch_refuses list word is other_word words tree left e =
       let a = parts_of (either default_next (default_branch read (has_default list))
-      (paired (comma_list (value below)) (past (codes ":") read))
+      (pair (comma_list (value below)) (past (codes ":") read))
       (word ∷ words)) (λ t. got (branch_of t)) tree left e in
-      let b = parts_of (paired (comma_list (value below)) (past (codes ":") read) (word ∷ words))
+      let b = parts_of (pair (comma_list (value below)) (past (codes ":") read) (word ∷ words))
       (λ t. got (other_way t)) a.one a.between
       (sym (passed_over (default_next (Some word))
-      (made one_way (default_branch read (has_default list)) (word ∷ words)) _ other_word) ∙ a.first) in
+      (map_tree one_way (default_branch read (has_default list)) (word ∷ words)) _ other_word) ∙ a.first) in
       labels_refuse word is words b.one b.between b.first
 
   abbrev endcase_next : Option Text → Bool

@@ -8,10 +8,10 @@ use Rattle.vast.specs.Modules.{RangeTree, TypeTree, DirectionTree, input, output
 use Rattle.vast.specs.declared.module.NetKind.{NetKind}
 use Rattle.vast.specs.declared.module.NetKind.TheVariants as net
 use Rattle.vexpr_parse.specs.Readers.{front, is_front, past}
-use Rattle.vexpr_parse.specs.Words.{written}
+use Rattle.vexpr_parse.specs.Words.{by_spelling}
 use Rattle.vexpr_parse.specs.Lawful.{Ends}
 use Rattle.vexpr_parse.proofs.ReaderRules.{same_text}
-use Rattle.vgrammar.specs.Parts.{Both, both, one_way, other_way, paired, worded, maybe}
+use Rattle.vgrammar.specs.Parts.{Both, both, one_way, other_way, pair, word_as, maybe}
 use Rattle.vgrammar.specs.Starts.{is_meant, is_some_meaning}
 use Rattle.vgrammar.specs.Statements.{word_only}
 use Rattle.vgrammar.specs.Modules.{type, net_of, Output, output_behind, Direction, direction_of, direction, is_direction}
@@ -24,7 +24,7 @@ use Rattle.vgrammar.proofs.HeadPhrases.{name_means_not, phrase_closing, ends_typ
 abbrev pub net_shape : Shape NetKind
 net_shape = worded_shape net_word (λ kind. true) always
 
-pub net_phrase : Phrase (worded net_of) always net_shape
+pub net_phrase : Phrase (word_as net_of) always net_shape
 net_phrase = worded_phrase net_of net_word (λ kind. true) always
     (λ text kind e. (as_written net_word (net.Wire ∷ net.Reg ∷ []) text kind e, refl)) meant
   where
@@ -78,22 +78,22 @@ name_ends_direction letters is =
 
 pub no_direction : (letters : Text) → is_name letters ≡ true → is_direction (Some letters) ≡ false
 unfolding reserved_words
-no_direction letters is = by_meaning (written (λ text. text) (codes "input" ∷ codes "output" ∷ []) letters) refl
+no_direction letters is = by_meaning (by_spelling (λ text. text) (codes "input" ∷ codes "output" ∷ []) letters) refl
   where
-    by_meaning : (m : Option Text) → written (λ text. text) (codes "input" ∷ codes "output" ∷ []) letters ≡ m →
+    by_meaning : (m : Option Text) → by_spelling (λ text. text) (codes "input" ∷ codes "output" ∷ []) letters ≡ m →
         is_some_meaning m ≡ false
     by_meaning None e = refl
     by_meaning (Some text) e = by_tests (bytes_eq (codes "input") letters) (bytes_eq (codes "output") letters) refl refl e
       where
         by_tests : (a b : Bool) → bytes_eq (codes "input") letters ≡ a → bytes_eq (codes "output") letters ≡ b →
-            written (λ text. text) (codes "input" ∷ codes "output" ∷ []) letters ≡ Some text → true ≡ false
+            by_spelling (λ text. text) (codes "input" ∷ codes "output" ∷ []) letters ≡ Some text → true ≡ false
         by_tests true b p q e = absurd (clash (is_name letters) is (sym (ap is_name (same_text (codes "input") letters p))))
         by_tests false true p q e = absurd (clash (is_name letters) is (sym (ap is_name (same_text (codes "output") letters q))))
         by_tests false false p q e =
             let none : None ≡ Some text = sym (nothing_written p q) ∙ e in absurd cc
           where
             nothing_written : bytes_eq (codes "input") letters ≡ false → bytes_eq (codes "output") letters ≡ false →
-                written (λ text. text) (codes "input" ∷ codes "output" ∷ []) letters ≡ None
+                by_spelling (λ text. text) (codes "input" ∷ codes "output" ∷ []) letters ≡ None
             nothing_written p q = rw p (rw q refl)
 
 module _ (below : ℕ) where
@@ -133,7 +133,7 @@ module _ (below : ℕ) where
   OutputParts = past_shape (codes "output") (either_shape integer_shape TypedOutput)
 
   input_phrase : Phrase (past (codes "input")
-      (paired (maybe wire_next (word_only (codes "wire"))) (type levels))) ends_direction InputParts
+      (pair (maybe wire_next (word_only (codes "wire"))) (type levels))) ends_direction InputParts
   input_phrase =
       past_phrase (codes "input")
       (paired_phrase (maybe_phrase wire_next (only_phrase (codes "wire")) (λ tree v. zero-lt-suc _)
@@ -143,7 +143,7 @@ module _ (below : ℕ) where
       (λ y v none next e. no_wire next (net_ends next e)))
       (paired_example no_wire_part plain_type)
 
-  typed_output_phrase : Phrase (paired (maybe net_next (worded net_of)) (type levels)) ends_direction TypedOutput
+  typed_output_phrase : Phrase (pair (maybe net_next (word_as net_of)) (type levels)) ends_direction TypedOutput
   typed_output_phrase =
       paired_phrase (maybe_phrase net_next net_phrase (λ tree v. zero-lt-suc 0) begins) last_type_phrase plain_type
       (type_opens (λ next. not (net_next next)) refl refl net_ends)

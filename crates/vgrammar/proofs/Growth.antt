@@ -7,7 +7,7 @@ use Rattle.vexpr_parse.specs.Readers.{Answer, got, stop, Reader, front, is_front
 use Rattle.vexpr_parse.specs.Lawful.{rest_of, Ends}
 use Rattle.vexpr_parse.proofs.ReaderRules.{keeps, IsLead}
 use Rattle.vexpr_parse.proofs.Grows.{Keeps, got_keep, then_keep, LeadKeeps, led_keep, past_keep, choose_keep, rounds_keep, Grows, then_grows, LeadGrows, led_grows, past_grows, rounds_grow}
-use Rattle.vgrammar.specs.Parts.{both, one_way, other_way, made, linked, paired, if_meant, worded, one_behind, many, maybe, either, roomy}
+use Rattle.vgrammar.specs.Parts.{both, one_way, other_way, map_tree, bind, pair, if_meant, word_as, one_behind, many, maybe, either, roomy}
 use Rattle.vgrammar.proofs.Phrases.{Shape, Phrase}
 
 pub grows_further : {A : Type 0} (a b c : Answer A) → Grows a b → Grows b c → Grows a c
@@ -41,31 +41,31 @@ past_growth text {read = read} {more = more} g = record {
 }
 
 pub made_growth : {A B : Type 0} (make : A → B) {read more : Reader A} → Growth read more →
-    Growth (made make read) (made make more)
+    Growth (map_tree make read) (map_tree make more)
 made_growth make {read = read} {more = more} g = record {
   rises = λ words. then_grows (read words) (more words) (λ t. got (make t)) (λ t. got (make t)) (g.rises words) (λ t left e. refl)
       (λ t. got_keep (make t));
   keep = λ words. then_keep words (more words) (λ t. got (make t)) (g.keep words) (λ t. got_keep (make t));
 }
 
-pub made_keep : {A B : Type 0} (make : A → B) (read : Reader A) → Keeps read → Keeps (made make read)
+pub made_keep : {A B : Type 0} (make : A → B) (read : Reader A) → Keeps read → Keeps (map_tree make read)
 made_keep make read k words = then_keep words (read words) (λ t. got (make t)) (k words) (λ t. got_keep (make t))
 
 pub linked_growth : {A B : Type 0} {read more : Reader A} {next next_more : A → Reader B} → Growth read more →
-    ((tree : A) → Growth (next tree) (next_more tree)) → Growth (linked read next) (linked more next_more)
+    ((tree : A) → Growth (next tree) (next_more tree)) → Growth (bind read next) (bind more next_more)
 linked_growth {read = read} {more = more} {next = next} {next_more = next_more} g h = record {
-  rises = λ words. then_grows (read words) (more words) (λ x. made (both x) (next x)) (λ x. made (both x) (next_more x))
+  rises = λ words. then_grows (read words) (more words) (λ x. map_tree (both x) (next x)) (λ x. map_tree (both x) (next_more x))
       (g.rises words)
       (λ x left e. (made_growth (both x) (h x)).rises left) (λ x. (made_growth (both x) (h x)).keep);
-  keep = λ words. then_keep words (more words) (λ x. made (both x) (next_more x)) (g.keep words)
+  keep = λ words. then_keep words (more words) (λ x. map_tree (both x) (next_more x)) (g.keep words)
       (λ x. (made_growth (both x) (h x)).keep);
 }
 
 pub paired_growth : {A B : Type 0} {read more : Reader A} {next next_more : Reader B} → Growth read more → Growth next next_more →
-    Growth (paired read next) (paired more next_more)
+    Growth (pair read next) (pair more next_more)
 paired_growth g h = linked_growth g (λ x. h)
 
-pub worded_growth : {A : Type 0} (meaning : Text → Option A) → Growth (worded meaning) (worded meaning)
+pub worded_growth : {A : Type 0} (meaning : Text → Option A) → Growth (word_as meaning) (word_as meaning)
 worded_growth {A = A} meaning = record {
   rises = led_grows (λ word. if_meant (meaning word)) (λ word. if_meant (meaning word)) (λ word. rising (meaning word));
   keep = led_keep (λ word. if_meant (meaning word)) (λ word. keeping (meaning word));
@@ -100,20 +100,20 @@ pub either_growth : {A B : Type 0} (test : Option Text → Bool) {read more : Re
     Growth read more →
     Growth other more_other → Growth (either test read other) (either test more more_other)
 either_growth test {read = read} {more = more} g h =
-    choose_growth test (made one_way read) (made one_way more) (λ words e. (made_growth one_way g).rises words)
+    choose_growth test (map_tree one_way read) (map_tree one_way more) (λ words e. (made_growth one_way g).rises words)
     (made_growth one_way g).keep (made_growth other_way h)
 
 pub maybe_growth : {A : Type 0} (test : Option Text → Bool) {read more : Reader A} → Growth read more →
     Growth (maybe test read) (maybe test more)
 maybe_growth test {read = read} {more = more} g =
-    choose_growth test (made Some read) (made Some more) (λ words e. (made_growth Some g).rises words)
+    choose_growth test (map_tree Some read) (map_tree Some more) (λ words e. (made_growth Some g).rises words)
     (made_growth Some g).keep (got_growth None)
 
 pub maybe_growth_where : {A : Type 0} (test : Option Text → Bool) (read more : Reader A) → RisesWhere test read more →
     Keeps more →
     Growth (maybe test read) (maybe test more)
 maybe_growth_where test read more g k =
-    choose_growth test (made Some read) (made Some more)
+    choose_growth test (map_tree Some read) (map_tree Some more)
     (λ words e. then_grows (read words) (more words) (λ t. got (Some t)) (λ t. got (Some t)) (g words e) (λ t left f. refl)
     (λ t. got_keep (Some t)))
     (λ words. then_keep words (more words) (λ t. got (Some t)) (k words) (λ t. got_keep (Some t))) (got_growth None)

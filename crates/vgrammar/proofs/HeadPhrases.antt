@@ -10,13 +10,13 @@ use Rattle.vast.specs.Expressions.{ExpressionTree}
 use Rattle.vast.specs.Statements.{TargetTree}
 use Rattle.vast.specs.Modules.{RangeTree, TypeTree, ParameterType, integer, typed, SettingTree, DeclaredTree, spell_range, spell_signed, spell_type, integer_word, spell_parameter_type, spell_setting, spell_value, spell_declared, fits_value, fits_range, fits_type, fits_parameter_type, fits_setting, fits_declared, are_some, NetAssignment, spell_net_assignment, fits_net_assignment}
 use Rattle.vexpr_parse.specs.Readers.{Reader, front, is_front}
-use Rattle.vexpr_parse.specs.Words.{binary_of, written, ends}
+use Rattle.vexpr_parse.specs.Words.{binary_of, by_spelling, ends}
 use Rattle.vexpr_parse.specs.Lawful.{Ends}
 use Rattle.vexpr_parse.proofs.ReaderRules.{same_text}
-use Rattle.vgrammar.specs.Parts.{Both, both, Either, one_way, other_way, paired, worded}
+use Rattle.vgrammar.specs.Parts.{Both, both, Either, one_way, other_way, pair, word_as}
 use Rattle.vgrammar.specs.Starts.{is_meant, is_some_meaning}
 use Rattle.vgrammar.specs.Statements.{word_only, List_of}
-use Rattle.vgrammar.specs.Modules.{free_value, range_of, range, type_of, type, integer_of, parameter_type_of, parameter_type, setting_of, setting, declared_of, declared, ended, net_assignment_of, net_assignment}
+use Rattle.vgrammar.specs.Modules.{free_value, range_of, range, type_of, type, integer_of, parameter_type_of, parameter_type, setting_of, setting, declared_of, declarator, list_and_semicolon, net_assignment_of, net_assignment}
 use Rattle.vgrammar.proofs.Phrases.{Shape, Phrase, Example, Worded, Opens, Makes, From, always, phrase_within, made_phrase, past_shape, past_phrase, past_example, nothing_phrase, worded_shape, worded_phrase, paired_shape, paired_phrase, before_phrase, paired_example, free_phrase}
 use Rattle.vgrammar.proofs.PhraseChoices.{ends_maybe, maybe_shape, maybe_phrase, either_shape, either_open_phrase, Tested, allows_all}
 use Rattle.vgrammar.proofs.LevelFacts.{and_true}
@@ -33,8 +33,8 @@ name_isnt text none letters is =
 -- a name means nothing else
 pub name_means_not : {A : Type 0} (spell : A → Text) (all : List A) → ((tree : A) → is_name (spell tree) ≡ false) →
     (letters : Text) →
-    is_name letters ≡ true → is_some_meaning (written spell all letters) ≡ false
-name_means_not spell all none letters is = by_meaning (written spell all letters) (as_written spell all letters)
+    is_name letters ≡ true → is_some_meaning (by_spelling spell all letters) ≡ false
+name_means_not spell all none letters is = by_meaning (by_spelling spell all letters) (as_written spell all letters)
   where
     by_meaning : (m : Option _) → ((tree : _) → m ≡ Some tree → spell tree ≡ letters) → is_some_meaning m ≡ false
     by_meaning None f = refl
@@ -75,7 +75,7 @@ ends_parameter_type next = ends_type next && not (integer_next next)
 abbrev pub integer_shape : Shape Bool
 integer_shape = worded_shape integer_word (λ long. true) always
 
-pub integer_phrase : Phrase (worded integer_of) always integer_shape
+pub integer_phrase : Phrase (word_as integer_of) always integer_shape
 integer_phrase = worded_phrase integer_of integer_word (λ long. true) always
     (λ text long e. (as_written integer_word (false ∷ true ∷ []) text long e, refl)) meant
   where
@@ -110,7 +110,7 @@ abbrev pub ended_shape : {A : Type 0} → Ends → Shape A → Shape (Both (List
 ended_shape ends s = paired_shape (comma_shape ends s) (only_shape (codes ";"))
 
 pub ended_phrase : {A : Type 0} {read : Reader A} {ends : Ends} {s : Shape A} → Phrase read ends s → Example s →
-    ends (Some (codes ",")) ≡ true → ends (Some (codes ";")) ≡ true → Phrase (ended read) always (ended_shape ends s)
+    ends (Some (codes ",")) ≡ true → ends (Some (codes ";")) ≡ true → Phrase (list_and_semicolon read) always (ended_shape ends s)
 ended_phrase {ends = ends} p e opens ending =
     before_phrase (codes ";") (comma_phrase p e opens) (nothing_phrase always) nothing_example
     (and_both (ends (Some (codes ";"))) true ending refl)
@@ -170,7 +170,7 @@ module _ (below : ℕ) where
           ≡ true
       closes (both left (both right end)) next = refl
 
-  right_bound : Phrase (paired (free_value levels) (word_only (codes "]"))) always (paired_shape Free (only_shape (codes "]")))
+  right_bound : Phrase (pair (free_value levels) (word_only (codes "]"))) always (paired_shape Free (only_shape (codes "]")))
   unfolding binary_of
   right_bound = before_phrase (codes "]") free_phrase_value (nothing_phrase always) nothing_example refl
 
@@ -393,7 +393,7 @@ module _ (below : ℕ) where
   abbrev DeclaredParts : Shape (Both Text (Option ExpressionTree))
   DeclaredParts = paired_shape (text_shape is_name) (maybe_shape equals (ends 0) (past_shape (codes "=") Free))
 
-  pub declared_phrase : Phrase (declared levels) (ends_maybe equals (ends 0)) declared_shape
+  pub declared_phrase : Phrase (declarator levels) (ends_maybe equals (ends 0)) declared_shape
   declared_phrase =
       made_phrase declared_of declared_shape (λ tree v. record { parts = both tree.name tree.value; is = refl }) makes
       (λ tree next e. e)

@@ -14,10 +14,10 @@ use Rattle.vexpr_parse.specs.Readers.{got, Reader, front, is_front, past}
 use Rattle.vexpr_parse.specs.Words.{beginning_of, binary_of, unary_of, ends}
 use Rattle.vexpr_parse.specs.Lawful.{Ends}
 use Rattle.vexpr_parse.proofs.ReaderRules.{same_text, parts_of}
-use Rattle.vgrammar.specs.Parts.{Both, both, Either, one_way, other_way, made, paired, worded, many}
+use Rattle.vgrammar.specs.Parts.{Both, both, Either, one_way, other_way, map_tree, pair, word_as, many}
 use Rattle.vgrammar.specs.Starts.{is_meant}
-use Rattle.vgrammar.specs.Statements.{named, word_only, List_of, comma_list, statement, ends_statement}
-use Rattle.vgrammar.specs.Modules.{free_value, type, parameter_type, setting, declared, direction, is_direction, Directed, Value, value_in, connection_of, connection, Connections, connections_of, connections, instance_of, instance_behind, overrides, ended, net_of, local_of, Parameters, Variables, Instances, Item, item_of, item_parts, item, net_assignment}
+use Rattle.vgrammar.specs.Statements.{name_word, word_only, List_of, comma_list, statement, ends_statement}
+use Rattle.vgrammar.specs.Modules.{free_value, type, parameter_type, setting, declarator, direction, is_direction, Directed, Value, value_in, connection_of, connection, Connections, connections_of, connections, instance_of, instance_behind, overrides, list_and_semicolon, net_of, local_of, Parameters, Variables, Instances, Item, item_of, item_parts, item, net_assignment}
 use Rattle.vgrammar.proofs.Phrases.{Shape, Phrase, Example, Worded, Opens, Makes, From, always, phrase_within, made_phrase, past_shape, past_phrase, past_example, nothing_phrase, worded_shape, worded_phrase, paired_shape, before_phrase, paired_example, free_phrase, next_phrase}
 use Rattle.vgrammar.proofs.PhraseChoices.{ends_maybe, maybe_shape, maybe_phrase, either_shape, either_phrase, either_tested, either_worded, Tested, allows_all}
 use Rattle.vgrammar.proofs.LevelFacts.{and_true}
@@ -47,7 +47,7 @@ hash = is_front (codes "#")
 abbrev local_shape : Shape Bool
 local_shape = worded_shape parameter_word (λ local. true) always
 
-local_phrase : Phrase (worded local_of) always local_shape
+local_phrase : Phrase (word_as local_of) always local_shape
 local_phrase = worded_phrase local_of parameter_word (λ local. true) always
     (λ text local e. (as_written parameter_word (false ∷ true ∷ []) text local e, refl)) meant
   where
@@ -64,7 +64,7 @@ a_local = record { tree = false; valid = refl }
 abbrev Names : Shape (Both (List_of Text) (Unit {0}))
 Names = ended_shape always (text_shape is_name)
 
-names_phrase : Phrase (ended named) always Names
+names_phrase : Phrase (list_and_semicolon name_word) always Names
 names_phrase = ended_phrase named_phrase a_name refl refl
 
 names_example : Example Names
@@ -130,7 +130,7 @@ module _ (below : ℕ) where
   abbrev Enclosed : Shape (Both ExpressionTree (Unit {0}))
   Enclosed = paired_shape (Free below) (only_shape (codes ")"))
 
-  enclosed_phrase : Phrase (paired (free_value levels) (word_only (codes ")"))) always Enclosed
+  enclosed_phrase : Phrase (pair (free_value levels) (word_only (codes ")"))) always Enclosed
   unfolding binary_of
   enclosed_phrase = before_phrase (codes ")") (free_phrase_value below) (nothing_phrase always) nothing_example refl
 
@@ -147,9 +147,9 @@ module _ (below : ℕ) where
     where
       refuses : (word : Text) (words : List Text) (tree : Both ExpressionTree (Unit {0})) (left : List Text) → close (Some word)
           ≡ true →
-          paired (free_value levels) (word_only (codes ")")) (word ∷ words) ≡ got tree left → ⊥
+          pair (free_value levels) (word_only (codes ")")) (word ∷ words) ≡ got tree left → ⊥
       refuses word words tree left is e =
-          let a = parts_of (free_value levels (word ∷ words)) (λ t. made (both t) (word_only (codes ")"))) tree left e in
+          let a = parts_of (free_value levels (word ∷ words)) (λ t. map_tree (both t) (word_only (codes ")"))) tree left e in
           value_refuses levels word
           (subst (λ w. beginning_of w ≡ start.Other) (same_text (codes ")") word is) no_beginnings.0) words a.one a.between
           a.first
@@ -211,11 +211,11 @@ module _ (below : ℕ) where
   abbrev ByOrder : Shape (Both (List_of ExpressionTree) (Unit {0}))
   ByOrder = paired_shape (comma_shape (ends 0) (Free below)) (only_shape (codes ")"))
 
-  by_name_phrase : Phrase (paired (comma_list (connection levels)) (word_only (codes ")"))) always ByName
+  by_name_phrase : Phrase (pair (comma_list (connection levels)) (word_only (codes ")"))) always ByName
   by_name_phrase = before_phrase (codes ")") (comma_phrase connection_phrase a_connection refl)
       (nothing_phrase always) nothing_example refl
 
-  by_order_phrase : Phrase (paired (comma_list (free_value levels)) (word_only (codes ")"))) always ByOrder
+  by_order_phrase : Phrase (pair (comma_list (free_value levels)) (word_only (codes ")"))) always ByOrder
   unfolding binary_of
   by_order_phrase = before_phrase (codes ")") (comma_phrase (free_phrase_value below) (free_example below) refl)
       (nothing_phrase always) nothing_example refl
@@ -228,13 +228,13 @@ module _ (below : ℕ) where
   by_order_not text none = refused_first (is_front text) by_order_phrase by_order_worded refl refuses
     where
       refuses : (word : Text) (words : List Text) (tree : Both (List_of ExpressionTree) (Unit {0})) (left : List Text) →
-          is_front text (Some word) ≡ true → paired (comma_list (free_value levels)) (word_only (codes ")")) (word ∷ words)
+          is_front text (Some word) ≡ true → pair (comma_list (free_value levels)) (word_only (codes ")")) (word ∷ words)
           ≡ got tree left → ⊥
       refuses word words tree left is e =
           let a = parts_of (comma_list (free_value levels) (word ∷ words))
-          (λ t. made (both t) (word_only (codes ")"))) tree left e in
+          (λ t. map_tree (both t) (word_only (codes ")"))) tree left e in
           let b = parts_of (free_value levels (word ∷ words))
-          (λ t. made (both t) (many (is_front (codes ",")) (λ list. past (codes ",") (free_value levels))))
+          (λ t. map_tree (both t) (many (is_front (codes ",")) (λ list. past (codes ",") (free_value levels))))
           a.one a.between a.first in
           value_refuses levels word
           (subst (λ w. beginning_of w ≡ start.Other) (same_text text word is) none) words b.one b.between b.first
@@ -352,7 +352,7 @@ module _ (below : ℕ) where
   abbrev Settings : Shape (Both (List_of SettingTree) (Unit {0}))
   Settings = ended_shape (ends 0) (setting_shape below)
 
-  settings_phrase : Phrase (ended (setting levels)) always Settings
+  settings_phrase : Phrase (list_and_semicolon (setting levels)) always Settings
   unfolding binary_of
   settings_phrase = ended_phrase (setting_phrase below) (a_setting below) refl refl
 
@@ -362,7 +362,7 @@ module _ (below : ℕ) where
   abbrev Assigned : Shape (Both (List_of NetAssignment) (Unit {0}))
   Assigned = ended_shape (ends 0) (net_assignment_shape below)
 
-  assigned_phrase : Phrase (ended (net_assignment levels)) always Assigned
+  assigned_phrase : Phrase (list_and_semicolon (net_assignment levels)) always Assigned
   unfolding binary_of
   assigned_phrase = ended_phrase (net_assignment_phrase below) (a_net_assignment below) refl refl
 
@@ -372,7 +372,7 @@ module _ (below : ℕ) where
   abbrev Declared : Shape (Both (List_of DeclaredTree) (Unit {0}))
   Declared = ended_shape (ends_maybe (is_front (codes "=")) (ends 0)) (declared_shape below)
 
-  declared_list_phrase : Phrase (ended (declared levels)) always Declared
+  declared_list_phrase : Phrase (list_and_semicolon (declarator levels)) always Declared
   unfolding binary_of
   declared_list_phrase = ended_phrase (declared_phrase below) (a_declared below) refl refl
 
@@ -382,7 +382,7 @@ module _ (below : ℕ) where
   abbrev InstanceList : Shape (Both (List_of InstanceTree) (Unit {0}))
   InstanceList = ended_shape always instance_shape
 
-  instance_list_phrase : Phrase (ended (instance_behind levels)) always InstanceList
+  instance_list_phrase : Phrase (list_and_semicolon (instance_behind levels)) always InstanceList
   instance_list_phrase = ended_phrase instance_phrase an_instance refl refl
 
   instance_list_example : Example InstanceList
@@ -432,8 +432,8 @@ module _ (below : ℕ) where
   overridden_example : Example (paired_shape Overrides InstanceList)
   overridden_example = paired_example no_overrides instance_list_example
 
-  parameters_phrase : Phrase (paired (worded local_of)
-      (paired (parameter_type levels) (ended (setting levels)))) always ParametersShape
+  parameters_phrase : Phrase (pair (word_as local_of)
+      (pair (parameter_type levels) (list_and_semicolon (setting levels)))) always ParametersShape
   parameters_phrase =
       free_phrase local_phrase
       (next_phrase (parameter_type_phrase below) settings_phrase settings_example settings_worded opens) typed_settings_example
@@ -444,28 +444,28 @@ module _ (below : ℕ) where
 
   -- the names that are declared begin with one
   declared_begins : (here : Ends) → ((letters : Text) → is_name letters ≡ true → here (Some letters) ≡ true) → Opens here Declared
-  declared_begins here named (both (both tree more) end) v rest c = by_value tree.value
+  declared_begins here name_word (both (both tree more) end) v rest c = by_value tree.value
     where
       is_named : is_name tree.name ≡ true
       is_named = and_left (is_name tree.name) _ (and_left (fits_declared levels tree) _ (and_left _ true v))
 
       by_value : (o : Option ExpressionTree) → here (front (((spell_value tree.name o
           ++ flat_map (λ other. codes "," ∷ spell_declared other) more) ++ codes ";" ∷ []) ++ rest)) ≡ true
-      by_value None = named tree.name is_named
-      by_value (Some one) = named tree.name is_named
+      by_value None = name_word tree.name is_named
+      by_value (Some one) = name_word tree.name is_named
 
-  variables_phrase : Phrase (paired (worded net_of) (paired (type levels) (ended (declared levels)))) always VariablesShape
+  variables_phrase : Phrase (pair (word_as net_of) (pair (type levels) (list_and_semicolon (declarator levels)))) always VariablesShape
   variables_phrase =
       free_phrase net_phrase
       (next_phrase (type_phrase below) declared_list_phrase declared_example declared_worded
       (declared_begins ends_type (λ letters is. and_left (ends_type (Some letters)) _ (name_ends_type letters is))))
       typed_declared_example
 
-  directed_phrase : Phrase (paired (direction levels) (ended (declared levels))) always DirectedShape
+  directed_phrase : Phrase (pair (direction levels) (list_and_semicolon (declarator levels))) always DirectedShape
   directed_phrase =
       next_phrase (direction_phrase below) declared_list_phrase declared_example declared_worded (declared_begins ends_direction name_ends_direction)
 
-  instances_phrase : Phrase (paired named (paired (overrides levels) (ended (instance_behind levels)))) always InstancesShape
+  instances_phrase : Phrase (pair name_word (pair (overrides levels) (list_and_semicolon (instance_behind levels)))) always InstancesShape
   unfolding reserved_words
   instances_phrase =
       free_phrase named_phrase

@@ -8,7 +8,7 @@ use Rattle.vexpr_parse.specs.Readers.{Answer, got, stop, Reader, front, is_front
 use Rattle.vexpr_parse.proofs.ReaderRules.{Eats, stop_got}
 use Rattle.vexpr_parse.proofs.ReaderLoops.{turns_on, turns_end}
 use Rattle.vexpr_parse.proofs.Turning.{past_on}
-use Rattle.vgrammar.specs.Parts.{Both, both, made, paired, one_behind, many}
+use Rattle.vgrammar.specs.Parts.{Both, both, map_tree, pair, one_behind, many}
 use Rattle.vgrammar.specs.Statements.{List_of, comma_list, word_only}
 use Rattle.vgrammar.proofs.PhraseChoices.{made_eats}
 use Rattle.vgrammar.specs.Lists.{all_until, rest_until}
@@ -101,7 +101,7 @@ module _ {A E B : Type 0} (read : Reader A) (next : Reader E) (make : Both (List
   behind_first one = goes_on (is_front (codes ",")) (λ list. past (codes ",") read) (one ∷ [])
 
   abbrev rest_by : A → Reader B
-  rest_by one left = and_then (behind_first one left) (λ all. made (whole all) next)
+  rest_by one left = and_then (behind_first one left) (λ all. map_tree (whole all) next)
 
   by_end : (one : A) (list : List A) (a : Answer E) →
       and_then (and_then a (λ end. got (both (both one list) end))) (λ p. got (make p)) ≡ and_then a (λ end. got (whole (one ∷ list) end))
@@ -109,28 +109,28 @@ module _ {A E B : Type 0} (read : Reader A) (next : Reader E) (make : Both (List
   by_end one list (stop why left) = refl
 
   by_more : (one : A) (a : Answer (List A)) →
-      and_then (and_then (and_then a (λ list. got (both one list))) (λ p. made (both p) next)) (λ p. got (make p))
-      ≡ and_then (and_then a (λ list. got (one ∷ list))) (λ all. made (whole all) next)
+      and_then (and_then (and_then a (λ list. got (both one list))) (λ p. map_tree (both p) next)) (λ p. got (make p))
+      ≡ and_then (and_then a (λ list. got (one ∷ list))) (λ all. map_tree (whole all) next)
   by_more one (got list left) = by_end one list (next left)
   by_more one (stop why left) = refl
 
   by_first : (a : Answer A) →
-      and_then (and_then (and_then a (λ one. made (both one) (many (is_front (codes ",")) (λ list. past (codes ",") read))))
-      (λ p. made (both p) next)) (λ p. got (make p))
+      and_then (and_then (and_then a (λ one. map_tree (both one) (many (is_front (codes ",")) (λ list. past (codes ",") read))))
+      (λ p. map_tree (both p) next)) (λ p. got (make p))
       ≡ and_then a rest_by
   by_first (got one left) =
       by_more one (many (is_front (codes ",")) (λ list. past (codes ",") read) left)
-      ∙ ap (λ a. and_then a (λ all. made (whole all) next)) (sym (goes_on_first (is_front (codes ",")) (past (codes ",") read) one [] left))
+      ∙ ap (λ a. and_then a (λ all. map_tree (whole all) next)) (sym (goes_on_first (is_front (codes ",")) (past (codes ",") read) one [] left))
   by_first (stop why left) = refl
 
-  list_rule : (words : List Text) → made make (paired (comma_list read) next) words ≡ and_then (read words) rest_by
+  list_rule : (words : List Text) → map_tree make (pair (comma_list read) next) words ≡ and_then (read words) rest_by
   list_rule words = by_first (read words)
 
 -- a list with commas and what ends it, as the list that is read
 module _ {A B : Type 0} (text : Text) (read : Reader A) (make : Both (List_of A) (Unit {0}) → B) (whole : List A → B)
     (same : (one : A) (list : List A) → make (both (both one list) tt) ≡ whole (one ∷ list)) where
   abbrev ending : List A → Reader B
-  ending all = made (λ end. whole all) (word_only text)
+  ending all = map_tree (λ end. whole all) (word_only text)
 
   by_word : (all : List A) (end : Unit {0}) (word : Text) (words : List Text) (b : Bool) →
       and_then (follow (if b then goes (got end) else refused) word words) (λ end. got (whole all))
@@ -152,11 +152,11 @@ module _ {A B : Type 0} (text : Text) (read : Reader A) (make : Both (List_of A)
   by_one (got one left) = by_all (goes_on (is_front (codes ",")) (λ list. past (codes ",") read) (one ∷ []) left)
   by_one (stop why left) = refl
 
-  pub until_is : (words : List Text) → made make (paired (comma_list read) (word_only text)) words ≡ made whole (all_until text read) words
+  pub until_is : (words : List Text) → map_tree make (pair (comma_list read) (word_only text)) words ≡ map_tree whole (all_until text read) words
   until_is words = list_rule read (word_only text) make (λ all end. whole all) (λ one list end. same one list) words ∙ by_one (read words)
 
   -- so where another reader reads the first one
   pub first_until_is : (first : Reader A) (words : List Text) →
-      made make (paired (paired first (many (is_front (codes ",")) (λ list. past (codes ",") read))) (word_only text)) words
-      ≡ made whole (λ ws. and_then (first ws) (rest_until text read)) words
+      map_tree make (pair (pair first (many (is_front (codes ",")) (λ list. past (codes ",") read))) (word_only text)) words
+      ≡ map_tree whole (λ ws. and_then (first ws) (rest_until text read)) words
   first_until_is first words = by_first read (word_only text) make (λ all end. whole all) (λ one list end. same one list) (first words) ∙ by_one (first words)

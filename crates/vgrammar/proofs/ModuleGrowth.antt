@@ -5,12 +5,12 @@ use Rattle.vast.specs.Modules.{PortTree}
 use Rattle.vexpr_parse.specs.Readers.{Reader, is_front}
 use Rattle.vgrammar.specs.Starts.{is_meant}
 use Rattle.vgrammar.specs.Statements.{statement}
-use Rattle.vgrammar.specs.Modules.{free_value, range_of, range, type_of, type, integer_of, parameter_type_of, parameter_type, setting_of, setting, declared_of, declared, value_in, connection_of, connection, connections_of, connections, instance_of, instance_behind, overrides, ended, net_of, output_behind, local_of, item_of, item_parts, item, first_parameter_of, head_parameter_of, first_parameter, head_parameter, head_parameters, direction_of, direction, is_direction, port_of, port, named_port_of, named_port, ports_behind, port_list, ports_of, ports, head_list_of, module_of, module_tree, is_some_word, source, net_assignment_of, net_assignment}
+use Rattle.vgrammar.specs.Modules.{free_value, range_of, range, type_of, type, integer_of, parameter_type_of, parameter_type, setting_of, setting, declared_of, declarator, value_in, connection_of, connection, connections_of, connections, instance_of, instance_behind, overrides, list_and_semicolon, net_of, output_behind, local_of, item_of, item_parts, item, first_parameter_of, head_parameter_of, first_parameter, head_parameter, head_parameters, direction_of, direction, is_direction, port_of, port, named_port_of, named_port, ports_behind, port_list, ports_of, ports, head_list_of, module_of, module_tree, is_some_word, source, net_assignment_of, net_assignment}
 use Rattle.vgrammar.proofs.Growth.{up, Growth, past_growth, made_growth, paired_growth, worded_growth, either_growth, maybe_growth, many_growth}
 use Rattle.vgrammar.proofs.PartGrowth.{value_growth, only_growth, comma_growth, named_word, target_growth}
 use Rattle.vgrammar.proofs.StatementGrowth.{statement_growth}
 
-ended_growth : {A : Type 0} {read more : Reader A} → Growth read more → Growth (ended read) (ended more)
+ended_growth : {A : Type 0} {read more : Reader A} → Growth read more → Growth (list_and_semicolon read) (list_and_semicolon more)
 ended_growth g = paired_growth (comma_growth g) (only_growth (codes ";"))
 
 ports_behind_growth : {A : Type 0} {first more : Reader A} {read next : Reader PortTree} → Growth first more → Growth read next →
@@ -50,7 +50,7 @@ module _ (below : ℕ) where
   net_assignment_growth : Growth (net_assignment levels) (net_assignment (up levels))
   net_assignment_growth = made_growth net_assignment_of (paired_growth (target_growth levels) (past_growth (codes "=") free_growth))
 
-  declared_growth : Growth (declared levels) (declared (up levels))
+  declared_growth : Growth (declarator levels) (declarator (up levels))
   declared_growth =
       made_growth declared_of (paired_growth named_word
       (maybe_growth (is_front (codes "=")) (past_growth (codes "=") free_growth)))

@@ -4,7 +4,7 @@ use Rattle.std.specs.List.{list_all}
 use Rattle.basis.proofs.Bools.{and_left, and_right, and_both, and_assoc}
 use Rattle.vast.specs.Words.{Text, is_name, reserved_words}
 use Rattle.vast.specs.Expressions.{ExpressionTree}
-use Rattle.vast.specs.Statements.{listed, in_parentheses}
+use Rattle.vast.specs.Statements.{with_commas, in_parentheses}
 use Rattle.vast.specs.Modules.{ParameterType, typed, SettingTree, DeclaredTree, DirectionTree, input, output, output_integer, PortTree, HeadParameter, ItemTree, parameters, declaration, variables, integers, directed, events, assignments, initial, always as always_item, instances, ModuleTree, SourceTree, spell_port, spell_head_parameter, spell_module, fits_direction, fits_declared, fits_port, is_directed, is_named_port, fits_behind, fits_ports, fits_head_parameter, is_kind, fits_head_parameters, fits_item, fits_module}
 use Rattle.vast.specs.declared.module.NetKind.TheVariants as net
 use Rattle.vexpr_parse.specs.declared.stop.Stop.TheVariants.{NoTree}
@@ -12,9 +12,9 @@ use Rattle.vexpr_parse.specs.Readers.{Reader, got, stop, is_front, past}
 use Rattle.vexpr_parse.specs.Words.{binary_of, ends}
 use Rattle.vexpr_parse.specs.Lawful.{Ends}
 use Rattle.vexpr_parse.proofs.ReaderRules.{same_text, stop_got}
-use Rattle.vgrammar.specs.Parts.{Both, both, Either, one_way, other_way, made, paired, many, maybe}
+use Rattle.vgrammar.specs.Parts.{Both, both, Either, one_way, other_way, map_tree, pair, many, maybe}
 use Rattle.vgrammar.specs.Statements.{word_only, List_of, ends_statement}
-use Rattle.vgrammar.specs.Modules.{parameter_type, setting, item, declared, first_parameter_of, head_parameter_of, first_parameter, head_parameter, head_parameters, direction, is_direction, port_of, port, named_port_of, named_port, PortsBehind, ports_behind, PortList, port_list, ports_of, ports, head_list_of, Module, module_of, module_tree, is_some_word, source}
+use Rattle.vgrammar.specs.Modules.{parameter_type, setting, item, declarator, first_parameter_of, head_parameter_of, first_parameter, head_parameter, head_parameters, direction, is_direction, port_of, port, named_port_of, named_port, PortsBehind, ports_behind, PortList, port_list, ports_of, ports, head_list_of, Module, module_of, module_tree, is_some_word, source}
 use Rattle.vgrammar.proofs.Phrases.{Shape, Phrase, Example, Worded, Opens, Makes, From, always, made_phrase, past_shape, past_phrase, past_example, nothing_phrase, paired_shape, before_phrase, paired_example, free_phrase, next_phrase}
 use Rattle.vgrammar.proofs.PhraseChoices.{ends_maybe, maybe_shape, maybe_phrase, either_shape, either_phrase, either_tested, either_worded, Tested, ends_many, allows_all, many_shape, many_phrase}
 use Rattle.vgrammar.proofs.LevelFacts.{and_true}
@@ -88,7 +88,7 @@ module _ (below : ℕ) where
   setting_worded : Worded (setting_shape below)
   setting_worded tree v = zero-lt-suc _
 
-  typed_setting : Phrase (paired (parameter_type levels) (setting levels)) (ends 0)
+  typed_setting : Phrase (pair (parameter_type levels) (setting levels)) (ends 0)
       (paired_shape (parameter_type_shape below) (setting_shape below))
   typed_setting =
       next_phrase (parameter_type_phrase below) (setting_phrase below) (a_setting below) setting_worded
@@ -177,13 +177,13 @@ module _ (below : ℕ) where
 
   abbrev heads_shape : Shape (List HeadParameter)
   heads_shape = record {
-    spell = λ list. in_parentheses (listed spell_head_parameter list);
+    spell = λ list. in_parentheses (with_commas spell_head_parameter list);
     valid = fits_head_parameters levels;
     closes = λ list. always;
     stops = λ list next. true;
   }
 
-  heads_phrase : Phrase (made head_list_of (head_parameters levels)) always heads_shape
+  heads_phrase : Phrase (map_tree head_list_of (head_parameters levels)) always heads_shape
   unfolding binary_of
   heads_phrase =
       made_phrase head_list_of heads_shape back makes (λ list next e. refl)
@@ -230,7 +230,7 @@ module _ (below : ℕ) where
   abbrev FirstPort : Shape (Both DirectionTree DeclaredTree)
   FirstPort = paired_shape (direction_shape below) (declared_shape below)
 
-  first_port_phrase : Phrase (paired (direction levels) (declared levels)) ends_port FirstPort
+  first_port_phrase : Phrase (pair (direction levels) (declarator levels)) ends_port FirstPort
   first_port_phrase =
       next_phrase (direction_phrase below) (declared_phrase below) (a_declared below) (declared_worded below)
       (declared_opens below ends_direction name_ends_direction)
@@ -368,7 +368,7 @@ module _ (below : ℕ) where
 
   abbrev ports_shape : Shape (List PortTree)
   ports_shape = record {
-    spell = λ list. in_parentheses (listed spell_port list);
+    spell = λ list. in_parentheses (with_commas spell_port list);
     valid = fits_ports levels;
     closes = λ list. always;
     stops = λ list next. true;
@@ -484,7 +484,7 @@ module _ (below : ℕ) where
   ports_example : Example PortsPart
   ports_example = paired_example no_ports (past_example (codes ";") no_items)
 
-  items_phrase : Phrase (paired (many not_endmodule (λ list. item levels)) (word_only (codes "endmodule"))) always Items
+  items_phrase : Phrase (pair (many not_endmodule (λ list. item levels)) (word_only (codes "endmodule"))) always Items
   items_phrase =
       before_phrase (codes "endmodule")
       (many_phrase not_endmodule (λ list. item levels) ends_statement (item_shape below) (λ list. fits_item levels)
@@ -493,8 +493,8 @@ module _ (below : ℕ) where
       (λ list tree rest v. ap not (no_endmodule tree v rest)) (λ list tree rest v. ap not (no_else tree v rest)))
       (nothing_phrase always) nothing_example refl
 
-  ports_part_phrase : Phrase (paired (maybe opening (ports levels))
-      (past (codes ";") (paired (many not_endmodule (λ list. item levels))
+  ports_part_phrase : Phrase (pair (maybe opening (ports levels))
+      (past (codes ";") (pair (many not_endmodule (λ list. item levels))
       (word_only (codes "endmodule"))))) always PortsPart
   ports_part_phrase =
       before_phrase (codes ";")

@@ -9,7 +9,7 @@ use Rattle.vexpr_parse.proofs.ReaderRules.{IsLead}
 use Rattle.vexpr_parse.proofs.Grows.{Keeps, past_keep, Grows, LeadGrows, led_grows, if_grows, expression_keep, expression_grows}
 use Rattle.vgrammar.specs.Parts.{roomy}
 use Rattle.vgrammar.specs.Starts.{begins_target, meant_if, is_word, edge_of, comma_of, is_meant}
-use Rattle.vgrammar.specs.Statements.{value, named, comma_list, word_only, select, target_of, named_target, joined_of, joined_targets, target_lead, target, delay_of, amount, optional_delay, term_of, term, further_of, event_of, control, begins_argument, argument_of, arguments, path_of, selection_of, selection}
+use Rattle.vgrammar.specs.Statements.{value, name_word, comma_list, word_only, select, target_of, named_target, joined_of, joined_targets, target_lead, target, delay_of, amount, optional_delay, term_of, term, further_of, event_of, control, begins_argument, argument_of, arguments, path_of, selection_of, selection}
 use Rattle.vgrammar.proofs.TargetPhrases.{select_phrase, target_phrase, target_leads}
 use Rattle.vgrammar.proofs.Growth.{up, some_left, grows_further, Growth, phrase_keep, got_growth, past_growth, made_growth, paired_growth, worded_growth, either_growth, maybe_growth, maybe_growth_where, many_growth, OpenLead, lead_open, room_open, room_rises, roomy_rises, roomy_keep, past_passes}
 
@@ -111,7 +111,7 @@ optional_delay_growth below level = maybe_growth (is_front (codes "#")) (past_gr
 
 -- Event controls
 
-pub named_word : Growth named named
+pub named_word : Growth name_word name_word
 named_word = worded_growth (meant_if is_name)
 
 term_growth : Growth term term

@@ -15,9 +15,9 @@ use Rattle.vexpr_parse.specs.Words.{binary_of, unary_of, beginning_of, ends}
 use Rattle.vexpr_parse.specs.declared.beginning.Beginning.TheVariants as start
 use Rattle.vexpr_parse.specs.Lawful.{Ends}
 use Rattle.vexpr_parse.proofs.ReaderRules.{same_text}
-use Rattle.vgrammar.specs.Parts.{Both, both, Either, one_way, other_way, paired, worded, many, either}
+use Rattle.vgrammar.specs.Parts.{Both, both, Either, one_way, other_way, pair, word_as, many, either}
 use Rattle.vgrammar.specs.Starts.{is_word, meant_if, edge_of, comma_of, comma_word, is_meant, is_some_meaning}
-use Rattle.vgrammar.specs.Statements.{value, named, numbered, List_of, comma_list, word_only, Amount, delay_of, amount, optional_delay, term_of, term, further_of, further_term, Terms, Event, event_of, enclosed_event, control, begins_argument, argument_of, argument, Arguments, arguments, path_of, path, Selection, selection_of, selection}
+use Rattle.vgrammar.specs.Statements.{value, name_word, number_word, List_of, comma_list, word_only, Amount, delay_of, amount, optional_delay, term_of, term, further_of, further_term, Terms, Event, event_of, enclosed_event, control, begins_argument, argument_of, argument, Arguments, arguments, path_of, path, Selection, selection_of, selection}
 use Rattle.vgrammar.proofs.Phrases.{Shape, Phrase, Example, Worded, Makes, From, always, phrase_within, made_phrase, past_shape, past_phrase, nothing_phrase, worded_shape, worded_phrase, paired_shape, before_phrase, paired_example, free_phrase, next_phrase}
 use Rattle.vgrammar.proofs.PhraseChoices.{ends_maybe, maybe_shape, maybe_phrase, either_shape, either_phrase, either_tested, either_worded, Tested, allows_all, many_shape, many_phrase}
 use Rattle.vgrammar.proofs.LevelFacts.{and_true}
@@ -36,10 +36,10 @@ a_name = record { tree = codes "a"; valid = refl }
 pub a_number : Example (text_shape is_number)
 a_number = record { tree = codes "0"; valid = refl }
 
-pub named_phrase : Phrase named always (text_shape is_name)
+pub named_phrase : Phrase name_word always (text_shape is_name)
 named_phrase = word_if_phrase is_name
 
-pub numbered_phrase : Phrase numbered always (text_shape is_number)
+pub numbered_phrase : Phrase number_word always (text_shape is_number)
 numbered_phrase = word_if_phrase is_number
 
 -- Delays
@@ -66,7 +66,7 @@ module _ (below : ℕ) (level : nat_le 1 below ≡ true) where
   abbrev Enclosed : Shape (Both ExpressionTree (Unit {0}))
   Enclosed = past_shape (codes "(") (paired_shape (value_shape below) (only_shape (codes ")")))
 
-  enclosed_phrase : Phrase (past (codes "(") (paired (value below) (word_only (codes ")")))) always Enclosed
+  enclosed_phrase : Phrase (past (codes "(") (pair (value below) (word_only (codes ")")))) always Enclosed
   unfolding binary_of
   enclosed_phrase =
       past_phrase (codes "(") (before_phrase (codes ")") (value_phrase below) (nothing_phrase always) nothing_example refl)
@@ -75,8 +75,8 @@ module _ (below : ℕ) (level : nat_le 1 below ≡ true) where
   abbrev AmountParts : Shape Amount
   AmountParts = either_shape (text_shape is_number) (either_shape (text_shape is_name) Enclosed)
 
-  amount_parts_phrase : Phrase (either (is_word is_number) numbered (either (is_word is_name) named
-      (past (codes "(") (paired (value below) (word_only (codes ")")))))) always AmountParts
+  amount_parts_phrase : Phrase (either (is_word is_number) number_word (either (is_word is_name) name_word
+      (past (codes "(") (pair (value below) (word_only (codes ")")))))) always AmountParts
   amount_parts_phrase =
       either_phrase (is_word is_number) numbered_phrase
       (either_phrase (is_word is_name) named_phrase enclosed_phrase (λ tree v. zero-lt-suc 0) (λ tree v. zero-lt-suc _)
@@ -137,7 +137,7 @@ module _ (below : ℕ) (level : nat_le 1 below ≡ true) where
 abbrev pub edge_shape : Shape Edge
 edge_shape = worded_shape edge_word (λ kind. true) always
 
-edge_phrase : Phrase (worded edge_of) always edge_shape
+edge_phrase : Phrase (word_as edge_of) always edge_shape
 edge_phrase = worded_phrase edge_of edge_word (λ kind. true) always
     (λ text kind e. (as_written edge_word (edge.Rising ∷ edge.Falling ∷ []) text kind e, refl)) meant
   where
@@ -201,7 +201,7 @@ a_term = record { tree = record { edge = None; name = codes "a" }; valid = refl 
 abbrev pub comma_kind_shape : Shape Bool
 comma_kind_shape = worded_shape comma_word (λ kind. true) always
 
-comma_kind_phrase : Phrase (worded comma_of) always comma_kind_shape
+comma_kind_phrase : Phrase (word_as comma_of) always comma_kind_shape
 comma_kind_phrase = worded_phrase comma_of comma_word (λ kind. true) always
     (λ text kind e. (as_written comma_word (true ∷ false ∷ []) text kind e, refl)) meant
   where
@@ -244,7 +244,7 @@ terms_shape =
     paired_shape (paired_shape term_shape (many_shape further always further_shape (λ list. fits_further_term)))
     (only_shape (codes ")"))
 
-terms_phrase : Phrase (paired (paired term (many further (λ list. further_term))) (word_only (codes ")"))) always terms_shape
+terms_phrase : Phrase (pair (pair term (many further (λ list. further_term))) (word_only (codes ")"))) always terms_shape
 terms_phrase =
     before_phrase (codes ")")
     (free_phrase term_phrase
@@ -396,7 +396,7 @@ module _ (below : ℕ) (level : nat_le 1 below ≡ true) where
       closes (Some (other_way tree)) next e = and_left (ends 0 next) (not (begins_argument next)) e
 
   -- a comma or a parenthesis begins no argument
-  some_phrase : Phrase (either (is_word is_string) (worded (meant_if is_string)) (value below)) (ends 0) SomeArgument
+  some_phrase : Phrase (either (is_word is_string) (word_as (meant_if is_string)) (value below)) (ends 0) SomeArgument
   some_phrase =
       either_phrase (is_word is_string) (phrase_within (ends 0) (word_if_phrase is_string) (λ next e. refl)) (value_phrase below)
       (λ tree v. zero-lt-suc 0) (value_worded below) (λ tree v rest. v)
@@ -455,7 +455,7 @@ module _ (below : ℕ) (level : nat_le 1 below ≡ true) where
     valid = and_both _ true (and_both _ true argument_example.valid refl) refl;
   }
 
-  pub arguments_inner_phrase : Phrase (paired (comma_list (argument below)) (word_only (codes ")"))) always
+  pub arguments_inner_phrase : Phrase (pair (comma_list (argument below)) (word_only (codes ")"))) always
       (paired_shape (comma_shape ends_argument (argument_shape below)) (only_shape (codes ")")))
   unfolding binary_of
   arguments_inner_phrase =

@@ -9,10 +9,10 @@ use Rattle.vexpr_parse.specs.Readers.{got, stop, Reader, front, and_then, rounds
 use Rattle.vexpr_parse.specs.Lawful.{Ends, Lawful}
 use Rattle.vexpr_parse.proofs.ReaderRules.{chosen, passed_over, stop_got, got_tree, got_left, then_got, parts_of, Eats}
 use Rattle.vexpr_parse.proofs.ReaderLoops.{option_rule, choose_sees, turns_end, turns_on, turns_rule}
-use Rattle.vgrammar.specs.Parts.{Either, one_way, other_way, made, one_behind, many, maybe, either, roomy}
+use Rattle.vgrammar.specs.Parts.{Either, one_way, other_way, map_tree, one_behind, many, maybe, either, roomy}
 use Rattle.vgrammar.proofs.Phrases.{Shape, Sound, Complete, Phrase, same_got, Worded, sound_eats, lawful_within, Makes, made_lawful, made_sound, made_complete}
 
-pub made_eats : {A B : Type 0} (make : A → B) (read : Reader A) → Eats read → Eats (made make read)
+pub made_eats : {A B : Type 0} (make : A → B) (read : Reader A) → Eats read → Eats (map_tree make read)
 made_eats make read eats words tree left e =
     let p = parts_of (read words) (λ t. got (make t)) tree left e in
     subst (λ ws. length ws < length words) (got_left p.second) (eats words p.one p.between p.first)
@@ -55,7 +55,7 @@ pub maybe_phrase : {A : Type 0} (test : Option Text → Bool) {read : Reader A} 
     Phrase read ends s → Worded s →
     Tested test true s → Phrase (maybe test read) (ends_maybe test ends) (maybe_shape test ends s)
 maybe_phrase {A = A} test {read = read} {ends = ends} {s = s} p some tests = record {
-  lawful = (option_rule test (made Some read) None (ends_maybe test ends)
+  lawful = (option_rule test (map_tree Some read) None (ends_maybe test ends)
       (made_eats Some read (sound_eats read s p.sound some)) not_tested
       lawful).lawful;
   sound = sound;
@@ -69,8 +69,8 @@ maybe_phrase {A = A} test {read = read} {ends = ends} {s = s} p some tests = rec
     makes : Makes Some s (maybe_shape test ends s) []
     makes = record { spelled = λ tree. refl; valid = λ tree. refl; closes = λ tree first e. e; stops = λ tree first e. e }
 
-    lawful : Lawful (made Some read) (ends_maybe test ends)
-    lawful = lawful_within (made Some read) ends (ends_maybe test ends)
+    lawful : Lawful (map_tree Some read) (ends_maybe test ends)
+    lawful = lawful_within (map_tree Some read) ends (ends_maybe test ends)
         (λ first f. and_left (ends first) (not (test first)) f) (made_lawful Some read ends p.lawful)
 
     sound : Sound (maybe test read) (maybe_shape test ends s)
@@ -80,7 +80,7 @@ maybe_phrase {A = A} test {read = read} {ends = ends} {s = s} p some tests = rec
               (sym (chosen (test (front words)) _ (got None words) holds) ∙ f)
           | inr fails ↦
               same_got (maybe_shape test ends s) words None tree words left
-              (sym (passed_over (test (front words)) (made Some read words) _ fails) ∙ f)
+              (sym (passed_over (test (front words)) (map_tree Some read words) _ fails) ∙ f)
               (record { whole = refl; valid = refl; stopped = ap not fails })
         ]
 
@@ -137,7 +137,7 @@ module _ {A B : Type 0} (test : Option Text → Bool) {read : Reader A} {other :
   makes_other : Makes other_way t (either_shape s t) []
   makes_other = record { spelled = λ tree. refl; valid = λ tree. refl; closes = λ tree first e. e; stops = λ tree first e. e }
 
-  no_other : (tree : Either A B) (words : List Text) → made other_way other words ≡ got tree words → ends (front words) ≡ true →
+  no_other : (tree : Either A B) (words : List Text) → map_tree other_way other words ≡ got tree words → ends (front words) ≡ true →
       test (front words) ≡ false
   no_other tree words is e =
       let a = parts_of (other words) (λ t. got (other_way t)) tree words is in
@@ -145,7 +145,7 @@ module _ {A B : Type 0} (test : Option Text → Bool) {read : Reader A} {other :
 
   either_lawful : Lawful (either test read other) ends
   either_lawful words =
-      choose_sees test (made one_way read) (made other_way other) ends
+      choose_sees test (map_tree one_way read) (map_tree other_way other) ends
       (λ tree ws is e. absurd
       (below (length ws) (made_eats one_way read (sound_eats read s p.sound some) ws tree ws is))) no_other
       words (λ e. made_lawful one_way read ends p.lawful words) (λ e. made_lawful other_way other ends q.lawful words)
@@ -154,9 +154,9 @@ module _ {A B : Type 0} (test : Option Text → Bool) {read : Reader A} {other :
   either_sound words tree left f =
       elim (cases_Bool (test (front words))) [
         | inl holds ↦ made_sound one_way read s (either_shape s t) [] makes_one p.sound words tree left
-            (sym (chosen (test (front words)) _ (made other_way other words) holds) ∙ f)
+            (sym (chosen (test (front words)) _ (map_tree other_way other words) holds) ∙ f)
         | inr fails ↦ made_sound other_way other t (either_shape s t) [] makes_other q.sound words tree left
-            (sym (passed_over (test (front words)) (made one_way read words) _ fails) ∙ f)
+            (sym (passed_over (test (front words)) (map_tree one_way read words) _ fails) ∙ f)
       ]
 
   either_complete : Complete (either test read other) (either_shape s t)

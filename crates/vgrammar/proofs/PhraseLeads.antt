@@ -1,10 +1,10 @@
 -- What is read by the first word.
 use Rattle.std.proofs.Common.{◌≡◌, ℕ, Bool, true, false, nat_le, if◌then◌else◌, List, [], ◌∷◌, ◌++◌, refl, ap, ◌∙◌}
 use Rattle.vast.specs.Words.{Text}
-use Rattle.vexpr_parse.specs.Readers.{got, Reader, front, Lead, goes, refused, lower, follow, led, room}
+use Rattle.vexpr_parse.specs.Readers.{got, Reader, front, Lead, goes, refused, lower, follow, by_word, room}
 use Rattle.vexpr_parse.specs.Lawful.{Ends}
 use Rattle.vexpr_parse.proofs.ReaderRules.{chosen, stop_got, then_got, IsLead}
-use Rattle.vgrammar.specs.Parts.{made}
+use Rattle.vgrammar.specs.Parts.{map_tree}
 use Rattle.vgrammar.proofs.Phrases.{Shape, IsGot, Sound, Phrase, Example, Makes, made_lawful, made_sound, made_complete}
 
 abbrev pub LeadSound : {A : Type 0} → Shape A → Text → Lead A → Type 0
@@ -14,7 +14,7 @@ LeadSound s word refused = Unit {0}
 LeadSound s word lower = Unit {0}
 
 pub led_sound : {A : Type 0} (lead : Text → Lead A) (s : Shape A) → ((word : Text) → LeadSound s word (lead word)) →
-    Sound (led lead) s
+    Sound (by_word lead) s
 led_sound lead s leads [] tree left e = absurd (stop_got e)
 led_sound {A = A} lead s leads (word ∷ words) tree left e = by_lead (lead word) (leads word) e
   where
@@ -35,12 +35,12 @@ room_sound s word below levels read enough = if_sound s word (nat_le levels belo
 
 pub made_lead_sound : {A B : Type 0} (make : A → B) (word : Text) {read : Reader A} {ends : Ends} {shape : Shape A}
     (out : Shape B) →
-    Makes make shape out (word ∷ []) → Phrase read ends shape → LeadSound out word (goes (made make read))
+    Makes make shape out (word ∷ []) → Phrase read ends shape → LeadSound out word (goes (map_tree make read))
 made_lead_sound make word {read = read} {shape = shape} out m p = made_sound make read shape out (word ∷ []) m p.sound
 
 pub made_lead : {A B : Type 0} (make : A → B) {read : Reader A} {ends : Ends} {shape : Shape A} → Phrase read ends shape →
     Example shape →
-    IsLead ends (goes (made make read))
+    IsLead ends (goes (map_tree make read))
 made_lead make {read = read} {ends = ends} {shape = shape} p e = (
   made_lawful make read ends p.lawful,
   (
@@ -56,11 +56,11 @@ made_lead make {read = read} {ends = ends} {shape = shape} p e = (
 -- a tree is read behind its word
 pub led_complete : {A B : Type 0} (lead : Text → Lead B) (make : A → B)
     (word : Text) {read : Reader A} {ends : Ends} {shape : Shape A}
-    (out : Shape B) → Makes make shape out (word ∷ []) → Phrase read ends shape → lead word ≡ goes (made make read) → (tree : A)
+    (out : Shape B) → Makes make shape out (word ∷ []) → Phrase read ends shape → lead word ≡ goes (map_tree make read) → (tree : A)
     (rest : List Text) → out.valid (make tree) ≡ true → out.closes (make tree) (front rest) ≡ true →
-    led lead (out.spell (make tree) ++ rest) ≡ got (make tree) rest
+    by_word lead (out.spell (make tree) ++ rest) ≡ got (make tree) rest
 led_complete lead make word {read = read} {shape = shape} out m p is tree rest v c =
-    ap (λ ws. led lead (ws ++ rest)) (m.spelled tree)
+    ap (λ ws. by_word lead (ws ++ rest)) (m.spelled tree)
     ∙ ap (λ l. follow l word (shape.spell tree ++ rest)) is
     ∙ made_complete make read shape out (word ∷ []) m p.complete tree rest v c
 

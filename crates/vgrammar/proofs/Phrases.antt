@@ -8,7 +8,7 @@ use Rattle.vexpr_parse.specs.Readers.{Answer, got, stop, Reader, front, goes, re
 use Rattle.vexpr_parse.specs.Lawful.{Ends, GoesOn, Sees, Lawful, Rule}
 use Rattle.vexpr_parse.proofs.ReaderRules.{chosen, same_text, text_same, stop_got, got_tree, got_left, then_got, parts_of, Eats, got_rule, IsLead, led_sees}
 use Rattle.vexpr_parse.proofs.ReaderLoops.{past_rule, links_ends, then_lawful}
-use Rattle.vgrammar.specs.Parts.{Both, both, made, linked, paired, if_meant, worded}
+use Rattle.vgrammar.specs.Parts.{Both, both, map_tree, bind, pair, if_meant, word_as}
 
 pub record Shape (A : Type 0) : Type 0 where
   pub spell : A → List Text
@@ -102,14 +102,14 @@ pub record Makes {A B : Type 0} (make : A → B) (shape : Shape A) (out : Shape 
   pub closes : (tree : A) (first : Option Text) → out.closes (make tree) first ≡ true → shape.closes tree first ≡ true
   pub stops : (tree : A) (first : Option Text) → shape.stops tree first ≡ true → out.stops (make tree) first ≡ true
 
-pub made_lawful : {A B : Type 0} (make : A → B) (read : Reader A) (ends : Ends) → Lawful read ends → Lawful (made make read) ends
+pub made_lawful : {A B : Type 0} (make : A → B) (read : Reader A) (ends : Ends) → Lawful read ends → Lawful (map_tree make read) ends
 made_lawful make read ends lawful =
     then_lawful read (λ tree. got (make tree)) ends ends [] (links_ends _ ends ends (λ first e. e)) (λ rest e. e)
     (λ tree. (make tree, λ rest e. refl)) lawful (λ tree. (got_rule (make tree) ends).lawful)
 
 pub made_sound : {A B : Type 0} (make : A → B) (read : Reader A) (shape : Shape A) (out : Shape B) (head : List Text) →
     Makes make shape out head → Sound read shape →
-    (words : List Text) (tree : B) (left : List Text) → made make read words ≡ got tree left → IsGot out (head ++ words) tree left
+    (words : List Text) (tree : B) (left : List Text) → map_tree make read words ≡ got tree left → IsGot out (head ++ words) tree left
 made_sound make read shape out head m sound words tree left e =
     let p = parts_of (read words) (λ t. got (make t)) tree left e in
     let g = sound words p.one p.between p.first in
@@ -123,7 +123,7 @@ made_sound make read shape out head m sound words tree left e =
 
 pub made_complete : {A B : Type 0} (make : A → B) (read : Reader A) (shape : Shape A) (out : Shape B) (head : List Text) →
     Makes make shape out head → Complete read shape → (tree : A) (rest : List Text) → out.valid (make tree) ≡ true →
-    out.closes (make tree) (front rest) ≡ true → made make read (shape.spell tree ++ rest) ≡ got (make tree) rest
+    out.closes (make tree) (front rest) ≡ true → map_tree make read (shape.spell tree ++ rest) ≡ got (make tree) rest
 made_complete make read shape out head m complete tree rest v c =
     then_got (read (shape.spell tree ++ rest)) (λ t. got (make t)) tree rest
     (complete tree rest (sym (m.valid tree) ∙ v) (m.closes tree (front rest) c))
@@ -136,7 +136,7 @@ pub record From {A B : Type 0} (make : A → B) (tree : B) : Type 0 where
 pub made_phrase : {A B : Type 0} (make : A → B) {read : Reader A} {ends : Ends} {shape : Shape A} (out : Shape B) →
     ((tree : B) → out.valid tree ≡ true → From make tree) → Makes make shape out [] →
     ((tree : B) (first : Option Text) → ends first ≡ true → out.closes tree first ≡ true) → Phrase read ends shape →
-    Phrase (made make read) ends out
+    Phrase (map_tree make read) ends out
 made_phrase {A = A} {B = B} make {read = read} {ends = ends} {shape = shape} out back m closed p = record {
   lawful = made_lawful make read ends p.lawful;
   sound = made_sound make read shape out [] m p.sound;
@@ -146,11 +146,11 @@ made_phrase {A = A} {B = B} make {read = read} {ends = ends} {shape = shape} out
   where
     by_make : (tree : B) (x : A) → make x ≡ tree → (rest : List Text) → out.valid tree ≡ true → out.closes tree (front rest)
         ≡ true →
-        made make read (out.spell tree ++ rest) ≡ got tree rest
+        map_tree make read (out.spell tree ++ rest) ≡ got tree rest
     by_make tree x e rest =
         let P : B → Type 0 = λ t. out.valid t ≡ true → out.closes t (front rest) ≡ true →
-        made make read (out.spell t ++ rest) ≡ got t rest in
-        subst P e (λ v c. ap (λ ws. made make read (ws ++ rest)) (m.spelled x)
+        map_tree make read (out.spell t ++ rest) ≡ got t rest in
+        subst P e (λ v c. ap (λ ws. map_tree make read (ws ++ rest)) (m.spelled x)
         ∙ made_complete make read shape out [] m p.complete x rest v c)
 
 -- Nothing
@@ -222,7 +222,7 @@ worded_shape word valid ends = record {
 pub worded_phrase : {A : Type 0} (meaning : Text → Option A) (word : A → Text) (valid : A → Bool) (ends : Ends) →
     ((text : Text) (tree : A) → meaning text ≡ Some tree → (word tree ≡ text) × (valid tree ≡ true)) →
     ((tree : A) → valid tree ≡ true → meaning (word tree) ≡ Some tree) →
-    Phrase (worded meaning) ends (worded_shape word valid ends)
+    Phrase (word_as meaning) ends (worded_shape word valid ends)
 worded_phrase {A = A} meaning word valid ends written meant = record {
   lawful = led_sees (λ text. if_meant (meaning text)) ends (λ text. leads (meaning text));
   sound = sound;
@@ -234,7 +234,7 @@ worded_phrase {A = A} meaning word valid ends written meant = record {
     leads None = tt
     leads (Some tree) = ((got_rule tree ends).lawful, ([], (tree, λ rest e. refl)))
 
-    sound : Sound (worded meaning) (worded_shape word valid ends)
+    sound : Sound (word_as meaning) (worded_shape word valid ends)
     sound [] tree left e = absurd (stop_got e)
     sound (text ∷ words) tree left e = by_meaning (meaning text) (written text) e
       where
@@ -291,9 +291,9 @@ module _ {A B : Type 0} {read : Reader A} {next : A → Reader B} {ends ends_nex
     ≡ true →
     valid (both x y) ≡ true)
     (split : (x : A) (y : B) → valid (both x y) ≡ true → AreLinked s (of_these t (allows x)) x y) where
-  linked_lawful : Lawful (linked read next) ends_next
+  linked_lawful : Lawful (bind read next) ends_next
   linked_lawful =
-      then_lawful read (λ x. made (both x) (next x)) ends ends_next (t.spell example) linking begins
+      then_lawful read (λ x. map_tree (both x) (next x)) ends ends_next (t.spell example) linking begins
       (λ x. (
         both x example,
         λ rest e.
@@ -302,7 +302,7 @@ module _ {A B : Type 0} {read : Reader A} {next : A → Reader B} {ends ends_nex
       ))
       p.lawful (λ x. made_lawful (both x) (next x) ends_next (q x).lawful)
     where
-      linking : (x : A) (tree : Both A B) (left : List Text) → made (both x) (next x) left ≡ got tree left →
+      linking : (x : A) (tree : Both A B) (left : List Text) → map_tree (both x) (next x) left ≡ got tree left →
           ends_next (front left) ≡ true → ends (front left) ≡ true
       linking x tree left e f =
           let r = parts_of (next x left) (λ y. got (both x y)) tree left e in
@@ -310,9 +310,9 @@ module _ {A B : Type 0} {read : Reader A} {next : A → Reader B} {ends ends_nex
           links x r.one g.valid (no_words (t.spell r.one) left (g.whole ∙ ap (λ ws. t.spell r.one ++ ws) (got_left r.second)))
           (front left) f
 
-  linked_sound : Sound (linked read next) (linked_shape s t valid)
+  linked_sound : Sound (bind read next) (linked_shape s t valid)
   linked_sound words tree left e =
-      let a = parts_of (read words) (λ x. made (both x) (next x)) tree left e in
+      let a = parts_of (read words) (λ x. map_tree (both x) (next x)) tree left e in
       let b = parts_of (next a.one a.between) (λ y. got (both a.one y)) tree left a.second in
       let g = p.sound words a.one a.between a.first in
       let h = (q a.one).sound a.between b.one b.between b.first in
@@ -324,15 +324,15 @@ module _ {A B : Type 0} {read : Reader A} {next : A → Reader B} {ends ends_nex
         stopped = h.stopped;
       })
 
-  linked_complete : Complete (linked read next) (linked_shape s t valid)
+  linked_complete : Complete (bind read next) (linked_shape s t valid)
   linked_complete (both x y) rest v c =
       let l = split x y v in
-      ap (linked read next) (append_assoc (s.spell x) (t.spell y) rest)
-      ∙ then_got (read (s.spell x ++ (t.spell y ++ rest))) (λ x. made (both x) (next x)) x (t.spell y ++ rest)
+      ap (bind read next) (append_assoc (s.spell x) (t.spell y) rest)
+      ∙ then_got (read (s.spell x ++ (t.spell y ++ rest))) (λ x. map_tree (both x) (next x)) x (t.spell y ++ rest)
       (p.complete x (t.spell y ++ rest) l.first (l.meets rest c))
       ∙ then_got (next x (t.spell y ++ rest)) (λ y. got (both x y)) y rest ((q x).complete y rest l.second c)
 
-  pub linked_phrase : Phrase (linked read next) ends_next (linked_shape s t valid)
+  pub linked_phrase : Phrase (bind read next) ends_next (linked_shape s t valid)
   linked_phrase = record { lawful = linked_lawful; sound = linked_sound; complete = linked_complete; closed = closed }
     where
       closed : (tree : Both A B) (first : Option Text) → ends_next first ≡ true → closes_both t tree first ≡ true
@@ -346,7 +346,7 @@ Opens {B = B} ends t = (y : B) → t.valid y ≡ true → (rest : List Text) →
 pub paired_phrase : {A B : Type 0} {read : Reader A} {next : Reader B} {ends ends_next : Ends} {s : Shape A} {t : Shape B} →
     Phrase read ends s → Phrase next ends_next t → Example t → Opens ends t →
     ((y : B) → t.valid y ≡ true → t.spell y ≡ [] → (first : Option Text) → ends_next first ≡ true → ends first ≡ true) →
-    Phrase (paired read next) ends_next (paired_shape s t)
+    Phrase (pair read next) ends_next (paired_shape s t)
 paired_phrase {ends = ends} {s = s} {t = t} p q e opens links =
     linked_phrase t (λ x. t.valid) p (λ x. q) e.tree (λ x. e.valid) (valid_both s t)
     (λ rest f. opens e.tree e.valid rest (q.closed e.tree (front rest) f)) (λ x. links)
@@ -368,7 +368,7 @@ paired_example {s = s} {t = t} e f = record {
 pub before_phrase : {A B : Type 0}
     (text : Text) {read : Reader A} {next : Reader B} {ends ends_next : Ends} {s : Shape A} {t : Shape B} →
     Phrase read ends s → Phrase next ends_next t → Example t → ends (Some text) ≡ true →
-    Phrase (paired read (past text next)) ends_next (paired_shape s (past_shape text t))
+    Phrase (pair read (past text next)) ends_next (paired_shape s (past_shape text t))
 before_phrase text {t = t} p q e opens =
     paired_phrase p (past_phrase text q e) (past_example text e) (λ y v rest c. opens)
     (λ y v clash. absurd (no_word text (t.spell y) clash))
@@ -378,13 +378,13 @@ before_phrase text {t = t} p q e opens =
 
 -- a part that may end anywhere, and then another
 pub free_phrase : {A B : Type 0} {read : Reader A} {next : Reader B} {ends_next : Ends} {s : Shape A} {t : Shape B} →
-    Phrase read always s → Phrase next ends_next t → Example t → Phrase (paired read next) ends_next (paired_shape s t)
+    Phrase read always s → Phrase next ends_next t → Example t → Phrase (pair read next) ends_next (paired_shape s t)
 free_phrase p q e = paired_phrase p q e (λ y v rest c. refl) (λ y v clash first f. refl)
 
 -- a part, and another that has words
 pub next_phrase : {A B : Type 0} {read : Reader A} {next : Reader B} {ends ends_next : Ends} {s : Shape A} {t : Shape B} →
     Phrase read ends s → Phrase next ends_next t → Example t → Worded t → Opens ends t →
-    Phrase (paired read next) ends_next (paired_shape s t)
+    Phrase (pair read next) ends_next (paired_shape s t)
 next_phrase {t = t} p q e some opens =
     paired_phrase p q e opens (λ y v none. absurd (no_length (t.spell y) none (some y v)))
   where

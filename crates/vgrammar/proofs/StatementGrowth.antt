@@ -6,15 +6,15 @@ use Rattle.vast.specs.Words.{Text, is_name, is_number, is_string}
 use Rattle.vast.specs.Expressions.{ExpressionTree}
 use Rattle.vast.specs.Statements.{StatementTree, BranchTree, DelayTree, forever}
 use Rattle.vast.specs.declared.statement.Printing.TheVariants as printing
-use Rattle.vexpr_parse.specs.Readers.{got, Reader, front, is_front, goes, refused, lower, follow, led, room, choose}
+use Rattle.vexpr_parse.specs.Readers.{got, Reader, front, is_front, goes, refused, lower, follow, by_word, room, choose}
 use Rattle.vexpr_parse.specs.Lawful.{rest_of}
 use Rattle.vexpr_parse.proofs.ReaderRules.{IsLead}
 use Rattle.vexpr_parse.proofs.Grows.{Keeps, got_keep, LeadKeeps, led_keep, Grows, LeadGrows, led_grows}
 use Rattle.vgrammar.specs.declared.start.StatementStart.{StatementStart}
 use Rattle.vgrammar.specs.declared.start.StatementStart.TheVariants as start
-use Rattle.vgrammar.specs.Parts.{Both, both, made, paired, worded, maybe, roomy}
+use Rattle.vgrammar.specs.Parts.{Both, both, map_tree, pair, word_as, maybe, roomy}
 use Rattle.vgrammar.specs.Starts.{start_of, begins_target, is_target, is_some_meaning, meant_if, sign_of}
-use Rattle.vgrammar.specs.Statements.{value, word_only, optional_delay, assignment_of, assignment_parts, assignment, target_lead, target, guarded, if_of, guarded_of, setting, for_of, delayed_of, event_body_of, block_of, has_default, branch_of, default_branch, branch, case_parts_of, case_parts, arguments, print_of, optional_print_of, idle_of, dump_file_of, dump_vars_of, dump_of, end_of, trigger_of, statement_by, lead_by, statement, ends_statement, block_name}
+use Rattle.vgrammar.specs.Statements.{value, word_only, optional_delay, assignment_of, assignment_parts, assignment, target_lead, target, value_then, if_of, guarded_of, setting, for_of, delayed_of, event_body_of, block_of, has_default, branch_of, default_branch, branch, case_parts_of, case_parts, arguments, print_of, optional_print_of, idle_of, dump_file_of, dump_vars_of, dump_of, end_of, trigger_of, statement_by, lead_by, statement, ends_statement, block_name}
 use Rattle.vgrammar.proofs.PartPhrases.{arguments_inner_phrase, arguments_phrase}
 use Rattle.vgrammar.proofs.StatementPhrases.{signed_phrase, assignment_phrase}
 use Rattle.vgrammar.proofs.StatementLevels.{statement_phrase, statement_leads}
@@ -60,13 +60,13 @@ assignment_passes : (below : ℕ) → nat_le 1 below ≡ true → (words : List 
     length (rest_of (assignment (suc below) words)) < length words
 assignment_passes below level words is =
     then_passes (assignment_parts (suc below) words) (λ t. got (assignment_of t)) (length words)
-    (then_passes (target (suc below) words) (λ t. made (both t) (signed_part (suc below))) (length words)
+    (then_passes (target (suc below) words) (λ t. map_tree (both t) (signed_part (suc below))) (length words)
     (target_passes below level words is)
     (λ t. made_keep (both t) (signed_part (suc below)) (phrase_keep (signed_phrase (suc below) (one_within below)))))
     (λ t. got_keep (assignment_of t))
   where
     signed_part : (n : ℕ) → Reader (Both Bool (Both (Option DelayTree) (Both ExpressionTree (Unit {0}))))
-    signed_part n = paired (worded sign_of) (paired (optional_delay n) (paired (value n) (word_only (codes ";"))))
+    signed_part n = pair (word_as sign_of) (pair (optional_delay n) (pair (value n) (word_only (codes ";"))))
 
 assignment_keep : (below : ℕ) → Keeps (assignment (suc below))
 assignment_keep below =
@@ -87,7 +87,7 @@ module _ (below : ℕ) (g : Growth (statement below) (statement (up below))) whe
   more = statement (up below)
 
   guarded_growth : {A : Type 0} → nat_le 1 below ≡ true → {r m : Reader A} → Growth r m →
-      Growth (guarded below r) (guarded (up below) m)
+      Growth (value_then below r) (value_then (up below) m)
   guarded_growth level h = past_growth (codes "(") (paired_growth (value_growth below level) (past_growth (codes ")") h))
 
   setting_growth : nat_le 1 below ≡ true → Growth (setting below) (setting (up below))
@@ -114,7 +114,7 @@ module _ (below : ℕ) (g : Growth (statement below) (statement (up below))) whe
       (λ list. branch_growth level (one ∷ list)))) (only_growth (codes "endcase")))
 
   optional_growth : {A : Type 0} {r m : Reader (Option A)} → Growth r m →
-      Growth (paired r (word_only (codes ";"))) (paired m (word_only (codes ";")))
+      Growth (pair r (word_only (codes ";"))) (pair m (word_only (codes ";")))
   optional_growth h = paired_growth h (only_growth (codes ";"))
 
   arguments_rise : RisesWhere (is_front (codes "(")) (roomy below 1 (arguments below)) (roomy (up below) 1 (arguments (up below)))
@@ -198,8 +198,8 @@ module _ (below : ℕ) (g : Growth (statement below) (statement (up below))) whe
       roomy_rises is_target below (assignment below) (assignment (up below)) (λ level. (assignment_growth below level).rises)
       (assignment_passes (suc (suc below)) (one_within (suc below)))
 
-  reading_growth : Growth (choose is_target (roomy below 1 (assignment below)) (led (λ word. lead_by below read (start_of word))))
-      (choose is_target (roomy (up below) 1 (assignment (up below))) (led (λ word. lead_by (up below) more (start_of word))))
+  reading_growth : Growth (choose is_target (roomy below 1 (assignment below)) (by_word (λ word. lead_by below read (start_of word))))
+      (choose is_target (roomy (up below) 1 (assignment (up below))) (by_word (λ word. lead_by (up below) more (start_of word))))
   reading_growth =
       choose_growth is_target (roomy below 1 (assignment below)) (roomy (up below) 1 (assignment (up below))) assignment_rises
       (roomy_keep (up below) (assignment (up below)) (assignment_keep (suc (suc below))))

@@ -14,7 +14,7 @@ use Rattle.vast.specs.declared.statement.Idle.TheVariants as idles
 use Rattle.vast.specs.declared.statement.Dumping.TheVariants as dumping
 use Rattle.vast.proofs.ExpressionLemmas.{depth_positive}
 use Rattle.vexpr_parse.specs.declared.stop.Stop.TheVariants.{NoTree, TooDeep}
-use Rattle.vexpr_parse.specs.Readers.{got, stop, Reader, front, is_front, Lead, goes, refused, lower, follow, led, room, choose}
+use Rattle.vexpr_parse.specs.Readers.{got, stop, Reader, front, is_front, Lead, goes, refused, lower, follow, by_word, room, choose}
 use Rattle.vexpr_parse.specs.Lawful.{Lawful}
 use Rattle.vexpr_parse.proofs.ReaderRules.{chosen, passed_over, same_text, stop_got, got_rule, IsLead, led_sees}
 use Rattle.vexpr_parse.proofs.ReaderLoops.{lead_if, lead_room, choose_sees}
@@ -22,7 +22,7 @@ use Rattle.vgrammar.specs.declared.start.Guard.{Guard}
 use Rattle.vgrammar.specs.declared.start.Guard.TheVariants as guard
 use Rattle.vgrammar.specs.declared.start.StatementStart.{StatementStart}
 use Rattle.vgrammar.specs.declared.start.StatementStart.TheVariants as start
-use Rattle.vgrammar.specs.Parts.{both, made, roomy}
+use Rattle.vgrammar.specs.Parts.{both, map_tree, roomy}
 use Rattle.vgrammar.specs.Starts.{start_word, statement_starts, start_of, begins_target, is_target, is_some_meaning}
 use Rattle.vgrammar.specs.Statements.{Assignment, assignment_of, assignment_parts, assignment, if_of, guarded_of, for_of, delayed_of, event_body_of, statements_in, block_of, block_parts, branches_in, case_parts_of, case_parts, print_of, optional_print_of, idle_of, dump_file_of, dump_vars_of, dump_of, end_of, trigger_of, statement_by, lead_by, begins_statement, statement, ends_statement}
 use Rattle.vgrammar.proofs.Phrases.{Shape, Sound, Phrase, Makes, always, sound_eats, phrase_within, made_lawful, made_sound, made_complete, same_got}
@@ -210,7 +210,7 @@ module _ (below : ℕ) (read : Reader StatementTree) (p : Phrase read ends_state
   lead word = lead_by below read (start_of word)
 
   abbrev reading : Reader StatementTree
-  reading = choose is_target (roomy below 1 (assignment below)) (led lead)
+  reading = choose is_target (roomy below 1 (assignment below)) (by_word lead)
 
   loose : {A : Type 0} {r : Reader A} {s : Shape A} → Phrase r always s → Phrase r ends_statement s
   loose q = phrase_within ends_statement q (λ next e. refl)
@@ -362,11 +362,11 @@ module _ (below : ℕ) (read : Reader StatementTree) (p : Phrase read ends_state
 
   reading_lawful : Lawful reading ends_statement
   reading_lawful words =
-      choose_sees is_target (roomy below 1 (assignment below)) (led lead) ends_statement
+      choose_sees is_target (roomy below 1 (assignment below)) (by_word lead) ends_statement
       (λ tree ws is e. absurd
       (below_zero (length ws) (sound_eats (roomy below 1 (assignment below)) Out assignment_laws.1 all_worded ws tree ws is)))
       (λ tree ws is e. absurd
-      (below_zero (length ws) (sound_eats (led lead) Out (led_sound lead Out leads_sound) all_worded ws tree ws is)))
+      (below_zero (length ws) (sound_eats (by_word lead) Out (led_sound lead Out leads_sound) all_worded ws tree ws is)))
       words (λ e. assignment_laws.0 words) (λ e. led_sees lead ends_statement leads words)
     where
       below_zero : (n : ℕ) → n < n → ⊥
@@ -378,7 +378,7 @@ module _ (below : ℕ) (read : Reader StatementTree) (p : Phrase read ends_state
   reading_sound : Sound reading Out
   reading_sound words tree left e =
       elim (cases_Bool (is_target (front words))) [
-        | inl holds ↦ assignment_laws.1 words tree left (sym (chosen (is_target (front words)) _ (led lead words) holds) ∙ e)
+        | inl holds ↦ assignment_laws.1 words tree left (sym (chosen (is_target (front words)) _ (by_word lead words) holds) ∙ e)
         | inr fails ↦ led_sound lead Out leads_sound words tree left
             (sym (passed_over (is_target (front words)) (roomy below 1 (assignment below) words) _ fails) ∙ e)
       ]
@@ -390,7 +390,7 @@ module _ (below : ℕ) (read : Reader StatementTree) (p : Phrase read ends_state
       ≡ got tree rest
 
   read_by : {A : Type 0} {r : Reader A} {s : Shape A} {e : _} (kind : StatementStart) (make : A → StatementTree) →
-      Makes make s Out (start_word kind ∷ []) → Phrase r e s → statement_by below read kind ≡ goes (made make r) →
+      Makes make s Out (start_word kind ∷ []) → Phrase r e s → statement_by below read kind ≡ goes (map_tree make r) →
       (tree : A) (rest : List Text) → Reads (make tree) rest
   read_by {r = r} {s = s} kind make m q is tree rest v c =
       let behind : List Text = s.spell tree ++ rest in
@@ -403,10 +403,10 @@ module _ (below : ℕ) (read : Reader StatementTree) (p : Phrase read ends_state
 
   -- behind its word, where a level is left
   room_read : {A : Type 0} {r : Reader A} {s : Shape A} {e : _} (kind : StatementStart) (make : A → StatementTree) →
-      Makes make s Out (start_word kind ∷ []) → Phrase r e s → statement_by below read kind ≡ room below 1 (goes (made make r)) →
+      Makes make s Out (start_word kind ∷ []) → Phrase r e s → statement_by below read kind ≡ room below 1 (goes (map_tree make r)) →
       nat_le 1 below ≡ true → (tree : A) (rest : List Text) → Reads (make tree) rest
   room_read {r = r} kind make m q is level tree rest = read_by kind make m q
-      (is ∙ roomy_lead below 1 (made make r) level) tree rest
+      (is ∙ roomy_lead below 1 (map_tree make r) level) tree rest
 
   assigned : (tree : Assignment) (rest : List Text) → (target : TargetTree) → fits_target target ≡ true →
       (later : List Text) → spell_statement (assignment_of tree) ≡ spell_target target ++ later →

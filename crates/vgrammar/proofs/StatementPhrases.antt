@@ -13,9 +13,9 @@ use Rattle.vexpr_parse.specs.Lawful.{Ends}
 use Rattle.vexpr_parse.proofs.ReaderRules.{same_text, parts_of}
 use Rattle.vgrammar.specs.declared.start.Guard.{Guard}
 use Rattle.vgrammar.specs.declared.start.Guard.TheVariants as guard
-use Rattle.vgrammar.specs.Parts.{Both, both, made, paired, worded}
+use Rattle.vgrammar.specs.Parts.{Both, both, map_tree, pair, word_as}
 use Rattle.vgrammar.specs.Starts.{sign_of, sign_word, guard_word}
-use Rattle.vgrammar.specs.Statements.{value, named, word_only, amount, optional_delay, Assignment, assignment_of, assignment_parts, guarded, if_of, branches_of_if, guarded_of, setting, For, for_of, for_parts, delayed_of, control, event_body_of, statements_in, block_of, block_parts, trigger_of, ends_statement, Block, block_name, ended_statements}
+use Rattle.vgrammar.specs.Statements.{value, name_word, word_only, amount, optional_delay, Assignment, assignment_of, assignment_parts, value_then, if_of, branches_of_if, guarded_of, setting, For, for_of, for_parts, delayed_of, control, event_body_of, statements_in, block_of, block_parts, trigger_of, ends_statement, Block, block_name, ended_statements}
 use Rattle.vgrammar.proofs.Phrases.{Shape, Phrase, Example, Worded, Opens, Makes, AreLinked, always, phrase_within, past_shape, past_phrase, past_example, nothing_phrase, worded_shape, worded_phrase, linked_shape, linked_phrase, paired_shape, before_phrase, paired_example, free_phrase, next_phrase}
 use Rattle.vgrammar.proofs.PhraseChoices.{maybe_shape, maybe_phrase, Tested, many_shape, many_phrase, ends_maybe, allows_all}
 use Rattle.vgrammar.proofs.LevelFacts.{one_up, and_true}
@@ -35,7 +35,7 @@ guarded_shape below s = past_shape (codes "(") (paired_shape (value_shape below)
 
 pub guarded_phrase : {A : Type 0} (below : ℕ) → nat_le 1 below ≡ true → {read : Reader A} {ends : Ends} {s : Shape A} →
     Phrase read ends s →
-    Example s → Phrase (guarded below read) ends (guarded_shape below s)
+    Example s → Phrase (value_then below read) ends (guarded_shape below s)
 unfolding binary_of
 guarded_phrase below level p e =
     past_phrase (codes "(") (before_phrase (codes ")") (value_phrase below) p e refl)
@@ -50,7 +50,7 @@ guarded_example below level e = past_example (codes "(") (paired_example (value_
 abbrev pub sign_shape : Shape Bool
 sign_shape = worded_shape sign_word (λ later. true) always
 
-sign_phrase : Phrase (worded sign_of) always sign_shape
+sign_phrase : Phrase (word_as sign_of) always sign_shape
 sign_phrase = worded_phrase sign_of sign_word (λ later. true) always
     (λ text later e. (as_written sign_word (false ∷ true ∷ []) text later e, refl)) meant
   where
@@ -128,7 +128,7 @@ assignment_makes below = record {
     stops (both tree (both false (both wait (both right end)))) next = refl
 
 module _ (below : ℕ) (level : nat_le 1 below ≡ true) where
-  right_side_phrase : Phrase (paired (value below) (word_only (codes ";"))) always (right_side_shape below)
+  right_side_phrase : Phrase (pair (value below) (word_only (codes ";"))) always (right_side_shape below)
   unfolding binary_of
   right_side_phrase = before_phrase (codes ";") (value_phrase below) (nothing_phrase always) nothing_example refl
 
@@ -148,9 +148,9 @@ module _ (below : ℕ) (level : nat_le 1 below ≡ true) where
     where
       refuses : (word : Text) (words : List Text) (tree : Both ExpressionTree (Unit {0})) (left : List Text) → hash (Some word)
           ≡ true →
-          paired (value below) (word_only (codes ";")) (word ∷ words) ≡ got tree left → ⊥
+          pair (value below) (word_only (codes ";")) (word ∷ words) ≡ got tree left → ⊥
       refuses word words tree left is e =
-          let a = parts_of (value below (word ∷ words)) (λ t. made (both t) (word_only (codes ";"))) tree left e in
+          let a = parts_of (value below (word ∷ words)) (λ t. map_tree (both t) (word_only (codes ";"))) tree left e in
           value_refuses below word
           (subst (λ w. beginning_of w ≡ start.Other) (same_text (codes "#") word is) refl) words a.one a.between a.first
 
@@ -166,7 +166,7 @@ module _ (below : ℕ) (level : nat_le 1 below ≡ true) where
   signed_example : Example (paired_shape sign_shape (paired_shape (delay_part_shape below) (right_side_shape below)))
   signed_example = paired_example a_sign delayed_right_example
 
-  delayed_right_phrase : Phrase (paired (optional_delay below) (paired (value below) (word_only (codes ";")))) always
+  delayed_right_phrase : Phrase (pair (optional_delay below) (pair (value below) (word_only (codes ";")))) always
       (paired_shape (delay_part_shape below) (right_side_shape below))
   delayed_right_phrase =
       next_phrase (optional_delay_phrase below level) right_side_phrase right_side_example right_side_worded
@@ -174,7 +174,7 @@ module _ (below : ℕ) (level : nat_le 1 below ≡ true) where
 
   -- what stands behind a target
   pub signed_phrase : Phrase
-      (paired (worded sign_of) (paired (optional_delay below) (paired (value below) (word_only (codes ";"))))) always
+      (pair (word_as sign_of) (pair (optional_delay below) (pair (value below) (word_only (codes ";"))))) always
       (paired_shape sign_shape (paired_shape (delay_part_shape below) (right_side_shape below)))
   signed_phrase = free_phrase sign_phrase delayed_right_phrase delayed_right_example
 
@@ -193,7 +193,7 @@ module _ (below : ℕ) (level : nat_le 1 below ≡ true) where
 
   -- Triggers
 
-  pub trigger_phrase : Phrase (paired named (word_only (codes ";"))) always
+  pub trigger_phrase : Phrase (pair name_word (word_only (codes ";"))) always
       (paired_shape (text_shape is_name) (only_shape (codes ";")))
   trigger_phrase = free_phrase named_phrase (only_phrase (codes ";")) (only_example (codes ";"))
 
@@ -281,7 +281,7 @@ module _ (below : ℕ) (read : Reader StatementTree) (p : Phrase read ends_state
   if_branches_example level = record { tree = both empty None; valid = level }
 
   pub if_phrase : nat_le 1 below ≡ true →
-      Phrase (guarded below (branches_of_if read)) ends_statement (guarded_shape below if_shape)
+      Phrase (value_then below (branches_of_if read)) ends_statement (guarded_shape below if_shape)
   if_phrase level = guarded_phrase below level (branches_phrase level) (if_branches_example level)
 
   pub if_example : nat_le 1 below ≡ true → Example (guarded_shape below if_shape)
@@ -320,7 +320,7 @@ module _ (below : ℕ) (read : Reader StatementTree) (p : Phrase read ends_state
 
   -- while, repeat, wait
 
-  pub loop_phrase : nat_le 1 below ≡ true → Phrase (guarded below read) ends_statement (guarded_shape below S)
+  pub loop_phrase : nat_le 1 below ≡ true → Phrase (value_then below read) ends_statement (guarded_shape below S)
   loop_phrase level = guarded_phrase below level p (inner_example level)
 
   pub loop_example : nat_le 1 below ≡ true → Example (guarded_shape below S)
@@ -427,7 +427,7 @@ module _ (below : ℕ) (read : Reader StatementTree) (p : Phrase read ends_state
   -- # and @
 
   pub delayed_phrase : nat_le 1 below ≡ true →
-      Phrase (paired (amount below) read) ends_statement (paired_shape (amount_shape below) S)
+      Phrase (pair (amount below) read) ends_statement (paired_shape (amount_shape below) S)
   delayed_phrase level = free_phrase (amount_phrase below level) p (inner_example level)
 
   pub delayed_example : nat_le 1 below ≡ true → Example (paired_shape (amount_shape below) S)
@@ -453,7 +453,7 @@ module _ (below : ℕ) (read : Reader StatementTree) (p : Phrase read ends_state
           closes_statement (delayed_of tree) next ≡ true
       stops (both wait body) next e = e
 
-  pub event_phrase : nat_le 1 below ≡ true → Phrase (paired control read) ends_statement (paired_shape event_shape S)
+  pub event_phrase : nat_le 1 below ≡ true → Phrase (pair control read) ends_statement (paired_shape event_shape S)
   event_phrase level = free_phrase control_phrase p (inner_example level)
 
   pub event_example : nat_le 1 below ≡ true → Example (paired_shape event_shape S)

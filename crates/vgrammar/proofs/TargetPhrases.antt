@@ -8,11 +8,11 @@ use Rattle.basis.proofs.Numbers.{one_within}
 use Rattle.vast.specs.Words.{Text, is_name, reserved_words}
 use Rattle.vast.specs.Expressions.{ExpressionTree, fits_expression, depth}
 use Rattle.vast.specs.Statements.{TargetTree, whole, bit, part, joined, TargetTrees, none, first as first_target, spell_target, spell_more_targets, target_depth, greatest_target_depth, fits_target, fits_targets}
-use Rattle.vexpr_parse.specs.Readers.{got, Reader, front, is_front, goes, refused, lower, led, room, past}
+use Rattle.vexpr_parse.specs.Readers.{got, Reader, front, is_front, goes, refused, lower, by_word, room, past}
 use Rattle.vexpr_parse.specs.Words.{binary_of, ends, ends_primary}
 use Rattle.vexpr_parse.proofs.ReaderRules.{chosen, same_text, IsLead, led_sees}
 use Rattle.vexpr_parse.proofs.ReaderLoops.{lead_if, lead_room}
-use Rattle.vgrammar.specs.Parts.{Both, both, Either, one_way, other_way, paired, maybe, roomy}
+use Rattle.vgrammar.specs.Parts.{Both, both, Either, one_way, other_way, pair, maybe, roomy}
 use Rattle.vgrammar.specs.Starts.{begins_target}
 use Rattle.vgrammar.specs.Statements.{value, List_of, comma_list, word_only, Select, select, target_of, targets_in, joined_of, joined_targets, target_lead, target}
 use Rattle.vgrammar.proofs.Phrases.{Shape, Complete, Phrase, Example, Opens, Makes, always, phrase_within, past_shape, past_phrase, nothing_phrase, paired_shape, paired_phrase, before_phrase, paired_example}
@@ -33,7 +33,7 @@ abbrev pub select_shape : ℕ → Shape Select
 select_shape below = paired_shape (value_shape below) (either_shape (right_shape below) (only_shape (codes "]")))
 
 module _ (below : ℕ) (level : nat_le 1 below ≡ true) where
-  right_phrase : Phrase (past (codes ":") (paired (value below) (word_only (codes "]")))) always (right_shape below)
+  right_phrase : Phrase (past (codes ":") (pair (value below) (word_only (codes "]")))) always (right_shape below)
   unfolding binary_of
   right_phrase =
       past_phrase (codes ":")
@@ -238,7 +238,7 @@ module _ (below : ℕ) (read : Reader TargetTree) (p : Phrase read ends_primary 
   named_tight : Phrase (maybe bracket (roomy below 1 (past (codes "[") (select below)))) ends_primary (named_shape below)
   named_tight = opened_phrase below
 
-  targets_phrase : nat_le 1 below ≡ true → Phrase (paired (comma_list read) (word_only (codes "}"))) always (targets_shape below)
+  targets_phrase : nat_le 1 below ≡ true → Phrase (pair (comma_list read) (word_only (codes "}"))) always (targets_shape below)
   targets_phrase level =
       before_phrase (codes "}") (comma_phrase p (target_example below level) refl) (nothing_phrase always) nothing_example refl
 
@@ -267,12 +267,12 @@ module _ (below : ℕ) (read : Reader TargetTree) (p : Phrase read ends_primary 
 
   complete_named : (letters : Text) (tree : Option Select) (rest : List Text) → is_name letters ≡ true →
       Out.valid (target_of letters tree) ≡ true → ends_primary (front rest) ≡ true →
-      led (target_lead below read) (spell_target (target_of letters tree) ++ rest) ≡ got (target_of letters tree) rest
+      by_word (target_lead below read) (spell_target (target_of letters tree) ++ rest) ≡ got (target_of letters tree) rest
   complete_named letters tree rest is v c =
       led_complete (target_lead below read) (target_of letters) letters Out (named_makes below letters is) named_tight
       (chosen (is_name letters) _ _ is) tree rest v c
 
-  target_complete : Complete (led (target_lead below read)) Out
+  target_complete : Complete (by_word (target_lead below read)) Out
   unfolding reserved_words
   target_complete (whole letters) rest v c = complete_named letters None rest (and_left (is_name letters) _ v) v c
   target_complete (bit letters index) rest v c =
@@ -290,7 +290,7 @@ module _ (below : ℕ) (read : Reader TargetTree) (p : Phrase read ends_primary 
     where
       P : TargetTrees → Type 0
       P ts = Out.valid (joined (first_target tree ts)) ≡ true →
-          led (target_lead below read) (spell_target (joined (first_target tree ts)) ++ rest)
+          by_word (target_lead below read) (spell_target (joined (first_target tree ts)) ++ rest)
           ≡ got (joined (first_target tree ts)) rest
 
       level : (ts : TargetTrees) → Out.valid (joined (first_target tree ts)) ≡ true → nat_le 1 below ≡ true
@@ -300,7 +300,7 @@ module _ (below : ℕ) (read : Reader TargetTree) (p : Phrase read ends_primary 
           (sym (two_up (target_depth tree) (greatest_target_depth ts) below)
           ∙ and_right (fits_target (joined (first_target tree ts))) _ w))
 
-  target_by_phrase : Phrase (led (target_lead below read)) ends_primary Out
+  target_by_phrase : Phrase (by_word (target_lead below read)) ends_primary Out
   target_by_phrase = record {
     lawful = led_sees (target_lead below read) ends_primary target_leads;
     sound = led_sound (target_lead below read) Out target_leads_sound;

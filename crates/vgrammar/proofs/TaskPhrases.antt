@@ -12,7 +12,7 @@ use Rattle.vast.specs.declared.statement.Base.TheVariants as bases
 use Rattle.vast.specs.declared.statement.Idle.{Idle}
 use Rattle.vast.proofs.ExpressionLemmas.{depth_positive}
 use Rattle.vexpr_parse.specs.Readers.{Reader, front, is_front}
-use Rattle.vgrammar.specs.Parts.{Both, both, paired, maybe, roomy}
+use Rattle.vgrammar.specs.Parts.{Both, both, pair, maybe, roomy}
 use Rattle.vgrammar.specs.Statements.{word_only, Arguments, arguments, print_of, optional_print_of, idle_of, dump_file_of, dump_file_parts, selection, dump_vars_of, dump_of, end_of, end_parts}
 use Rattle.vgrammar.proofs.Phrases.{Shape, Phrase, Example, Makes, always, past_shape, past_phrase, past_example, nothing_phrase, paired_shape, before_phrase, paired_example, free_phrase}
 use Rattle.vgrammar.proofs.PhraseChoices.{maybe_shape, maybe_phrase, roomy_phrase}
@@ -31,7 +31,7 @@ optional_shape s = paired_shape (maybe_shape open_next always s) (only_shape (co
 optional_phrase : {A : Type 0} {read : Reader A} {s : Shape A} → Phrase read always s →
     ((tree : A) → s.valid tree ≡ true → 0 < length (s.spell tree)) →
     ((tree : A) → s.valid tree ≡ true → (rest : List Text) → open_next (front (s.spell tree ++ rest)) ≡ true) →
-    Phrase (paired (maybe open_next read) (word_only (codes ";"))) always (optional_shape s)
+    Phrase (pair (maybe open_next read) (word_only (codes ";"))) always (optional_shape s)
 optional_phrase p some begins = before_phrase (codes ";") (maybe_phrase open_next p some begins)
     (nothing_phrase always) nothing_example refl
 
@@ -93,7 +93,7 @@ module _ (below : ℕ) where
   abbrev pub print_shape : Shape (Both Arguments (Unit {0}))
   print_shape = paired_shape Arg (only_shape (codes ";"))
 
-  pub print_phrase : nat_le 1 below ≡ true → Phrase (paired (arguments below) (word_only (codes ";"))) always print_shape
+  pub print_phrase : nat_le 1 below ≡ true → Phrase (pair (arguments below) (word_only (codes ";"))) always print_shape
   print_phrase level = free_phrase (arguments_phrase below level) (only_phrase (codes ";")) (only_example (codes ";"))
 
   pub print_example : nat_le 1 below ≡ true → Example print_shape
@@ -122,7 +122,7 @@ module _ (below : ℕ) where
 
   -- $display, $strobe
 
-  pub optional_print_phrase : Phrase (paired (maybe open_next (roomy below 1 (arguments below))) (word_only (codes ";"))) always
+  pub optional_print_phrase : Phrase (pair (maybe open_next (roomy below 1 (arguments below))) (word_only (codes ";"))) always
       (optional_shape Arg)
   optional_print_phrase =
       optional_phrase (roomy_phrase below 1 (λ level. arguments_phrase below level) arguments_level closed)
@@ -218,7 +218,7 @@ module _ (below : ℕ) where
 
   -- $dumpvars
 
-  pub dump_vars_phrase : Phrase (paired (maybe open_next selection) (word_only (codes ";"))) always
+  pub dump_vars_phrase : Phrase (pair (maybe open_next selection) (word_only (codes ";"))) always
       (optional_shape selection_shape)
   dump_vars_phrase = optional_phrase selection_phrase (λ tree v. zero-lt-suc _) (λ tree v rest. refl)
 

@@ -15,7 +15,7 @@ use Rattle.vexpr_parse.proofs.ReaderRules.{text_same, stop_got}
 use Rattle.vexpr_parse.proofs.ExpressionRules.{expression_rule}
 use Rattle.vexpr_parse.proofs.Sound.{Found, expression_found}
 use Rattle.vexpr_parse.proofs.Complete.{expression_complete}
-use Rattle.vgrammar.specs.Parts.{worded, many, paired}
+use Rattle.vgrammar.specs.Parts.{word_as, many, pair}
 use Rattle.vgrammar.specs.Starts.{meant_if}
 use Rattle.vgrammar.specs.Statements.{value, List_of, comma_list, word_only}
 use Rattle.vgrammar.proofs.Phrases.{Shape, Sound, Phrase, Example, Worded, always, past_shape, past_phrase, past_example, nothing_shape, nothing_phrase, worded_shape, worded_phrase, paired_shape, paired_phrase}
@@ -90,7 +90,7 @@ value_worded n tree v = by_words (spell_expression tree) (λ rest c. (value_phra
 
 -- Words
 
-pub word_if_phrase : (test : Text → Bool) → Phrase (worded (meant_if test)) always (worded_shape (λ text. text) test always)
+pub word_if_phrase : (test : Text → Bool) → Phrase (word_as (meant_if test)) always (worded_shape (λ text. text) test always)
 word_if_phrase test = worded_phrase (meant_if test) (λ text. text) test always written meant
   where
     by_test : (b : Bool) (text tree : Text) → test text ≡ b → (if b then Some text else None) ≡ Some tree →
@@ -146,7 +146,7 @@ pub list_phrase : {A B : Type 0} {read : Reader A} {more : Reader B} {ends : End
     Phrase more ends t →
     Example t →
     ends (Some (codes ",")) ≡ true →
-    Phrase (paired read (many comma (λ list. past (codes ",") more))) (ends_many comma ends)
+    Phrase (pair read (many comma (λ list. past (codes ",") more))) (ends_many comma ends)
     (paired_shape s (many_shape comma ends (past_shape (codes ",") t) (λ list. t.valid)))
 list_phrase {ends = ends} {t = t} p q e opens =
     paired_phrase p (more_behind (codes ",") q e opens) (record { tree = []; valid = refl })

@@ -10,7 +10,7 @@ use Rattle.vast.specs.Words.{Text, is_name, is_number, is_string, is_reserved, a
 use Rattle.vast.specs.Expressions.{ExpressionTree}
 use Rattle.vexpr_parse.specs.declared.beginning.Beginning.TheVariants as start
 use Rattle.vexpr_parse.specs.Readers.{got, Reader, front, and_then, follow}
-use Rattle.vexpr_parse.specs.Words.{written, beginning_of, unary_of}
+use Rattle.vexpr_parse.specs.Words.{by_spelling, beginning_of, unary_of}
 use Rattle.vexpr_parse.specs.Reading.{primary_by, onward, expression}
 use Rattle.vexpr_parse.specs.Lawful.{Ends}
 use Rattle.vexpr_parse.proofs.ReaderRules.{same_text, stop_got}
@@ -34,13 +34,13 @@ name_no_number (c ∷ cs) e = by_first (begins_name c) (c == 92) refl refl e
     by_first false true is_letter is_backslash e = backslash_no_digit c is_backslash
     by_first false false is_letter is_backslash e = let no : false ≡ true = e in absurd cc
 
-pub as_written : {A : Type 0} (spell : A → Text) (all : List A) (word : Text) (tree : A) → written spell all word ≡ Some tree →
+pub as_written : {A : Type 0} (spell : A → Text) (all : List A) (word : Text) (tree : A) → by_spelling spell all word ≡ Some tree →
     spell tree ≡ word
 as_written spell [] word tree e = let no : None ≡ Some tree = e in absurd cc
 as_written spell (one ∷ more) word tree e = by_test (bytes_eq (spell one) word) refl (as_written spell more word tree) e
   where
-    by_test : (b : Bool) → bytes_eq (spell one) word ≡ b → (written spell more word ≡ Some tree → spell tree ≡ word) →
-        (if b then Some one else written spell more word) ≡ Some tree → spell tree ≡ word
+    by_test : (b : Bool) → bytes_eq (spell one) word ≡ b → (by_spelling spell more word ≡ Some tree → spell tree ≡ word) →
+        (if b then Some one else by_spelling spell more word) ≡ Some tree → spell tree ≡ word
     by_test true is later e =
         let same : Some one ≡ Some tree = e in
         let eq : one ≡ tree = cc in

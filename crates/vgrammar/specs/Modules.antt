@@ -8,10 +8,10 @@ use Rattle.vast.specs.Modules.{RangeTree, TypeTree, ParameterType, integer, type
 use Rattle.vast.specs.declared.module.NetKind.{NetKind}
 use Rattle.vast.specs.declared.module.NetKind.TheVariants as net
 use Rattle.vexpr_parse.specs.Readers.{Reader, past, is_front}
-use Rattle.vexpr_parse.specs.Words.{written}
-use Rattle.vgrammar.specs.Parts.{Both, both, Either, one_way, other_way, made, paired, worded, many, maybe, either}
+use Rattle.vexpr_parse.specs.Words.{by_spelling}
+use Rattle.vgrammar.specs.Parts.{Both, both, Either, one_way, other_way, map_tree, pair, word_as, many, maybe, either}
 use Rattle.vgrammar.specs.Starts.{is_meant}
-use Rattle.vgrammar.specs.Statements.{value, named, word_only, List_of, comma_list, statement, target}
+use Rattle.vgrammar.specs.Statements.{value, name_word, word_only, List_of, comma_list, statement, target}
 
 -- an expression that stands in no statement
 abbrev pub free_value : ℕ → Reader ExpressionTree
@@ -27,8 +27,8 @@ range_of (both one (both other end)) = record { left = one; right = other }
 
 abbrev pub range : ℕ → Reader RangeTree
 range levels =
-    made range_of (past (codes "[") (paired (free_value levels) (past (codes ":")
-    (paired (free_value levels) (word_only (codes "]"))))))
+    map_tree range_of (past (codes "[") (pair (free_value levels) (past (codes ":")
+    (pair (free_value levels) (word_only (codes "]"))))))
 
 abbrev pub is_there : Option (Unit {0}) → Bool
 is_there None = false
@@ -39,18 +39,18 @@ type_of (both sign bounds) = record { signed = is_there sign; range = bounds }
 
 abbrev pub type : ℕ → Reader TypeTree
 type levels =
-    made type_of (paired (maybe (is_front (codes "signed")) (word_only (codes "signed")))
+    map_tree type_of (pair (maybe (is_front (codes "signed")) (word_only (codes "signed")))
     (maybe (is_front (codes "[")) (range levels)))
 
 abbrev pub integer_of : Text → Option Bool
-integer_of word = written integer_word (false ∷ true ∷ []) word
+integer_of word = by_spelling integer_word (false ∷ true ∷ []) word
 
 abbrev pub parameter_type_of : Either Bool TypeTree → ParameterType
 parameter_type_of (one_way long) = integer long
 parameter_type_of (other_way tree) = typed tree
 
 abbrev pub parameter_type : ℕ → Reader ParameterType
-parameter_type levels = made parameter_type_of (either (is_meant integer_of) (worded integer_of) (type levels))
+parameter_type levels = map_tree parameter_type_of (either (is_meant integer_of) (word_as integer_of) (type levels))
 
 -- name = value, and name alone
 
@@ -58,20 +58,20 @@ abbrev pub setting_of : Both Text ExpressionTree → SettingTree
 setting_of (both letters tree) = record { name = letters; value = tree }
 
 abbrev pub setting : ℕ → Reader SettingTree
-setting levels = made setting_of (paired named (past (codes "=") (free_value levels)))
+setting levels = map_tree setting_of (pair name_word (past (codes "=") (free_value levels)))
 
 abbrev pub net_assignment_of : Both TargetTree ExpressionTree → NetAssignment
 net_assignment_of (both target value) = record { target = target; value = value }
 
 -- A.6.1: target = value
 abbrev pub net_assignment : ℕ → Reader NetAssignment
-net_assignment levels = made net_assignment_of (paired (target levels) (past (codes "=") (free_value levels)))
+net_assignment levels = map_tree net_assignment_of (pair (target levels) (past (codes "=") (free_value levels)))
 
 abbrev pub declared_of : Both Text (Option ExpressionTree) → DeclaredTree
 declared_of (both letters tree) = record { name = letters; value = tree }
 
-abbrev pub declared : ℕ → Reader DeclaredTree
-declared levels = made declared_of (paired named (maybe (is_front (codes "=")) (past (codes "=") (free_value levels))))
+abbrev pub declarator : ℕ → Reader DeclaredTree
+declarator levels = map_tree declared_of (pair name_word (maybe (is_front (codes "=")) (past (codes "=") (free_value levels))))
 
 -- Connections
 
@@ -80,7 +80,7 @@ Value = Either (Unit {0}) (Both ExpressionTree (Unit {0}))
 
 -- a value and ), or ) alone
 abbrev pub value_in : ℕ → Reader Value
-value_in levels = either (is_front (codes ")")) (word_only (codes ")")) (paired (free_value levels) (word_only (codes ")")))
+value_in levels = either (is_front (codes ")")) (word_only (codes ")")) (pair (free_value levels) (word_only (codes ")")))
 
 abbrev pub connection_of : Both Text Value → ConnectionTree
 connection_of (both letters (one_way end)) = record { name = letters; value = None }
@@ -88,7 +88,7 @@ connection_of (both letters (other_way (both tree end))) = record { name = lette
 
 -- behind .
 abbrev pub connection : ℕ → Reader ConnectionTree
-connection levels = made connection_of (past (codes ".") (paired named (past (codes "(") (value_in levels))))
+connection levels = map_tree connection_of (past (codes ".") (pair name_word (past (codes "(") (value_in levels))))
 
 abbrev pub Connections : Type 0
 Connections = Either (Both (List_of ConnectionTree) (Unit {0})) (Either (Unit {0}) (Both (List_of ExpressionTree) (Unit {0})))
@@ -100,15 +100,15 @@ connections_of (other_way (other_way (both list end))) = by_order (listed_of lis
 
 abbrev pub connections : ℕ → Reader ConnectionsTree
 connections levels =
-    made connections_of (past (codes "(") (either (is_front (codes ".")) (paired (comma_list (connection levels))
+    map_tree connections_of (past (codes "(") (either (is_front (codes ".")) (pair (comma_list (connection levels))
     (word_only (codes ")"))) (either (is_front (codes ")")) (word_only (codes ")"))
-    (paired (comma_list (free_value levels)) (word_only (codes ")"))))))
+    (pair (comma_list (free_value levels)) (word_only (codes ")"))))))
 
 abbrev pub instance_of : Both Text ConnectionsTree → InstanceTree
 instance_of (both letters tree) = record { name = letters; connections = tree }
 
 abbrev pub instance_behind : ℕ → Reader InstanceTree
-instance_behind levels = made instance_of (paired named (connections levels))
+instance_behind levels = map_tree instance_of (pair name_word (connections levels))
 
 abbrev pub overrides : ℕ → Reader (Option ConnectionsTree)
 overrides levels = maybe (is_front (codes "#")) (past (codes "#") (connections levels))
@@ -116,7 +116,7 @@ overrides levels = maybe (is_front (codes "#")) (past (codes "#") (connections l
 -- Which way ports go
 
 abbrev pub net_of : Text → Option NetKind
-net_of word = written net_word (net.Wire ∷ net.Reg ∷ []) word
+net_of word = by_spelling net_word (net.Wire ∷ net.Reg ∷ []) word
 
 -- behind output
 abbrev pub Output : Type 0
@@ -124,7 +124,7 @@ Output = Either Bool (Both (Option NetKind) TypeTree)
 
 abbrev pub output_behind : ℕ → Reader Output
 output_behind levels =
-    either (is_meant integer_of) (worded integer_of) (paired (maybe (is_meant net_of) (worded net_of)) (type levels))
+    either (is_meant integer_of) (word_as integer_of) (pair (maybe (is_meant net_of) (word_as net_of)) (type levels))
 
 abbrev pub Direction : Type 0
 Direction = Either (Both (Option (Unit {0})) TypeTree) Output
@@ -136,20 +136,20 @@ direction_of (other_way (other_way (both kind tree))) = output kind tree
 
 abbrev pub direction : ℕ → Reader DirectionTree
 direction levels =
-    made direction_of (either (is_front (codes "input"))
-    (past (codes "input") (paired (maybe (is_front (codes "wire")) (word_only (codes "wire"))) (type levels)))
+    map_tree direction_of (either (is_front (codes "input"))
+    (past (codes "input") (pair (maybe (is_front (codes "wire")) (word_only (codes "wire"))) (type levels)))
     (past (codes "output") (output_behind levels)))
 
 abbrev pub is_direction : Option Text → Bool
-is_direction = is_meant (λ word. written (λ text. text) (codes "input" ∷ codes "output" ∷ []) word)
+is_direction = is_meant (λ word. by_spelling (λ text. text) (codes "input" ∷ codes "output" ∷ []) word)
 
 -- Items. Each stands behind its first word.
 
-abbrev pub ended : {A : Type 0} → Reader A → Reader (Both (List_of A) (Unit {0}))
-ended read = paired (comma_list read) (word_only (codes ";"))
+abbrev pub list_and_semicolon : {A : Type 0} → Reader A → Reader (Both (List_of A) (Unit {0}))
+list_and_semicolon read = pair (comma_list read) (word_only (codes ";"))
 
 abbrev pub local_of : Text → Option Bool
-local_of word = written parameter_word (false ∷ true ∷ []) word
+local_of word = by_spelling parameter_word (false ∷ true ∷ []) word
 
 abbrev pub Parameters : Type 0
 Parameters = Both Bool (Both ParameterType (Both (List_of SettingTree) (Unit {0})))
@@ -204,19 +204,19 @@ item_of (other_way (other_way (other_way (other_way (other_way (other_way (other
 
 abbrev pub item_parts : ℕ → Reader Item
 item_parts levels =
-    either (is_meant local_of) (paired (worded local_of) (paired (parameter_type levels) (ended (setting levels))))
-    (either (is_meant net_of) (paired (worded net_of) (paired (type levels) (ended (declared levels))))
-    (either is_direction (paired (direction levels) (ended (declared levels)))
-    (either (is_front (codes "integer")) (past (codes "integer") (ended (declared levels)))
-    (either (is_front (codes "time")) (past (codes "time") (ended (declared levels)))
-    (either (is_front (codes "event")) (past (codes "event") (ended named))
-    (either (is_front (codes "assign")) (past (codes "assign") (ended (net_assignment levels)))
+    either (is_meant local_of) (pair (word_as local_of) (pair (parameter_type levels) (list_and_semicolon (setting levels))))
+    (either (is_meant net_of) (pair (word_as net_of) (pair (type levels) (list_and_semicolon (declarator levels))))
+    (either is_direction (pair (direction levels) (list_and_semicolon (declarator levels)))
+    (either (is_front (codes "integer")) (past (codes "integer") (list_and_semicolon (declarator levels)))
+    (either (is_front (codes "time")) (past (codes "time") (list_and_semicolon (declarator levels)))
+    (either (is_front (codes "event")) (past (codes "event") (list_and_semicolon name_word))
+    (either (is_front (codes "assign")) (past (codes "assign") (list_and_semicolon (net_assignment levels)))
     (either (is_front (codes "initial")) (past (codes "initial") (statement levels))
     (either (is_front (codes "always")) (past (codes "always") (statement levels))
-    (paired named (paired (overrides levels) (ended (instance_behind levels))))))))))))
+    (pair name_word (pair (overrides levels) (list_and_semicolon (instance_behind levels))))))))))))
 
 abbrev pub item : ℕ → Reader ItemTree
-item levels = made item_of (item_parts levels)
+item levels = map_tree item_of (item_parts levels)
 
 -- The head of a module
 
@@ -227,16 +227,16 @@ abbrev pub head_parameter_of : Both (Option ParameterType) SettingTree → HeadP
 head_parameter_of (both tree set) = record { kind = tree; setting = set }
 
 abbrev pub first_parameter : ℕ → Reader HeadParameter
-first_parameter levels = made first_parameter_of (past (codes "parameter") (paired (parameter_type levels) (setting levels)))
+first_parameter levels = map_tree first_parameter_of (past (codes "parameter") (pair (parameter_type levels) (setting levels)))
 
 abbrev pub head_parameter : ℕ → Reader HeadParameter
-head_parameter levels = made head_parameter_of
-    (paired (maybe (is_front (codes "parameter")) (past (codes "parameter") (parameter_type levels))) (setting levels))
+head_parameter levels = map_tree head_parameter_of
+    (pair (maybe (is_front (codes "parameter")) (past (codes "parameter") (parameter_type levels))) (setting levels))
 
 -- behind #
 abbrev pub head_parameters : ℕ → Reader (Both (List_of HeadParameter) (Unit {0}))
 head_parameters levels =
-    past (codes "(") (paired (paired (first_parameter levels)
+    past (codes "(") (pair (pair (first_parameter levels)
     (many (is_front (codes ",")) (λ list. past (codes ",") (head_parameter levels)))) (word_only (codes ")")))
 
 abbrev pub first_port_of : Both DirectionTree DeclaredTree → PortTree
@@ -246,21 +246,21 @@ abbrev pub port_of : Both (Option DirectionTree) DeclaredTree → PortTree
 port_of (both tree one) = record { direction = tree; name = one.name; value = one.value }
 
 abbrev pub port : ℕ → Reader PortTree
-port levels = made port_of (paired (maybe is_direction (direction levels)) (declared levels))
+port levels = map_tree port_of (pair (maybe is_direction (direction levels)) (declarator levels))
 
 abbrev pub named_port_of : Text → PortTree
 named_port_of letters = record { direction = None; name = letters; value = None }
 
 -- a port that an item declares
 abbrev pub named_port : Reader PortTree
-named_port = made named_port_of named
+named_port = map_tree named_port_of name_word
 
 -- behind one port, more, up to )
 abbrev pub PortsBehind : Type 0 → Type 0
 PortsBehind A = Both (Both A (List PortTree)) (Unit {0})
 
 abbrev pub ports_behind : {A : Type 0} → Reader A → Reader PortTree → Reader (PortsBehind A)
-ports_behind first read = paired (paired first (many (is_front (codes ",")) (λ list. past (codes ",") read))) (word_only (codes ")"))
+ports_behind first read = pair (pair first (many (is_front (codes ",")) (λ list. past (codes ",") read))) (word_only (codes ")"))
 
 abbrev pub PortList : Type 0
 PortList = Either (PortsBehind (Both DirectionTree DeclaredTree)) (PortsBehind Text)
@@ -268,7 +268,7 @@ PortList = Either (PortsBehind (Both DirectionTree DeclaredTree)) (PortsBehind T
 -- ports with their directions, or names alone
 abbrev pub port_list : ℕ → Reader PortList
 port_list levels =
-    either is_direction (ports_behind (paired (direction levels) (declared levels)) (port levels)) (ports_behind named named_port)
+    either is_direction (ports_behind (pair (direction levels) (declarator levels)) (port levels)) (ports_behind name_word named_port)
 
 abbrev pub ports_of : Either (Unit {0}) PortList → List PortTree
 ports_of (one_way end) = []
@@ -276,7 +276,7 @@ ports_of (other_way (one_way (both (both first more) end))) = first_port_of firs
 ports_of (other_way (other_way (both (both letters more) end))) = named_port_of letters ∷ more
 
 abbrev pub ports : ℕ → Reader (List PortTree)
-ports levels = made ports_of (past (codes "(") (either (is_front (codes ")")) (word_only (codes ")")) (port_list levels)))
+ports levels = map_tree ports_of (past (codes "(") (either (is_front (codes ")")) (word_only (codes ")")) (port_list levels)))
 
 abbrev pub head_list_of : Both (List_of HeadParameter) (Unit {0}) → List HeadParameter
 head_list_of (both list end) = listed_of list
@@ -290,10 +290,10 @@ module_of (both letters (both head (both list (both body end)))) =
 
 abbrev pub module_tree : ℕ → Reader ModuleTree
 module_tree levels =
-    made module_of (past (codes "module") (paired named
-    (paired (maybe (is_front (codes "#")) (past (codes "#") (made head_list_of (head_parameters levels))))
-    (paired (maybe (is_front (codes "(")) (ports levels))
-    (past (codes ";") (paired (many (λ next. not (is_front (codes "endmodule") next)) (λ list. item levels))
+    map_tree module_of (past (codes "module") (pair name_word
+    (pair (maybe (is_front (codes "#")) (past (codes "#") (map_tree head_list_of (head_parameters levels))))
+    (pair (maybe (is_front (codes "(")) (ports levels))
+    (past (codes ";") (pair (many (λ next. not (is_front (codes "endmodule") next)) (λ list. item levels))
     (word_only (codes "endmodule"))))))))
 
 abbrev pub is_some_word : Option Text → Bool

@@ -10,7 +10,7 @@ use Rattle.vast.specs.declared.statement.Base.TheVariants as bases
 use Rattle.vast.specs.declared.statement.Printing.TheVariants as printing
 use Rattle.vast.specs.declared.statement.Idle.TheVariants as idles
 use Rattle.vast.specs.declared.statement.Dumping.TheVariants as dumping
-use Rattle.vexpr_parse.specs.Words.{written}
+use Rattle.vexpr_parse.specs.Words.{by_spelling}
 use Rattle.vgrammar.specs.declared.start.Guard.{Guard}
 use Rattle.vgrammar.specs.declared.start.Guard.TheVariants as guard
 use Rattle.vgrammar.specs.declared.start.StatementStart.{StatementStart}
@@ -69,7 +69,7 @@ statement_starts =
 
 -- what a statement's first word begins, if it isn't an assignment
 unfoldable pub start_of : Text → Option StatementStart
-start_of word = written start_word statement_starts word
+start_of word = by_spelling start_word statement_starts word
 
 -- A.8.5: whether the word begins what an assignment writes to
 unfoldable pub begins_target : Text → Bool
@@ -92,17 +92,17 @@ abbrev pub sign_word : Bool → Text
 sign_word later = if later then codes "<=" else codes "="
 
 abbrev pub sign_of : Text → Option Bool
-sign_of word = written sign_word (false ∷ true ∷ []) word
+sign_of word = by_spelling sign_word (false ∷ true ∷ []) word
 
 abbrev pub edge_of : Text → Option Edge
-edge_of word = written edge_word (edge.Rising ∷ edge.Falling ∷ []) word
+edge_of word = by_spelling edge_word (edge.Rising ∷ edge.Falling ∷ []) word
 
 -- what stands between two terms; whether it is a comma
 abbrev pub comma_word : Bool → Text
 comma_word comma = if comma then codes "," else codes "or"
 
 abbrev pub comma_of : Text → Option Bool
-comma_of word = written comma_word (true ∷ false ∷ []) word
+comma_of word = by_spelling comma_word (true ∷ false ∷ []) word
 
 -- whether the word means something
 abbrev pub is_some_meaning : {A : Type 0} → Option A → Bool

@@ -12,24 +12,24 @@ use Rattle.vast.specs.declared.statement.Printing.{Printing}
 use Rattle.vast.specs.declared.statement.Idle.{Idle}
 use Rattle.vast.specs.declared.statement.Printing.TheVariants as printing
 use Rattle.vexpr_parse.specs.declared.stop.Stop.TheVariants.{NoTree}
-use Rattle.vexpr_parse.specs.Readers.{Reader, Lead, goes, refused, lower, got, stop, led, room, past, choose, is_front}
+use Rattle.vexpr_parse.specs.Readers.{Reader, Lead, goes, refused, lower, got, stop, by_word, room, past, choose, is_front}
 use Rattle.vexpr_parse.specs.Reading.{expression, trees_in}
 use Rattle.vgrammar.specs.declared.start.Guard.{Guard}
 use Rattle.vgrammar.specs.declared.start.Guard.TheVariants as guard
 use Rattle.vgrammar.specs.declared.start.StatementStart.{StatementStart}
 use Rattle.vgrammar.specs.declared.start.StatementStart.TheVariants as start
-use Rattle.vgrammar.specs.Parts.{Both, both, Either, one_way, other_way, made, paired, linked, worded, many, maybe, either, roomy}
+use Rattle.vgrammar.specs.Parts.{Both, both, Either, one_way, other_way, map_tree, pair, bind, word_as, many, maybe, either, roomy}
 use Rattle.vgrammar.specs.Starts.{start_of, begins_target, is_target, meant_if, is_word, sign_of, edge_of, comma_of, is_meant}
 
 -- an expression
 abbrev pub value : ℕ → Reader ExpressionTree
 value levels = expression levels 0
 
-abbrev pub named : Reader Text
-named = worded (meant_if is_name)
+abbrev pub name_word : Reader Text
+name_word = word_as (meant_if is_name)
 
-abbrev pub numbered : Reader Text
-numbered = worded (meant_if is_number)
+abbrev pub number_word : Reader Text
+number_word = word_as (meant_if is_number)
 
 -- this very word, and no more
 abbrev pub word_only : Text → Reader (Unit {0})
@@ -40,7 +40,7 @@ abbrev pub List_of : Type 0 → Type 0
 List_of A = Both A (List A)
 
 abbrev pub comma_list : {A : Type 0} → Reader A → Reader (List_of A)
-comma_list read = paired read (many (is_front (codes ",")) (λ list. past (codes ",") read))
+comma_list read = pair read (many (is_front (codes ",")) (λ list. past (codes ",") read))
 
 -- What an assignment writes to
 
@@ -50,7 +50,7 @@ Select = Both ExpressionTree (Either (Both ExpressionTree (Unit {0})) (Unit {0})
 
 abbrev pub select : ℕ → Reader Select
 select below =
-    paired (value below) (either (is_front (codes ":")) (past (codes ":") (paired (value below) (word_only (codes "]"))))
+    pair (value below) (either (is_front (codes ":")) (past (codes ":") (pair (value below) (word_only (codes "]"))))
     (word_only (codes "]")))
 
 abbrev pub target_of : Text → Option Select → TargetTree
@@ -59,7 +59,7 @@ target_of letters (Some (both left (one_way (both right end)))) = part letters l
 target_of letters (Some (both index (other_way end))) = bit letters index
 
 abbrev pub named_target : ℕ → Text → Reader TargetTree
-named_target below letters = made (target_of letters)
+named_target below letters = map_tree (target_of letters)
     (maybe (is_front (codes "[")) (roomy below 1 (past (codes "[") (select below))))
 
 abbrev pub targets_in : List TargetTree → TargetTrees
@@ -70,7 +70,7 @@ abbrev pub joined_of : Both (List_of TargetTree) (Unit {0}) → TargetTree
 joined_of (both (both tree more) end) = joined (first_target tree (targets_in more))
 
 abbrev pub joined_targets : Reader TargetTree → Reader TargetTree
-joined_targets read = made joined_of (paired (comma_list read) (word_only (codes "}")))
+joined_targets read = map_tree joined_of (pair (comma_list read) (word_only (codes "}")))
 
 abbrev pub target_lead : ℕ → Reader TargetTree → Text → Lead TargetTree
 target_lead below read word =
@@ -79,8 +79,8 @@ target_lead below read word =
     else refused
 
 unfoldable pub target : ℕ → Reader TargetTree
-target zero = led (λ word. if begins_target word then lower else refused)
-target (suc below) = led (target_lead below (target below))
+target zero = by_word (λ word. if begins_target word then lower else refused)
+target (suc below) = by_word (target_lead below (target below))
 
 -- Delays and assignments
 
@@ -95,8 +95,8 @@ delay_of (other_way (other_way (both amount end))) = by_value amount
 -- behind #
 abbrev pub amount : ℕ → Reader DelayTree
 amount below =
-    made delay_of (either (is_word is_number) numbered (either (is_word is_name) named
-    (past (codes "(") (paired (value below) (word_only (codes ")"))))))
+    map_tree delay_of (either (is_word is_number) number_word (either (is_word is_name) name_word
+    (past (codes "(") (pair (value below) (word_only (codes ")"))))))
 
 abbrev pub optional_delay : ℕ → Reader (Option DelayTree)
 optional_delay below = maybe (is_front (codes "#")) (past (codes "#") (amount below))
@@ -110,23 +110,23 @@ assignment_of (both tree
 
 abbrev pub assignment_parts : ℕ → Reader Assignment
 assignment_parts below =
-    paired (target below) (paired (worded sign_of) (paired (optional_delay below) (paired (value below) (word_only (codes ";")))))
+    pair (target below) (pair (word_as sign_of) (pair (optional_delay below) (pair (value below) (word_only (codes ";")))))
 
 abbrev pub assignment : ℕ → Reader StatementTree
-assignment below = made assignment_of (assignment_parts below)
+assignment below = map_tree assignment_of (assignment_parts below)
 
 -- Statements round others. Each stands behind its first word.
 
 -- ( value ) and what is read behind it
-abbrev pub guarded : {A : Type 0} → ℕ → Reader A → Reader (Both ExpressionTree A)
-guarded below read = past (codes "(") (paired (value below) (past (codes ")") read))
+abbrev pub value_then : {A : Type 0} → ℕ → Reader A → Reader (Both ExpressionTree A)
+value_then below read = past (codes "(") (pair (value below) (past (codes ")") read))
 
 abbrev pub if_of : Both ExpressionTree (Both StatementTree (Option StatementTree)) → StatementTree
 if_of (both condition (both body None)) = if_true condition body
 if_of (both condition (both body (Some otherwise))) = if_else condition body otherwise
 
 abbrev pub branches_of_if : Reader StatementTree → Reader (Both StatementTree (Option StatementTree))
-branches_of_if read = paired read (maybe (is_front (codes "else")) (past (codes "else") read))
+branches_of_if read = pair read (maybe (is_front (codes "else")) (past (codes "else") read))
 
 abbrev pub guarded_of : Guard → Both ExpressionTree StatementTree → StatementTree
 guarded_of guard.While (both condition body) = while_true condition body
@@ -134,7 +134,7 @@ guarded_of guard.Repeat (both count body) = repeat_times count body
 guarded_of guard.Wait (both condition body) = wait_for condition body
 
 abbrev pub setting : ℕ → Reader (Both TargetTree ExpressionTree)
-setting below = paired (target below) (past (codes "=") (value below))
+setting below = pair (target below) (past (codes "=") (value below))
 
 abbrev pub For : Type 0
 For = Both (Both TargetTree ExpressionTree) (Both ExpressionTree (Both (Both TargetTree ExpressionTree) StatementTree))
@@ -145,8 +145,8 @@ for_of (both (both tree right)
 
 abbrev pub for_parts : ℕ → Reader StatementTree → Reader For
 for_parts below read =
-    past (codes "(") (paired (setting below) (past (codes ";") (paired (value below) (past (codes ";")
-    (paired (setting below) (past (codes ")") read))))))
+    past (codes "(") (pair (setting below) (past (codes ";") (pair (value below) (past (codes ";")
+    (pair (setting below) (past (codes ")") read))))))
 
 abbrev pub delayed_of : Both DelayTree StatementTree → StatementTree
 delayed_of (both wait body) = delay wait body
@@ -157,13 +157,13 @@ abbrev pub term_of : Both (Option Edge) Text → TermTree
 term_of (both kind letters) = record { edge = kind; name = letters }
 
 abbrev pub term : Reader TermTree
-term = made term_of (paired (maybe (is_meant edge_of) (worded edge_of)) named)
+term = map_tree term_of (pair (maybe (is_meant edge_of) (word_as edge_of)) name_word)
 
 abbrev pub further_of : Both Bool TermTree → FurtherTerm
 further_of (both comma tree) = record { by_comma = comma; term = tree }
 
 abbrev pub further_term : Reader FurtherTerm
-further_term = made further_of (paired (worded comma_of) term)
+further_term = map_tree further_of (pair (word_as comma_of) term)
 
 abbrev pub Terms : Type 0
 Terms = Both (Both TermTree (List FurtherTerm)) (Unit {0})
@@ -181,12 +181,12 @@ event_of (other_way (other_way (other_way (both (both tree more) end)))) = by_te
 abbrev pub enclosed_event : Reader (Either (Unit {0}) Terms)
 enclosed_event =
     either (is_front (codes "*")) (past (codes "*") (word_only (codes ")")))
-    (paired (paired term (many (is_meant comma_of) (λ list. further_term))) (word_only (codes ")")))
+    (pair (pair term (many (is_meant comma_of) (λ list. further_term))) (word_only (codes ")")))
 
 -- behind @
 abbrev pub control : Reader EventTree
 control =
-    made event_of (either (is_word is_name) named (either (is_front (codes "*")) (word_only (codes "*"))
+    map_tree event_of (either (is_word is_name) name_word (either (is_front (codes "*")) (word_only (codes "*"))
     (past (codes "(") enclosed_event)))
 
 abbrev pub event_body_of : Both EventTree StatementTree → StatementTree
@@ -206,13 +206,13 @@ abbrev pub block_of : Block → StatementTree
 block_of (both label (both list end)) = block label (statements_in list)
 
 abbrev pub block_name : Reader (Option Text)
-block_name = maybe (is_front (codes ":")) (past (codes ":") named)
+block_name = maybe (is_front (codes ":")) (past (codes ":") name_word)
 
 abbrev pub ended_statements : Reader StatementTree → Reader (Both (List StatementTree) (Unit {0}))
-ended_statements read = paired (many (λ next. not (is_front (codes "end") next)) (λ list. read)) (word_only (codes "end"))
+ended_statements read = pair (many (λ next. not (is_front (codes "end") next)) (λ list. read)) (word_only (codes "end"))
 
 abbrev pub block_parts : Reader StatementTree → Reader Block
-block_parts read = paired block_name (ended_statements read)
+block_parts read = pair block_name (ended_statements read)
 
 -- Cases
 
@@ -232,13 +232,13 @@ branch_of (other_way (both (both label more) body)) = labelled (first_part label
 abbrev pub default_branch : Reader StatementTree → Bool → Reader (Both (Option (Unit {0})) StatementTree)
 default_branch read true words = stop NoTree words
 default_branch read false words =
-    past (codes "default") (paired (maybe (is_front (codes ":")) (word_only (codes ":"))) read) words
+    past (codes "default") (pair (maybe (is_front (codes ":")) (word_only (codes ":"))) read) words
 
 -- a branch behind others
 abbrev pub branch : ℕ → Reader StatementTree → List BranchTree → Reader BranchTree
 branch below read list =
-    made branch_of (either (is_front (codes "default")) (default_branch read (has_default list))
-    (paired (comma_list (value below)) (past (codes ":") read)))
+    map_tree branch_of (either (is_front (codes "default")) (default_branch read (has_default list))
+    (pair (comma_list (value below)) (past (codes ":") read)))
 
 abbrev pub branches_in : List BranchTree → BranchTrees
 branches_in [] = no_branch
@@ -252,11 +252,11 @@ case_parts_of kind (both tree (both (both one more) end)) = case_of kind tree (f
 
 abbrev pub branches : ℕ → Reader StatementTree → Reader (List_of BranchTree)
 branches below read =
-    linked (branch below read [])
+    bind (branch below read [])
     (λ one. many (λ next. not (is_front (codes "endcase") next)) (λ list. branch below read (one ∷ list)))
 
 abbrev pub case_parts : ℕ → Reader StatementTree → Reader Case
-case_parts below read = guarded below (paired (branches below read) (word_only (codes "endcase")))
+case_parts below read = value_then below (pair (branches below read) (word_only (codes "endcase")))
 
 -- Tasks
 
@@ -270,14 +270,14 @@ argument_of (Some (one_way letters)) = quoted letters
 argument_of (Some (other_way tree)) = printed tree
 
 abbrev pub argument : ℕ → Reader ArgumentTree
-argument below = made argument_of (maybe begins_argument (either (is_word is_string) (worded (meant_if is_string)) (value below)))
+argument below = map_tree argument_of (maybe begins_argument (either (is_word is_string) (word_as (meant_if is_string)) (value below)))
 
 abbrev pub Arguments : Type 0
 Arguments = Both (List_of ArgumentTree) (Unit {0})
 
 -- ( argument, .. )
 abbrev pub arguments : ℕ → Reader Arguments
-arguments below = past (codes "(") (paired (comma_list (argument below)) (word_only (codes ")")))
+arguments below = past (codes "(") (pair (comma_list (argument below)) (word_only (codes ")")))
 
 abbrev pub print_of : Printing → Both Arguments (Unit {0}) → StatementTree
 print_of kind (both (both (both one more) closing) end) = task (print kind (one ∷ more))
@@ -288,14 +288,14 @@ optional_print_of kind (both (Some (both (both one more) closing)) end) = task (
 
 abbrev pub optional_print : ℕ → Printing → Lead StatementTree
 optional_print below kind =
-    goes (made (optional_print_of kind) (paired (maybe (is_front (codes "(")) (roomy below 1 (arguments below))) (word_only (codes ";"))))
+    goes (map_tree (optional_print_of kind) (pair (maybe (is_front (codes "(")) (roomy below 1 (arguments below))) (word_only (codes ";"))))
 
 abbrev pub print_lead : ℕ → Printing → Lead StatementTree
 print_lead below (printing.Display base) = optional_print below (printing.Display base)
 print_lead below (printing.Write base) = optional_print below (printing.Write base)
 print_lead below (printing.Strobe base) = optional_print below (printing.Strobe base)
 print_lead below (printing.Monitor base) = room below 1
-    (goes (made (print_of (printing.Monitor base)) (paired (arguments below) (word_only (codes ";")))))
+    (goes (map_tree (print_of (printing.Monitor base)) (pair (arguments below) (word_only (codes ";")))))
 
 abbrev pub idle_of : Idle → Both (Option Arguments) (Unit {0}) → StatementTree
 idle_of kind (both None end) = task (idle kind [])
@@ -305,13 +305,13 @@ abbrev pub dump_file_of : Both Text (Unit {0}) → StatementTree
 dump_file_of (both letters end) = task (dump_file letters)
 
 abbrev pub dump_file_parts : Reader (Both Text (Unit {0}))
-dump_file_parts = past (codes "(") (paired (worded (meant_if is_string)) (past (codes ")") (word_only (codes ";"))))
+dump_file_parts = past (codes "(") (pair (word_as (meant_if is_string)) (past (codes ")") (word_only (codes ";"))))
 
 abbrev pub path_of : List_of Text → List Text
 path_of (both letters more) = letters ∷ more
 
 abbrev pub path : Reader (List Text)
-path = made path_of (paired named (many (is_front (codes ".")) (λ list. past (codes ".") named)))
+path = map_tree path_of (pair name_word (many (is_front (codes ".")) (λ list. past (codes ".") name_word)))
 
 abbrev pub Selection : Type 0
 Selection = Both Text (Both (List (List Text)) (Unit {0}))
@@ -321,7 +321,7 @@ selection_of (both digits (both paths end)) = record { levels = digits; paths = 
 
 abbrev pub selection : Reader SelectionTree
 selection =
-    made selection_of (past (codes "(") (paired numbered (paired (many (is_front (codes ",")) (λ list. past (codes ",") path))
+    map_tree selection_of (past (codes "(") (pair number_word (pair (many (is_front (codes ",")) (λ list. past (codes ",") path))
     (word_only (codes ")")))))
 
 abbrev pub dump_vars_of : Both (Option SelectionTree) (Unit {0}) → StatementTree
@@ -332,7 +332,7 @@ end_of stops (both None end) = task (end_run stops None)
 end_of stops (both (Some (both digits closing)) end) = task (end_run stops (Some digits))
 
 abbrev pub end_parts : Reader (Both (Option (Both Text (Unit {0}))) (Unit {0}))
-end_parts = paired (maybe (is_front (codes "(")) (past (codes "(") (paired numbered (word_only (codes ")")))))
+end_parts = pair (maybe (is_front (codes "(")) (past (codes "(") (pair number_word (word_only (codes ")")))))
     (word_only (codes ";"))
 
 abbrev pub dump_of : Dumping → Unit {0} → StatementTree
@@ -345,23 +345,23 @@ trigger_of (both letters end) = trigger letters
 
 abbrev pub statement_by : ℕ → Reader StatementTree → StatementStart → Lead StatementTree
 statement_by below read start.Empty = goes (got empty)
-statement_by below read start.Begin = goes (made block_of (block_parts read))
-statement_by below read start.Trigger = room below 1 (goes (made trigger_of (paired named (word_only (codes ";")))))
-statement_by below read start.If = room below 1 (goes (made if_of (guarded below (branches_of_if read))))
-statement_by below read (start.Case kind) = room below 1 (goes (made (case_parts_of kind) (case_parts below read)))
-statement_by below read (start.Guarded kind) = room below 1 (goes (made (guarded_of kind) (guarded below read)))
-statement_by below read start.Forever = room below 1 (goes (made forever read))
-statement_by below read start.For = room below 1 (goes (made for_of (for_parts below read)))
-statement_by below read start.Delay = room below 1 (goes (made delayed_of (paired (amount below) read)))
-statement_by below read start.Event = room below 1 (goes (made event_body_of (paired control read)))
+statement_by below read start.Begin = goes (map_tree block_of (block_parts read))
+statement_by below read start.Trigger = room below 1 (goes (map_tree trigger_of (pair name_word (word_only (codes ";")))))
+statement_by below read start.If = room below 1 (goes (map_tree if_of (value_then below (branches_of_if read))))
+statement_by below read (start.Case kind) = room below 1 (goes (map_tree (case_parts_of kind) (case_parts below read)))
+statement_by below read (start.Guarded kind) = room below 1 (goes (map_tree (guarded_of kind) (value_then below read)))
+statement_by below read start.Forever = room below 1 (goes (map_tree forever read))
+statement_by below read start.For = room below 1 (goes (map_tree for_of (for_parts below read)))
+statement_by below read start.Delay = room below 1 (goes (map_tree delayed_of (pair (amount below) read)))
+statement_by below read start.Event = room below 1 (goes (map_tree event_body_of (pair control read)))
 statement_by below read (start.Print kind) = print_lead below kind
 statement_by below read (start.Idle kind) =
-    goes (made (idle_of kind) (paired (maybe (is_front (codes "(")) (roomy below 1 (arguments below))) (word_only (codes ";"))))
-statement_by below read start.DumpFile = room below 1 (goes (made dump_file_of dump_file_parts))
+    goes (map_tree (idle_of kind) (pair (maybe (is_front (codes "(")) (roomy below 1 (arguments below))) (word_only (codes ";"))))
+statement_by below read start.DumpFile = room below 1 (goes (map_tree dump_file_of dump_file_parts))
 statement_by below read start.DumpVars =
-    goes (made dump_vars_of (paired (maybe (is_front (codes "(")) selection) (word_only (codes ";"))))
-statement_by below read (start.Dump kind) = goes (made (dump_of kind) (word_only (codes ";")))
-statement_by below read (start.End stops) = goes (made (end_of stops) end_parts)
+    goes (map_tree dump_vars_of (pair (maybe (is_front (codes "(")) selection) (word_only (codes ";"))))
+statement_by below read (start.Dump kind) = goes (map_tree (dump_of kind) (word_only (codes ";")))
+statement_by below read (start.End stops) = goes (map_tree (end_of stops) end_parts)
 
 abbrev pub lead_by : ℕ → Reader StatementTree → Option StatementStart → Lead StatementTree
 lead_by below read None = refused
@@ -372,9 +372,9 @@ begins_statement word = begins_target word || is_meant start_of (Some word)
 
 -- a statement of so many levels at most
 unfoldable pub statement : ℕ → Reader StatementTree
-statement zero = led (λ word. if begins_statement word then lower else refused)
+statement zero = by_word (λ word. if begins_statement word then lower else refused)
 statement (suc below) =
-    choose is_target (roomy below 1 (assignment below)) (led (λ word. lead_by below (statement below) (start_of word)))
+    choose is_target (roomy below 1 (assignment below)) (by_word (λ word. lead_by below (statement below) (start_of word)))
 
 -- where a statement ends: an else goes on
 abbrev pub ends_statement : Option Text → Bool

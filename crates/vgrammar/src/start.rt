@@ -3,7 +3,7 @@
 ghost use Rattle.std.specs.Prelude.{◌≡◌};
 ghost use Rattle.std.specs.Str.{bytes_eq};
 ghost use Rattle.vast.specs.Statements.{dump_word as dump_text};
-ghost use Rattle.vexpr_parse.specs.Words.{written};
+ghost use Rattle.vexpr_parse.specs.Words.{by_spelling};
 ghost use Rattle.vgrammar.specs.Starts.{guard_word as guard_text, start_word as start_text, start_of as start_of_text, begins_target as begins_target_text};
 
 use vast::statement::{Base, CaseKind, Dumping, Idle, Printing};
@@ -173,7 +173,7 @@ fn is(word: &[u8], text: &[u8]) -> bool
 }
 
 fn start_among(word: &[u8], starts: &[StatementStart]) -> Option<StatementStart>
-    ensures { result ≡ written start_text starts.now word.now }
+    ensures { result ≡ by_spelling start_text starts.now word.now }
 {
     for start in starts {
         if is(word, start_word(*start)) {

@@ -15,13 +15,13 @@ use Rattle.vmodules.specs.Hierarchy.{top_of, module_names, rival_of}
 use Rattle.velab_expr.specs.declared.fault.Rule.TheVariants.{Doubled, Top}
 use Rattle.velab_expr.specs.declared.fault.ElabFault.{ElabFault}
 use Rattle.velab_expr.specs.Answers.{◌>>=◌, found, fault_of, Refuses, Gives}
-use Rattle.velab_expr.specs.Rules.{told, broken_at, IsBroken}
+use Rattle.velab_expr.specs.Rules.{fault_at, broken_at, IsBroken}
 use Rattle.velab_expr.proofs.ListLemmas.{drop_at}
 use Rattle.velab_expr.proofs.AnswerLemmas.{still_refused}
-use Rattle.velab_declaration.specs.Drives.{Place, start_of, started}
+use Rattle.velab_declaration.specs.Drives.{Place, start_of, with_start_values}
 use Rattle.velab_declaration.specs.DriveMarks.{starts_from}
 use Rattle.vhierarchy.proofs.StepLemmas.{barred, first_refused}
-use Rattle.vhierarchy.specs.Instances.{barring, faultless, Part, Context, nothing, top_context, elaborate_instance, elaborate_top, design_by, broken_design, Whole, checked, whole_of, broken_ports, unbroken, top_whole, elaborated_whole, as_design, elaborated, Elaborates}
+use Rattle.vhierarchy.specs.Instances.{barring, faultless, Part, Context, nothing, top_context, elaborate_instance, elaborate_top, design_by, broken_design, Whole, check, whole_of, broken_ports, unless_fault, top_whole, elaborated_whole, as_design, elaborated, Elaborates}
 use Rattle.vhierarchy.specs.Reasons.{IsDesignReason, IsOnlyDesign, HasNoDesign}
 use Rattle.vhierarchy.specs.Inner.{variable_names, scope_names, with_starts}
 
@@ -37,7 +37,7 @@ scopes_again list i s names all within at same =
     doubles names (scope_names (drop (i + 1) list)) all s.path (ap (λ (ss : List Room). names ++ scope_names ss) (sym (drop_at list i s within at)) ∙ same)
 
 -- variables with what each is at first are what a design has
-pub all_started : (driven : List Place) (n : ℕ) (vs : List Variable) → with_starts vs (starts_from driven n vs) ≡ started driven n vs
+pub all_started : (driven : List Place) (n : ℕ) (vs : List Variable) → with_starts vs (starts_from driven n vs) ≡ with_start_values driven n vs
 all_started driven n [] = refl
 all_started driven n (v ∷ more) = ap (λ (l : List Variable). record v { start = start_of driven n v } ∷ l) (all_started driven (n + 1) more)
 
@@ -71,17 +71,17 @@ top_is m name names connections named none nothing_tied = λ i. record {
 
 -- what is broken of it is told, and nothing where none is
 module _ (scale : Timescale) (m : ModuleTree) (part : Part) where
-  pub wrong : (e : OrMemory ElabFault) → Because (IsBroken (broken_design m.name part)) e → Refuses e (as_design scale (checked m part))
+  pub wrong : (e : OrMemory ElabFault) → Because (IsBroken (broken_design m.name part)) e → Refuses e (as_design scale (check m part))
   wrong (Fault fault) h = ap (λ (b : Option ElabFault). as_design scale (faultless b (record { unit = m; part = part }))) h
   wrong (Memory memory) h = tt
 
   -- of the top
   module _ (modules : SourceTree) where
     pub top_wrong : (e : OrMemory ElabFault) → Refuses e (elaborate_top modules m) → Refuses e (as_design scale (whole_of modules m))
-    top_wrong = still_refused (elaborate_top modules m) (as_design scale (whole_of modules m)) (λ fault is. ap (λ (r : Result Part ElabFault). as_design scale (r >>= λ p. checked m p)) is)
+    top_wrong = still_refused (elaborate_top modules m) (as_design scale (whole_of modules m)) (λ fault is. ap (λ (r : Result Part ElabFault). as_design scale (r >>= λ p. check m p)) is)
 
-    pub top_sound : elaborate_top modules m ≡ Ok part → as_design scale (whole_of modules m) ≡ as_design scale (checked m part)
-    top_sound is = ap (λ (r : Result Part ElabFault). as_design scale (r >>= λ p. checked m p)) is
+    pub top_sound : elaborate_top modules m ≡ Ok part → as_design scale (whole_of modules m) ≡ as_design scale (check m part)
+    top_sound is = ap (λ (r : Result Part ElabFault). as_design scale (r >>= λ p. check m p)) is
 
 -- ---- the text
 
@@ -91,20 +91,20 @@ module _ (tree : SourceTree) (top : Option Text) (scale : Timescale) where
   modules_doubled e h = first_refused (elaborated_whole tree top) (λ whole. Ok (design_by scale whole.unit whole.part)) e (barred Doubled (first_again (module_names tree)) _ e h)
 
   module _ (differ : first_again (module_names tree) ≡ None) where
-    ports_first : elaborated tree top scale ≡ as_design scale (unbroken (broken_ports tree) (top_whole tree top))
-    ports_first = ap (λ (w : Option Word). as_design scale (barring w Doubled (unbroken (broken_ports tree) (top_whole tree top)))) differ
+    ports_first : elaborated tree top scale ≡ as_design scale (unless_fault (broken_ports tree) (top_whole tree top))
+    ports_first = ap (λ (w : Option Word). as_design scale (barring w Doubled (unless_fault (broken_ports tree) (top_whole tree top)))) differ
 
     pub ports_broken : (e : OrMemory ElabFault) → Because (IsBroken (broken_ports tree)) e → Refuses e (elaborated tree top scale)
-    ports_broken (Fault fault) h = ports_first ∙ ap (λ (b : Option ElabFault). as_design scale (unbroken b (top_whole tree top))) h
+    ports_broken (Fault fault) h = ports_first ∙ ap (λ (b : Option ElabFault). as_design scale (unless_fault b (top_whole tree top))) h
     ports_broken (Memory memory) h = tt
 
     pub ports_sound : broken_ports tree ≡ None → elaborated tree top scale ≡ as_design scale (top_whole tree top)
-    ports_sound none = ports_first ∙ ap (λ (b : Option ElabFault). as_design scale (unbroken b (top_whole tree top))) none
+    ports_sound none = ports_first ∙ ap (λ (b : Option ElabFault). as_design scale (unless_fault b (top_whole tree top))) none
 
   abbrev with_top : Option ModuleTree → Result Design ElabFault
   with_top unit = as_design scale (found unit Top (rival_of tree top) >>= λ m. whole_of tree m)
 
-  pub top_missing : top_of tree top ≡ None → as_design scale (top_whole tree top) ≡ Err (told Top (rival_of tree top))
+  pub top_missing : top_of tree top ≡ None → as_design scale (top_whole tree top) ≡ Err (fault_at Top (rival_of tree top))
   top_missing is = ap (λ (u : Option ModuleTree). with_top u) is
 
   pub top_found : (m : ModuleTree) → top_of tree top ≡ Some m → as_design scale (top_whole tree top) ≡ as_design scale (whole_of tree m)

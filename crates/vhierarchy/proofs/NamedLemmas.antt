@@ -8,7 +8,7 @@ use Rattle.std.proofs.lemmas.List.Folds.{list_all-append}
 use Rattle.std.proofs.lemmas.Slice.Eq.{bytes_eq-Decides}
 use Rattle.basis.proofs.Bools.{and_left, and_right, and_both, or_left, or_right, or_first, or_second}
 use Rattle.basis.specs.declared.timescale.Timescale.{Timescale}
-use Rattle.vast.specs.Words.{Text, is_name, unescaped, is_printable, are_printable}
+use Rattle.vast.specs.Words.{Text, is_name, without_backslash, is_printable, are_printable}
 use Rattle.vast.specs.Names.{is_path}
 use Rattle.vast.specs.Modules.{DerivesText, SourceTree as PlainTree, fits, fits_module, fits_item, fits_declared, fits_optional, fits_optional_parameters, fits_optional_ports, fits_port, fits_direction, fits_declaration_kind, fits_overrides, fits_instance, fits_connections, fits_behind, is_named_port, is_directed, are_some}
 use Rattle.vast.specs.Modules as plain
@@ -28,8 +28,8 @@ use Rattle.velab_expr.specs.Scopes.{Scope}
 use Rattle.velab_expr.specs.Symbols.{behind_item, symbols_by}
 use Rattle.velab_declaration.specs.Variables.{port_names, Declaration, all_declared, kind_of, declared_as, declarations_of, port_declaration, variable_in, port_form, variables_in, variables_as, lower_kind, lower_declaration, lower_variables, lower_again, port_scope, lower_ports, integer_kind}
 use Rattle.velab_declaration.specs.declared.variable.Form.{Form}
-use Rattle.velab_declaration.specs.Drives.{Place, started}
-use Rattle.velab_expr.specs.Answers.{◌>>=◌, provided, required, found}
+use Rattle.velab_declaration.specs.Drives.{Place, with_start_values}
+use Rattle.velab_expr.specs.Answers.{◌>>=◌, answer_if, require, found}
 use Rattle.velab_expr.specs.Ranges.{lower_bounds}
 use Rattle.velab_expr.specs.declared.fault.ElabFault.{ElabFault}
 use Rattle.vdesign.specs.declared.expression.Bounds.{Bounds}
@@ -37,7 +37,7 @@ use Rattle.velab_expr.specs.declared.fault.Rule.{Rule}
 use Rattle.velab_expr.specs.declared.fault.Rule.TheVariants.{Doubled, Ports, TooMany, Top}
 use Rattle.velab_expr.specs.Rules.{broken_if}
 use Rattle.velab_expr.proofs.FaultLemmas.{first_right}
-use Rattle.vhierarchy.specs.Instances.{barring, faultless, Instantiation, instantiation_by, lower_instance, lower_list, named_again, lower_instances_of, lower_instances_by, lower_instances, Part, Context, lower_names, lower_own_variables, lower_own_processes, with_own, few_enough, lower_own, child_context, each, elaborate_instance, nothing, top_context, elaborate_top, variable_paths, driven_in, design_by, broken_paths, broken_table, broken_design, Whole, checked, whole_of, broken_ports, unbroken, top_whole, elaborated_whole, as_design, Elaborates}
+use Rattle.vhierarchy.specs.Instances.{barring, faultless, Instantiation, instantiation_by, lower_instance, lower_list, named_again, lower_instances_of, lower_instances_by, lower_instances, Part, Context, lower_names, lower_own_variables, lower_own_processes, with_own, few_enough, lower_own, child_context, each, elaborate_instance, nothing, top_context, elaborate_top, variable_paths, driven_in, design_by, broken_paths, broken_table, broken_design, Whole, check, whole_of, broken_ports, unless_fault, top_whole, elaborated_whole, as_design, Elaborates}
 
 -- ---- letters and paths
 
@@ -122,55 +122,55 @@ changed f p q step (one ∷ more) all =
     and_both (q (f one)) (list_all q (map f more)) (step one (and_left (p one) (list_all p more) all))
     (changed f p q step more (and_right (p one) (list_all p more) all))
 
-declared_shows : (one : plain.DeclaredTree) → fits_declared 64 one ≡ true → shows_declared (declared_with unescaped one) ≡ true
+declared_shows : (one : plain.DeclaredTree) → fits_declared 64 one ≡ true → shows_declared (declared_with without_backslash one) ≡ true
 declared_shows one fit = name_printable one.name (and_left (is_name one.name) (fits_optional 64 one.value) fit)
 
-instance_shows : (one : plain.InstanceTree) → fits_instance 64 one ≡ true → shows_instance (instance_with unescaped one) ≡ true
+instance_shows : (one : plain.InstanceTree) → fits_instance 64 one ≡ true → shows_instance (instance_with without_backslash one) ≡ true
 instance_shows one fit = name_printable one.name (and_left (is_name one.name) (fits_connections 64 one.connections) fit)
 
-port_shows : (one : plain.PortTree) → fits_port 64 one ≡ true → shows_port (port_with unescaped one) ≡ true
+port_shows : (one : plain.PortTree) → fits_port 64 one ≡ true → shows_port (port_with without_backslash one) ≡ true
 port_shows one fit =
     name_printable one.name (and_left (is_name one.name) (fits_optional 64 one.value) (and_right (fits_direction 64 one.direction) (is_name one.name && fits_optional 64 one.value) fit))
 
-named_port_shows : (one : plain.PortTree) → is_named_port one ≡ true → shows_port (port_with unescaped one) ≡ true
+named_port_shows : (one : plain.PortTree) → is_named_port one ≡ true → shows_port (port_with without_backslash one) ≡ true
 named_port_shows one fit =
     name_printable one.name (and_left (is_name one.name) (not (is_some one.value)) (and_right (not (is_directed one.direction)) (is_name one.name && not (is_some one.value)) fit))
 
-item_shows : (item : plain.ItemTree) → fits_item 64 item ≡ true → shows_item (item_with unescaped item) ≡ true
+item_shows : (item : plain.ItemTree) → fits_item 64 item ≡ true → shows_item (item_with without_backslash item) ≡ true
 item_shows (parameters local type settings) fit = refl
 item_shows (declaration kind list) fit =
-    changed (declared_with unescaped) (fits_declared 64) shows_declared declared_shows list
+    changed (declared_with without_backslash) (fits_declared 64) shows_declared declared_shows list
     (and_right (nat_le 1 (length list)) (list_all (fits_declared 64) list) (and_right (fits_declaration_kind 64 kind) (are_some (fits_declared 64) list) fit))
 item_shows (events list) fit = refl
 item_shows (assignments settings) fit = refl
 item_shows (initial statement) fit = refl
 item_shows (always statement) fit = refl
 item_shows (instances name overrides list) fit =
-    changed (instance_with unescaped) (fits_instance 64) shows_instance instance_shows list
+    changed (instance_with without_backslash) (fits_instance 64) shows_instance instance_shows list
     (and_right (nat_le 1 (length list)) (list_all (fits_instance 64) list) (and_right (is_name name && fits_overrides 64 overrides) (are_some (fits_instance 64) list) fit))
 
-ports_show : (ports : Option (List plain.PortTree)) → fits_optional_ports 64 ports ≡ true → shows_ports (option_map (map (port_with unescaped)) ports) ≡ true
+ports_show : (ports : Option (List plain.PortTree)) → fits_optional_ports 64 ports ≡ true → shows_ports (option_map (map (port_with without_backslash)) ports) ≡ true
 ports_show None fit = refl
 ports_show (Some []) fit = refl
 ports_show (Some (port ∷ more)) fit = by port.direction fit
   where
-    by : (direction : Option plain.DirectionTree) → fits_behind 64 direction (port ∷ more) ≡ true → list_all shows_port (map (port_with unescaped) (port ∷ more)) ≡ true
-    by None e = changed (port_with unescaped) is_named_port shows_port named_port_shows (port ∷ more) e
-    by (Some direction) e = changed (port_with unescaped) (fits_port 64) shows_port port_shows (port ∷ more) e
+    by : (direction : Option plain.DirectionTree) → fits_behind 64 direction (port ∷ more) ≡ true → list_all shows_port (map (port_with without_backslash) (port ∷ more)) ≡ true
+    by None e = changed (port_with without_backslash) is_named_port shows_port named_port_shows (port ∷ more) e
+    by (Some direction) e = changed (port_with without_backslash) (fits_port 64) shows_port port_shows (port ∷ more) e
 
-module_shows : (m : plain.ModuleTree) → fits_module 64 m ≡ true → shows_module (module_with unescaped m) ≡ true
+module_shows : (m : plain.ModuleTree) → fits_module 64 m ≡ true → shows_module (module_with without_backslash m) ≡ true
 module_shows m fit =
     let heads = fits_optional_parameters 64 m.parameters in
     let ports = fits_optional_ports 64 m.ports in
     let front : (is_name m.name && heads && ports) ≡ true = and_left (is_name m.name && heads && ports) (list_all (fits_item 64) m.items) fit in
-    and_both (are_printable (unescaped m.name)) (shows_ports (option_map (map (port_with unescaped)) m.ports) && list_all shows_item (map (item_with unescaped) m.items))
+    and_both (are_printable (without_backslash m.name)) (shows_ports (option_map (map (port_with without_backslash)) m.ports) && list_all shows_item (map (item_with without_backslash) m.items))
     (name_printable m.name (and_left (is_name m.name) heads (and_left (is_name m.name && heads) ports front)))
-    (and_both (shows_ports (option_map (map (port_with unescaped)) m.ports)) (list_all shows_item (map (item_with unescaped) m.items))
+    (and_both (shows_ports (option_map (map (port_with without_backslash)) m.ports)) (list_all shows_item (map (item_with without_backslash) m.items))
     (ports_show m.ports (and_right (is_name m.name && heads) ports front))
-    (changed (item_with unescaped) (fits_item 64) shows_item item_shows m.items (and_right (is_name m.name && heads && ports) (list_all (fits_item 64) m.items) fit)))
+    (changed (item_with without_backslash) (fits_item 64) shows_item item_shows m.items (and_right (is_name m.name && heads && ports) (list_all (fits_item 64) m.items) fit)))
 
-all_show : (tree : PlainTree) → fits 64 tree ≡ true → list_all shows_module (source_with unescaped tree) ≡ true
-all_show tree fit = changed (module_with unescaped) (fits_module 64) shows_module module_shows tree fit
+all_show : (tree : PlainTree) → fits 64 tree ≡ true → list_all shows_module (source_with without_backslash tree) ≡ true
+all_show tree fit = changed (module_with without_backslash) (fits_module 64) shows_module module_shows tree fit
 
 -- ---- and so has the tree with numbers
 
@@ -310,7 +310,7 @@ barred_one : {A : Type 0} (p : A → Bool) (word : Option Word) (rule : Rule) (a
 barred_one p None rule a all = all
 barred_one p (Some word) rule a all = refl
 
-provided_pass : {A : Type 0} (p : A → Bool) (holds : Bool) (rule : Rule) (word : Option Word) (a : Result (List A) ElabFault) → all_pass p a ≡ true → all_pass p (provided holds rule word a) ≡ true
+provided_pass : {A : Type 0} (p : A → Bool) (holds : Bool) (rule : Rule) (word : Option Word) (a : Result (List A) ElabFault) → all_pass p a ≡ true → all_pass p (answer_if holds rule word a) ≡ true
 provided_pass p true rule word a all = all
 provided_pass p false rule word a all = refl
 
@@ -484,7 +484,7 @@ then_paths (Err fault) rest h = refl
 few_paths : (name : Word) (part : Part) → all_paths part.variables ≡ true → part_paths (few_enough name part) ≡ true
 few_paths name part all = by (nat_le (length part.begins) 256) (nat_le (length part.scopes) 1025)
   where
-    by : (a b : Bool) → part_paths (provided a TooMany (Some name) (required b TooMany (Some name) part)) ≡ true
+    by : (a b : Bool) → part_paths (answer_if a TooMany (Some name) (require b TooMany (Some name) part)) ≡ true
     by true true = all
     by true false = refl
     by false b = refl
@@ -570,11 +570,11 @@ distinct_at (x ∷ vs) none (suc i) (suc j) v w lt first second =
 
 -- ---- the design
 
-started_names : (driven : List Place) (n : ℕ) (vs : List Variable) → map (λ (v : Variable). v.name) (started driven n vs) ≡ map (λ (v : Variable). v.name) vs
+started_names : (driven : List Place) (n : ℕ) (vs : List Variable) → map (λ (v : Variable). v.name) (with_start_values driven n vs) ≡ map (λ (v : Variable). v.name) vs
 started_names driven n [] = refl
 started_names driven n (v ∷ more) = ap (λ (names : List Text). v.name ∷ names) (started_names driven (n + 1) more)
 
-started_paths : (driven : List Place) (n : ℕ) (vs : List Variable) → all_paths (started driven n vs) ≡ all_paths vs
+started_paths : (driven : List Place) (n : ℕ) (vs : List Variable) → all_paths (with_start_values driven n vs) ≡ all_paths vs
 started_paths driven n [] = refl
 started_paths driven n (v ∷ more) = ap (λ b. is_path v.name && b) (started_paths driven (n + 1) more)
 
@@ -582,8 +582,8 @@ design_named : (scale : Timescale) (m : ModuleTree) (part : Part) → is_named m
     has_double (variable_paths part) ≡ false → AreNamed (design_by scale m part)
 design_named scale m part e paths none = record {
   top = and_left (are_printable m.name.letters) (ports_are_named m && list_all item_is_named m.items) e;
-  paths = path_at (started (driven_in part) 0 part.variables) (started_paths (driven_in part) 0 part.variables ∙ paths);
-  distinct = distinct_at (started (driven_in part) 0 part.variables) (ap has_double (started_names (driven_in part) 0 part.variables) ∙ none);
+  paths = path_at (with_start_values (driven_in part) 0 part.variables) (started_paths (driven_in part) 0 part.variables ∙ paths);
+  distinct = distinct_at (with_start_values (driven_in part) 0 part.variables) (ap has_double (started_names (driven_in part) 0 part.variables) ∙ none);
 }
 
 none_doubled : (b : Bool) (top : Option Word) → broken_if b Doubled top ≡ None → b ≡ false
@@ -592,7 +592,7 @@ none_doubled false top e = refl
 
 -- what is checked is named
 module _ (scale : Timescale) (m : ModuleTree) (unit : is_named m ≡ true) (whole : Whole) where
-  checked_named : (part : Part) → all_paths part.variables ≡ true → checked m part ≡ Ok whole → AreNamed (design_by scale whole.unit whole.part)
+  checked_named : (part : Part) → all_paths part.variables ≡ true → check m part ≡ Ok whole → AreNamed (design_by scale whole.unit whole.part)
   checked_named part paths = by (broken_design m.name part) refl
     where
       by : (broken : Option ElabFault) → broken_design m.name part ≡ broken → faultless broken (record { unit = m; part = part }) ≡ Ok whole → AreNamed (design_by scale whole.unit whole.part)
@@ -602,7 +602,7 @@ module _ (scale : Timescale) (m : ModuleTree) (unit : is_named m ≡ true) (whol
           (design_named scale m part unit paths (none_doubled (has_double (variable_paths part)) _ (first_right _ _ (first_right (broken_paths m.name part) (broken_table m.name part) right))))
       by (Some fault) right is = absurd cc
 
-  whole_named : (part : Result Part ElabFault) → part_paths part ≡ true → (part >>= λ p. checked m p) ≡ Ok whole → AreNamed (design_by scale whole.unit whole.part)
+  whole_named : (part : Result Part ElabFault) → part_paths part ≡ true → (part >>= λ p. check m p) ≡ Ok whole → AreNamed (design_by scale whole.unit whole.part)
   whole_named (Ok part) paths is = checked_named part paths is
   whole_named (Err fault) paths is = absurd cc
 
@@ -610,7 +610,7 @@ not_barred_is : {A : Type 0} (rule : Rule) (word : Option Word) (answer : Result
 not_barred_is rule None answer x is = is
 not_barred_is rule (Some word) answer x is = absurd cc
 
-unbroken_is : {A : Type 0} (broken : Option ElabFault) (answer : Result A ElabFault) (x : A) → unbroken broken answer ≡ Ok x → answer ≡ Ok x
+unbroken_is : {A : Type 0} (broken : Option ElabFault) (answer : Result A ElabFault) (x : A) → unless_fault broken answer ≡ Ok x → answer ≡ Ok x
 unbroken_is None answer x is = is
 unbroken_is (Some fault) answer x is = absurd cc
 

@@ -14,7 +14,7 @@ use Rattle.vmodules.specs.Inner.{port_form}
 use Rattle.velab_expr.specs.declared.fault.ElabFault.{ElabFault}
 use Rattle.velab_expr.specs.declared.fault.Rule.TheVariants.{Doubled}
 use Rattle.velab_expr.specs.declared.scope.Meaning.{Meaning}
-use Rattle.velab_expr.specs.Answers.{◌>>=◌, behind, required, Refuses}
+use Rattle.velab_expr.specs.Answers.{◌>>=◌, behind, require, Refuses}
 use Rattle.velab_expr.specs.Scopes.{Scope}
 use Rattle.velab_expr.specs.Symbols.{Symbol, name_in}
 use Rattle.velab_expr.proofs.AnswerLemmas.{goes_behind, still_refused}
@@ -30,7 +30,7 @@ use Rattle.velab_declaration.proofs.VariableLemmas.{first_refused as front_refus
 -- ---- names
 
 symbol_known : (scope next : Scope) (one : Symbol) (meaning : Result Meaning ElabFault) (new : Bool) (word : Option Word) →
-    (meaning >>= λ m. required new Doubled word (with_meaning scope one m)) ≡ Ok next → next.known ≡ scope.known + 1
+    (meaning >>= λ m. require new Doubled word (with_meaning scope one m)) ≡ Ok next → next.known ≡ scope.known + 1
 symbol_known scope next one (Ok m) true word is = let same : with_meaning scope one m ≡ next = cc in sym (ap (λ (s : Scope). s.known) same)
 symbol_known scope next one (Ok m) false word is = absurd cc
 symbol_known scope next one (Err fault) new word is = absurd cc

@@ -7,7 +7,7 @@ use Rattle.vast.specs.NumberedWords.{Word}
 use Rattle.velab_expr.specs.declared.fault.Rule.{Rule}
 use Rattle.velab_expr.specs.declared.fault.ElabFault.{ElabFault}
 use Rattle.velab_expr.specs.Answers.{◌>>=◌, behind, Refuses, Gives, Makes}
-use Rattle.velab_expr.specs.Rules.{told, broken_at, IsBroken}
+use Rattle.velab_expr.specs.Rules.{fault_at, broken_at, IsBroken}
 use Rattle.velab_expr.proofs.AnswerLemmas.{still_refused}
 use Rattle.vhierarchy.specs.Instances.{barring}
 use Rattle.vhierarchy.specs.Inner.{GivesAs}
@@ -27,9 +27,9 @@ pub hands_over : {A F : Type 0} (result : Result A (OrMemory F)) (e : OrMemory F
 hands_over (Ok x) e answer h p = absurd h
 hands_over {F = F} (Err y) e answer h p = subst (λ (o : OrMemory F). Refuses o answer) (sym h) p
 
-pub hands_as : {A B F : Type 0} (told : A → B) (result : Result A (OrMemory F)) (e : OrMemory F) (answer : Result B F) → IsErrAnd result (λ y. y ≡ e) → Refuses e answer → GivesAs told result answer
-hands_as told (Ok x) e answer h p = absurd h
-hands_as {F = F} told (Err y) e answer h p = subst (λ (o : OrMemory F). Refuses o answer) (sym h) p
+pub hands_as : {A B F : Type 0} (fault_at : A → B) (result : Result A (OrMemory F)) (e : OrMemory F) (answer : Result B F) → IsErrAnd result (λ y. y ≡ e) → Refuses e answer → GivesAs fault_at result answer
+hands_as fault_at (Ok x) e answer h p = absurd h
+hands_as {F = F} fault_at (Err y) e answer h p = subst (λ (o : OrMemory F). Refuses o answer) (sym h) p
 
 -- the fault of a first step is that of both
 pub first_refused : {A B F : Type 0} (a : Result A F) (rest : A → Result B F) (e : OrMemory F) → Refuses e a → Refuses e (a >>= rest)
@@ -42,7 +42,7 @@ then_is a rest x is = ap (λ (r : Result _ _). r >>= rest) is
 -- a rule that is broken at a word, or at none
 pub barred : {A : Type 0} (rule : Rule) (word : Option Word) (answer : Result A ElabFault) (e : OrMemory ElabFault) → Because (IsBroken (broken_at rule word)) e → Refuses e (barring word rule answer)
 barred rule None answer (Fault fault) h = absurd cc
-barred rule (Some word) answer (Fault fault) h = let same : told rule (Some word) ≡ fault = cc in ap Err same
+barred rule (Some word) answer (Fault fault) h = let same : fault_at rule (Some word) ≡ fault = cc in ap Err same
 barred rule word answer (Memory m) h = tt
 
 -- ---- lists, one behind another

@@ -2,7 +2,7 @@
 use Rattle.std.specs.Prelude.{◌≡◌, ℕ, nat_le, List, [], ◌∷◌, map, Option, Some, option_map, Result, Ok, Err}
 use Rattle.basis.specs.declared.memory.OrMemory.{OrMemory}
 use Rattle.vast.specs.Words.{Text}
-use Rattle.vast.specs.NumberedWords.{Word, numbered}
+use Rattle.vast.specs.NumberedWords.{Word, word_of}
 use Rattle.vast.specs.NumberedTrees.{module_tree, item_tree, instance_tree, connections_tree}
 use Rattle.vast.specs.declared.module.ModuleItem.{ModuleItem}
 use Rattle.vast.specs.declared.module.Instance.{Instance}
@@ -14,7 +14,7 @@ use Rattle.vmodules.specs.Inner.{Units, entries_tree, units_tree, port_form}
 use Rattle.vmodules.specs.declared.ports.PortForm.{PortForm}
 use Rattle.velab_expr.specs.declared.fault.ElabFault.{ElabFault}
 use Rattle.velab_expr.specs.declared.fault.Rule.TheVariants.{TooMany}
-use Rattle.velab_expr.specs.Answers.{provided, required, Refuses}
+use Rattle.velab_expr.specs.Answers.{answer_if, require, Refuses}
 use Rattle.velab_expr.specs.Scopes.{Scope, at}
 use Rattle.basis.specs.declared.timescale.Timescale.{Timescale}
 use Rattle.vbits.specs.Vectors.{Vector}
@@ -23,7 +23,7 @@ use Rattle.velab_process.specs.Processes.{Processes}
 use Rattle.velab_process.specs.Statements.{Table}
 use Rattle.velab_declaration.specs.Variables.{port_names}
 use Rattle.velab_declaration.specs.Inner.{overrides_tree}
-use Rattle.velab_declaration.specs.Drives.{started}
+use Rattle.velab_declaration.specs.Drives.{with_start_values}
 use Rattle.velab_declaration.specs.DriveMarks.{starts_from}
 use Rattle.vhierarchy.specs.Instances.{Instantiation, Part, Context, child_context, lower_instances, lower_list, lower_own_variables, lower_own_processes, lower_own, each, elaborate_instance, driven_in}
 use Rattle.vhierarchy.specs.declared.instantiation.Instantiation.{Instantiation as ProgramInstantiation}
@@ -35,7 +35,7 @@ use Rattle.vhierarchy.specs.declared.own.Known.{Known}
 abbrev pub instantiation_tree : List Text → ProgramInstantiation → Instantiation
 instantiation_tree words found = record {
   child = module_tree words found.child.now;
-  name = numbered words found.name;
+  name = word_of words found.name;
   known = found.known;
   values = entries_tree words found.values;
   connections = entries_tree words found.connections;
@@ -49,7 +49,7 @@ abbrev pub context_tree : List Text → ProgramContext → Context
 context_tree words context = record {
   top = context.top.now;
   path = context.path.now;
-  name = numbered words context.name;
+  name = word_of words context.name;
   depth = context.depth;
   unit = module_tree words context.unit.now;
   overrides = overrides_tree words context.overrides.now;
@@ -91,7 +91,7 @@ own_processes words context ports scope table = lower_own_processes (context_tre
 
 -- this part, where it has so few processes and scopes
 abbrev pub few : Word → ℕ → ℕ → Part → Result Part ElabFault
-few name processes scopes part = provided (nat_le processes 256) TooMany (Some name) (required (nat_le scopes 1025) TooMany (Some name) part)
+few name processes scopes part = answer_if (nat_le processes 256) TooMany (Some name) (require (nat_le scopes 1025) TooMany (Some name) part)
 
 abbrev pub own_part : List Text → ProgramContext → List PortForm → Scope → Part → Result Part ElabFault
 own_part words context ports scope part = lower_own (context_tree words context) (map (port_form words) ports) scope part
@@ -126,7 +126,7 @@ abbrev pub named_design : Text → Timescale → Part → Design
 named_design name scale part = record {
   top = name;
   scale = scale;
-  variables = started (driven_in part) 0 part.variables;
+  variables = with_start_values (driven_in part) 0 part.variables;
   scopes = part.scopes;
   actions = part.table.actions;
   processes = part.begins;

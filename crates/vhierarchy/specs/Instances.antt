@@ -11,7 +11,7 @@ use Rattle.vmodules.specs.Names.{has_double, is_declared, letters_of, first_agai
 use Rattle.vmodules.specs.Hierarchy.{module_names, module_of, top_of, rival_of}
 use Rattle.vmodules.specs.Ports.{Port, ports_of, own_items}
 use Rattle.vmodules.specs.Placed.{placed_items}
-use Rattle.vmodules.specs.Misdeclared.{misdeclared}
+use Rattle.vmodules.specs.Misdeclared.{first_misdeclared}
 use Rattle.vmodules.specs.declared.misdeclared.PortFlaw.{PortFlaw}
 use Rattle.vmodules.specs.declared.misdeclared.PortFlaw.TheVariants as flaw
 use Rattle.vmodules.specs.Connected.{NamedConnection, open_names, named_connections, named_connections_if, misfit, misfit_if}
@@ -22,11 +22,11 @@ use Rattle.vdesign.specs.declared.dump.Chosen.{Chosen}
 use Rattle.velab_expr.specs.declared.fault.Rule.{Rule}
 use Rattle.velab_expr.specs.declared.fault.Rule.TheVariants as rule
 use Rattle.velab_expr.specs.declared.fault.ElabFault.{ElabFault}
-use Rattle.velab_expr.specs.Answers.{◌>>=◌, refused, required, provided, found, fault_of}
-use Rattle.velab_expr.specs.Rules.{told, unless, broken_if}
+use Rattle.velab_expr.specs.Answers.{◌>>=◌, refuse, require, answer_if, found, fault_of}
+use Rattle.velab_expr.specs.Rules.{fault_at, unless, broken_if}
 use Rattle.velab_declaration.specs.Right.{kind_rule}
 use Rattle.velab_declaration.specs.ActionFlaws.{blank_environment, flaw_rule, table_fault}
-use Rattle.velab_declaration.specs.Drives.{Place, driven_by_all, drivers_fault, started}
+use Rattle.velab_declaration.specs.Drives.{Place, driven_by_all, drivers_fault, with_start_values}
 use Rattle.velab_expr.specs.Scopes.{Scope, at}
 use Rattle.velab_expr.specs.Symbols.{symbols_by}
 use Rattle.velab_process.specs.Connections.{lower_joins}
@@ -38,7 +38,7 @@ use Rattle.velab_declaration.specs.Variables.{port_names, declared_names, port_s
 -- this answer, barring a word at which the rule is broken
 abbrev pub barring : {A : Type 0} → Option Word → Rule → Result A ElabFault → Result A ElabFault
 barring None rule answer = answer
-barring (Some word) rule answer = refused rule (Some word)
+barring (Some word) rule answer = refuse rule (Some word)
 
 -- this answer, where none of these words stands again
 abbrev pub none_again : {A : Type 0} → Rule → List Word → Result A ElabFault → Result A ElabFault
@@ -88,9 +88,9 @@ named_again child = option_or (first_again (open_names child)) (first_again (por
 -- The module is there; a design has at most 1,024 instances below the top, and so has a module, of which so many stand before. No two
 -- parameters of it have the same name, and no two ports.
 abbrev pub lower_instances_of : Word → ℕ → ℕ → Option ModuleTree → Option ConnectionsTree → List InstanceTree → Result (List Instantiation) ElabFault
-lower_instances_of name before known None overrides list = refused rule.Top (Some name)
+lower_instances_of name before known None overrides list = refuse rule.Top (Some name)
 lower_instances_of name before known (Some child) overrides list =
-    provided (nat_le (before + length list) 1024) rule.TooMany (Some name)
+    answer_if (nat_le (before + length list) 1024) rule.TooMany (Some name)
     (barring (named_again child) rule.Doubled (lower_list child known overrides list))
 
 abbrev pub lower_instances_by : SourceTree → ℕ → ℕ → ItemTree → Result (List Instantiation) ElabFault
@@ -161,8 +161,8 @@ has_room part context =
 abbrev pub lower_names : Part → Context → Result Scope ElabFault
 lower_names part context =
     none_again rule.Doubled (declared_names context.unit)
-    (provided (nat_le (length part.variables + length (declared_names context.unit)) 1024) rule.TooMany (Some context.name)
-    (provided (has_room part context) rule.TooMany (Some context.name)
+    (answer_if (nat_le (length part.variables + length (declared_names context.unit)) 1024) rule.TooMany (Some context.name)
+    (answer_if (has_room part context) rule.TooMany (Some context.name)
     (item_scope (base_of part context) context.unit)))
 
 -- the processes of its port connections, those of its ports' values, and then those of its items, whose print tasks know its path (17.1.1.6)
@@ -184,8 +184,8 @@ with_own context scope part variables processes = record {
 -- a design has at most 256 processes, and 1,024 instances below the top
 abbrev pub few_enough : Word → Part → Result Part ElabFault
 few_enough name part =
-    provided (nat_le (length part.begins) 256) rule.TooMany (Some name)
-    (required (nat_le (length part.scopes) 1025) rule.TooMany (Some name) part)
+    answer_if (nat_le (length part.begins) 256) rule.TooMany (Some name)
+    (require (nat_le (length part.scopes) 1025) rule.TooMany (Some name) part)
 
 -- what is its own, by its ports and its names
 module _ (context : Context) (ports : List Port) (scope : Scope) where
@@ -224,7 +224,7 @@ each step part (one ∷ more) = step part one >>= λ next. each step next more
 -- An instance and all below it, so many levels deep: its own first, then the instances in it, in the order of the text. There are no more
 -- levels than these.
 abbrev pub elaborate_instance : ℕ → SourceTree → Part → Context → Result Part ElabFault
-elaborate_instance zero modules part context = refused rule.Depth (Some context.name)
+elaborate_instance zero modules part context = refuse rule.Depth (Some context.name)
 elaborate_instance (suc levels) modules part context =
     lower_names part context >>= λ scope.
     lower_instances modules 0 scope.known context.unit.items >>= λ children.
@@ -264,7 +264,7 @@ abbrev pub design_by : Timescale → ModuleTree → Part → design.Design
 design_by scale m part = record {
   top = m.name.letters;
   scale = scale;
-  variables = started (driven_in part) 0 part.variables;
+  variables = with_start_values (driven_in part) 0 part.variables;
   scopes = part.scopes;
   actions = part.table.actions;
   processes = part.begins;
@@ -334,11 +334,11 @@ pub record Whole : Type 0 where
   pub unit : ModuleTree
   pub part : Part
 
-abbrev pub checked : ModuleTree → Part → Result Whole ElabFault
-checked m part = faultless (broken_design m.name part) (record { unit = m; part = part })
+abbrev pub check : ModuleTree → Part → Result Whole ElabFault
+check m part = faultless (broken_design m.name part) (record { unit = m; part = part })
 
 abbrev pub whole_of : SourceTree → ModuleTree → Result Whole ElabFault
-whole_of modules m = elaborate_top modules m >>= λ part. checked m part
+whole_of modules m = elaborate_top modules m >>= λ part. check m part
 
 -- 12.3.2, 12.3.3, A.2.3, 9.8.3: the rule that is broken by how ports are declared, by a value of one, or by the name of a block
 abbrev pub rule_of_port : PortFlaw → Rule
@@ -348,19 +348,19 @@ rule_of_port flaw.Input = rule.Kind
 rule_of_port flaw.Valued = rule.Kind
 
 abbrev pub broken_ports : SourceTree → Option ElabFault
-broken_ports modules = option_map (λ m. told (rule_of_port m.flaw) (Some m.word)) (misdeclared modules)
+broken_ports modules = option_map (λ m. fault_at (rule_of_port m.flaw) (Some m.word)) (first_misdeclared modules)
 
 -- this answer, where no fault was found before
-abbrev pub unbroken : {A : Type 0} → Option ElabFault → Result A ElabFault → Result A ElabFault
-unbroken None answer = answer
-unbroken (Some fault) answer = Err fault
+abbrev pub unless_fault : {A : Type 0} → Option ElabFault → Result A ElabFault → Result A ElabFault
+unless_fault None answer = answer
+unless_fault (Some fault) answer = Err fault
 
 -- where there is no top, a second module that could be it is told
 abbrev pub top_whole : SourceTree → Option Text → Result Whole ElabFault
 top_whole modules top = found (top_of modules top) rule.Top (rival_of modules top) >>= λ m. whole_of modules m
 
 abbrev pub elaborated_whole : SourceTree → Option Text → Result Whole ElabFault
-elaborated_whole modules top = none_again rule.Doubled (module_names modules) (unbroken (broken_ports modules) (top_whole modules top))
+elaborated_whole modules top = none_again rule.Doubled (module_names modules) (unless_fault (broken_ports modules) (top_whole modules top))
 
 abbrev pub as_design : Timescale → Result Whole ElabFault → Result design.Design ElabFault
 as_design scale answer = answer >>= λ whole. Ok (design_by scale whole.unit whole.part)

@@ -4,7 +4,7 @@ ghost use Rattle.std.specs.Prelude.{◌≡◌, ◌≤◌, [], false, List, Optio
 ghost use Rattle.basis.specs.Reasons.{IfFault};
 ghost use Rattle.vdesign.specs.Design.{Design};
 ghost use Rattle.vast.specs.NumberedTrees.{source_tree, module_tree};
-ghost use Rattle.vast.specs.NumberedWords.{numbered};
+ghost use Rattle.vast.specs.NumberedWords.{word_of};
 ghost use Rattle.vast.specs.Words.{Text};
 ghost use Rattle.vexpr_parse.specs.Texts.{words_of};
 ghost use Rattle.vmodules.specs.Names.{first_again, has_double};
@@ -13,7 +13,7 @@ ghost use Rattle.velab_declaration.specs.Inner.{DoublesIn};
 ghost use Rattle.velab_expr.specs.Rules.{broken_if, IsBroken};
 ghost use Rattle.velab_expr.specs.Answers.{Gives};
 ghost use Rattle.vhierarchy.specs.Instances as spec;
-ghost use Rattle.vhierarchy.specs.Instances.{Elaborates, as_design, broken_paths, broken_ports, broken_table, checked, elaborate_top, top_whole, whole_of};
+ghost use Rattle.vhierarchy.specs.Instances.{Elaborates, as_design, broken_paths, broken_ports, broken_table, check, elaborate_top, top_whole, whole_of};
 ghost use Rattle.vhierarchy.specs.Reasons.{IsDesignReason, IsOnlyDesign, HasNoDesign};
 ghost use Rattle.vhierarchy.specs.Inner.{named_design, scope_names, starts_in, variable_names, with_starts};
 
@@ -34,7 +34,7 @@ use velab_declaration::parameter::Overrides;
 use velab_declaration::right::check_kinds;
 use velab_declaration::width::check_flaws;
 use velab_expr::fault::{ElabFault, Rule};
-use velab_expr::refusal::refused;
+use velab_expr::refusal::refusal;
 use velab_expr::scope::Scope;
 use velab_process::statement::Table;
 use vlex::Tokens;
@@ -98,7 +98,7 @@ fn paths_of<'p>(
     ensures ok { IfOk result (λ names. names ≡ variable_names variables.now) }
     ensures once { OnOk result (has_double (variable_names variables.now) ≡ false) }
     ensures err { (words : List Text) → IfFault result (IsBroken (broken_if
-        (has_double (variable_names variables.now)) Rule.Doubled (Some (numbered words top)))) }
+        (has_double (variable_names variables.now)) Rule.Doubled (Some (word_of words top)))) }
 {
     let mut names = Names::new(alloc);
     for variable in variables {
@@ -117,7 +117,7 @@ fn scopes_of<'p>(
     ensures ok { IfOk result (λ names. names ≡ scope_names scopes.now) }
     ensures once { OnOk result (has_double (scope_names scopes.now) ≡ false) }
     ensures err { (words : List Text) → IfFault result (IsBroken (broken_if
-        (has_double (scope_names scopes.now)) Rule.Doubled (Some (numbered words top)))) }
+        (has_double (scope_names scopes.now)) Rule.Doubled (Some (word_of words top)))) }
 {
     let mut names = Names::new(alloc);
     for scope in scopes {
@@ -130,9 +130,9 @@ fn scopes_of<'p>(
 // What the paths of a part break. E302 where two are alike, E303 or E310 where what is dumped is no scope.
 fn check_paths(alloc: Global, part: &Part, top: Token) -> Result<(), OrMemory<ElabFault>>
     ensures right { (words : List Text) →
-        OnOk result (broken_paths (numbered words top) part.now ≡ None) }
+        OnOk result (broken_paths (word_of words top) part.now ≡ None) }
     ensures err { (words : List Text) →
-        IfFault result (IsBroken (broken_paths (numbered words top) part.now)) }
+        IfFault result (IsBroken (broken_paths (word_of words top) part.now)) }
 {
     let variables = paths_of(alloc, &part.variables, top)?;
     let scopes = scopes_of(alloc, &part.scopes, top)?;
@@ -145,12 +145,12 @@ fn check_paths(alloc: Global, part: &Part, top: Token) -> Result<(), OrMemory<El
 fn check_table(alloc: Global, part: &Part, top: Token) -> Result<Vec<Vec4>, OrMemory<ElabFault>>
     ensures starts { IfOk result (λ starts. starts.items ≡ starts_in part.now) }
     ensures right { (words : List Text) →
-        OnOk result (broken_table (numbered words top) part.now ≡ None) }
+        OnOk result (broken_table (word_of words top) part.now ≡ None) }
     ensures err { (words : List Text) →
-        IfFault result (IsBroken (broken_table (numbered words top) part.now)) }
+        IfFault result (IsBroken (broken_table (word_of words top) part.now)) }
 {
     if part.begins.len() > MOST_PROCESSES {
-        return Err(refused(Rule::TooMany, Some(top.number)));
+        return Err(refusal(Rule::TooMany, Some(top.number)));
     }
     let table = &part.table;
     check_kinds(&part.variables, &table.actions, &table.words)?;
@@ -217,7 +217,7 @@ fn checked_design(
     part: Part,
 ) -> Result<Design, OrMemory<ElabFault>>
     ensures { Gives result
-        (as_design scale (checked (module_tree (words_of tokens.now) unit.now) part)) }
+        (as_design scale (check (module_tree (words_of tokens.now) unit.now) part)) }
 {
     check_paths(alloc, &part, unit.name)?;
     let starts = check_table(alloc, &part, unit.name)?;
@@ -253,7 +253,7 @@ fn modules_by<'t, 'u>(
     match modules_of(alloc, tokens, list) {
         Ok(modules) => Ok(modules),
         Err(OrMemory::Memory(none)) => Err(OrMemory::Memory(none)),
-        Err(OrMemory::Fault(doubled)) => Err(refused(Rule::Doubled, Some(doubled.at))),
+        Err(OrMemory::Fault(doubled)) => Err(refusal(Rule::Doubled, Some(doubled.at))),
     }
 }
 
@@ -277,7 +277,7 @@ fn check_declared_ports(alloc: Global, modules: &Modules<'_, '_>) -> Result<(), 
     match check_names(alloc, modules) {
         Ok(()) => Ok(()),
         Err(OrMemory::Memory(none)) => Err(OrMemory::Memory(none)),
-        Err(OrMemory::Fault(wrong)) => Err(refused(rule_of_port(wrong.flaw), Some(wrong.at))),
+        Err(OrMemory::Fault(wrong)) => Err(refusal(rule_of_port(wrong.flaw), Some(wrong.at))),
     }
 }
 
@@ -295,13 +295,13 @@ fn top_design<'t, 'u>(
         Some(unit) => design_of(alloc, modules, unit, scale),
         None => {
             let at = rival_of(alloc, modules, top)?;
-            Err(refused(Rule::Top, at))
+            Err(refusal(Rule::Top, at))
         }
     }
 }
 
 // What the text is elaborated to.
-fn elaborated(
+fn elaborate_design(
     alloc: Global,
     tokens: &Tokens<'_>,
     text: &TextTree,
@@ -336,5 +336,5 @@ pub fn elaborate(
     ensures none { IfFault result (λ _. HasNoDesign (source_tree (words_of tokens.now) text.now)
         (named_text top.entry)) }
 {
-    elaborated(alloc, tokens, text, top, scale)
+    elaborate_design(alloc, tokens, text, top, scale)
 }

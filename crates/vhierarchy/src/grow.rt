@@ -15,7 +15,7 @@ use std::alloc::Global;
 use velab_declaration::parameter::Overrides;
 use velab_declaration::variable::dotted_path;
 use velab_expr::fault::{ElabFault, Rule};
-use velab_expr::refusal::refused;
+use velab_expr::refusal::refusal;
 use velab_expr::scope::Scope;
 use vmodules::hierarchy::Modules;
 use vmodules::letters::letters;
@@ -35,7 +35,7 @@ pub fn put_unit<'t, 'u>(
         (context_tree modules.now.words context.now)) }
 {
     if levels == 0 {
-        return Err(refused(Rule::Depth, Some(context.name.number)));
+        return Err(refusal(Rule::Depth, Some(context.name.number)));
     }
     let tokens = modules.tokens();
     let ports = ports_of(alloc, tokens, context.unit)?;

@@ -4,7 +4,7 @@
 ghost use Rattle.std.specs.Prelude.{◌≡◌, ◌<◌, ◌+◌, ◌^◌, [], None, length, map, option_map, IfOk, OnOk};
 ghost use Rattle.basis.specs.Reasons.{IfFault};
 ghost use Rattle.vast.specs.NumberedTrees.{connections_tree, instance_tree, item_tree, module_tree};
-ghost use Rattle.vast.specs.NumberedWords.{numbered};
+ghost use Rattle.vast.specs.NumberedWords.{word_of};
 ghost use Rattle.vexpr_parse.specs.Texts.{words_of};
 ghost use Rattle.vmodules.specs.Names.{first_again, letters_of};
 ghost use Rattle.vmodules.specs.Connected.{misfit_if, misfit, named_connections as spec_named_connections, named_connections_if as spec_named_connections_if, open_names as spec_open_names};
@@ -23,7 +23,7 @@ use vast::module::{Connections, Instance, ModuleItem, ModuleTree};
 use vast::token::Token;
 use velab_declaration::declared::port_names;
 use velab_expr::fault::{ElabFault, Rule};
-use velab_expr::refusal::refused;
+use velab_expr::refusal::refusal;
 use velab_expr::symbol::symbol_count;
 use vlex::Tokens;
 use vmodules::connect::{ConnectionMap, named_connections, named_connections_if};
@@ -71,7 +71,7 @@ fn values_of<'t>(
     match open_names(alloc, tokens, child) {
         Ok(names) => Ok(names),
         Err(OrMemory::Memory(none)) => Err(OrMemory::Memory(none)),
-        Err(OrMemory::Fault(doubled)) => Err(refused(Rule::Doubled, Some(doubled.at))),
+        Err(OrMemory::Fault(doubled)) => Err(refusal(Rule::Doubled, Some(doubled.at))),
     }
 }
 
@@ -123,16 +123,16 @@ fn values_by<'t, 'u>(
     ensures ok { IfOk result (λ connections. entries_tree (words_of tokens.now) connections
         ≡ spec_named_connections_if names.now
         (option_map (connections_tree (words_of tokens.now)) overrides.now)) }
-    ensures fits { OnOk result (misfit_if (numbered (words_of tokens.now) whose) names.now
+    ensures fits { OnOk result (misfit_if (word_of (words_of tokens.now) whose) names.now
         (option_map (connections_tree (words_of tokens.now)) overrides.now) ≡ None) }
     ensures err { IfFault result (IsBroken (broken_at Rule.Ports
-        (misfit_if (numbered (words_of tokens.now) whose) names.now
+        (misfit_if (word_of (words_of tokens.now) whose) names.now
         (option_map (connections_tree (words_of tokens.now)) overrides.now)))) }
 {
     match named_connections_if(alloc, tokens, whose, names, overrides) {
         Ok(connections) => Ok(connections),
         Err(OrMemory::Memory(none)) => Err(OrMemory::Memory(none)),
-        Err(OrMemory::Fault(misfit)) => Err(refused(Rule::Ports, Some(misfit.at))),
+        Err(OrMemory::Fault(misfit)) => Err(refusal(Rule::Ports, Some(misfit.at))),
     }
 }
 
@@ -146,16 +146,16 @@ fn connections_by<'t, 'u>(
 ) -> Result<ConnectionMap<'t, 'u>, OrMemory<ElabFault>>
     ensures ok { IfOk result (λ map. entries_tree (words_of tokens.now) map ≡
         spec_named_connections names.now (connections_tree (words_of tokens.now) connections.now)) }
-    ensures fits { OnOk result (misfit (numbered (words_of tokens.now) whose) names.now
+    ensures fits { OnOk result (misfit (word_of (words_of tokens.now) whose) names.now
         (connections_tree (words_of tokens.now) connections.now) ≡ None) }
     ensures err { IfFault result (IsBroken (broken_at Rule.Ports
-        (misfit (numbered (words_of tokens.now) whose) names.now
+        (misfit (word_of (words_of tokens.now) whose) names.now
         (connections_tree (words_of tokens.now) connections.now)))) }
 {
     match named_connections(alloc, tokens, whose, names, connections) {
         Ok(connections) => Ok(connections),
         Err(OrMemory::Memory(none)) => Err(OrMemory::Memory(none)),
-        Err(OrMemory::Fault(misfit)) => Err(refused(Rule::Ports, Some(misfit.at))),
+        Err(OrMemory::Fault(misfit)) => Err(refusal(Rule::Ports, Some(misfit.at))),
     }
 }
 
@@ -221,16 +221,16 @@ fn put_instances<'t, 'u>(
 ) -> Result<(), OrMemory<ElabFault>>
     ensures { Makes result (instantiation_trees (words_of tokens.now) into.new.items)
         (behind (instantiation_trees (words_of tokens.now) into.old.items)
-        (spec.lower_instances_of (numbered (words_of tokens.now) name) (length into.old.items) known
+        (spec.lower_instances_of (word_of (words_of tokens.now) name) (length into.old.items) known
         (unit_tree (words_of tokens.now) child.entry)
         (option_map (connections_tree (words_of tokens.now)) overrides.now)
         (map (instance_tree (words_of tokens.now)) list.now))) }
 {
     match child {
-        None => Err(refused(Rule::Top, Some(name.number))),
+        None => Err(refusal(Rule::Top, Some(name.number))),
         Some(child) => {
             if into.len() + list.len() > MOST_INSTANCES {
-                return Err(refused(Rule::TooMany, Some(name.number)));
+                return Err(refusal(Rule::TooMany, Some(name.number)));
             }
             let offered = open_of(alloc, tokens, child)?;
             put_each(alloc, tokens, &offered, known, overrides, list, into)

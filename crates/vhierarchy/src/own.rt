@@ -3,7 +3,7 @@
 ghost use Rattle.std.specs.Prelude.{◌≡◌, ◌<◌, ◌≤◌, ◌+◌, ◌^◌, ◌++◌, ◌∷◌, [], List, None, length, map, IfOk, OnOk};
 ghost use Rattle.basis.specs.Reasons.{IfFault};
 ghost use Rattle.vast.specs.NumberedTrees.{module_tree};
-ghost use Rattle.vast.specs.NumberedWords.{numbered};
+ghost use Rattle.vast.specs.NumberedWords.{word_of};
 ghost use Rattle.vast.specs.Words.{Text};
 ghost use Rattle.vexpr_parse.specs.Texts.{words_of};
 ghost use Rattle.module_size.specs.Sizes.{module_size};
@@ -26,11 +26,11 @@ use vast::module::ModuleTree;
 use vast::token::Token;
 use vdesign::action::Places;
 use vdesign::design::{Scope as Room, Variable};
-use velab_declaration::declared::declared;
+use velab_declaration::declared::names_declared;
 use velab_declaration::parameter::{Growing, add_head, add_items, add_valueless};
 use velab_declaration::variable::{put_ports, put_variables};
 use velab_expr::fault::{ElabFault, Rule};
-use velab_expr::refusal::refused;
+use velab_expr::refusal::refusal;
 use velab_expr::scope::Scope;
 use velab_process::join::put_joins;
 use velab_process::statement::{Table, put_port_values, put_processes};
@@ -73,13 +73,13 @@ pub fn known_names<'t>(
         (module_tree (words_of tokens.now) context.now.unit.now)) }
 {
     let first = part.variables.len();
-    let names = declared(alloc, tokens, ports, context.unit)?;
+    let names = names_declared(alloc, tokens, ports, context.unit)?;
     let variables = names.len();
     if first > MOST_VARIABLES || variables > MOST_VARIABLES - first {
-        return Err(refused(Rule::TooMany, Some(context.name.number)));
+        return Err(refusal(Rule::TooMany, Some(context.name.number)));
     }
     let size = match room_for(tokens, part, context, &names) {
-        None => return Err(refused(Rule::TooMany, Some(context.name.number))),
+        None => return Err(refusal(Rule::TooMany, Some(context.name.number))),
         Some(size) => size,
     };
     let mut growing = Growing {
@@ -227,10 +227,10 @@ fn put_scope(
 // E309, where there are too many processes or scopes.
 fn check_counts(begins: &[Places], scopes: &[Room], name: Token) -> Result<(), OrMemory<ElabFault>>
     ensures { (words : List Text) (part : spec.Part) → Makes result part
-        (few (numbered words name) (length begins.now) (length scopes.now) part) }
+        (few (word_of words name) (length begins.now) (length scopes.now) part) }
 {
     if begins.len() > MOST_PROCESSES || scopes.len() > MOST_SCOPES {
-        return Err(refused(Rule::TooMany, Some(name.number)));
+        return Err(refusal(Rule::TooMany, Some(name.number)));
     }
     Ok(())
 }

@@ -25,7 +25,7 @@ fn front_by(first: u8, rest: &[u8]) -> Front
     match lead_of(first) {
         Lead::Blank => Front::Piece(Form::Blank, 1 + run_len(Set::Blanks, rest)),
         Lead::Letter => Front::Piece(Form::Token(TokenKind::Name), 1 + run_len(Set::Words, rest)),
-        Lead::Backslash => escaped(first, rest),
+        Lead::Backslash => escaped_name(first, rest),
         Lead::Dollar => system(first, rest),
         Lead::Digit => number(first, rest),
         Lead::Apostrophe => number_with_base(first, rest),
@@ -37,7 +37,7 @@ fn front_by(first: u8, rest: &[u8]) -> Front
 }
 
 // The escaped name that begins with a backslash (3.7.1). A dot parts the names of a path, so none may stand in it.
-fn escaped(first: u8, rest: &[u8]) -> Front
+fn escaped_name(first: u8, rest: &[u8]) -> Front
     requires { lead_of first ≡ Lead.Backslash }
     ensures { IsAnswer (first ∷ rest.now) result }
 {

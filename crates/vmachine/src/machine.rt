@@ -115,7 +115,7 @@ impl Machine {
     }
 
     /// The state in which each run begins.
-    pub fn opened(&self) -> Result<State, NoMemory>
+    pub fn opening_state(&self) -> Result<State, NoMemory>
         ensures { IfOk result (λ state. state ≡ opening_of self.now) }
     {
         let mut state = opening(self.alloc, &self.design, self.until, self.grain)?;
@@ -134,7 +134,7 @@ impl Space for Machine {
     ghost rules = { machine_rules };
 
     fn root(&self) -> Result<MachineState, NoMemory> {
-        let state = self.opened()?;
+        let state = self.opening_state()?;
         MachineState::opening(self.alloc, &self.code, state)
     }
 

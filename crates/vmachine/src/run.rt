@@ -46,7 +46,7 @@ pub enum RunFault<F> {
 }
 
 // There is no such run.
-fn refused<F>(fault: ReplayFault) -> OrMemory<RunFault<F>>
+fn replay_refusal<F>(fault: ReplayFault) -> OrMemory<RunFault<F>>
     ensures { result ≡ Fault (Replay fault) }
 {
     OrMemory::Fault(RunFault::Replay(fault))
@@ -285,7 +285,7 @@ impl Machine {
             let chosen = match choose(self.width_of(&run.state), run.rest, run.n, steps) {
                 Ok(Some(chosen)) => chosen,
                 Ok(None) => return Ok(Some(self.last_of(&run.state))),
-                Err(fault) => return Err(refused(fault)),
+                Err(fault) => return Err(replay_refusal(fault)),
             };
             run.state.step_into(
                 &self.design,
@@ -406,7 +406,7 @@ impl Machine {
         ensures ok { IfOk result (IsHistory self.now log.now steps) }
         ensures reason { IfFault result (IsReplayReason (rules_of self.now) log.now steps) }
     {
-        let mut state = self.opened()?;
+        let mut state = self.opening_state()?;
         let mut items = Vec::new(self.alloc);
         put_slot_end(&mut items, &state)?;
         let mut effect = Effect::quiet();

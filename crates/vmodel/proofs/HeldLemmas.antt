@@ -16,7 +16,7 @@ use Rattle.vmodel.specs.Queue.{Queue, with_process, without_process}
 use Rattle.vmodel.specs.State.{State}
 use Rattle.vmodel.specs.Waking.{wakes}
 use Rattle.vmodel.specs.Choices.{free_among, order_of}
-use Rattle.vmodel.specs.Holding.{count_before, with_one_held, with_held, before_choice, without_taken, held_with, released, held_after}
+use Rattle.vmodel.specs.Holding.{count_before, with_one_held, with_held, before_choice, without_taken, held_with, release, held_after}
 use Rattle.vmodel.specs.Step.{environment_of, StepResult, execute_at, held_of, place_of, process_to_continue, leaves, goes_on, reschedule, posts, with_strobe, with_moves_by, with_woken, with_moves, with_step, transition_with, action_transition, continuation_transition, continuation_of, without_update, with_update, transition_of}
 use Rattle.vmodel.specs.Kept.{RisesFrom, count_in, AreHeldBack, IsKept}
 use Rattle.vmodel.proofs.PlaceLemmas.{alike, count-other, count-self, count-cons, count-with, count-without, count-without_self, without_rises, with_rises}
@@ -34,13 +34,13 @@ either : (b : Bool) → cond b nobody nobody ≡ nobody
 either true = refl
 either false = refl
 
-pub released-none : (q : Queue) → released q [] ≡ []
+pub released-none : (q : Queue) → release q [] ≡ []
 released-none q = either (length q.active == 0 && length q.activated == 0)
 
 pub none-held : (q : Queue) → AreHeldBack q []
 none-held q = record { rises = tt; active = λ p. omega arith; released = released-none q }
 
-released-held : (q : Queue) (held : List ℕ) → RisesFrom 0 held → AreActive q held → AreHeldBack q (released q held)
+released-held : (q : Queue) (held : List ℕ) → RisesFrom 0 held → AreActive q held → AreHeldBack q (release q held)
 released-held q held rises active = by (length (free_among held q.active) == 0 && length q.activated == 0) refl
   where
     by : (b : Bool) → (length (free_among held q.active) == 0 && length q.activated == 0) ≡ b → AreHeldBack q (cond b [] held)
@@ -203,7 +203,7 @@ held-kept design s i c kept some = by s.held_back refl
     by None is = λ held now. cc
     by (Some held) is = λ left now.
         let are = before-held s held i kept (kept.held held is) in
-        subst (AreHeldBack after) (some_same (released after (held_with held s.queue i c)) left now)
+        subst (AreHeldBack after) (some_same (release after (held_with held s.queue i c)) left now)
         (released-held after (held_with held s.queue i c)
         (without-taken_rises c (with_held (before_choice (order_of held s.queue) i) held) are.rises)
         (transition-active design c s (with_held (before_choice (order_of held s.queue) i) held) some are.active))

@@ -18,7 +18,7 @@ use Rattle.vmodel.specs.declared.choice.Choice.TheVariants.{Run, Update, Advance
 use Rattle.vmodel.specs.Queue.{Later, Queue}
 use Rattle.vmodel.specs.State.{State}
 use Rattle.vmodel.specs.Choices.{or_advance, active_choices, offered_choices, order_by, order_of, taking_or_holding, choices_by, choices}
-use Rattle.vmodel.specs.Holding.{count_before, with_held, before_choice, without_taken, released, held_after}
+use Rattle.vmodel.specs.Holding.{count_before, with_held, before_choice, without_taken, release, held_after}
 use Rattle.sched_core.specs.Bags.{HasLines}
 use Rattle.vmodel.specs.Printed.{printed_after}
 use Rattle.vmodel.specs.Step.{Transition, transition_of, with_views, with_held_after, transition_by, next, items_of}
@@ -132,8 +132,8 @@ taken_none Advance = refl
 
 none_after : (q after : Queue) (i : ℕ) (c : Choice) → i < length (or_advance (order_of [] q) q.future) → held_after (Some []) q i c after ≡ Some []
 none_after q after i c lt =
-    ap (λ (before : List Choice). Some (released after (without_taken c (with_held before [])))) (nobody_before (order_of [] q) q.future i lt)
-    ∙ ap (λ (held : List ℕ). Some (released after held)) (taken_none c)
+    ap (λ (before : List Choice). Some (release after (without_taken c (with_held before [])))) (nobody_before (order_of [] q) q.future i lt)
+    ∙ ap (λ (held : List ℕ). Some (release after held)) (taken_none c)
     ∙ ap Some (released-none after)
 
 -- a choice where departures only take, where they may hold back

@@ -41,10 +41,10 @@ abbrev pub held_with : List ℕ → Queue → ℕ → Choice → List ℕ
 held_with held q i c = without_taken c (with_held (before_choice (order_of held q) i) held)
 
 -- where nothing else is active, no process and no update, nothing is held back any more
-abbrev pub released : Queue → List ℕ → List ℕ
-released q held = if length (free_among held q.active) == 0 && length q.activated == 0 then [] else held
+abbrev pub release : Queue → List ℕ → List ℕ
+release q held = if length (free_among held q.active) == 0 && length q.activated == 0 then [] else held
 
 -- what is held back after the step, whose region moves leave the queue `after`
 abbrev pub held_after : Option (List ℕ) → Queue → ℕ → Choice → Queue → Option (List ℕ)
 held_after None q i c after = None
-held_after (Some held) q i c after = Some (released after (held_with held q i c))
+held_after (Some held) q i c after = Some (release after (held_with held q i c))

@@ -5,7 +5,7 @@ use Rattle.std.specs.Option.{ForSome}
 use Rattle.vmodel.specs.declared.process.Frame.{Frame}
 use Rattle.vmodel.specs.Queue.{Later, Queue}
 use Rattle.vmodel.specs.State.{Process, State}
-use Rattle.vmodel.specs.Holding.{released}
+use Rattle.vmodel.specs.Holding.{release}
 use Rattle.vmodel.specs.Step.{continuation_of}
 use Rattle.vmodel.specs.Run.{Setting, state_after}
 use Rattle.vbits.specs.Vectors.{Vector}
@@ -75,7 +75,7 @@ IsEmptied q = (q.inactive ≡ []) × (q.posted ≡ []) × (q.strobes ≡ [])
 pub record AreHeldBack (q : Queue) (held : List ℕ) : Type 0 where
   pub rises : RisesFrom 0 held
   pub active : (p : ℕ) → count_in p held ≤ count_in p q.active
-  pub released : released q held ≡ held
+  pub released : release q held ≡ held
 
 pub record IsKept (s : State) : Type 0 where
   pub order : IsInOrder s.queue

@@ -99,7 +99,7 @@ pub(crate) fn held_with(queue: &Queue, held: &ProcessSet, i: u32, choice: Choice
 
 /// What is held back still, where something else is active.
 pub(crate) fn release(queue: &Queue, held: ProcessSet) -> ProcessSet
-    ensures { result ≡ spec.released queue.now held }
+    ensures { result ≡ spec.release queue.now held }
 {
     if free_among(held.copy(), &queue.active).is_empty() && queue.activated.is_empty() {
         ProcessSet::new()

@@ -3,7 +3,7 @@
 ghost use Rattle.std.specs.Prelude.{◌≡◌, ◌<◌, ◌==◌, length, option_map, OnOk, OnErr};
 ghost use Rattle.std.specs.Option.{ForSome};
 ghost use Rattle.vmodel.specs.Choices.{IsWithin};
-ghost use Rattle.vmodel.specs.Holding.{held_with as held_with_of, released as released_of};
+ghost use Rattle.vmodel.specs.Holding.{held_with as held_with_of, release as released_of};
 ghost use Rattle.vmodel.specs.InnerWaking.{IsChange, with_active};
 ghost use Rattle.vmodel.specs.Parts.{write, with_parts};
 ghost use Rattle.vmodel.specs.Printed.{lines_before};

@@ -2,7 +2,7 @@
 use Rattle.std.proofs.Common.{◌≡◌, ℕ, List, [], ◌∷◌, ◌++◌, Option, Some, option_map, if◌then◌else◌, Box, Vec, Global, refl, sym, ap, ◌∙◌}
 use Rattle.std.specs.List.{flat_map}
 use Rattle.vast.specs.Words.{Text}
-use Rattle.vast.specs.NumberedWords.{Word, numbered}
+use Rattle.vast.specs.NumberedWords.{Word, word_of}
 use Rattle.vast.specs.NumberedTrees.{module_tree, statement_tree, statement_trees, branch_trees}
 use Rattle.vast.specs.declared.token.Token.{Token}
 use Rattle.vast.specs.declared.expression.Expression.{Expression}
@@ -18,13 +18,13 @@ use Rattle.vmodules.proofs.HierarchyLemmas.{same_front}
 
 module _ (words : List Text) (s : Statement) where
   pub blocks_block : (label : Option Token) (list : Vec Statement Global) (items : List Statement) → s ≡ Block label list → items ≡ list.items →
-      block_names (option_map (numbered words) label) (blocks_in_all (statement_trees words items)) ≡ blocks_in (statement_tree words s)
+      block_names (option_map (word_of words) label) (blocks_in_all (statement_trees words items)) ≡ blocks_in (statement_tree words s)
   blocks_block label list items is same =
       sym
       (
       ap (λ (one : Statement). blocks_in (statement_tree words one)) is
-      ∙ ap blocks_in (told_block (numbered words) label list)
-      ∙ ap (λ (xs : List Statement). block_names (option_map (numbered words) label) (blocks_in_all (statement_trees words xs))) (sym same)
+      ∙ ap blocks_in (told_block (word_of words) label list)
+      ∙ ap (λ (xs : List Statement). block_names (option_map (word_of words) label) (blocks_in_all (statement_trees words xs))) (sym same)
       )
 
   pub blocks_case : (at : ℕ) (kind : CaseKind) (value : Box Expression Global) (branches : Vec Branch Global) (items : List Branch) →
@@ -33,7 +33,7 @@ module _ (words : List Text) (s : Statement) where
       sym
       (
       ap (λ (one : Statement). blocks_in (statement_tree words one)) is
-      ∙ ap blocks_in (told_case (numbered words) at kind value branches)
+      ∙ ap blocks_in (told_case (word_of words) at kind value branches)
       ∙ ap (λ (xs : List Branch). blocks_in_branches (branch_trees words xs)) (sym same)
       )
 

@@ -5,7 +5,7 @@ use Rattle.basis.specs.Reasons.{IfFault}
 use Rattle.basis.specs.declared.memory.OrMemory.{OrMemory}
 use Rattle.basis.specs.declared.memory.OrMemory.TheVariants.{Fault, Memory}
 use Rattle.vast.specs.Words.{Text}
-use Rattle.vast.specs.NumberedWords.{Word, numbered}
+use Rattle.vast.specs.NumberedWords.{Word, word_of}
 use Rattle.vast.specs.NumberedModules.{DirectionTree}
 use Rattle.vast.specs.NumberedTrees.{module_tree, port_tree}
 use Rattle.vast.specs.declared.module.Direction.{Direction}
@@ -14,7 +14,7 @@ use Rattle.vast.specs.declared.module.ModuleTree.{ModuleTree as Parsed}
 use Rattle.vast.specs.declared.token.Token.{Token}
 use Rattle.vmodules.specs.Names.{letters_of, first_again}
 use Rattle.vmodules.specs.Ports.{listed_names}
-use Rattle.vmodules.specs.Misdeclared.{Misdeclared, flawed, stray, port_flaw, valued_net, valued_behind}
+use Rattle.vmodules.specs.Misdeclared.{Misdeclared, misdeclared_at, stray, port_flaw, valued_net, valued_behind}
 use Rattle.vmodules.specs.Inner.{again_told, besides_told, direction_of, first_not, flaw_told, items_told, listed_valued, plain_words, port_trees, told_as, words_told, IsFlaw}
 use Rattle.vmodules.specs.declared.misdeclared.PortFlaw.TheVariants as flaw
 use Rattle.vmodules.specs.declared.misdeclared.Declaring.TheVariants as how
@@ -41,10 +41,10 @@ module _ (words names : List Text) (unit : Parsed) (first plain : List Token)
     (is : names ≡ letters_of (words_told words first)) where
   pub unit_is : option_or (again_told words flaw.Doubled first) (items_told words names plain unit) ≡ port_flaw (module_tree words unit)
   unit_is = λ i.
-      option_or (flawed flaw.Doubled (first_again (are i)))
+      option_or (misdeclared_at flaw.Doubled (first_again (are i)))
       (option_or (stray (listed_names (module_tree words unit).ports) (first_not ((is ∙ ap letters_of are) i) (told_as words how.Ports unit.items.items)))
-      (option_or (flawed flaw.Doubled (first_again (told_as words how.Ports unit.items.items)))
-      (option_or (flawed flaw.Undeclared (first_not (letters_of (told_as words how.Ports unit.items.items)) (same i)))
+      (option_or (misdeclared_at flaw.Doubled (first_again (told_as words how.Ports unit.items.items)))
+      (option_or (misdeclared_at flaw.Undeclared (first_not (letters_of (told_as words how.Ports unit.items.items)) (same i)))
       (besides_told words ((is ∙ ap letters_of are) i) unit.items.items))))
 
 -- ---- values of ports
@@ -52,7 +52,7 @@ module _ (words names : List Text) (unit : Parsed) (first plain : List Token)
 -- behind a port of a list, where it has no value that it may not have
 pub later_listed : (words : List Text) (rest behind : List Port) (x : Port) (before next : Option (Bor Direction)) (found : Option Token) (told : Option Word) → rest ≡ x ∷ behind →
     direction_of words next ≡ option_or (port_tree words x).direction (direction_of words before) →
-    option_map (numbered words) found ≡ valued_net (direction_of words next) (port_tree words x).name (port_tree words x).value → is_some found ≡ false →
+    option_map (word_of words) found ≡ valued_net (direction_of words next) (port_tree words x).name (port_tree words x).value → is_some found ≡ false →
     listed_valued words before rest ≡ told → listed_valued words next behind ≡ told
 later_listed words rest behind x before next (Some t) told is way one none same = absurd cc
 later_listed words rest behind x before next None told is way one none same =

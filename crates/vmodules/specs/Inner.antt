@@ -5,7 +5,7 @@ use Rattle.std.specs.Borrow.{Bor}
 use Rattle.std.specs.List.{flat_map, find}
 use Rattle.std.specs.Option.{option_or}
 use Rattle.vast.specs.Words.{Text}
-use Rattle.vast.specs.NumberedWords.{Word, numbered}
+use Rattle.vast.specs.NumberedWords.{Word, word_of}
 use Rattle.vast.specs.NumberedExpressions.{ExpressionTree}
 use Rattle.vast.specs.NumberedTrees.{tree_of, declared_tree, instance_tree}
 use Rattle.vast.specs.NumberedModules.{TypeTree, DirectionTree, PortTree, ItemTree, ModuleTree, SourceTree, HeadParameter as HeadTree}
@@ -22,7 +22,7 @@ use Rattle.vmodules.specs.Names.{is_declared, letters_of, first_again}
 use Rattle.vmodules.specs.Hierarchy.{module_names, second_of}
 use Rattle.vmodules.specs.Connected.{NamedConnection, open_by}
 use Rattle.vmodules.specs.Ports.{Port, Second, bare, type_with, declared_port, listed_names, plain_names, is_plain, own_item}
-use Rattle.vmodules.specs.Misdeclared.{Misdeclared, flawed, words_as, stray, valued_behind, valued_in, valued_listed, valued_items, valued_port}
+use Rattle.vmodules.specs.Misdeclared.{Misdeclared, misdeclared_at, words_as, stray, valued_behind, valued_in, valued_listed, valued_items, valued_port}
 use Rattle.vmodules.specs.declared.misdeclared.PortFlaw.{PortFlaw}
 use Rattle.vmodules.specs.declared.misdeclared.PortFlaw.TheVariants as flaw
 use Rattle.vmodules.specs.declared.misdeclared.Declaring.{Declaring}
@@ -83,12 +83,12 @@ direction_of words = option_map (λ direction. direction_tree words direction.no
 
 -- what is declared besides a port
 abbrev pub second_form : List Text → SecondForm → Second
-second_form words form = record { name = numbered words form.name; net = form.net; type = type_tree words form.kind.now }
+second_form words form = record { name = word_of words form.name; net = form.net; type = type_tree words form.kind.now }
 
 -- the port of a form
 abbrev pub port_form : List Text → PortForm → Port
 port_form words form = record {
-  name = numbered words form.name;
+  name = word_of words form.name;
   output = form.output;
   net = form.net;
   type = type_with (type_for words form.kind) (option_map (second_form words) form.again);
@@ -148,7 +148,7 @@ own_in words names items = map (own_item (is_declared names)) (map (item_tree wo
 
 -- words that were collected
 abbrev pub words_told : List Text → List Token → List Word
-words_told words list = map (numbered words) list
+words_told words list = map (word_of words) list
 
 abbrev pub told_as : List Text → Declaring → List ModuleItem → List Word
 told_as words declaring items = words_as declaring (map (item_tree words) items)
@@ -189,20 +189,20 @@ all_in names words = filter (λ word. is_declared names word.letters) words
 
 -- what is told of a module, by what was collected of it
 abbrev pub again_told : List Text → PortFlaw → List Token → Option Misdeclared
-again_told words flaw list = flawed flaw (first_again (words_told words list))
+again_told words flaw list = misdeclared_at flaw (first_again (words_told words list))
 
 abbrev pub stray_told : {X : Type 0} → List Text → Option (Vec ParsedPort X) → Token → Option Misdeclared
-stray_told words ports token = stray (listed_names (optional_ports words ports)) (Some (numbered words token))
+stray_told words ports token = stray (listed_names (optional_ports words ports)) (Some (word_of words token))
 
 abbrev pub strays_told : {X : Type 0} → List Text → List Text → Option (Vec ParsedPort X) → List Token → Option Misdeclared
 strays_told words names ports list = stray (listed_names (optional_ports words ports)) (first_not names (words_told words list))
 
 abbrev pub unlisted_told : List Text → List Text → List Token → Option Misdeclared
-unlisted_told words names list = flawed flaw.Undeclared (first_not names (words_told words list))
+unlisted_told words names list = misdeclared_at flaw.Undeclared (first_not names (words_told words list))
 
 abbrev pub seconds_told : List Text → List Text → PortFlaw → Declaring → Declaring → List ModuleItem → Option Misdeclared
 seconds_told words names flaw once again items =
-    flawed flaw (first_again (told_as words once items ++ all_in names (told_as words again items)))
+    misdeclared_at flaw (first_again (told_as words once items ++ all_in names (told_as words again items)))
 
 abbrev pub besides_told : List Text → List Text → List ModuleItem → Option Misdeclared
 besides_told words names items =
@@ -212,8 +212,8 @@ besides_told words names items =
 abbrev pub items_told : List Text → List Text → List Token → Parsed → Option Misdeclared
 items_told words names plain unit =
     option_or (stray (listed_names (module_tree words unit).ports) (first_not names (told_as words how.Ports unit.items.items)))
-    (option_or (flawed flaw.Doubled (first_again (told_as words how.Ports unit.items.items)))
-    (option_or (flawed flaw.Undeclared (first_not (letters_of (told_as words how.Ports unit.items.items)) (words_told words plain)))
+    (option_or (misdeclared_at flaw.Doubled (first_again (told_as words how.Ports unit.items.items)))
+    (option_or (misdeclared_at flaw.Undeclared (first_not (letters_of (told_as words how.Ports unit.items.items)) (words_told words plain)))
     (besides_told words names unit.items.items)))
 
 -- a value of a port that may have none: in a list, in an item, in items, in a module
@@ -230,11 +230,11 @@ abbrev pub items_valued : List Text → List ModuleItem → Option Word
 items_valued words items = valued_items (map (item_tree words) items)
 
 abbrev pub values_told : List Text → Parsed → Option Misdeclared
-values_told words unit = flawed flaw.Valued (valued_port (module_tree words unit))
+values_told words unit = misdeclared_at flaw.Valued (valued_port (module_tree words unit))
 
 -- a name that stands again as that of a block
 abbrev pub blocks_told : List Text → Parsed → Option Misdeclared
-blocks_told words unit = flawed flaw.Doubled (doubled_block (module_tree words unit))
+blocks_told words unit = misdeclared_at flaw.Doubled (doubled_block (module_tree words unit))
 
 -- the fault that a call tells
 abbrev pub flaw_told : Misdeclared → PortFault

@@ -20,8 +20,8 @@ pub record Misdeclared : Type 0 where
   pub flaw : PortFlaw
   pub word : Word
 
-abbrev pub flawed : PortFlaw → Option Word → Option Misdeclared
-flawed flaw = option_map (λ word. record { flaw = flaw; word = word })
+abbrev pub misdeclared_at : PortFlaw → Option Word → Option Misdeclared
+misdeclared_at flaw = option_map (λ word. record { flaw = flaw; word = word })
 
 -- 12.3.3: as what an item declares names: as ports; as ports whose net or variable a word says; as inputs; as nets or variables; as variables
 abbrev pub is_whole : DirectionTree → Bool
@@ -87,12 +87,12 @@ stray listed (Some word) =
 -- ports, each once. A port is declared once more at most, and not at all where its net or variable was said; no input is a variable.
 abbrev pub flaw_in : List Word → List Word → List ItemTree → Option Misdeclared
 flaw_in plain listed items =
-    option_or (flawed flaw.Doubled (first_again plain))
+    option_or (misdeclared_at flaw.Doubled (first_again plain))
     (option_or (stray listed (outside plain (words_as how.Ports items)))
-    (option_or (flawed flaw.Doubled (first_again (words_as how.Ports items)))
-    (option_or (flawed flaw.Undeclared (outside (words_as how.Ports items) plain))
-    (option_or (flawed flaw.Doubled (first_again (words_as how.WholePorts items ++ among plain (words_as how.Seconds items))))
-    (flawed flaw.Input (first_again (words_as how.Inputs items ++ among plain (words_as how.Registers items))))))))
+    (option_or (misdeclared_at flaw.Doubled (first_again (words_as how.Ports items)))
+    (option_or (misdeclared_at flaw.Undeclared (outside (words_as how.Ports items) plain))
+    (option_or (misdeclared_at flaw.Doubled (first_again (words_as how.WholePorts items ++ among plain (words_as how.Seconds items))))
+    (misdeclared_at flaw.Input (first_again (words_as how.Inputs items ++ among plain (words_as how.Registers items))))))))
 
 abbrev pub port_flaw : ModuleTree → Option Misdeclared
 port_flaw m = flaw_in (plain_names m.ports) (listed_names m.ports) m.items
@@ -149,8 +149,8 @@ valued_port m = option_or (valued_listed m.ports) (valued_items m.items)
 
 -- the first flaw of a module, and of a text: of its ports, then of their values, or else a name that stands again as that of a block (4.11)
 abbrev pub flaw_of : ModuleTree → Option Misdeclared
-flaw_of m = option_or (port_flaw m) (option_or (flawed flaw.Valued (valued_port m)) (flawed flaw.Doubled (doubled_block m)))
+flaw_of m = option_or (port_flaw m) (option_or (misdeclared_at flaw.Valued (valued_port m)) (misdeclared_at flaw.Doubled (doubled_block m)))
 
-abbrev pub misdeclared : SourceTree → Option Misdeclared
-misdeclared [] = None
-misdeclared (m ∷ more) = option_or (flaw_of m) (misdeclared more)
+abbrev pub first_misdeclared : SourceTree → Option Misdeclared
+first_misdeclared [] = None
+first_misdeclared (m ∷ more) = option_or (flaw_of m) (first_misdeclared more)

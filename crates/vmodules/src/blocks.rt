@@ -3,7 +3,7 @@
 ghost use Rattle.std.specs.Prelude.{◌≡◌, ◌++◌, ◌∷◌, List, [], None, true, false, map, option_map, IfOk, OnOk};
 ghost use Rattle.std.specs.List.{flat_map};
 ghost use Rattle.basis.specs.Reasons.{IfFault};
-ghost use Rattle.vast.specs.NumberedWords.{numbered};
+ghost use Rattle.vast.specs.NumberedWords.{word_of};
 ghost use Rattle.vast.specs.NumberedTrees.{branch_tree, branch_trees, declared_tree, head_parameter, instance_tree, item_tree, module_tree, setting_tree, statement_tree, statement_trees};
 ghost use Rattle.vexpr_parse.specs.Texts.{words_of};
 ghost use Rattle.vmodules.specs.Names.{again_behind, is_declared, letters_of};
@@ -71,7 +71,7 @@ fn add_instances(
 fn add_name(tokens: &Tokens<'_>, name: &Token, into: &mut Vec<Token>) -> Result<(), NoMemory>
     ensures { OnOk result (words_told (words_of tokens.now) into.new.items ≡
         words_told (words_of tokens.now) into.old.items
-        ++ numbered (words_of tokens.now) name.now ∷ []) }
+        ++ word_of (words_of tokens.now) name.now ∷ []) }
 {
     into.push(*name)?;
     Ok(())
@@ -247,7 +247,7 @@ fn add_block(
 ) -> Result<(), NoMemory>
     ensures { OnOk result (words_told (words_of tokens.now) into.new.items ≡
         words_told (words_of tokens.now) into.old.items
-        ++ spec.block_names (option_map (numbered (words_of tokens.now)) name.now)
+        ++ spec.block_names (option_map (word_of (words_of tokens.now)) name.now)
         (spec.blocks_in_all (statement_trees (words_of tokens.now) statements.now))) }
 {
     match name {
@@ -342,7 +342,7 @@ fn blocks_of(
 // Adds the name of this token, where it is new.
 fn note<'t>(tokens: &Tokens<'t>, token: &Token, into: &mut Names<'t>) -> Result<(), NoMemory>
     ensures { OnOk result (HoldSame into.new (into.old
-        ++ (numbered (words_of tokens.now) token.now).letters ∷ [])) }
+        ++ (word_of (words_of tokens.now) token.now).letters ∷ [])) }
 {
     into.add(letters(tokens, *token))?;
     Ok(())
@@ -367,11 +367,11 @@ fn add_token<'t>(
     into: &mut Names<'t>,
 ) -> Result<(), OrMemory<Doubled>>
     ensures added { OnOk result
-        (into.new ≡ into.old ++ (numbered (words_of tokens.now) token.now).letters ∷ []) }
+        (into.new ≡ into.old ++ (word_of (words_of tokens.now) token.now).letters ∷ []) }
     ensures fresh { OnOk result (is_declared into.old
-        (numbered (words_of tokens.now) token.now).letters ≡ false) }
+        (word_of (words_of tokens.now) token.now).letters ≡ false) }
     ensures err { IfFault result (λ doubled. (is_declared into.old
-        (numbered (words_of tokens.now) token.now).letters ≡ true)
+        (word_of (words_of tokens.now) token.now).letters ≡ true)
         × (doubled.at ≡ token.now.number)) }
 {
     into.add_new(letters(tokens, *token), token.number)

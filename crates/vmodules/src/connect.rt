@@ -3,7 +3,7 @@
 ghost use Rattle.std.specs.Prelude.{◌≡◌, ◌++◌, ◌∷◌, [], List, map, true, false, option_map, None, Some, IfOk, OnOk};
 ghost use Rattle.basis.specs.Reasons.{IfFault};
 ghost use Rattle.vast.specs.Words.{Text};
-ghost use Rattle.vast.specs.NumberedWords.{numbered};
+ghost use Rattle.vast.specs.NumberedWords.{word_of};
 ghost use Rattle.vast.specs.NumberedModules.{by_order, by_name};
 ghost use Rattle.vast.specs.NumberedTrees.{tree_of, connection_tree, connections_tree};
 ghost use Rattle.vexpr_parse.specs.Texts.{words_of};
@@ -98,10 +98,10 @@ fn by_order<'t, 'u>(
 ) -> Result<ConnectionMap<'t, 'u>, OrMemory<Misfit>>
     ensures ok { (words : List Text) → IfOk result (λ connected.
         entries_tree words connected ≡ spec.named_connections names.now (by_order (map (tree_of words) values.now))) }
-    ensures fits { (words : List Text) → OnOk result (misfit (numbered words whose) names.now
+    ensures fits { (words : List Text) → OnOk result (misfit (word_of words whose) names.now
         (by_order (map (tree_of words) values.now)) ≡ None) }
     ensures err { (words : List Text) → IfFault result (λ f. IsTold (misfit
-        (numbered words whose) names.now (by_order (map (tree_of words) values.now))) f.at) }
+        (word_of words whose) names.now (by_order (map (tree_of words) values.now))) f.at) }
 {
     let mut connected = ConnectionMap::new(alloc);
     if values.len() > names.len() {
@@ -161,9 +161,9 @@ pub fn named_connections<'t, 'u>(
 ) -> Result<ConnectionMap<'t, 'u>, OrMemory<Misfit>>
     ensures ok { IfOk result (λ connected. entries_tree (words_of tokens.now) connected ≡
         spec.named_connections names.now (connections_tree (words_of tokens.now) connections.now)) }
-    ensures fits { OnOk result (misfit (numbered (words_of tokens.now) whose) names.now
+    ensures fits { OnOk result (misfit (word_of (words_of tokens.now) whose) names.now
         (connections_tree (words_of tokens.now) connections.now) ≡ None) }
-    ensures err { IfFault result (λ f. IsTold (misfit (numbered (words_of tokens.now) whose)
+    ensures err { IfFault result (λ f. IsTold (misfit (word_of (words_of tokens.now) whose)
         names.now (connections_tree (words_of tokens.now) connections.now)) f.at) }
 {
     match connections {
@@ -182,9 +182,9 @@ pub fn named_connections_if<'t, 'u>(
 ) -> Result<ConnectionMap<'t, 'u>, OrMemory<Misfit>>
     ensures ok { IfOk result (λ connected. entries_tree (words_of tokens.now) connected ≡ spec.named_connections_if
         names.now (option_map (connections_tree (words_of tokens.now)) overrides.now)) }
-    ensures fits { OnOk result (misfit_if (numbered (words_of tokens.now) whose) names.now
+    ensures fits { OnOk result (misfit_if (word_of (words_of tokens.now) whose) names.now
         (option_map (connections_tree (words_of tokens.now)) overrides.now) ≡ None) }
-    ensures err { IfFault result (λ f. IsTold (misfit_if (numbered (words_of tokens.now) whose)
+    ensures err { IfFault result (λ f. IsTold (misfit_if (word_of (words_of tokens.now) whose)
         names.now (option_map (connections_tree (words_of tokens.now)) overrides.now)) f.at) }
 {
     match overrides {

@@ -2,11 +2,11 @@
 
 ghost use Rattle.std.specs.Prelude.{◌≡◌};
 ghost use Rattle.vast.specs.TokenTexts.{token_text};
-ghost use Rattle.vast.specs.Words.{unescaped as unescaped_text};
+ghost use Rattle.vast.specs.Words.{without_backslash as unescaped_text};
 ghost use Rattle.vexpr_parse.specs.Texts.{words_of};
 
 use vast::token::Token;
-use vast::words::unescaped;
+use vast::words::without_backslash;
 use vlex::Tokens;
 
 /// The letters of a token; none, where there are fewer tokens.
@@ -14,7 +14,7 @@ pub fn letters<'t>(tokens: &Tokens<'t>, token: Token) -> &'t [u8]
     ensures { result.now ≡ unescaped_text (token_text (words_of tokens.now) token) }
 {
     if (token.number as usize) < tokens.len() {
-        unescaped(tokens.text(token.number as usize))
+        without_backslash(tokens.text(token.number as usize))
     } else {
         b""
     }

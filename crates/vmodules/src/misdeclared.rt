@@ -4,7 +4,7 @@
 ghost use Rattle.std.specs.Prelude.{◌≡◌, ◌++◌, ◌∷◌, List, [], None, Some, true, false, map, option_map, IfOk, OnOk};
 ghost use Rattle.basis.specs.Reasons.{IfFault};
 ghost use Rattle.vast.specs.Words.{Text};
-ghost use Rattle.vast.specs.NumberedWords.{numbered};
+ghost use Rattle.vast.specs.NumberedWords.{word_of};
 ghost use Rattle.vast.specs.NumberedTrees.{declaration_kind, declared_tree, direction_tree, item_tree, module_tree, tree_of};
 ghost use Rattle.vexpr_parse.specs.Texts.{words_of};
 ghost use Rattle.vmodules.specs.Names.{is_declared, first_again, letters_of};
@@ -232,11 +232,11 @@ fn add_token<'t>(
     into: &mut Names<'t>,
 ) -> Result<(), OrMemory<Doubled>>
     ensures added { OnOk result
-        (into.new ≡ into.old ++ (numbered (words_of tokens.now) token.now).letters ∷ []) }
+        (into.new ≡ into.old ++ (word_of (words_of tokens.now) token.now).letters ∷ []) }
     ensures fresh { OnOk result (is_declared into.old
-        (numbered (words_of tokens.now) token.now).letters ≡ false) }
+        (word_of (words_of tokens.now) token.now).letters ≡ false) }
     ensures err { IfFault result (λ doubled. (is_declared into.old
-        (numbered (words_of tokens.now) token.now).letters ≡ true)
+        (word_of (words_of tokens.now) token.now).letters ≡ true)
         × (doubled.at ≡ token.now.number)) }
 {
     into.add_new(letters(tokens, *token), token.number)
@@ -286,7 +286,7 @@ fn once_or<'t>(
 
 // The first that isn't among these names.
 fn first_outside(tokens: &Tokens<'_>, names: &Names<'_>, list: &[Token]) -> Option<Token>
-    ensures { option_map (numbered (words_of tokens.now)) result ≡
+    ensures { option_map (word_of (words_of tokens.now)) result ≡
         first_not names.now (words_told (words_of tokens.now) list.now) }
 {
     for token in list {
@@ -482,8 +482,8 @@ fn valued_net(
     name: Token,
     value: &Option<Box<Expression>>,
 ) -> Option<Token>
-    ensures { (words : List Text) → option_map (numbered words) result ≡ spec.valued_net
-        (way_of words direction.entry) (numbered words name)
+    ensures { (words : List Text) → option_map (word_of words) result ≡ spec.valued_net
+        (way_of words direction.entry) (word_of words name)
         (option_map (λ value. tree_of words value.value) value.now) }
 {
     match value {
@@ -503,7 +503,7 @@ fn valued_net(
 
 // The first port of a list that has a value and may have none.
 fn first_listed(list: &[Port]) -> Option<Token>
-    ensures { (words : List Text) → option_map (numbered words) result ≡
+    ensures { (words : List Text) → option_map (word_of words) result ≡
         listed_valued words None list.now }
 {
     let mut direction: Option<&Direction> = None;
@@ -519,7 +519,7 @@ fn first_listed(list: &[Port]) -> Option<Token>
 
 // The first port that an item declares so and gives a value that it may not have.
 fn first_declared(direction: &Direction, list: &[Declared]) -> Option<Token>
-    ensures { (words : List Text) → option_map (numbered words) result ≡
+    ensures { (words : List Text) → option_map (word_of words) result ≡
         declared_valued words direction.now list.now }
 {
     for one in list {
@@ -533,7 +533,7 @@ fn first_declared(direction: &Direction, list: &[Declared]) -> Option<Token>
 
 // The same of an item.
 fn first_by(item: &ModuleItem) -> Option<Token>
-    ensures { (words : List Text) → option_map (numbered words) result ≡
+    ensures { (words : List Text) → option_map (word_of words) result ≡
         spec.valued_by (item_tree words item.now) }
 {
     match item {
@@ -553,7 +553,7 @@ fn first_by(item: &ModuleItem) -> Option<Token>
 
 // The same of items.
 fn first_valued(items: &[ModuleItem]) -> Option<Token>
-    ensures { (words : List Text) → option_map (numbered words) result ≡
+    ensures { (words : List Text) → option_map (word_of words) result ≡
         items_valued words items.now }
 {
     for item in items {
@@ -567,7 +567,7 @@ fn first_valued(items: &[ModuleItem]) -> Option<Token>
 
 // The same of the ports of a module's list.
 fn first_in_list(ports: &Option<Vec<Port>>) -> Option<Token>
-    ensures { (words : List Text) → option_map (numbered words) result ≡
+    ensures { (words : List Text) → option_map (word_of words) result ≡
         optional_valued words ports.now }
 {
     match ports {
@@ -578,7 +578,7 @@ fn first_in_list(ports: &Option<Vec<Port>>) -> Option<Token>
 
 // The same of a module.
 fn first_of(unit: &ModuleTree) -> Option<Token>
-    ensures { (words : List Text) → option_map (numbered words) result ≡
+    ensures { (words : List Text) → option_map (word_of words) result ≡
         spec.valued_port (module_tree words unit.now) }
 {
     match first_in_list(&unit.ports) {
@@ -639,8 +639,8 @@ fn check_unit(
 
 /// The ports and the names of blocks of the modules of a text: the first thing that is wrong with them is refused.
 pub fn check_names(alloc: Global, modules: &Modules<'_, '_>) -> Result<(), OrMemory<Misdeclared>>
-    ensures ok { OnOk result (spec.misdeclared (units_tree modules.now) ≡ None) }
-    ensures err { IfFault result (IsFlaw (spec.misdeclared (units_tree modules.now))) }
+    ensures ok { OnOk result (spec.first_misdeclared (units_tree modules.now) ≡ None) }
+    ensures err { IfFault result (IsFlaw (spec.first_misdeclared (units_tree modules.now))) }
 {
     let tokens = modules.tokens();
     let list = modules.list();

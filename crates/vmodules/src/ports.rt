@@ -3,7 +3,7 @@
 ghost use Rattle.std.specs.Prelude.{◌≡◌, ◌++◌, List, [], map, None, option_map, unwrap_or, IfOk, OnOk};
 ghost use Rattle.std.specs.Option.{option_or};
 ghost use Rattle.vast.specs.Words.{Text};
-ghost use Rattle.vast.specs.NumberedWords.{numbered};
+ghost use Rattle.vast.specs.NumberedWords.{word_of};
 ghost use Rattle.vast.specs.NumberedTrees.{declaration_kind, declared_tree, direction_tree, item_tree, module_tree, port_tree, type_tree};
 ghost use Rattle.vexpr_parse.specs.Texts.{words_of};
 ghost use Rattle.vmodules.specs.Ports as spec;
@@ -80,7 +80,7 @@ pub fn type_in(direction: &Direction) -> Option<&SignAndRange>
 // A port that goes this way.
 fn form_by<'u>(direction: Option<&'u Direction>, name: Token) -> PortForm<'u>
     ensures form { (words : List Text) → port_form words result ≡
-        port_by (direction_of words direction.entry) (numbered words name) }
+        port_by (direction_of words direction.entry) (word_of words name) }
     ensures once { result.again ≡ None }
 {
     match direction {
@@ -302,7 +302,7 @@ fn with_second<'u>(form: PortForm<'u>, again: Option<SecondForm<'u>>) -> PortFor
 // A port that items declare.
 fn declared_port<'u>(tokens: &Tokens<'_>, items: &'u [ModuleItem], name: Token) -> PortForm<'u>
     ensures { port_form (words_of tokens.now) result ≡ spec.declared_port
-        (map (item_tree (words_of tokens.now)) items.now) (numbered (words_of tokens.now) name) }
+        (map (item_tree (words_of tokens.now)) items.now) (word_of (words_of tokens.now) name) }
 {
     let text = letters(tokens, name);
     let form = form_by(direction_for(tokens, items, text), name);

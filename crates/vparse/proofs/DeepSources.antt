@@ -9,12 +9,12 @@ use Rattle.vexpr_parse.specs.declared.stop.Stop.TheVariants.{TooDeep}
 use Rattle.vexpr_parse.specs.Readers.{Reader, got, stop, front, is_front, goes, refused, lower, room}
 use Rattle.vgrammar.specs.declared.start.StatementStart.{StatementStart}
 use Rattle.vgrammar.specs.declared.start.StatementStart.TheVariants as start
-use Rattle.vgrammar.specs.Parts.{made, paired, maybe, roomy}
+use Rattle.vgrammar.specs.Parts.{map_tree, pair, maybe, roomy}
 use Rattle.vgrammar.specs.Starts.{start_of, start_word, statement_starts, begins_target, is_target, is_some_meaning, is_meant, meant_if, is_word, sign_of, edge_of, comma_of}
-use Rattle.vgrammar.specs.Statements.{value, named, numbered, word_only, comma_list, select, target_of, named_target, joined_of, joined_targets, target, delay_of, amount, assignment_of, assignment, guarded, if_of, guarded_of, setting, for_of, delayed_of, term_of, term, further_of, event_of, control, event_body_of, block_of, has_default, branch_of, default_branch, branch, case_parts_of, case_parts, begins_argument, argument_of, arguments, print_of, optional_print_of, idle_of, dump_file_of, path_of, selection_of, selection, dump_vars_of, end_of, dump_of, trigger_of, statement_by, lead_by, begins_statement, statement}
-use Rattle.vgrammar.specs.Modules.{range_of, type_of, integer_of, parameter_type_of, setting_of, declared_of, connection_of, connections_of, instance_of, ended, net_of, local_of, item_of, first_parameter_of, head_parameter_of, direction_of, is_direction, port_of, named_port_of, ports_behind, ports_of, head_list_of, module_of, is_some_word, net_assignment_of}
+use Rattle.vgrammar.specs.Statements.{value, name_word, number_word, word_only, comma_list, select, target_of, named_target, joined_of, joined_targets, target, delay_of, amount, assignment_of, assignment, value_then, if_of, guarded_of, setting, for_of, delayed_of, term_of, term, further_of, event_of, control, event_body_of, block_of, has_default, branch_of, default_branch, branch, case_parts_of, case_parts, begins_argument, argument_of, arguments, print_of, optional_print_of, idle_of, dump_file_of, path_of, selection_of, selection, dump_vars_of, end_of, dump_of, trigger_of, statement_by, lead_by, begins_statement, statement}
+use Rattle.vgrammar.specs.Modules.{range_of, type_of, integer_of, parameter_type_of, setting_of, declared_of, connection_of, connections_of, instance_of, list_and_semicolon, net_of, local_of, item_of, first_parameter_of, head_parameter_of, direction_of, is_direction, port_of, named_port_of, ports_behind, ports_of, head_list_of, module_of, is_some_word, net_assignment_of}
 use Rattle.vgrammar.specs.Modules as with_levels
-use Rattle.vparse.specs.TextReaders.{free_value, range, type, parameter_type, setting as module_setting, declared, connection, connections, item, head_parameters, direction, ports, module_tree, source, net_assignment}
+use Rattle.vparse.specs.TextReaders.{free_value, range, type, parameter_type, setting as module_setting, declarator, connection, connections, item, head_parameters, direction, ports, module_tree, source, net_assignment}
 use Rattle.vparse.specs.Profile.{keywords, system_names, left_out, is_any_outside}
 use Rattle.vparse.proofs.DeepWords.{Inside, same_inside, written_inside, name_inside, Fine, Safe, LeadFine, got_safe, then_fine, led_safe, if_fine, room_fine, past_safe, choose_where, made_safe, linked_safe, paired_safe, maybe_safe, either_safe, worded_safe, many_safe, roomy_fine, first_inside, bracket_inside, brace_inside, parenthesis_inside, expression_safe}
 
@@ -29,17 +29,17 @@ only_safe text = past_safe text (got_safe tt)
 comma_safe : {A : Type 0} {read : Reader A} → Safe read → Safe (comma_list read)
 comma_safe s = paired_safe s (many_safe (is_front (codes ",")) (λ list. past_safe (codes ",") s))
 
-named_word : Safe named
+named_word : Safe name_word
 named_word = worded_safe (meant_if is_name)
 
-numbered_word : Safe numbered
+numbered_word : Safe number_word
 numbered_word = worded_safe (meant_if is_number)
 
 -- something in brackets or parentheses where there is room
 roomy_safe : {A : Type 0} (below : ℕ) (text : Text) {read : Reader A} → Inside text → Safe read →
     Safe (maybe (is_front text) (roomy below 1 read))
 roomy_safe below text {read = read} i s =
-    choose_where (is_front text) (made Some (roomy below 1 read))
+    choose_where (is_front text) (map_tree Some (roomy below 1 read))
     (λ words e. then_fine (roomy below 1 read words) (λ tree. got (Some tree)) (roomy_fine below s words (first_inside text i words e))
     (λ tree. got_safe (Some tree))) (got_safe None)
 
@@ -116,7 +116,7 @@ module _ (below : ℕ) (s : Safe (statement below)) where
   abbrev body : Reader StatementTree
   body = statement below
 
-  guarded_safe : {A : Type 0} {read : Reader A} → Safe read → Safe (guarded below read)
+  guarded_safe : {A : Type 0} {read : Reader A} → Safe read → Safe (value_then below read)
   guarded_safe r = past_safe (codes "(") (paired_safe (value_safe below) (past_safe (codes ")") r))
 
   set_safe : Safe (setting below)
@@ -137,7 +137,7 @@ module _ (below : ℕ) (s : Safe (statement below)) where
       guarded_safe (paired_safe (linked_safe (branch_safe []) (λ one. many_safe (λ next. not (is_front (codes "endcase") next))
       (λ list. branch_safe (one ∷ list)))) (only_safe (codes "endcase")))
 
-  ended_safe : {A : Type 0} {read : Reader A} → Safe read → Safe (paired read (word_only (codes ";")))
+  ended_safe : {A : Type 0} {read : Reader A} → Safe read → Safe (pair read (word_only (codes ";")))
   ended_safe r = paired_safe r (only_safe (codes ";"))
 
   module _ (word : Text) (i : Inside word) where
@@ -224,7 +224,7 @@ setting_safe = made_safe setting_of (paired_safe named_word (past_safe (codes "=
 net_assignment_safe : Safe net_assignment
 net_assignment_safe = made_safe net_assignment_of (paired_safe (target_safe 64) (past_safe (codes "=") free_safe))
 
-declared_safe : Safe declared
+declared_safe : Safe declarator
 declared_safe =
     made_safe declared_of (paired_safe named_word (maybe_safe (is_front (codes "=")) (past_safe (codes "=") free_safe)))
 
@@ -239,7 +239,7 @@ connections_safe =
     (paired_safe (comma_safe connection_safe) (only_safe (codes ")")))
     (either_safe (is_front (codes ")")) (only_safe (codes ")")) (paired_safe (comma_safe free_safe) (only_safe (codes ")"))))))
 
-list_safe : {A : Type 0} {read : Reader A} → Safe read → Safe (ended read)
+list_safe : {A : Type 0} {read : Reader A} → Safe read → Safe (list_and_semicolon read)
 list_safe s = paired_safe (comma_safe s) (only_safe (codes ";"))
 
 direction_safe : Safe direction

@@ -15,11 +15,11 @@ use Rattle.vexpr_parse.specs.declared.beginning.Beginning.TheVariants as start
 use Rattle.vexpr_parse.specs.declared.beginning.Round.{Round}
 use Rattle.vexpr_parse.specs.declared.beginning.Round.TheVariants as round
 use Rattle.vexpr_parse.specs.declared.stop.Stop.TheVariants.{NoTree, TooDeep}
-use Rattle.vexpr_parse.specs.Readers.{Answer, got, stop, Reader, front, is_front, and_then, Lead, goes, refused, lower, follow, led, room, past, choose, rounds, turns}
-use Rattle.vexpr_parse.specs.Words.{written, unary_operators, binary_operators, unary_of, binary_of, by_operator, beginning_of, is_joined, is_asked}
-use Rattle.vexpr_parse.specs.Reading.{Below, trees_in, one_more, parts, repeated, joined, braces, enclosed, part_of, selected, select_lead, named, round_by, primary_by, primary, operator_by, operator, branches, question, expression}
+use Rattle.vexpr_parse.specs.Readers.{Answer, got, stop, Reader, front, is_front, and_then, Lead, goes, refused, lower, follow, by_word, room, past, choose, rounds, turns}
+use Rattle.vexpr_parse.specs.Words.{by_spelling, unary_operators, binary_operators, unary_of, binary_of, by_operator, beginning_of, is_joined, is_asked}
+use Rattle.vexpr_parse.specs.Reading.{Below, trees_in, one_more, parts, rest_of_replication, rest_of_concatenation, braces, rest_of_parentheses, part_of, rest_of_select, select_lead, rest_of_name, round_by, primary_by, primary, operator_by, operator, branches, question, expression}
 use Rattle.vexpr_parse.proofs.ReaderRules.{same_text}
-use Rattle.vgrammar.specs.Parts.{both, one_way, other_way, made, linked, paired, if_meant, worded, one_behind, many, maybe, either, roomy}
+use Rattle.vgrammar.specs.Parts.{both, one_way, other_way, map_tree, bind, pair, if_meant, word_as, one_behind, many, maybe, either, roomy}
 use Rattle.vgrammar.specs.Starts.{is_some_meaning}
 use Rattle.vparse.specs.Profile.{keywords, system_names, left_out, is_among, is_outside, is_any_outside}
 
@@ -32,7 +32,7 @@ pub same_inside : (text word : Text) → Inside text → bytes_eq text word ≡ 
 same_inside text word i e = subst Inside (same_text text word e) i
 
 pub written_inside : {A : Type 0} (spell : A → Text) (all : List A) (word : Text) → list_all (λ one. not (is_outside (spell one))) all ≡ true →
-    is_some_meaning (written spell all word) ≡ true → Inside word
+    is_some_meaning (by_spelling spell all word) ≡ true → Inside word
 written_inside spell [] word i e = let no : false ≡ true = e in absurd cc
 written_inside spell (one ∷ more) word i e =
     by_test (bytes_eq (spell one) word) refl (written_inside spell more word (and_right (not (is_outside (spell one))) _ i)) e
@@ -41,8 +41,8 @@ written_inside spell (one ∷ more) word i e =
     not_true false n = refl
     not_true true n = let no : false ≡ true = n in absurd cc
 
-    by_test : (b : Bool) → bytes_eq (spell one) word ≡ b → (is_some_meaning (written spell more word) ≡ true → Inside word) →
-        is_some_meaning (if b then Some one else written spell more word) ≡ true → Inside word
+    by_test : (b : Bool) → bytes_eq (spell one) word ≡ b → (is_some_meaning (by_spelling spell more word) ≡ true → Inside word) →
+        is_some_meaning (if b then Some one else by_spelling spell more word) ≡ true → Inside word
     by_test true same so f = same_inside (spell one) word (not_true (is_outside (spell one)) (and_left (not (is_outside (spell one))) _ i)) same
     by_test false same so f = so f
 
@@ -111,7 +111,7 @@ pub then_safe : {A B : Type 0} {read : Reader A} {next : A → Reader B} → Saf
     Safe (λ words. and_then (read words) next)
 then_safe {read = read} {next = next} r s = record { fine = λ words. then_fine (read words) next (r.fine words) s }
 
-pub led_safe : {A : Type 0} (lead : Text → Lead A) → ((word : Text) → LeadFine word (lead word)) → Safe (led lead)
+pub led_safe : {A : Type 0} (lead : Text → Lead A) → ((word : Text) → LeadFine word (lead word)) → Safe (by_word lead)
 led_safe {A = A} lead s = record { fine = by_words }
   where
     by_lead : (word : Text) (words : List Text) (l : Lead A) → LeadFine word l → Fine (follow l word words)
@@ -119,7 +119,7 @@ led_safe {A = A} lead s = record { fine = by_words }
     by_lead word words refused f = tt
     by_lead word words lower f = f
 
-    by_words : (words : List Text) → Fine (led lead words)
+    by_words : (words : List Text) → Fine (by_word lead words)
     by_words [] = tt
     by_words (word ∷ words) = by_lead word words (lead word) (s word)
 
@@ -154,13 +154,13 @@ turns_safe {A = A} turn test s tree = record { fine = λ words. (by_fuel (suc (l
     by_fuel (suc fuel) tree =
         choose_safe test (then_safe (s tree) (λ next. by_fuel fuel next)) (got_safe tree)
 
-pub made_safe : {A B : Type 0} (make : A → B) {read : Reader A} → Safe read → Safe (made make read)
+pub made_safe : {A B : Type 0} (make : A → B) {read : Reader A} → Safe read → Safe (map_tree make read)
 made_safe make s = then_safe s (λ tree. got_safe (make tree))
 
-pub linked_safe : {A B : Type 0} {read : Reader A} {next : A → Reader B} → Safe read → ((tree : A) → Safe (next tree)) → Safe (linked read next)
+pub linked_safe : {A B : Type 0} {read : Reader A} {next : A → Reader B} → Safe read → ((tree : A) → Safe (next tree)) → Safe (bind read next)
 linked_safe r s = then_safe r (λ tree. made_safe (both tree) (s tree))
 
-pub paired_safe : {A B : Type 0} {read : Reader A} {next : Reader B} → Safe read → Safe next → Safe (paired read next)
+pub paired_safe : {A B : Type 0} {read : Reader A} {next : Reader B} → Safe read → Safe next → Safe (pair read next)
 paired_safe r s = linked_safe r (λ tree. s)
 
 pub maybe_safe : {A : Type 0} (test : Option Text → Bool) {read : Reader A} → Safe read → Safe (maybe test read)
@@ -169,7 +169,7 @@ maybe_safe test s = choose_safe test (made_safe Some s) (got_safe None)
 pub either_safe : {A B : Type 0} (test : Option Text → Bool) {read : Reader A} {other : Reader B} → Safe read → Safe other → Safe (either test read other)
 either_safe test r s = choose_safe test (made_safe one_way r) (made_safe other_way s)
 
-pub worded_safe : {A : Type 0} (meaning : Text → Option A) → Safe (worded meaning)
+pub worded_safe : {A : Type 0} (meaning : Text → Option A) → Safe (word_as meaning)
 worded_safe {A = A} meaning = led_safe _ (λ word. by_meaning word (meaning word))
   where
     by_meaning : (word : Text) (m : Option A) → LeadFine word (if_meant m)
@@ -267,34 +267,34 @@ module _ (below : ℕ) (read : Below) (s : (least : ℕ) → Safe (read least)) 
   parts_safe : Safe (parts read)
   parts_safe = then_safe (s 0) all_safe
 
-  repeated_safe : (count : ExpressionTree) → Safe (repeated read count)
+  repeated_safe : (count : ExpressionTree) → Safe (rest_of_replication read count)
   repeated_safe count =
       past_safe (codes "{") (then_safe parts_safe (λ trees. past_safe (codes "}") (past_safe (codes "}")
       (got_safe (replication count (trees_in trees))))))
 
-  joined_safe : (tree : ExpressionTree) → Safe (joined read tree)
+  joined_safe : (tree : ExpressionTree) → Safe (rest_of_concatenation read tree)
   joined_safe tree = then_safe (all_safe tree) (λ trees. past_safe (codes "}") (got_safe (concatenation (trees_in trees))))
 
   braces_safe : Safe (braces read)
   braces_safe = then_safe (s 0) (λ tree. choose_safe (is_front (codes "{")) (repeated_safe tree) (joined_safe tree))
 
-  enclosed_safe : (make : ExpressionTree → ExpressionTree) → Safe (enclosed read make)
+  enclosed_safe : (make : ExpressionTree → ExpressionTree) → Safe (rest_of_parentheses read make)
   enclosed_safe make = then_safe (s 0) (λ tree. past_safe (codes ")") (got_safe (make tree)))
 
   part_safe : (letters : Text) (left : ExpressionTree) → Safe (part_of read letters left)
   part_safe letters left = then_safe (s 0) (λ right. past_safe (codes "]") (got_safe (part letters left right)))
 
-  selected_safe : (letters : Text) → Safe (selected read letters)
+  selected_safe : (letters : Text) → Safe (rest_of_select read letters)
   selected_safe letters =
       then_safe (s 0) (λ index. led_safe _ (λ word. if_fine word (bytes_eq (codes "]") word) _ _ (λ e. got_safe (bit letters index))
       (if_fine word (bytes_eq (codes ":") word) _ _ (λ e. part_safe letters index) tt)))
 
-  select_safe : (letters : Text) → Safe (led (select_lead below read letters))
+  select_safe : (letters : Text) → Safe (by_word (select_lead below read letters))
   select_safe letters =
-      led_safe _ (λ word. if_fine word (bytes_eq (codes "[") word) _ _ (λ e. room_fine word below 1 (selected read letters)
+      led_safe _ (λ word. if_fine word (bytes_eq (codes "[") word) _ _ (λ e. room_fine word below 1 (rest_of_select read letters)
       (same_inside (codes "[") word bracket_inside e) (selected_safe letters)) tt)
 
-  name_safe : (letters : Text) → Safe (named below read letters)
+  name_safe : (letters : Text) → Safe (rest_of_name below read letters)
   name_safe letters = choose_safe (is_front (codes "[")) (select_safe letters) (got_safe (name letters))
 
   round_safe : (kind : Round) → Safe (round_by read kind)

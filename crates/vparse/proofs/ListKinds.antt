@@ -19,9 +19,9 @@ use Rattle.vast.specs.declared.module.HeadParameter.{HeadParameter}
 use Rattle.vast.specs.declared.module.Port.{Port}
 use Rattle.vexpr_parse.specs.Readers.{Reader, got}
 use Rattle.vexpr_parse.proofs.ReaderRules.{Eats}
-use Rattle.vgrammar.specs.Statements.{named}
+use Rattle.vgrammar.specs.Statements.{name_word}
 use Rattle.vgrammar.specs.Modules.{named_port}
-use Rattle.vparse.specs.TextReaders.{free_value, setting, declared, connection, instance_behind, head_parameter, port, net_assignment}
+use Rattle.vparse.specs.TextReaders.{free_value, setting, declarator, connection, instance_behind, head_parameter, port, net_assignment}
 use Rattle.vgrammar.proofs.Phrases.{sound_eats}
 use Rattle.vgrammar.proofs.ValuePhrases.{value_worded}
 use Rattle.vgrammar.proofs.PartPhrases.{text_shape, named_phrase}
@@ -42,8 +42,8 @@ pub net_assignment_eats : Eats net_assignment
 net_assignment_eats =
     sound_eats net_assignment (net_assignment_shape 63) (net_assignment_phrase 63).sound (λ tree v. longer (targets.spell_target tree.target) (codes "=") _)
 
-pub declared_eats : Eats declared
-declared_eats = sound_eats declared (declared_shape 63) (declared_phrase 63).sound (declared_worded 63)
+pub declared_eats : Eats declarator
+declared_eats = sound_eats declarator (declared_shape 63) (declared_phrase 63).sound (declared_worded 63)
 
 -- a port has a word at least, its name
 port_words : (before : List Text) (letters : Text) (value : Option ExpressionTree) → 0 < length (before ++ trees.spell_value letters value)
@@ -55,8 +55,8 @@ named_port_eats =
     sound_eats named_port (named_port_shape 63) (named_port_phrase 63).sound
     (λ tree v. port_words (trees.spell_direction tree.direction) tree.name tree.value)
 
-pub named_eats : Eats named
-named_eats = sound_eats named (text_shape is_name) named_phrase.sound (λ tree v. zero-lt-suc _)
+pub named_eats : Eats name_word
+named_eats = sound_eats name_word (text_shape is_name) named_phrase.sound (λ tree v. zero-lt-suc _)
 
 pub connection_eats : Eats connection
 connection_eats = sound_eats connection (connection_shape 63) (connection_phrase 63).sound (λ tree v. zero-lt-suc _)
@@ -82,17 +82,17 @@ pub net_assignment_fewer : (text words left : List Text) (one : NetAssignment) �
     length left ≤ length words
 net_assignment_fewer text words left one e = no_more_words net_assignment net_assignment_eats words left (net_assignment_tree text one) e
 
-pub declared_fewer : (text words left : List Text) (one : Declared) → declared words ≡ got (declared_tree text one) left →
+pub declared_fewer : (text words left : List Text) (one : Declared) → declarator words ≡ got (declared_tree text one) left →
     length left ≤ length words
-declared_fewer text words left one e = no_more_words declared declared_eats words left (declared_tree text one) e
+declared_fewer text words left one e = no_more_words declarator declared_eats words left (declared_tree text one) e
 
 pub named_port_fewer : (text words left : List Text) (one : Port) → named_port words ≡ got (port_tree text one) left →
     length left ≤ length words
 named_port_fewer text words left one e = no_more_words named_port named_port_eats words left (port_tree text one) e
 
-pub named_fewer : (text words left : List Text) (one : Token) → named words ≡ got (token_text text one) left →
+pub named_fewer : (text words left : List Text) (one : Token) → name_word words ≡ got (token_text text one) left →
     length left ≤ length words
-named_fewer text words left one e = no_more_words named named_eats words left (token_text text one) e
+named_fewer text words left one e = no_more_words name_word named_eats words left (token_text text one) e
 
 pub value_fewer : (text words left : List Text) (one : Expression) → free_value words ≡ got (tree_of text one) left →
     length left ≤ length words

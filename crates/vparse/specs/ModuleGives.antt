@@ -26,11 +26,11 @@ use Rattle.vexpr_parse.specs.Readers.{Reader, got, and_then, front, is_front, pa
 use Rattle.vexpr_parse.specs.Answers.{Keeps, KeepsBehind, ahead, leaves_ahead}
 use Rattle.vexpr_parse.specs.Texts.{words_of}
 use Rattle.vstatement_parse.specs.Gives.{Gives}
-use Rattle.vgrammar.specs.Parts.{both, one_way, other_way, made, paired, maybe, many, worded, one_behind}
+use Rattle.vgrammar.specs.Parts.{both, one_way, other_way, map_tree, pair, maybe, many, word_as, one_behind}
 use Rattle.vgrammar.specs.Starts.{is_meant}
-use Rattle.vgrammar.specs.Statements.{named, word_only, statement}
+use Rattle.vgrammar.specs.Statements.{name_word, word_only, statement}
 use Rattle.vgrammar.specs.Modules.{Value, integer_of, net_of, local_of, output_behind, head_list_of, Direction, is_direction, named_port, is_some_word}
-use Rattle.vparse.specs.TextReaders.{range, type, parameter_type, setting, declared, free_value, connection, instance_behind, overrides, item, first_parameter, head_parameter, head_parameters, direction, first_port, port, ports, module_tree, net_assignment}
+use Rattle.vparse.specs.TextReaders.{range, type, parameter_type, setting, declarator, free_value, connection, instance_behind, overrides, item, first_parameter, head_parameter, head_parameters, direction, first_port, port, ports, module_tree, net_assignment}
 use Rattle.vgrammar.specs.Lists.{all_until, rest_until}
 
 -- this very word stands first and is passed, or another stands there
@@ -61,17 +61,17 @@ found_or next other (Some tree) = next tree
 
 -- the words that types, directions and items begin with, where they stand
 abbrev pub optional_integer : Reader (Option Bool)
-optional_integer = maybe (is_meant integer_of) (worded integer_of)
+optional_integer = maybe (is_meant integer_of) (word_as integer_of)
 
 abbrev pub optional_net : Reader (Option NetKind)
-optional_net = maybe (is_meant net_of) (worded net_of)
+optional_net = maybe (is_meant net_of) (word_as net_of)
 
 abbrev pub optional_local : Reader (Option Bool)
-optional_local = maybe (is_meant local_of) (worded local_of)
+optional_local = maybe (is_meant local_of) (word_as local_of)
 
 -- the type of a parameter
 abbrev pub any_parameter_type : Reader ParameterType
-any_parameter_type words = and_then (optional_integer words) (found_or (λ long. got (integer long)) (made typed type))
+any_parameter_type words = and_then (optional_integer words) (found_or (λ long. got (integer long)) (map_tree typed type))
 
 -- Lists with commas, by the calls that read their members
 
@@ -192,8 +192,8 @@ value_part words (Some tree) = other_way (both (boxed_tree words tree) tt)
 -- connections behind (
 abbrev pub connections_in : Reader ConnectionsTree
 connections_in =
-    choose (is_front (codes ".")) (made by_name (all_until (codes ")") connection))
-    (choose (is_front (codes ")")) (made (λ end. by_order []) (word_only (codes ")"))) (made by_order (all_until (codes ")") free_value)))
+    choose (is_front (codes ".")) (map_tree by_name (all_until (codes ")") connection))
+    (choose (is_front (codes ")")) (map_tree (λ end. by_order []) (word_only (codes ")"))) (map_tree by_order (all_until (codes ")") free_value)))
 
 -- parameters of a head behind (
 abbrev pub heads_in : Reader (List HeadParameter)
@@ -208,14 +208,14 @@ abbrev pub optional_direction : Reader (Option DirectionTree)
 optional_direction = maybe is_direction direction
 
 abbrev pub input_parts : Reader Direction
-input_parts = made one_way (paired (maybe (is_front (codes "wire")) (word_only (codes "wire"))) type)
+input_parts = map_tree one_way (pair (maybe (is_front (codes "wire")) (word_only (codes "wire"))) type)
 
 abbrev pub output_parts : Reader Direction
-output_parts = made other_way (output_behind 64)
+output_parts = map_tree other_way (output_behind 64)
 
 -- the direction of an output, behind its first word
 abbrev pub typed_output : Reader DirectionTree
-typed_output words = and_then (optional_net words) (λ net. made (output net) type)
+typed_output words = and_then (optional_net words) (λ net. map_tree (output net) type)
 
 abbrev pub any_output : Reader DirectionTree
 any_output words = and_then (optional_integer words) (found_or (λ long. got (output_integer long)) typed_output)
@@ -231,38 +231,38 @@ abbrev pub listed_ports : Reader (List PortTree)
 listed_ports = choose is_direction some_ports named_ports
 
 abbrev pub ports_in : Reader (List PortTree)
-ports_in = choose (is_front (codes ")")) (made (λ end. []) (word_only (codes ")"))) listed_ports
+ports_in = choose (is_front (codes ")")) (map_tree (λ end. []) (word_only (codes ")"))) listed_ports
 
 -- items behind the words that they begin with
 abbrev pub parameters_at : Bool → Reader ItemTree
-parameters_at local words = and_then (parameter_type words) (λ kind. made (parameters local kind) (all_until (codes ";") setting))
+parameters_at local words = and_then (parameter_type words) (λ kind. map_tree (parameters local kind) (all_until (codes ";") setting))
 
 abbrev pub variables_at : NetKind → Reader ItemTree
-variables_at net words = and_then (type words) (λ kind. made (declaration (variables net kind)) (all_until (codes ";") declared))
+variables_at net words = and_then (type words) (λ kind. map_tree (declaration (variables net kind)) (all_until (codes ";") declarator))
 
 abbrev pub directed_at : Reader ItemTree
-directed_at words = and_then (direction words) (λ tree. made (declaration (directed tree)) (all_until (codes ";") declared))
+directed_at words = and_then (direction words) (λ tree. map_tree (declaration (directed tree)) (all_until (codes ";") declarator))
 
 abbrev pub integers_at : Bool → Reader ItemTree
-integers_at long = made (declaration (integers long)) (all_until (codes ";") declared)
+integers_at long = map_tree (declaration (integers long)) (all_until (codes ";") declarator)
 
 abbrev pub events_at : Reader ItemTree
-events_at = made events (all_until (codes ";") named)
+events_at = map_tree events (all_until (codes ";") name_word)
 
 abbrev pub assignments_at : Reader ItemTree
-assignments_at = made assignments (all_until (codes ";") net_assignment)
+assignments_at = map_tree assignments (all_until (codes ";") net_assignment)
 
 abbrev pub instances_at : Text → Reader ItemTree
-instances_at letters words = and_then (overrides words) (λ tree. made (instances letters tree) (all_until (codes ";") instance_behind))
+instances_at letters words = and_then (overrides words) (λ tree. map_tree (instances letters tree) (all_until (codes ";") instance_behind))
 
 -- an item that begins with none of the words of those above it
 abbrev pub instances_item : Reader ItemTree
-instances_item words = and_then (named words) instances_at
+instances_item words = and_then (name_word words) instances_at
 
 abbrev pub process_item : Reader ItemTree
 process_item =
-    choose (is_front (codes "initial")) (past (codes "initial") (made initial (statement 64)))
-    (choose (is_front (codes "always")) (past (codes "always") (made always (statement 64))) instances_item)
+    choose (is_front (codes "initial")) (past (codes "initial") (map_tree initial (statement 64)))
+    (choose (is_front (codes "always")) (past (codes "always") (map_tree always (statement 64))) instances_item)
 
 abbrev pub listed_item : Reader ItemTree
 listed_item =
@@ -282,7 +282,7 @@ any_item words = and_then (optional_local words) (found_or parameters_at variabl
 
 -- the parameters and the ports of a module's head, if they stand there
 abbrev pub optional_heads : Reader (Option (List HeadParameter))
-optional_heads = maybe (is_front (codes "#")) (past (codes "#") (made head_list_of head_parameters))
+optional_heads = maybe (is_front (codes "#")) (past (codes "#") (map_tree head_list_of head_parameters))
 
 abbrev pub optional_ports : Reader (Option (List PortTree))
 optional_ports = maybe (is_front (codes "(")) ports
@@ -303,7 +303,7 @@ abbrev pub module_body : Reader (List ItemTree)
 module_body = past (codes ";") items_in
 
 abbrev pub module_with : Text → Option (List HeadParameter) → Option (List PortTree) → Reader ModuleTree
-module_with letters heads list = made (λ body. record { name = letters; parameters = heads; ports = list; items = body }) module_body
+module_with letters heads list = map_tree (λ body. record { name = letters; parameters = heads; ports = list; items = body }) module_body
 
 abbrev pub module_headed : Text → Option (List HeadParameter) → Reader ModuleTree
 module_headed letters heads words = and_then (optional_ports words) (module_with letters heads)
@@ -312,7 +312,7 @@ abbrev pub module_named : Text → Reader ModuleTree
 module_named letters words = and_then (optional_heads words) (module_headed letters)
 
 abbrev pub module_at : Reader ModuleTree
-module_at = past (codes "module") (λ words. and_then (named words) module_named)
+module_at = past (codes "module") (λ words. and_then (name_word words) module_named)
 
 -- a module is given, where the program has these parts of it in hand
 abbrev pub GivesHeaded : {R : Type 0} → Token → Option (Vec HeadWords R) → Tokenized → Cursor → Cursor →

@@ -3,7 +3,7 @@ use Rattle.std.specs.Prelude.{List, Option}
 use Rattle.vast.specs.Expressions.{ExpressionTree}
 use Rattle.vast.specs.Modules.{RangeTree, TypeTree, ParameterType, SettingTree, DeclaredTree, DirectionTree, PortTree, HeadParameter, ConnectionTree, ConnectionsTree, InstanceTree, ItemTree, ModuleTree, SourceTree, NetAssignment}
 use Rattle.vexpr_parse.specs.Readers.{Reader}
-use Rattle.vgrammar.specs.Parts.{Both, made, paired}
+use Rattle.vgrammar.specs.Parts.{Both, map_tree, pair}
 use Rattle.vgrammar.specs.Statements.{List_of}
 use Rattle.vgrammar.specs.Modules.{Value, first_port_of}
 use Rattle.vgrammar.specs.Modules as with_levels
@@ -26,8 +26,8 @@ setting = with_levels.setting 64
 abbrev pub net_assignment : Reader NetAssignment
 net_assignment = with_levels.net_assignment 64
 
-abbrev pub declared : Reader DeclaredTree
-declared = with_levels.declared 64
+abbrev pub declarator : Reader DeclaredTree
+declarator = with_levels.declarator 64
 
 abbrev pub value_in : Reader Value
 value_in = with_levels.value_in 64
@@ -60,7 +60,7 @@ abbrev pub direction : Reader DirectionTree
 direction = with_levels.direction 64
 
 abbrev pub first_port : Reader PortTree
-first_port = made first_port_of (paired direction declared)
+first_port = map_tree first_port_of (pair direction declarator)
 
 abbrev pub port : Reader PortTree
 port = with_levels.port 64

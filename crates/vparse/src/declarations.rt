@@ -73,7 +73,7 @@ pub fn declared_name(
     tokens: &Tokens<'_>,
     cursor: &mut Cursor,
 ) -> Result<Declared, OrMemory<Stop>>
-    ensures gives { Gives declared_tree reading.declared tokens.now cursor.old cursor.new result }
+    ensures gives { Gives declared_tree reading.declarator tokens.now cursor.old cursor.new result }
     ensures kept { IfOk result (Keeps declared_leaves tokens.now cursor.old cursor.new) }
 {
     let name = name_word(tokens, cursor)?;

@@ -8,7 +8,7 @@ ghost use Rattle.vstatement_parse.specs.Gives.{Gives};
 ghost use Rattle.vparse.specs.ModuleGives.{all_leaves, all_of, heads_in, optional_heads, optional_of, optional_type};
 ghost use Rattle.vgrammar.specs.Modules as parts;
 ghost use Rattle.vparse.specs.TextReaders as reading;
-ghost use Rattle.vgrammar.specs.Parts.{made};
+ghost use Rattle.vgrammar.specs.Parts.{map_tree};
 
 use crate::declarations::setting;
 use crate::lists::list_until;
@@ -106,7 +106,7 @@ fn head_parameters(
     tokens: &Tokens<'_>,
     cursor: &mut Cursor,
 ) -> Result<Vec<HeadParameter>, OrMemory<Stop>>
-    ensures gives { Gives (all_of head_tree) (made parts.head_list_of reading.head_parameters)
+    ensures gives { Gives (all_of head_tree) (map_tree parts.head_list_of reading.head_parameters)
         tokens.now cursor.old cursor.new result }
     ensures kept { IfOk result (Keeps (all_leaves head_leaves) tokens.now cursor.old cursor.new) }
 {

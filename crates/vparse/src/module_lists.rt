@@ -99,7 +99,7 @@ pub fn declared_names(
     tokens: &Tokens<'_>,
     cursor: &mut Cursor,
 ) -> Result<Vec<Declared>, OrMemory<Stop>>
-    ensures gives { Gives (all_of declared_tree) (all_until (codes ";") reading.declared)
+    ensures gives { Gives (all_of declared_tree) (all_until (codes ";") reading.declarator)
         tokens.now cursor.old cursor.new result }
     ensures kept { IfOk result (Keeps (all_leaves declared_leaves)
         tokens.now cursor.old cursor.new) }
@@ -108,7 +108,7 @@ pub fn declared_names(
     list_until(
         alloc,
         &|cursor|
-            ensures gives { Gives declared_tree reading.declared
+            ensures gives { Gives declared_tree reading.declarator
                 tokens.entry.now cursor.entry.now cursor.exit.now result }
             ensures kept { IfOk result (Keeps declared_leaves
                 tokens.entry.now cursor.entry.now cursor.exit.now) }
@@ -127,7 +127,7 @@ pub fn names(
     tokens: &Tokens<'_>,
     cursor: &mut Cursor,
 ) -> Result<Vec<Token>, OrMemory<Stop>>
-    ensures gives { Gives (all_of token_text) (all_until (codes ";") reading_words.named)
+    ensures gives { Gives (all_of token_text) (all_until (codes ";") reading_words.name_word)
         tokens.now cursor.old cursor.new result }
     ensures kept { IfOk result (Keeps (λ names. names.items) tokens.now cursor.old cursor.new) }
 {
@@ -135,7 +135,7 @@ pub fn names(
     list_until(
         alloc,
         &|cursor|
-            ensures gives { Gives token_text reading_words.named
+            ensures gives { Gives token_text reading_words.name_word
                 tokens.entry.now cursor.entry.now cursor.exit.now result }
             ensures kept { IfOk result (Keeps (λ word. word ∷ [])
                 tokens.entry.now cursor.entry.now cursor.exit.now) }

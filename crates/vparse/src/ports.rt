@@ -9,7 +9,7 @@ ghost use Rattle.vstatement_parse.specs.Gives.{Gives};
 ghost use Rattle.vparse.specs.ModuleGives.{ReadsAt, all_leaves, all_of, any_output as any_reader, input_parts, optional_direction, optional_net as net_reader, optional_of, optional_ports, listed_ports, named_ports, output_parts, ports_in, some_ports, typed_output as typed_reader};
 ghost use Rattle.vgrammar.specs.Modules as parts;
 ghost use Rattle.vparse.specs.TextReaders as reading;
-ghost use Rattle.vgrammar.specs.Parts.{made};
+ghost use Rattle.vgrammar.specs.Parts.{map_tree};
 
 use crate::declarations::optional_value;
 use crate::lists::list_until;
@@ -45,7 +45,7 @@ fn input(
     tokens: &Tokens<'_>,
     cursor: &mut Cursor,
 ) -> Result<Direction, OrMemory<Stop>>
-    ensures gives { Gives direction_tree (made parts.direction_of input_parts)
+    ensures gives { Gives direction_tree (map_tree parts.direction_of input_parts)
         tokens.now cursor.old cursor.new result }
     ensures kept { IfOk result (Keeps direction_leaves tokens.now cursor.old cursor.new) }
 {
@@ -89,7 +89,7 @@ fn output(
     tokens: &Tokens<'_>,
     cursor: &mut Cursor,
 ) -> Result<Direction, OrMemory<Stop>>
-    ensures gives { Gives direction_tree (made parts.direction_of output_parts)
+    ensures gives { Gives direction_tree (map_tree parts.direction_of output_parts)
         tokens.now cursor.old cursor.new result }
     ensures kept { IfOk result (Keeps direction_leaves tokens.now cursor.old cursor.new) }
 {

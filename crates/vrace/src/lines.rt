@@ -177,7 +177,7 @@ pub(crate) fn write_lines_from<O: ByteSink>(
         mut run,
     } = front;
     put(byte_sink, text.text())?;
-    let mut sink = LinesSink::resumed(alloc, machine.design(), byte_sink, in_force);
+    let mut sink = LinesSink::resume(alloc, machine.design(), byte_sink, in_force);
     let result = fill_on(machine, &mut run, steps, &mut sink);
     let byte_sink = sink.into_byte_sink();
     // No effect at run time. The proof reads what the byte sink holds from this use.

@@ -167,7 +167,7 @@ fn departed_times(alloc: Global, machine: &Machine, log: &Log) -> Result<Vec<u64
         Some(member) => member.0.saturating_add(1),
     };
     let mut times = Vec::new(alloc);
-    let mut state = machine.opened()?;
+    let mut state = machine.opening_state()?;
     for step in 0..steps {
         let choice = choice_at(log.members(), step);
         if choice > 0 {

@@ -184,7 +184,7 @@ pub fn write_from<O: ByteSink>(
         mut run,
     } = front;
     put(byte_sink, text.text())?;
-    let mut sink = DumpSink::resumed(alloc, machine.design(), byte_sink, progress);
+    let mut sink = DumpSink::resume(alloc, machine.design(), byte_sink, progress);
     let result = fill_on(machine, &mut run, steps, &mut sink);
     let byte_sink = sink.into_byte_sink();
     // No effect at run time. The proof reads what the byte sink holds from this use.

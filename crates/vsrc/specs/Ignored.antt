@@ -7,7 +7,7 @@ use Rattle.basis.specs.Letters.{is_in_name}
 use Rattle.vsrc.specs.declared.words.Ignored.{Ignored}
 use Rattle.vsrc.specs.declared.words.Ignored.TheVariants as ignored
 use Rattle.vsrc.specs.Outside.{string_end, line_len}
-use Rattle.vsrc.specs.Words.{Named, named, blanks_len, name_behind}
+use Rattle.vsrc.specs.Words.{Named, name_of_len, blanks_len, name_behind}
 
 -- by their words
 abbrev pub ignored_of : List ℕ → Option Ignored
@@ -27,10 +27,10 @@ ignored_of name =
 
 -- digits; a word of letters, digits, _ and $
 abbrev pub digits_behind : List ℕ → Option Named
-digits_behind text = let rest = drop (blanks_len text) text in named (blanks_len text) (prefix_len is_ascii_digit rest) rest
+digits_behind text = let rest = drop (blanks_len text) text in name_of_len (blanks_len text) (prefix_len is_ascii_digit rest) rest
 
 abbrev pub word_behind : List ℕ → Option Named
-word_behind text = let rest = drop (blanks_len text) text in named (blanks_len text) (prefix_len is_in_name rest) rest
+word_behind text = let rest = drop (blanks_len text) text in name_of_len (blanks_len text) (prefix_len is_in_name rest) rest
 
 -- 3.6: a string, with its quotes; no bytes where none is closed on its line
 abbrev pub closed_len : Option ℕ → ℕ
@@ -42,7 +42,7 @@ quoted_len [] = 0
 quoted_len (c ∷ cs) = if c == 34 then closed_len (string_end cs) else 0
 
 abbrev pub string_behind : List ℕ → Option Named
-string_behind text = let rest = drop (blanks_len text) text in named (blanks_len text) (quoted_len rest) rest
+string_behind text = let rest = drop (blanks_len text) text in name_of_len (blanks_len text) (quoted_len rest) rest
 
 -- ---- how many bytes each takes behind its word, where it is well formed
 

@@ -36,16 +36,16 @@ pub record Spanned : Type 0 where
   pub span : Span
   pub len : ℕ
 
-abbrev pub spanned : ℕ → Option Count → Option Unit → Option Spanned
-spanned len None unit = None
-spanned len (Some count) None = None
-spanned len (Some count) (Some unit) = Some (record { span = record { count = count; unit = unit }; len = len })
+abbrev pub span_of_parts : ℕ → Option Count → Option Unit → Option Spanned
+span_of_parts len None unit = None
+span_of_parts len (Some count) None = None
+span_of_parts len (Some count) (Some unit) = Some (record { span = record { count = count; unit = unit }; len = len })
 
 -- behind the digits of a number and blanks, all letters, digits, _ and $ are the unit's word
 abbrev pub unit_behind : List ℕ → ℕ → List ℕ → Option Spanned
 unit_behind digits len behind =
     let word = drop (blanks_len behind) behind in
-    spanned (len + blanks_len behind + prefix_len is_in_name word) (count_of digits) (unit_of (take (prefix_len is_in_name word) word))
+    span_of_parts (len + blanks_len behind + prefix_len is_in_name word) (count_of digits) (unit_of (take (prefix_len is_in_name word) word))
 
 -- the length of time at the head: its digits, blanks or none, its unit
 abbrev pub span_at : ℕ → List ℕ → Option Spanned

@@ -23,12 +23,12 @@ pub record Named : Type 0 where
   pub name : List ℕ
   pub len : ℕ
 
-abbrev pub named : ℕ → ℕ → List ℕ → Option Named
-named blanks len text = if len == 0 then None else Some (record { name = take len text; len = blanks + len })
+abbrev pub name_of_len : ℕ → ℕ → List ℕ → Option Named
+name_of_len blanks len text = if len == 0 then None else Some (record { name = take len text; len = blanks + len })
 
 -- the name that stands behind blanks of the same line, where there is one
 abbrev pub name_behind : List ℕ → Option Named
-name_behind text = named (blanks_len text) (name_len (drop (blanks_len text) text)) (drop (blanks_len text) text)
+name_behind text = name_of_len (blanks_len text) (name_len (drop (blanks_len text) text)) (drop (blanks_len text) text)
 
 -- the directives whose words no macro can have, by their words
 abbrev pub directive_of : List ℕ → Option Word

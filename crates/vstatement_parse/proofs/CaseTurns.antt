@@ -19,7 +19,7 @@ use Rattle.vexpr_parse.specs.Readers.{Answer, Reader, got, stop, and_then, past,
 use Rattle.vexpr_parse.specs.Reading.{trees_in}
 use Rattle.vexpr_parse.proofs.ReaderRules.{Eats, same_text, got_tree, stop_got}
 use Rattle.vexpr_parse.proofs.Turning.{trees_same}
-use Rattle.vgrammar.specs.Parts.{Both, both, one_way, other_way, made, paired, many, maybe, one_behind}
+use Rattle.vgrammar.specs.Parts.{Both, both, one_way, other_way, map_tree, pair, many, maybe, one_behind}
 use Rattle.vgrammar.specs.Starts.{begins_target, start_of}
 use Rattle.vgrammar.specs.Statements.{statement, begins_statement, value, List_of, comma_list, word_only, has_default, branch_of, branches, branches_in, default_branch, case_parts_of}
 use Rattle.vgrammar.proofs.Phrases.{of_these, sound_eats}
@@ -44,46 +44,46 @@ pub labelled_got : (text : List Text) (below : ℕ) (labels : Vec Expression Glo
     labels_within below words ≡ got (map (tree_of text) labels.items) between → statement below between ≡ got (statement_tree text body) left →
     labelled_at below words ≡ got (branch_tree text (Labelled labels body)) left
 labelled_got text below labels body words between left e f =
-    ap (λ a. and_then a (λ all. made (labelled (trees_in all)) (statement below))) e
+    ap (λ a. and_then a (λ all. map_tree (labelled (trees_in all)) (statement below))) e
     ∙ ap (λ a. and_then a (λ tree. got (labelled (trees_in (map (tree_of text) labels.items)) tree))) f
     ∙ ap (λ ts. got (labelled ts (statement_tree text body)) left) (trees_same text labels.items)
 
 -- labels and their colon, and then the statement: the colon with the one, or with the other
 labelled_is : (below : ℕ) (words : List Text) →
-    made (λ parts. branch_of (other_way parts)) (paired (comma_list (value below)) (past (codes ":") (statement below))) words
+    map_tree (λ parts. branch_of (other_way parts)) (pair (comma_list (value below)) (past (codes ":") (statement below))) words
     ≡ labelled_at below words
 labelled_is below words = by_first (value below words)
   where
     by_test : (one : ExpressionTree) (list : List ExpressionTree) (word : Text) (words : List Text) (b : Bool) →
         and_then (and_then (follow (if b then goes (statement below) else refused) word words) (λ body. got (both (both one list) body)))
         (λ parts. got (branch_of (other_way parts)))
-        ≡ and_then (follow (if b then goes (got (one ∷ list)) else refused) word words) (λ all. made (labelled (trees_in all)) (statement below))
+        ≡ and_then (follow (if b then goes (got (one ∷ list)) else refused) word words) (λ all. map_tree (labelled (trees_in all)) (statement below))
     by_test one list word words true = twice (both (both one list)) (λ parts. branch_of (other_way parts)) (statement below words)
     by_test one list word words false = refl
 
     by_colon : (one : ExpressionTree) (list : List ExpressionTree) (words : List Text) →
         and_then (and_then (past (codes ":") (statement below) words) (λ body. got (both (both one list) body)))
         (λ parts. got (branch_of (other_way parts)))
-        ≡ and_then (past (codes ":") (got (one ∷ list)) words) (λ all. made (labelled (trees_in all)) (statement below))
+        ≡ and_then (past (codes ":") (got (one ∷ list)) words) (λ all. map_tree (labelled (trees_in all)) (statement below))
     by_colon one list [] = refl
     by_colon one list (word ∷ words) = by_test one list word words (bytes_eq (codes ":") word)
 
     by_more : (one : ExpressionTree) (a : Answer (List ExpressionTree)) →
-        and_then (and_then (and_then a (λ list. got (both one list))) (λ labels. made (both labels) (past (codes ":") (statement below))))
+        and_then (and_then (and_then a (λ list. got (both one list))) (λ labels. map_tree (both labels) (past (codes ":") (statement below))))
         (λ parts. got (branch_of (other_way parts)))
         ≡ and_then (and_then (and_then a (λ list. got (one ∷ list))) (λ all. past (codes ":") (got all)))
-        (λ all. made (labelled (trees_in all)) (statement below))
+        (λ all. map_tree (labelled (trees_in all)) (statement below))
     by_more one (got list left) = by_colon one list left
     by_more one (stop why left) = refl
 
     by_first : (a : Answer ExpressionTree) →
-        and_then (and_then (and_then a (λ one. made (both one) (many (is_front (codes ",")) (λ list. past (codes ",") (value below)))))
-        (λ labels. made (both labels) (past (codes ":") (statement below)))) (λ parts. got (branch_of (other_way parts)))
+        and_then (and_then (and_then a (λ one. map_tree (both one) (many (is_front (codes ",")) (λ list. past (codes ",") (value below)))))
+        (λ labels. map_tree (both labels) (past (codes ":") (statement below)))) (λ parts. got (branch_of (other_way parts)))
         ≡ and_then (and_then a (λ one left. and_then (goes_on (is_front (codes ",")) (λ list. past (codes ",") (value below)) (one ∷ []) left)
-        (λ all. past (codes ":") (got all)))) (λ all. made (labelled (trees_in all)) (statement below))
+        (λ all. past (codes ":") (got all)))) (λ all. map_tree (labelled (trees_in all)) (statement below))
     by_first (got one left) =
         by_more one (many (is_front (codes ",")) (λ list. past (codes ",") (value below)) left)
-        ∙ ap (λ a. and_then (and_then a (λ all. past (codes ":") (got all))) (λ all. made (labelled (trees_in all)) (statement below)))
+        ∙ ap (λ a. and_then (and_then a (λ all. past (codes ":") (got all))) (λ all. map_tree (labelled (trees_in all)) (statement below)))
         (sym (goes_on_first (is_front (codes ",")) (past (codes ",") (value below)) one [] left))
     by_first (stop why left) = refl
 
@@ -92,19 +92,19 @@ labelled_is below words = by_first (value below words)
 module _ (below : ℕ) (words : List Text) where
   abbrev by_default : Bool → Bool → Answer BranchTree
   by_default here seen =
-      and_then (if here then made one_way (default_branch (statement below) seen) words
-      else made other_way (paired (comma_list (value below)) (past (codes ":") (statement below))) words) (λ parts. got (branch_of parts))
+      and_then (if here then map_tree one_way (default_branch (statement below) seen) words
+      else map_tree other_way (pair (comma_list (value below)) (past (codes ":") (statement below))) words) (λ parts. got (branch_of parts))
 
   default_is : (seen : Bool) → is_front (codes "default") (front words) ≡ true → seen ≡ false →
       later_branch below seen words ≡ default_at below words
   default_is seen here new =
       ap (λ b. by_default b seen) here ∙ ap (λ s. by_default true s) new
-      ∙ twice one_way branch_of (past (codes "default") (paired (maybe (is_front (codes ":")) (word_only (codes ":"))) (statement below)) words)
+      ∙ twice one_way branch_of (past (codes "default") (pair (maybe (is_front (codes ":")) (word_only (codes ":"))) (statement below)) words)
 
   no_default : (seen : Bool) → is_front (codes "default") (front words) ≡ false → later_branch below seen words ≡ labelled_at below words
   no_default seen here =
       ap (λ b. by_default b seen) here
-      ∙ twice other_way branch_of (paired (comma_list (value below)) (past (codes ":") (statement below)) words)
+      ∙ twice other_way branch_of (pair (comma_list (value below)) (past (codes ":") (statement below)) words)
       ∙ labelled_is below words
 
   pub second_default : (here seen : Bool) → here ≡ is_front (codes "default") (front words) → here ≡ true →
@@ -132,7 +132,7 @@ module _ (below : ℕ) (words : List Text) where
       of_default (got (both None body) after) e = sym (ap is_default (got_tree e))
       of_default (got (both (Some end) body) after) e = sym (ap is_default (got_tree e))
       of_default (stop why after) e = absurd (stop_got e)
-  by_parts false seen tree left e = of_labels (paired (comma_list (value below)) (past (codes ":") (statement below)) words) e
+  by_parts false seen tree left e = of_labels (pair (comma_list (value below)) (past (codes ":") (statement below)) words) e
     where
       of_labels : (a : Answer (Both (List_of ExpressionTree) StatementTree)) →
           and_then (and_then a (λ parts. got (other_way parts))) (λ parts. got (branch_of parts)) ≡ got tree left → is_default tree ≡ false
@@ -280,8 +280,8 @@ module _ (below : ℕ) (x : BranchTree) where
 -- the whole case
 
 made_past : {A B : Type 0} (make : A → B) (text : Text) (read : Reader A) (other : Reader B) →
-    ((words : List Text) → made make read words ≡ other words) → (words : List Text) →
-    made make (past text read) words ≡ past text other words
+    ((words : List Text) → map_tree make read words ≡ other words) → (words : List Text) →
+    map_tree make (past text read) words ≡ past text other words
 made_past make text read other same [] = refl
 made_past make text read other same (word ∷ words) = by_test (bytes_eq text word)
   where
@@ -292,7 +292,7 @@ made_past make text read other same (word ∷ words) = by_test (bytes_eq text wo
 
 module _ (below : ℕ) (kind : CaseKind) where
   abbrev Rest : Reader (Both (List_of BranchTree) (Unit {0}))
-  Rest = paired (branches below (statement below)) (word_only (codes "endcase"))
+  Rest = pair (branches below (statement below)) (word_only (codes "endcase"))
 
   module _ (tree : ExpressionTree) where
     abbrev of_all : List BranchTree → StatementTree
@@ -313,15 +313,15 @@ module _ (below : ℕ) (kind : CaseKind) where
     by_end one more (word ∷ words) = by_word one more word words (bytes_eq (codes "endcase") word)
 
     by_more : (one : BranchTree) (a : Answer (List BranchTree)) →
-        and_then (and_then (and_then a (λ more. got (both one more))) (λ list. made (both list) (word_only (codes "endcase"))))
+        and_then (and_then (and_then a (λ more. got (both one more))) (λ list. map_tree (both list) (word_only (codes "endcase"))))
         (λ list. got (case_parts_of kind (both tree list)))
         ≡ and_then (and_then (and_then a (λ more. got (one ∷ more))) (λ all. past (codes "endcase") (got all))) (λ all. got (of_all all))
     by_more one (got more left) = by_end one more left
     by_more one (stop why left) = refl
 
     by_first : (a : Answer BranchTree) →
-        and_then (and_then (and_then a (λ one. made (both one) (many not_endcase (λ list. branch_at below (one ∷ list)))))
-        (λ list. made (both list) (word_only (codes "endcase")))) (λ list. got (case_parts_of kind (both tree list)))
+        and_then (and_then (and_then a (λ one. map_tree (both one) (many not_endcase (λ list. branch_at below (one ∷ list)))))
+        (λ list. map_tree (both list) (word_only (codes "endcase")))) (λ list. got (case_parts_of kind (both tree list)))
         ≡ and_then (and_then a (λ one left. and_then (later_branches below one left) (λ all. past (codes "endcase") (got all))))
         (λ all. got (of_all all))
     by_first (got one left) =
@@ -329,7 +329,7 @@ module _ (below : ℕ) (kind : CaseKind) where
         ∙ ap (λ a. and_then (and_then a (λ all. past (codes "endcase") (got all))) (λ all. got (of_all all))) (sym (first_too below one left))
     by_first (stop why left) = refl
 
-    rest_is : (words : List Text) → made (λ list. case_parts_of kind (both tree list)) Rest words ≡ case_behind below kind tree words
+    rest_is : (words : List Text) → map_tree (λ list. case_parts_of kind (both tree list)) Rest words ≡ case_behind below kind tree words
     rest_is words = by_first (branch_at below [] words)
 
     closed_is : (words : List Text) →
@@ -340,16 +340,16 @@ module _ (below : ℕ) (kind : CaseKind) where
         ∙ made_past (λ list. case_parts_of kind (both tree list)) (codes ")") Rest (case_behind below kind tree) rest_is words
 
   by_value : (a : Answer ExpressionTree) →
-      and_then (and_then a (λ tree. made (both tree) (past (codes ")") Rest))) (λ parts. got (case_parts_of kind parts))
+      and_then (and_then a (λ tree. map_tree (both tree) (past (codes ")") Rest))) (λ parts. got (case_parts_of kind parts))
       ≡ and_then a (λ tree. past (codes ")") (case_behind below kind tree))
   by_value (got tree left) = closed_is tree left
   by_value (stop why left) = refl
 
-  inner_is : (words : List Text) → made (case_parts_of kind) (paired (value below) (past (codes ")") Rest)) words ≡ case_inner below kind words
+  inner_is : (words : List Text) → map_tree (case_parts_of kind) (pair (value below) (past (codes ")") Rest)) words ≡ case_inner below kind words
   inner_is words = by_value (value below words)
 
   case_is : (words : List Text) → case_at below kind words ≡ case_whole below kind words
-  case_is words = made_past (case_parts_of kind) (codes "(") (paired (value below) (past (codes ")") Rest)) (case_inner below kind) inner_is words
+  case_is words = made_past (case_parts_of kind) (codes "(") (pair (value below) (past (codes ")") Rest)) (case_inner below kind) inner_is words
 
   pub gives_case : (text : List Text) (words left : List Text) (result : Result Statement (OrMemory Stop)) →
       Answered (statement_tree text) (case_whole below kind words) left result → Answered (statement_tree text) (case_at below kind words) left result

@@ -9,7 +9,7 @@ use Rattle.vast.specs.declared.statement.Base.TheVariants as bases
 use Rattle.vast.specs.declared.statement.Printing.TheVariants as printing
 use Rattle.vast.specs.declared.statement.Idle.TheVariants as idles
 use Rattle.vast.specs.declared.statement.Dumping.TheVariants as dumping
-use Rattle.vexpr_parse.specs.Words.{written}
+use Rattle.vexpr_parse.specs.Words.{by_spelling}
 use Rattle.vexpr_parse.proofs.ReaderRules.{same_text, chosen, passed_over}
 use Rattle.vgrammar.specs.declared.start.Guard.TheVariants as guard
 use Rattle.vgrammar.specs.declared.start.StatementStart.{StatementStart}
@@ -137,13 +137,13 @@ start_word_plain (start.Dump dumping.Flush) = refl
 start_word_plain (start.End true) = refl
 start_word_plain (start.End false) = refl
 
-among_starts : (all : List StatementStart) (word : Text) (kind : StatementStart) → written start_word all word ≡ Some kind → is_leaf word ≡ false
+among_starts : (all : List StatementStart) (word : Text) (kind : StatementStart) → by_spelling start_word all word ≡ Some kind → is_leaf word ≡ false
 among_starts [] word kind e = absurd (nothing e)
   where
     nothing : None ≡ Some kind → ⊥
     nothing e = cc
 among_starts (first ∷ more) word kind e =
-    by_if (λ o. o ≡ Some kind → is_leaf word ≡ false) (bytes_eq (start_word first) word) (Some first) (written start_word more word)
+    by_if (λ o. o ≡ Some kind → is_leaf word ≡ false) (bytes_eq (start_word first) word) (Some first) (by_spelling start_word more word)
     (λ same f. subst (λ w. is_leaf w ≡ false) (same_text (start_word first) word same) (start_word_plain first))
     (λ differs f. among_starts more word kind f) e
 

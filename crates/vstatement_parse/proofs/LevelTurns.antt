@@ -15,7 +15,7 @@ use Rattle.std.proofs.lemmas.Bool.Decides.{nat_tests}
 use Rattle.vexpr_parse.proofs.ReaderRules.{chosen, passed_over}
 use Rattle.vgrammar.specs.declared.start.StatementStart.{StatementStart}
 use Rattle.vgrammar.specs.declared.start.StatementStart.TheVariants as start
-use Rattle.vgrammar.specs.Parts.{made, roomy}
+use Rattle.vgrammar.specs.Parts.{map_tree, roomy}
 use Rattle.vgrammar.specs.Starts.{begins_target, is_target, start_of}
 use Rattle.vgrammar.specs.Statements.{statement, statement_by, lead_by, begins_statement, assignment, word_only, dump_of}
 use Rattle.vstatement_parse.specs.Gives.{Answered, dump_at}
@@ -23,7 +23,7 @@ use Rattle.vstatement_parse.specs.Begun.{begun_at, behind_word, levels_of, other
 
 -- behind the first word
 
-dumped : (kind : Dumping) (words : List Text) → made (dump_of kind) (word_only (codes ";")) words ≡ dump_at kind words
+dumped : (kind : Dumping) (words : List Text) → map_tree (dump_of kind) (word_only (codes ";")) words ≡ dump_at kind words
 dumped kind [] = refl
 dumped kind (word ∷ words) = by_test (bytes_eq (codes ";") word)
   where

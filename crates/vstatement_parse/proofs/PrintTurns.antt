@@ -13,7 +13,7 @@ use Rattle.basis.specs.declared.memory.OrMemory.{OrMemory}
 use Rattle.vexpr_parse.specs.declared.stop.Stop.{Stop}
 use Rattle.vexpr_parse.specs.declared.stop.Stop.TheVariants.{TooDeep}
 use Rattle.vexpr_parse.specs.Readers.{Answer, Reader, got, stop, and_then, past, follow, goes, refused, front, is_front}
-use Rattle.vgrammar.specs.Parts.{Both, both, Either, either, made, paired, roomy, worded}
+use Rattle.vgrammar.specs.Parts.{Both, both, Either, either, map_tree, pair, roomy, word_as}
 use Rattle.vgrammar.specs.Starts.{is_word, meant_if}
 use Rattle.vgrammar.specs.Statements.{comma_list, word_only, argument, Arguments, arguments, print_of, optional_print_of, idle_of, begins_argument, argument_of, value}
 use Rattle.vgrammar.proofs.ManyTurns.{until_is}
@@ -25,19 +25,19 @@ list_of (both (both one more) closing) = one ∷ more
 
 -- behind the parenthesis
 within_is : (below : ℕ) (words : List Text) →
-    made list_of (paired (comma_list (argument below)) (word_only (codes ")"))) words ≡ arguments_within below words
+    map_tree list_of (pair (comma_list (argument below)) (word_only (codes ")"))) words ≡ arguments_within below words
 within_is below words = until_is (codes ")") (argument below) list_of (λ all. all) (λ one list. refl) words ∙ as_it_is (arguments_within below words)
   where
     as_it_is : (a : Answer (List ArgumentTree)) → and_then a (λ all. got all) ≡ a
     as_it_is (got all left) = refl
     as_it_is (stop why left) = refl
 
-required_is : (below : ℕ) (words : List Text) → made list_of (arguments below) words ≡ required_arguments below words
+required_is : (below : ℕ) (words : List Text) → map_tree list_of (arguments below) words ≡ required_arguments below words
 required_is below [] = refl
 required_is below (word ∷ words) = by_test (bytes_eq (codes "(") word)
   where
     by_test : (b : Bool) →
-        and_then (follow (if b then goes (paired (comma_list (argument below)) (word_only (codes ")"))) else refused) word words)
+        and_then (follow (if b then goes (pair (comma_list (argument below)) (word_only (codes ")"))) else refused) word words)
         (λ tree. got (list_of tree))
         ≡ follow (if b then goes (arguments_within below) else refused) word words
     by_test true = within_is below words
@@ -62,14 +62,14 @@ module _ (kind : Printing) where
   printed all = past (codes ";") (got (task (print kind all)))
 
   by_some : (a : Answer Arguments) →
-      and_then (and_then a (λ some. made (both some) (word_only (codes ";")))) (λ parts. got (print_of kind parts))
+      and_then (and_then a (λ some. map_tree (both some) (word_only (codes ";")))) (λ parts. got (print_of kind parts))
       ≡ and_then (and_then a (λ some. got (list_of some))) printed
   by_some (got (both (both one more) closing) left) =
       ended (both (both one more) closing) (print_of kind) (task (print kind (one ∷ more))) refl left
   by_some (stop why left) = refl
 
   by_optional : (a : Answer Arguments) →
-      and_then (and_then (and_then a (λ some. got (Some some))) (λ some. made (both some) (word_only (codes ";"))))
+      and_then (and_then (and_then a (λ some. got (Some some))) (λ some. map_tree (both some) (word_only (codes ";"))))
       (λ parts. got (optional_print_of kind parts))
       ≡ and_then (and_then a (λ some. got (list_of some))) printed
   by_optional (got (both (both one more) closing) left) =
@@ -79,14 +79,14 @@ module _ (kind : Printing) where
   module _ (below : ℕ) (words : List Text) where
     by_room : (b : Bool) →
         and_then (and_then (and_then (if b then arguments below words else stop TooDeep words) (λ some. got (Some some)))
-        (λ some. made (both some) (word_only (codes ";")))) (λ parts. got (optional_print_of kind parts))
+        (λ some. map_tree (both some) (word_only (codes ";")))) (λ parts. got (optional_print_of kind parts))
         ≡ and_then (if b then required_arguments below words else stop TooDeep words) printed
     by_room true = by_optional (arguments below words) ∙ ap (λ a. and_then a printed) (required_is below words)
     by_room false = refl
 
     by_bracket : (b : Bool) →
-        and_then (and_then (if b then made Some (roomy below 1 (arguments below)) words else got None words)
-        (λ some. made (both some) (word_only (codes ";")))) (λ parts. got (optional_print_of kind parts))
+        and_then (and_then (if b then map_tree Some (roomy below 1 (arguments below)) words else got None words)
+        (λ some. map_tree (both some) (word_only (codes ";")))) (λ parts. got (optional_print_of kind parts))
         ≡ and_then (if b then roomy below 1 (required_arguments below) words else got [] words) printed
     by_bracket true = by_room (nat_le 1 below)
     by_bracket false = ended None (optional_print_of kind) (task (print kind [])) refl words
@@ -104,7 +104,7 @@ module _ (kind : Idle) where
   idled all = past (codes ";") (got (task (idle kind all)))
 
   idle_by_optional : (a : Answer Arguments) →
-      and_then (and_then (and_then a (λ some. got (Some some))) (λ some. made (both some) (word_only (codes ";"))))
+      and_then (and_then (and_then a (λ some. got (Some some))) (λ some. map_tree (both some) (word_only (codes ";"))))
       (λ parts. got (idle_of kind parts))
       ≡ and_then (and_then a (λ some. got (list_of some))) idled
   idle_by_optional (got (both (both one more) closing) left) =
@@ -114,14 +114,14 @@ module _ (kind : Idle) where
   module _ (below : ℕ) (words : List Text) where
     idle_by_room : (b : Bool) →
         and_then (and_then (and_then (if b then arguments below words else stop TooDeep words) (λ some. got (Some some)))
-        (λ some. made (both some) (word_only (codes ";")))) (λ parts. got (idle_of kind parts))
+        (λ some. map_tree (both some) (word_only (codes ";")))) (λ parts. got (idle_of kind parts))
         ≡ and_then (if b then required_arguments below words else stop TooDeep words) idled
     idle_by_room true = idle_by_optional (arguments below words) ∙ ap (λ a. and_then a idled) (required_is below words)
     idle_by_room false = refl
 
     idle_by_bracket : (b : Bool) →
-        and_then (and_then (if b then made Some (roomy below 1 (arguments below)) words else got None words)
-        (λ some. made (both some) (word_only (codes ";")))) (λ parts. got (idle_of kind parts))
+        and_then (and_then (if b then map_tree Some (roomy below 1 (arguments below)) words else got None words)
+        (λ some. map_tree (both some) (word_only (codes ";")))) (λ parts. got (idle_of kind parts))
         ≡ and_then (if b then roomy below 1 (required_arguments below) words else got [] words) idled
     idle_by_bracket true = idle_by_room (nat_le 1 below)
     idle_by_bracket false = ended None (idle_of kind) (task (idle kind [])) refl words
@@ -151,9 +151,9 @@ module _ (below : ℕ) (words : List Text) where
   argument_is = by (begins_argument (front words))
     where
       parts : Reader (Either Text ExpressionTree)
-      parts = either (is_word is_string) (worded (meant_if is_string)) (value below)
+      parts = either (is_word is_string) (word_as (meant_if is_string)) (value below)
 
-      by : (b : Bool) → and_then (if b then made Some parts words else got None words) (λ tree. got (argument_of tree))
+      by : (b : Bool) → and_then (if b then map_tree Some parts words else got None words) (λ tree. got (argument_of tree))
           ≡ (if b then some_argument below words else got left_out words)
       by true = as_kind (parts words)
       by false = refl

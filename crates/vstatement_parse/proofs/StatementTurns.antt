@@ -16,9 +16,9 @@ use Rattle.vast.specs.declared.statement.Statement.{Statement, Block}
 use Rattle.vast.proofs.WholeTreeLemmas.{tree_of_whole_block}
 use Rattle.vexpr_parse.specs.Readers.{Answer, Reader, got, stop, and_then, past, follow, goes, refused, front, is_front}
 use Rattle.vexpr_parse.proofs.ReaderRules.{Eats, passed_over}
-use Rattle.vgrammar.specs.Parts.{both, other_way, one_way, made, paired, many, either}
+use Rattle.vgrammar.specs.Parts.{both, other_way, one_way, map_tree, pair, many, either}
 use Rattle.vgrammar.specs.Starts.{comma_word, is_word}
-use Rattle.vgrammar.specs.Statements.{further_term, statement, statements_in, block_of, named, term, word_only, event_of, enclosed_event, control, path, path_of, argument, block_name, ended_statements}
+use Rattle.vgrammar.specs.Statements.{further_term, statement, statements_in, block_of, name_word, term, word_only, event_of, enclosed_event, control, path, path_of, argument, block_name, ended_statements}
 use Rattle.vstatement_parse.specs.Gives.{Answered, block_at, enclosed_at, terms_at, further_terms, names_behind, path_at, block_name_text}
 use Rattle.vgrammar.proofs.ManyTurns.{goes_on_first, past_eats_too}
 use Rattle.vgrammar.proofs.Phrases.{sound_eats, past_shape, past_sound}
@@ -48,7 +48,7 @@ pub block_got : (text : List Text) (below : ℕ) (label : Option Token) (stateme
     ended_statements (statement below) between ≡ got (both (map (statement_tree text) statements.items) tt) left →
     block_at below words ≡ got (statement_tree text (Block label statements)) left
 block_got text below label statements words between left e f =
-    ap (λ a. and_then (and_then a (λ one. made (both one) (ended_statements (statement below)))) (λ parts. got (block_of parts))) e
+    ap (λ a. and_then (and_then a (λ one. map_tree (both one) (ended_statements (statement below)))) (λ parts. got (block_of parts))) e
     ∙ ap (λ a. and_then (and_then a (λ list. got (both (block_name_text text label) list))) (λ parts. got (block_of parts))) f
     ∙ ap (λ t. got t left) (sym (tree_of_whole_block text label statements
     ∙ ap (block (block_name_text text label)) (trees_in_list text statements.items)))
@@ -67,15 +67,15 @@ absent text (word ∷ words) e = ap (λ l. follow l word words) (passed_over (by
 
 pub unclosed : {A : Type 0} (read : Reader A) (text : Text) (words between left : List Text) (tree : A) (e : OrMemory Stop) →
     read words ≡ got tree between →
-    Because (λ why. (why ≡ NoTree) × (left ≡ between) × (is_front text (front between) ≡ false)) e → Stops (paired read (word_only text) words) left e
+    Because (λ why. (why ≡ NoTree) × (left ≡ between) × (is_front text (front between) ≡ false)) e → Stops (pair read (word_only text) words) left e
 unclosed read text words between left tree (Memory m) is given = tt
 unclosed read text words between left tree (Fault why) is given =
-    ap (λ a. and_then a (λ tree. made (both tree) (word_only text))) is
+    ap (λ a. and_then a (λ tree. map_tree (both tree) (word_only text))) is
     ∙ ap (λ a. and_then a (λ end. got (both tree end))) (absent text between given.2)
     ∙ ap (λ w. stop w between) (sym given.0) ∙ ap (stop why) (sym given.1)
 
 pub unclosed_too : {A B : Type 0} (make : A → B) (read : Reader A) (words left : List Text) (e : OrMemory Stop) →
-    Stops (read words) left e → Stops (made make read words) left e
+    Stops (read words) left e → Stops (map_tree make read words) left e
 unclosed_too make read words left (Memory m) given = tt
 unclosed_too make read words left (Fault why) given = ap (λ a. and_then a (λ tree. got (make tree))) given
 
@@ -83,10 +83,10 @@ unclosed_too make read words left (Fault why) given = ap (λ a. and_then a (λ t
 
 terms_there : (words : List Text) → is_front (codes "*") (front words) ≡ false → enclosed_at words ≡ terms_at words
 terms_there words e =
-    ap (λ b. and_then (if b then made one_way (past (codes "*") (word_only (codes ")"))) words
-    else made other_way (paired (paired term further_terms) (word_only (codes ")"))) words)
+    ap (λ b. and_then (if b then map_tree one_way (past (codes "*") (word_only (codes ")"))) words
+    else map_tree other_way (pair (pair term further_terms) (word_only (codes ")"))) words)
     (λ inner. got (event_of (other_way (other_way inner))))) e
-    ∙ twice other_way (λ inner. event_of (other_way (other_way inner))) (paired (paired term further_terms) (word_only (codes ")")) words)
+    ∙ twice other_way (λ inner. event_of (other_way (other_way inner))) (pair (pair term further_terms) (word_only (codes ")")) words)
 
 pub gives_terms : (text : List Text) (words left : List Text) (result : Result Event (OrMemory Stop)) (star : Bool) →
     star ≡ is_front (codes "*") (front words) → star ≡ false → Answered (event_tree text) (terms_at words) left result →
@@ -96,7 +96,7 @@ gives_terms text words left result star is e given = subst (λ a. Answered (even
 enclosed_there : (after : List Text) → is_name (codes "(") ≡ false → control (codes "(" ∷ after) ≡ enclosed_at after
 enclosed_there after e =
     let Inner : Reader _ = either (is_front (codes "*")) (word_only (codes "*")) (past (codes "(") enclosed_event) in
-    ap (λ b. and_then (if b then made one_way named (codes "(" ∷ after) else made other_way Inner (codes "(" ∷ after))
+    ap (λ b. and_then (if b then map_tree one_way name_word (codes "(" ∷ after) else map_tree other_way Inner (codes "(" ∷ after))
     (λ kind. got (event_of kind))) e
     ∙ twice other_way event_of (Inner (codes "(" ∷ after))
     ∙ twice other_way (λ inner. event_of (other_way inner)) (enclosed_event after)
@@ -111,8 +111,8 @@ gives_enclosed text words after left result name is e bracket given =
 
 -- paths
 
-pub name_eats : Eats (past (codes ".") named)
-name_eats = past_eats_too (codes ".") named (sound_eats named (text_shape is_name) named_phrase.sound (λ tree v. omega arith))
+pub name_eats : Eats (past (codes ".") name_word)
+name_eats = past_eats_too (codes ".") name_word (sound_eats name_word (text_shape is_name) named_phrase.sound (λ tree v. omega arith))
 
 pub path_eats : Eats (past (codes ",") path)
 path_eats = past_eats_too (codes ",") path (sound_eats path path_shape path_phrase.sound some)
@@ -122,7 +122,7 @@ path_eats = past_eats_too (codes ",") path (sound_eats path path_shape path_phra
     some (letters ∷ more) v = omega arith
 
 path_is : (words : List Text) → path words ≡ path_at words
-path_is words = by_first (named words)
+path_is words = by_first (name_word words)
   where
     by_more : (one : Text) (a : Answer (List Text)) →
         and_then (and_then a (λ list. got (both one list))) (λ parts. got (path_of parts)) ≡ and_then a (λ list. got (one ∷ list))
@@ -130,11 +130,11 @@ path_is words = by_first (named words)
     by_more one (stop why left) = refl
 
     by_first : (a : Answer Text) →
-        and_then (and_then a (λ one. made (both one) (many (is_front (codes ".")) (λ list. past (codes ".") named)))) (λ parts. got (path_of parts))
+        and_then (and_then a (λ one. map_tree (both one) (many (is_front (codes ".")) (λ list. past (codes ".") name_word)))) (λ parts. got (path_of parts))
         ≡ and_then a names_behind
     by_first (got one left) =
-        by_more one (many (is_front (codes ".")) (λ list. past (codes ".") named) left)
-        ∙ sym (goes_on_first (is_front (codes ".")) (past (codes ".") named) one [] left)
+        by_more one (many (is_front (codes ".")) (λ list. past (codes ".") name_word) left)
+        ∙ sym (goes_on_first (is_front (codes ".")) (past (codes ".") name_word) one [] left)
     by_first (stop why left) = refl
 
 pub path_answers : (words : List Text) (a : Answer (List Text)) → path_at words ≡ a → path words ≡ a

@@ -17,7 +17,7 @@ use Rattle.vstatement_parse.specs.Gives.{Answered, target_at, targets_from, targ
 use Rattle.vgrammar.proofs.Phrases.{Worded, sound_eats}
 use Rattle.vgrammar.proofs.TargetPhrases.{target_shape, target_phrase}
 use Rattle.vgrammar.proofs.ManyTurns.{one_more, behind_word, past_eats_too, until_is}
-use Rattle.vgrammar.specs.Parts.{made}
+use Rattle.vgrammar.specs.Parts.{map_tree}
 
 -- where no level is left
 
@@ -124,15 +124,15 @@ tree_of_joined text at targets =
     let same = items_hidden-the_row-Target-0 targets in
     ap joined (trees_of_row text row.0 row.1 ∙ ap (λ ts. targets_in (map (target_tree text) ts)) same)
 
-pub joined_is : (below : ℕ) (words : List Text) → joined_targets (target below) words ≡ made in_braces (targets_within below) words
+pub joined_is : (below : ℕ) (words : List Text) → joined_targets (target below) words ≡ map_tree in_braces (targets_within below) words
 joined_is below words = until_is (codes "}") (target below) joined_of in_braces (λ one list. refl) words
 
 pub gives_joined : (text : List Text) (below : ℕ) (words left : List Text) (result : Result Target (OrMemory Stop)) →
-    Answered (target_tree text) (made in_braces (targets_within below) words) left result → Answered (target_tree text) (joined_targets (target below) words) left result
+    Answered (target_tree text) (map_tree in_braces (targets_within below) words) left result → Answered (target_tree text) (joined_targets (target below) words) left result
 gives_joined text below words left result given = subst (λ a. Answered (target_tree text) a left result) (sym (joined_is below words)) given
 
 pub joined_got : (text : List Text) (below at : ℕ) (targets : Vec Target Global) (words left : List Text) →
     targets_within below words ≡ got (map (target_tree text) targets.items) left →
-    made in_braces (targets_within below) words ≡ got (target_tree text (Joined at targets)) left
+    map_tree in_braces (targets_within below) words ≡ got (target_tree text (Joined at targets)) left
 joined_got text below at targets words left e =
     ap (λ a. and_then a (λ all. got (in_braces all))) e ∙ ap (λ t. got t left) (sym (tree_of_joined text at targets))

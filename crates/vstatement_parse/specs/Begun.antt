@@ -4,9 +4,9 @@ use Rattle.vast.specs.Statements.{StatementTree, ArgumentTree, empty, task, prin
 use Rattle.vast.specs.declared.statement.Printing.{Printing}
 use Rattle.vast.specs.declared.statement.Printing.TheVariants as printing
 use Rattle.vast.specs.declared.statement.Idle.{Idle}
-use Rattle.vexpr_parse.specs.Readers.{Reader, got, and_then, led, past, choose, is_front}
+use Rattle.vexpr_parse.specs.Readers.{Reader, got, and_then, by_word, past, choose, is_front}
 use Rattle.vgrammar.specs.declared.start.StatementStart.{StatementStart}
-use Rattle.vgrammar.specs.Parts.{made, paired, maybe, roomy}
+use Rattle.vgrammar.specs.Parts.{map_tree, pair, maybe, roomy}
 use Rattle.vgrammar.specs.Starts.{start_of, is_target}
 use Rattle.vgrammar.specs.Statements.{word_only, arguments, print_of, optional_print_of, idle_of, statement, statement_by, lead_by, assignment}
 use Rattle.vgrammar.specs.declared.start.StatementStart.TheVariants as start
@@ -17,12 +17,12 @@ use Rattle.vstatement_parse.specs.Cases.{case_at}
 -- behind $display, $write, or $strobe
 abbrev pub print_at : Printing → ℕ → Reader StatementTree
 print_at kind below =
-    made (optional_print_of kind)
-    (paired (maybe (is_front (codes "(")) (roomy below 1 (arguments below))) (word_only (codes ";")))
+    map_tree (optional_print_of kind)
+    (pair (maybe (is_front (codes "(")) (roomy below 1 (arguments below))) (word_only (codes ";")))
 
 -- behind $monitor
 abbrev pub monitor_at : Printing → ℕ → Reader StatementTree
-monitor_at kind below = made (print_of kind) (paired (arguments below) (word_only (codes ";")))
+monitor_at kind below = map_tree (print_of kind) (pair (arguments below) (word_only (codes ";")))
 
 -- the arguments as a list: of a task that wants some, and of one that doesn't
 abbrev pub required_arguments : ℕ → Reader (List ArgumentTree)
@@ -37,19 +37,19 @@ printed_with kind read words = and_then (read words) (λ all. past (codes ";") (
 -- behind a task without effect
 abbrev pub idle_at : Idle → ℕ → Reader StatementTree
 idle_at kind below =
-    made (idle_of kind)
-    (paired (maybe (is_front (codes "(")) (roomy below 1 (arguments below))) (word_only (codes ";")))
+    map_tree (idle_of kind)
+    (pair (maybe (is_front (codes "(")) (roomy below 1 (arguments below))) (word_only (codes ";")))
 
 abbrev pub idle_with : Idle → Reader (List ArgumentTree) → Reader StatementTree
 idle_with kind read words = and_then (read words) (λ all. past (codes ";") (got (task (idle kind all))))
 
 -- a statement that begins so
 abbrev pub begun_at : ℕ → StatementStart → Reader StatementTree
-begun_at below start = led (λ word. statement_by below (statement below) start)
+begun_at below start = by_word (λ word. statement_by below (statement below) start)
 
 -- a statement that begins with no target
 abbrev pub other_at : ℕ → Reader StatementTree
-other_at below = led (λ word. lead_by below (statement below) (start_of word))
+other_at below = by_word (λ word. lead_by below (statement below) (start_of word))
 
 -- a statement with so many levels below it
 abbrev pub statement_at : ℕ → Reader StatementTree

@@ -14,7 +14,7 @@ use Rattle.vast.specs.declared.statement.CaseKind.{CaseKind}
 use Rattle.vexpr_parse.specs.Readers.{Reader, got, and_then, past, is_front, turns}
 use Rattle.vexpr_parse.specs.Reading.{trees_in}
 use Rattle.vgrammar.specs.Lists.{all_until}
-use Rattle.vgrammar.specs.Parts.{one_way, made, paired, maybe, either, one_behind}
+use Rattle.vgrammar.specs.Parts.{one_way, map_tree, pair, maybe, either, one_behind}
 use Rattle.vgrammar.specs.Statements.{statement, value, word_only, comma_list, default_branch, branch, branch_of, branches_in, case_parts, case_parts_of}
 
 -- the labels of a branch
@@ -33,19 +33,19 @@ labels_within below = all_until (codes ":") (value below)
 -- a branch with labels
 abbrev pub labelled_at : ℕ → Reader BranchTree
 labelled_at below words =
-    and_then (labels_within below words) (λ all. made (labelled (trees_in all)) (statement below))
+    and_then (labels_within below words) (λ all. map_tree (labelled (trees_in all)) (statement below))
 
 -- a default
 abbrev pub default_at : ℕ → Reader BranchTree
 default_at below =
-    made (λ parts. branch_of (one_way parts))
-    (past (codes "default") (paired (maybe (is_front (codes ":")) (word_only (codes ":"))) (statement below)))
+    map_tree (λ parts. branch_of (one_way parts))
+    (past (codes "default") (pair (maybe (is_front (codes ":")) (word_only (codes ":"))) (statement below)))
 
 -- a branch, by whether a default stands before it
 abbrev pub later_branch : ℕ → Bool → Reader BranchTree
 later_branch below seen =
-    made branch_of (either (is_front (codes "default")) (default_branch (statement below) seen)
-    (paired (comma_list (value below)) (past (codes ":") (statement below))))
+    map_tree branch_of (either (is_front (codes "default")) (default_branch (statement below) seen)
+    (pair (comma_list (value below)) (past (codes ":") (statement below))))
 
 -- a branch behind others
 abbrev pub branch_at : ℕ → List BranchTree → Reader BranchTree
@@ -72,7 +72,7 @@ branches_within below words =
 
 -- behind the first word of a case
 abbrev pub case_behind : ℕ → CaseKind → ExpressionTree → Reader StatementTree
-case_behind below kind tree = made (λ all. case_of kind tree (branches_in all)) (branches_within below)
+case_behind below kind tree = map_tree (λ all. case_of kind tree (branches_in all)) (branches_within below)
 
 abbrev pub case_inner : ℕ → CaseKind → Reader StatementTree
 case_inner below kind words = and_then (value below words) (λ tree. past (codes ")") (case_behind below kind tree))
@@ -81,7 +81,7 @@ abbrev pub case_whole : ℕ → CaseKind → Reader StatementTree
 case_whole below kind = past (codes "(") (case_inner below kind)
 
 abbrev pub case_at : ℕ → CaseKind → Reader StatementTree
-case_at below kind = made (case_parts_of kind) (case_parts below (statement below))
+case_at below kind = map_tree (case_parts_of kind) (case_parts below (statement below))
 
 -- the tokens that are kept of labels, and of branches
 abbrev pub all_label_leaves : {T : Type 0} → Vec Expression T → List Token

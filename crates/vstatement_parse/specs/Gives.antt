@@ -12,18 +12,18 @@ use Rattle.vast.specs.declared.statement.Target.{Target}
 use Rattle.vast.specs.declared.expression.Expression.{Expression}
 use Rattle.basis.specs.declared.memory.OrMemory.{OrMemory}
 use Rattle.vexpr_parse.specs.declared.stop.Stop.{Stop}
-use Rattle.vexpr_parse.specs.Readers.{Answer, Reader, got, and_then, led, past, is_front, turns}
+use Rattle.vexpr_parse.specs.Readers.{Answer, Reader, got, and_then, by_word, past, is_front, turns}
 use Rattle.vexpr_parse.specs.Answers.{Stops, Keeps, ahead}
 use Rattle.vexpr_parse.specs.Texts.{words_of}
 use Rattle.vexpr_parse.specs.declared.cursor.Cursor.{Cursor}
 use Rattle.vlex.specs.Tokenized.{Tokenized}
 use Rattle.vast.specs.Statements.{TargetTree, joined, StatementTree, task, dump, forever, TermTree, FurtherTerm, DelayTree, EventTree, SelectionTree, ArgumentTree}
-use Rattle.vgrammar.specs.Parts.{Both, both, Either, other_way, either, made, maybe, paired, worded, one_behind, many}
+use Rattle.vgrammar.specs.Parts.{Both, both, Either, other_way, either, map_tree, maybe, pair, word_as, one_behind, many}
 use Rattle.vgrammar.specs.Starts.{is_meant, is_word, meant_if, edge_of, comma_of}
 use Rattle.vast.specs.declared.statement.Edge.{Edge}
 use Rattle.vast.specs.declared.statement.Path.{Path}
 use Rattle.vast.specs.declared.statement.FurtherTerm.{FurtherTerm as FurtherWords}
-use Rattle.vgrammar.specs.Statements.{select, target_of, target, targets_in, target_lead, named, word_only, trigger_of, numbered, end_of, end_parts, dump_file_of, dump_file_parts, statement, guarded_of, guarded, delayed_of, amount, term, further_term, event_of, enclosed_event, event_body_of, control, block_of, block_parts, path, selection, dump_vars_of, value, argument_of, argument}
+use Rattle.vgrammar.specs.Statements.{select, target_of, target, targets_in, target_lead, name_word, word_only, trigger_of, number_word, end_of, end_parts, dump_file_of, dump_file_parts, statement, guarded_of, value_then, delayed_of, amount, term, further_term, event_of, enclosed_event, event_body_of, control, block_of, block_parts, path, selection, dump_vars_of, value, argument_of, argument}
 use Rattle.vgrammar.specs.declared.start.Guard.{Guard}
 use Rattle.vast.specs.declared.token.Token.{Token}
 use Rattle.vast.specs.TokenTexts.{token_text}
@@ -56,7 +56,7 @@ ended_tree words value = both (boxed_tree words value) tt
 
 -- a target with a select, behind its bracket
 abbrev pub selected_tree : Text → ℕ → Reader TargetTree
-selected_tree letters below = made (λ selected. target_of letters (Some selected)) (select below)
+selected_tree letters below = map_tree (λ selected. target_of letters (Some selected)) (select below)
 
 -- each call reads as the definition does with so many levels
 abbrev pub ReadsTargets : Tokenized → ℕ → (MutBor Cursor → Result Target (OrMemory Stop) → MutBor Cursor → Type 0) →
@@ -91,7 +91,7 @@ in_braces all = joined (targets_in all)
 
 -- with so many levels below it
 abbrev pub target_at : ℕ → Reader TargetTree
-target_at below = led (target_lead below (target below))
+target_at below = by_word (target_lead below (target below))
 
 -- what is read is what is given
 abbrev pub itself : {A : Type 0} → List Text → A → A
@@ -99,7 +99,7 @@ itself words tree = tree
 
 -- behind ->
 abbrev pub trigger_at : Reader StatementTree
-trigger_at = made trigger_of (paired named (word_only (codes ";")))
+trigger_at = map_tree trigger_of (pair name_word (word_only (codes ";")))
 
 -- each call reads as the definition does with so many levels
 abbrev pub ReadsStatements : Tokenized → ℕ →
@@ -124,7 +124,7 @@ dump_at kind = past (codes ";") (got (task (dump kind)))
 
 -- behind $dumpfile
 abbrev pub dump_file_at : Reader StatementTree
-dump_file_at = made dump_file_of dump_file_parts
+dump_file_at = map_tree dump_file_of dump_file_parts
 
 -- a number between parentheses, or none
 abbrev pub ended_number : List Text → Token → Both Text (Unit {0})
@@ -134,27 +134,27 @@ abbrev pub numbers_tree : List Text → Option Token → Option (Both Text (Unit
 numbers_tree words number = option_map (ended_number words) number
 
 abbrev pub optional_number_at : Reader (Option (Both Text (Unit {0})))
-optional_number_at = maybe (is_front (codes "(")) (past (codes "(") (paired numbered (word_only (codes ")"))))
+optional_number_at = maybe (is_front (codes "(")) (past (codes "(") (pair number_word (word_only (codes ")"))))
 
 -- behind $stop, or $finish
 abbrev pub end_at : Bool → Reader StatementTree
-end_at stops = made (end_of stops) end_parts
+end_at stops = map_tree (end_of stops) end_parts
 
 -- which change of a name is waited for
 abbrev pub optional_edge : Reader (Option Edge)
-optional_edge = maybe (is_meant edge_of) (worded edge_of)
+optional_edge = maybe (is_meant edge_of) (word_as edge_of)
 
 -- what stands behind while, and the like
 abbrev pub guarded_at : ℕ → Guard → Reader StatementTree
-guarded_at below kind = made (guarded_of kind) (guarded below (statement below))
+guarded_at below kind = map_tree (guarded_of kind) (value_then below (statement below))
 
 -- behind forever
 abbrev pub forever_at : ℕ → Reader StatementTree
-forever_at below = made forever (statement below)
+forever_at below = map_tree forever (statement below)
 
 -- behind #
 abbrev pub delayed_at : ℕ → Reader StatementTree
-delayed_at below = made delayed_of (paired (amount below) (statement below))
+delayed_at below = map_tree delayed_of (pair (amount below) (statement below))
 
 -- the further names whose changes are waited for
 abbrev pub all_further : {T : Type 0} → List Text → Vec FurtherWords T → List FurtherTerm
@@ -170,15 +170,15 @@ names_tree words names = both (term_tree words names.term) (all_further words na
 -- behind @ (
 abbrev pub terms_at : Reader EventTree
 terms_at =
-    made (λ terms. event_of (other_way (other_way (other_way terms))))
-    (paired (paired term further_terms) (word_only (codes ")")))
+    map_tree (λ terms. event_of (other_way (other_way (other_way terms))))
+    (pair (pair term further_terms) (word_only (codes ")")))
 
 abbrev pub enclosed_at : Reader EventTree
-enclosed_at = made (λ inner. event_of (other_way (other_way inner))) enclosed_event
+enclosed_at = map_tree (λ inner. event_of (other_way (other_way inner))) enclosed_event
 
 -- behind @
 abbrev pub event_at : ℕ → Reader StatementTree
-event_at below = made event_body_of (paired control (statement below))
+event_at below = map_tree event_body_of (pair control (statement below))
 
 -- the statements of a block
 abbrev pub all_statements : {T : Type 0} → List Text → Vec Statement T → List StatementTree
@@ -196,7 +196,7 @@ block_name_text words label = option_map (token_text words) label
 
 -- behind begin
 abbrev pub block_at : ℕ → Reader StatementTree
-block_at below = made block_of (block_parts (statement below))
+block_at below = map_tree block_of (block_parts (statement below))
 
 -- the names of a path
 abbrev pub all_names : {T : Type 0} → List Text → Vec Token T → List Text
@@ -204,10 +204,10 @@ all_names words names = map (token_text words) names.items
 
 -- the names with the first one
 abbrev pub names_behind : Text → Reader (List Text)
-names_behind one = turns (one_behind (λ list. past (codes ".") named)) (is_front (codes ".")) (one ∷ [])
+names_behind one = turns (one_behind (λ list. past (codes ".") name_word)) (is_front (codes ".")) (one ∷ [])
 
 abbrev pub path_at : Reader (List Text)
-path_at words = and_then (named words) names_behind
+path_at words = and_then (name_word words) names_behind
 
 abbrev pub all_paths : {T : Type 0} → List Text → Vec Path T → List (List Text)
 all_paths words paths = map (path_tree words) paths.items
@@ -223,7 +223,7 @@ optional_selection = maybe (is_front (codes "(")) selection
 
 -- behind $dumpvars
 abbrev pub dump_vars_at : Reader StatementTree
-dump_vars_at = made dump_vars_of (paired optional_selection (word_only (codes ";")))
+dump_vars_at = map_tree dump_vars_of (pair optional_selection (word_only (codes ";")))
 
 -- what is printed
 abbrev pub all_arguments : {T : Type 0} → List Text → Vec Argument T → List ArgumentTree
@@ -234,7 +234,7 @@ abbrev pub argument_kind : Either Text ExpressionTree → ArgumentTree
 argument_kind parts = argument_of (Some parts)
 
 abbrev pub some_argument : ℕ → Reader ArgumentTree
-some_argument below = made argument_kind (either (is_word is_string) (worded (meant_if is_string)) (value below))
+some_argument below = map_tree argument_kind (either (is_word is_string) (word_as (meant_if is_string)) (value below))
 
 -- the arguments with the first one
 abbrev pub arguments_behind : ℕ → ArgumentTree → Reader (List ArgumentTree)

@@ -8,8 +8,8 @@ use Rattle.vast.specs.declared.token.Token.{Token}
 use Rattle.vast.specs.Statements.{TargetTree, StatementTree}
 use Rattle.vast.specs.StatementTrees.{statement_tree}
 use Rattle.vexpr_parse.specs.Readers.{Reader, past, is_front}
-use Rattle.vgrammar.specs.Parts.{Both, both, made, maybe, paired}
-use Rattle.vgrammar.specs.Statements.{statement, guarded, if_of, branches_of_if, setting, value, for_of, for_parts}
+use Rattle.vgrammar.specs.Parts.{Both, both, map_tree, maybe, pair}
+use Rattle.vgrammar.specs.Statements.{statement, value_then, if_of, branches_of_if, setting, value, for_of, for_parts}
 use Rattle.vast.specs.declared.statement.Statement.{Statement}
 use Rattle.vstatement_parse.specs.declared.conditions.Choice.{Choice}
 use Rattle.vstatement_parse.specs.declared.loops.Step.{Step}
@@ -32,25 +32,25 @@ choice_tree words choice = both (body_tree words choice.body) (optional_tree wor
 
 -- behind if
 abbrev pub if_at : ℕ → Reader StatementTree
-if_at below = made if_of (guarded below (branches_of_if (statement below)))
+if_at below = map_tree if_of (value_then below (branches_of_if (statement below)))
 
 -- what a for does behind each turn, and its statement
 abbrev pub step_at : ℕ → Reader (Both (Both TargetTree ExpressionTree) StatementTree)
-step_at below = paired (setting below) (past (codes ")") (statement below))
+step_at below = pair (setting below) (past (codes ")") (statement below))
 
 abbrev pub step_tree : List Text → Step → Both (Both TargetTree ExpressionTree) StatementTree
 step_tree words step = both (setting_tree words step.next) (body_tree words step.body)
 
 -- behind the first semicolon of a for
 abbrev pub going_at : ℕ → Reader (Both ExpressionTree (Both (Both TargetTree ExpressionTree) StatementTree))
-going_at below = paired (value below) (past (codes ";") (step_at below))
+going_at below = pair (value below) (past (codes ";") (step_at below))
 
 abbrev pub going_tree : List Text → Going → Both ExpressionTree (Both (Both TargetTree ExpressionTree) StatementTree)
 going_tree words going = both (boxed_tree words going.condition) (step_tree words going.step)
 
 -- behind for
 abbrev pub for_at : ℕ → Reader StatementTree
-for_at below = made for_of (for_parts below (statement below))
+for_at below = map_tree for_of (for_parts below (statement below))
 
 -- the tokens that are kept of a statement behind a pointer, and of what stands round one
 abbrev pub body_leaves : {A : Type 0} → Box Statement A → List Token

@@ -5,7 +5,7 @@ ghost use Rattle.vast.specs.Leaves.{if_some, delay_leaves, statement_leaves};
 ghost use Rattle.vexpr_parse.specs.Answers.{Keeps};
 ghost use Rattle.vast.specs.StatementTrees.{statement_tree};
 ghost use Rattle.vstatement_parse.specs.Gives.{Gives, itself, optional_delay_tree, trigger_at, no_leaves};
-ghost use Rattle.vgrammar.specs.Parts.{worded};
+ghost use Rattle.vgrammar.specs.Parts.{word_as};
 ghost use Rattle.vgrammar.specs.Starts.{sign_of};
 ghost use Rattle.vgrammar.specs.Statements as reading;
 
@@ -21,7 +21,7 @@ use vlex::Tokens;
 
 // `=`, or `<=`: whether it is the later one.
 fn sign(tokens: &Tokens<'_>, cursor: &mut Cursor) -> Result<bool, OrMemory<Stop>>
-    ensures gives { Gives itself (worded sign_of) tokens.now cursor.old cursor.new result }
+    ensures gives { Gives itself (word_as sign_of) tokens.now cursor.old cursor.new result }
     ensures kept { IfOk result (Keeps no_leaves tokens.now cursor.old cursor.new) }
 {
     if cursor.begins(tokens, b"=") {

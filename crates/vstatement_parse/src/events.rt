@@ -5,7 +5,7 @@ ghost use Rattle.vast.specs.Leaves.{event_leaves, statement_leaves};
 ghost use Rattle.vast.specs.StatementTrees.{event_tree, statement_tree};
 ghost use Rattle.vexpr_parse.specs.Readers.{front};
 ghost use Rattle.vstatement_parse.specs.Gives.{Gives, ReadsStatements, all_further, enclosed_at, event_at, further_terms as further_terms_at, names_tree, terms_at, all_further_leaves, names_leaves, KeepsStatements};
-ghost use Rattle.vgrammar.specs.Parts.{paired};
+ghost use Rattle.vgrammar.specs.Parts.{pair};
 ghost use Rattle.vgrammar.specs.Starts.{comma_of, is_meant, is_word};
 ghost use Rattle.vast.specs.Words.{is_name as is_name_text};
 ghost use Rattle.vgrammar.specs.Statements as reading;
@@ -58,7 +58,7 @@ fn read_names(
     tokens: &Tokens<'_>,
     cursor: &mut Cursor,
 ) -> Result<Names, OrMemory<Stop>>
-    ensures gives { Gives names_tree (paired reading.term further_terms_at)
+    ensures gives { Gives names_tree (pair reading.term further_terms_at)
         tokens.now cursor.old cursor.new result }
     ensures kept { IfOk result (Keeps names_leaves tokens.now cursor.old cursor.new) }
 {

@@ -7,7 +7,7 @@ ghost use Rattle.vast.specs.TokenTexts.{token_text};
 ghost use Rattle.vast.specs.StatementTrees.{path_tree, selection_tree, statement_tree};
 ghost use Rattle.vexpr_parse.specs.Readers.{past};
 ghost use Rattle.vstatement_parse.specs.Gives.{Gives, all_names, all_paths, dump_vars_at, ended_paths, names_behind, optional_selection as optional_selection_at, optional_selection_tree, path_at, paths_at, word_leaves, all_name_leaves, all_path_leaves};
-ghost use Rattle.vgrammar.specs.Parts.{paired};
+ghost use Rattle.vgrammar.specs.Parts.{pair};
 ghost use Rattle.vgrammar.specs.Statements as reading;
 ghost use Rattle.vexpr_parse.specs.Texts.{words_of};
 
@@ -21,7 +21,7 @@ use vlex::Tokens;
 
 // A further name, with the dot before it.
 fn further_name(tokens: &Tokens<'_>, cursor: &mut Cursor) -> Result<Token, OrMemory<Stop>>
-    ensures gives { Gives token_text (past (codes ".") reading.named)
+    ensures gives { Gives token_text (past (codes ".") reading.name_word)
         tokens.now cursor.old cursor.new result }
     ensures kept { IfOk result (Keeps word_leaves tokens.now cursor.old cursor.new) }
 {
@@ -111,7 +111,7 @@ fn closed_paths(
     tokens: &Tokens<'_>,
     cursor: &mut Cursor,
 ) -> Result<Vec<Path>, OrMemory<Stop>>
-    ensures gives { Gives ended_paths (paired paths_at (reading.word_only (codes ")")))
+    ensures gives { Gives ended_paths (pair paths_at (reading.word_only (codes ")")))
         tokens.now cursor.old cursor.new result }
     ensures kept { IfOk result (Keeps all_path_leaves tokens.now cursor.old cursor.new) }
 {

@@ -6,7 +6,7 @@ ghost use Rattle.vast.specs.TokenTexts.{token_text};
 ghost use Rattle.vast.specs.StatementTrees.{target_tree};
 ghost use Rattle.vexpr_parse.specs.Readers.{stop};
 ghost use Rattle.vstatement_parse.specs.Gives.{Gives, ReadsTargets, all_targets, in_braces, selected_tree, target_at, targets_behind, targets_within, all_target_leaves, KeepsTargets};
-ghost use Rattle.vgrammar.specs.Parts.{made};
+ghost use Rattle.vgrammar.specs.Parts.{map_tree};
 ghost use Rattle.vgrammar.specs.Statements as reading;
 ghost use Rattle.vexpr_parse.specs.Answers.{ahead, KeepsBehind, Keeps};
 ghost use Rattle.vexpr_parse.specs.Texts.{words_of};
@@ -130,7 +130,7 @@ fn target_concatenation<F: Fn(&mut Cursor) -> Result<Target, OrMemory<Stop>>>(
     requires callable { F.IsAlwaysCallable read.now }
     requires reads { ReadsTargets tokens.now below (F.post read.now) }
     requires keeps { KeepsTargets tokens.now (F.post read.now) }
-    ensures gives { Gives target_tree (made in_braces (targets_within below))
+    ensures gives { Gives target_tree (map_tree in_braces (targets_within below))
         tokens.now cursor.old cursor.new result }
     ensures kept { IfOk result (Keeps target_leaves tokens.now cursor.old cursor.new) }
 {

@@ -5,7 +5,7 @@ ghost use Rattle.vast.specs.Leaves.{term_leaves, further_leaves};
 ghost use Rattle.vexpr_parse.specs.Answers.{Keeps};
 ghost use Rattle.vast.specs.StatementTrees.{term_tree, further_term as further_tree};
 ghost use Rattle.vstatement_parse.specs.Gives.{Gives, itself, optional_edge, no_leaves};
-ghost use Rattle.vgrammar.specs.Parts.{worded};
+ghost use Rattle.vgrammar.specs.Parts.{word_as};
 ghost use Rattle.vgrammar.specs.Starts.{comma_of};
 ghost use Rattle.vgrammar.specs.Statements as reading;
 
@@ -45,7 +45,7 @@ pub fn read_term(tokens: &Tokens<'_>, cursor: &mut Cursor) -> Result<Term, OrMem
 // `,` or `or`: whether it is the comma.
 #[tactic(auto, using(crate::proofs::LeafWords::or_plain))]
 fn comma(tokens: &Tokens<'_>, cursor: &mut Cursor) -> Result<bool, OrMemory<Stop>>
-    ensures gives { Gives itself (worded comma_of) tokens.now cursor.old cursor.new result }
+    ensures gives { Gives itself (word_as comma_of) tokens.now cursor.old cursor.new result }
     ensures kept { IfOk result (Keeps no_leaves tokens.now cursor.old cursor.new) }
 {
     if cursor.begins(tokens, b",") {

@@ -6,7 +6,7 @@ ghost use Rattle.vast.specs.Leaves.{boxed_leaves};
 ghost use Rattle.vast.specs.Words.{is_leaf};
 ghost use Rattle.vexpr_parse.specs.Readers.{past};
 ghost use Rattle.vstatement_parse.specs.Gives.{Gives, ended_tree, value_tree};
-ghost use Rattle.vgrammar.specs.Parts.{paired};
+ghost use Rattle.vgrammar.specs.Parts.{pair};
 ghost use Rattle.vgrammar.specs.Statements as reading;
 
 use basis::OrMemory;
@@ -39,7 +39,7 @@ pub fn value_before(
     text: &[u8],
 ) -> Result<Box<Expression>, OrMemory<Stop>>
     requires { 0 < below }
-    ensures gives { Gives ended_tree (paired (reading.value below) (reading.word_only text.now))
+    ensures gives { Gives ended_tree (pair (reading.value below) (reading.word_only text.now))
         tokens.now cursor.old cursor.new result }
     ensures kept { is_leaf text.now ≡ false →
         IfOk result (Keeps boxed_leaves tokens.now cursor.old cursor.new) }
@@ -57,7 +57,7 @@ pub fn value_in_parentheses(
     below: u32,
 ) -> Result<Box<Expression>, OrMemory<Stop>>
     requires { 0 < below }
-    ensures gives { Gives ended_tree (past (codes "(") (paired (reading.value below)
+    ensures gives { Gives ended_tree (past (codes "(") (pair (reading.value below)
         (reading.word_only (codes ")")))) tokens.now cursor.old cursor.new result }
     ensures kept { IfOk result (Keeps boxed_leaves tokens.now cursor.old cursor.new) }
 {

@@ -5,7 +5,7 @@ ghost use Rattle.vexpr_parse.specs.Answers.{Keeps};
 ghost use Rattle.vast.specs.TokenTexts.{token_text};
 ghost use Rattle.vast.specs.Words.{is_string as is_string_text};
 ghost use Rattle.vstatement_parse.specs.Gives.{Gives, word_leaves};
-ghost use Rattle.vgrammar.specs.Parts.{worded};
+ghost use Rattle.vgrammar.specs.Parts.{word_as};
 ghost use Rattle.vgrammar.specs.Starts.{meant_if};
 ghost use Rattle.vgrammar.specs.Statements as reading;
 
@@ -18,7 +18,7 @@ use vlex::Tokens;
 /// Passes a name (IEEE 1364-2005, 3.7).
 #[tactic(auto, using(crate::proofs::LeafWords::name_leaf))]
 pub fn name_word(tokens: &Tokens<'_>, cursor: &mut Cursor) -> Result<Token, OrMemory<Stop>>
-    ensures gives { Gives token_text reading.named tokens.now cursor.old cursor.new result }
+    ensures gives { Gives token_text reading.name_word tokens.now cursor.old cursor.new result }
     ensures kept { IfOk result (Keeps word_leaves tokens.now cursor.old cursor.new) }
 {
     match cursor.word(tokens) {
@@ -37,7 +37,7 @@ pub fn name_word(tokens: &Tokens<'_>, cursor: &mut Cursor) -> Result<Token, OrMe
 /// Passes a number (3.5.1).
 #[tactic(auto, using(crate::proofs::LeafWords::number_leaf))]
 pub fn number_word(tokens: &Tokens<'_>, cursor: &mut Cursor) -> Result<Token, OrMemory<Stop>>
-    ensures gives { Gives token_text reading.numbered tokens.now cursor.old cursor.new result }
+    ensures gives { Gives token_text reading.number_word tokens.now cursor.old cursor.new result }
     ensures kept { IfOk result (Keeps word_leaves tokens.now cursor.old cursor.new) }
 {
     match cursor.word(tokens) {
@@ -66,7 +66,7 @@ pub fn is_string(text: &[u8]) -> bool
 /// Passes a string.
 #[tactic(auto, using(crate::proofs::LeafWords::string_leaf))]
 pub fn string_word(tokens: &Tokens<'_>, cursor: &mut Cursor) -> Result<Token, OrMemory<Stop>>
-    ensures gives { Gives token_text (worded (meant_if is_string_text))
+    ensures gives { Gives token_text (word_as (meant_if is_string_text))
         tokens.now cursor.old cursor.new result }
     ensures kept { IfOk result (Keeps word_leaves tokens.now cursor.old cursor.new) }
 {

@@ -3,7 +3,7 @@ use Rattle.std.specs.Prelude.{◌≡◌, ℕ, ◌+◌, ◌<◌, ◌≤◌, ◌�
 use Rattle.std.specs.Prelude.{Some, None, IfSome}
 use Rattle.sched_core.specs.Rules.{Rules}
 use Rattle.matching.specs.Slots.{IsRunTo}
-use Rattle.matching.specs.Inner.Slots.{shifted, EndsSlot}
+use Rattle.matching.specs.Inner.Slots.{log_later, EndsSlot}
 use Rattle.matching.specs.declared.answer.Explanation.{Explanation}
 use Rattle.matching.specs.declared.candidates.Onward.{Onward}
 use Rattle.matching.specs.declared.candidates.Way.{Way}
@@ -56,7 +56,7 @@ pub record IsEndOf {S : Type 0} (r : Rules S) (most : ℕ) (start : SlotStart S)
   pub count : ℕ
   pub ends : EndsSlot r start.state slot count s
   pub short : length slot ≤ most
-  pub log_is : log ≡ start.log ++ shifted start.steps slot
+  pub log_is : log ≡ start.log ++ log_later start.steps slot
   pub steps_is : steps ≡ start.steps + count
 
 -- so it does, and nothing differs

@@ -4,9 +4,9 @@ use Rattle.sched_core.specs.Rules.{Rules, stands, IsRun, NamesBelow}
 use Rattle.matching.specs.Slots.{one_slot}
 
 -- The members of a log, so many steps later.
-abbrev pub shifted : ℕ → List (ℕ × ℕ) → List (ℕ × ℕ)
-shifted n [] = []
-shifted n (m ∷ log) = (n + m.0, m.1) ∷ shifted n log
+abbrev pub log_later : ℕ → List (ℕ × ℕ) → List (ℕ × ℕ)
+log_later n [] = []
+log_later n (m ∷ log) = (n + m.0, m.1) ∷ log_later n log
 
 -- A run from the start comes to the end of the slot at this state: under this log, in so many steps.
 pub record EndsSlot {S : Type 0} (r : Rules S) (start : S) (log : List (ℕ × ℕ)) (n : ℕ) (s : S) : Type 0 where

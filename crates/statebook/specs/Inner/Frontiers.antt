@@ -13,16 +13,16 @@ departs zero = 0
 departs (suc c) = 1
 
 -- how many of the first n steps depart
-abbrev pub used : List (ℕ × ℕ) → ℕ → ℕ
-used log zero = 0
-used log (suc n) = used log n + departs (choice_at log n)
+abbrev pub departures_before : List (ℕ × ℕ) → ℕ → ℕ
+departures_before log zero = 0
+departures_before log (suc n) = departures_before log n + departs (choice_at log n)
 
 -- After p steps the run stands at an entry of the set, whose budget is enough for what is left.
 pub record IsOnWay {S : Type 0} (r : Rules S) (k : ℕ) (In : Entry S → Type 0) (log : List (ℕ × ℕ)) (p : ℕ) : Type 0 where
   pub entry : Entry S
   pub inside : In entry
   pub same : r.same entry.state (stands r log p) ≡ true
-  pub budget : k ≤ entry.budget + used log p
+  pub budget : k ≤ entry.budget + departures_before log p
 
 -- An entry of the set dominates the next station after choice c of e.
 pub record HasSuccessorIn {S : Type 0} (r : Rules S) (In : Entry S → Type 0) (e : Entry S) (c : ℕ) : Type 0 where

@@ -58,7 +58,7 @@ impl Vec4 {
         let right_sign = planes::sign_bit(other.value, self.len, signed);
         let quotient = planes::magnitude(self.value, self.len, signed) / divisor;
         Vec4 {
-            value: planes::wrapped(left_sign != right_sign, quotient, self.len),
+            value: planes::wrap(left_sign != right_sign, quotient, self.len),
             unknown: 0,
             len: self.len,
             signed,
@@ -81,7 +81,7 @@ impl Vec4 {
         let left_sign = planes::sign_bit(self.value, self.len, signed);
         let remainder = planes::magnitude(self.value, self.len, signed) % divisor;
         Vec4 {
-            value: planes::wrapped(left_sign == 1, remainder, self.len),
+            value: planes::wrap(left_sign == 1, remainder, self.len),
             unknown: 0,
             len: self.len,
             signed,

@@ -25,8 +25,8 @@ impl Vec4 {
         let value_top = planes::sign_bit(self.value, self.len, self.signed);
         let unknown_top = planes::sign_bit(self.unknown, self.len, self.signed);
         Vec4 {
-            value: planes::extended(self.value, self.len, len, value_top),
-            unknown: planes::extended(self.unknown, self.len, len, unknown_top),
+            value: planes::extend(self.value, self.len, len, value_top),
+            unknown: planes::extend(self.unknown, self.len, len, unknown_top),
             len,
             signed: self.signed,
         }
@@ -56,8 +56,8 @@ impl Vec4 {
         ensures { result ≡ vectors.put self high low part }
     {
         Vec4 {
-            value: planes::spliced(self.value, high, low, part.value),
-            unknown: planes::spliced(self.unknown, high, low, part.unknown),
+            value: planes::splice(self.value, high, low, part.value),
+            unknown: planes::splice(self.unknown, high, low, part.unknown),
             len: self.len,
             signed: self.signed,
         }

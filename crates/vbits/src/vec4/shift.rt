@@ -62,16 +62,16 @@ impl Vec4 {
         };
         if places >= self.len as u64 {
             return Vec4 {
-                value: planes::filled(self.len, value_top),
-                unknown: planes::filled(self.len, unknown_top),
+                value: planes::fill(self.len, value_top),
+                unknown: planes::fill(self.len, unknown_top),
                 len: self.len,
                 signed: self.signed,
             };
         }
         let left = self.len - places as u32;
         Vec4 {
-            value: planes::extended(self.value >> places, left, self.len, value_top),
-            unknown: planes::extended(self.unknown >> places, left, self.len, unknown_top),
+            value: planes::extend(self.value >> places, left, self.len, value_top),
+            unknown: planes::extend(self.unknown >> places, left, self.len, unknown_top),
             len: self.len,
             signed: self.signed,
         }

@@ -1,7 +1,7 @@
 use Rattle.std.proofs.Common.{◌≡◌, ◌++◌, drop, map}
 use Rattle.vast.specs.TokenTexts.{texts}
 use Rattle.vast.specs.Spellings.{texts_of}
-use Rattle.vast.specs.Statements.{listed}
+use Rattle.vast.specs.Statements.{with_commas}
 use Rattle.vast.specs.Modules.{spell_head_parameter}
 use Rattle.vast.specs.ModuleTrees.{head_parameter}
 use Rattle.vast.specs.Inner.{listed_from}
@@ -10,4 +10,4 @@ use Rattle.vast.proofs.module_parts_spelling.put_head_parameters.Given as goal
 abbrev pub invariant-loop-parameter : goal.invariant-loop-parameter
 invariant-loop-parameter l =
     texts_of l.out.items ++ listed_from l.first spell_head_parameter (map (head_parameter (texts l.words)) (drop l.parameter-index l.parameters))
-    ≡ texts_of l.initial.out.items ++ listed spell_head_parameter (map (head_parameter (texts l.words)) l.parameters)
+    ≡ texts_of l.initial.out.items ++ with_commas spell_head_parameter (map (head_parameter (texts l.words)) l.parameters)

@@ -1,7 +1,7 @@
 use Rattle.std.proofs.Common.{◌≡◌, ◌++◌, drop, map}
 use Rattle.vast.specs.TokenTexts.{texts}
 use Rattle.vast.specs.Spellings.{texts_of}
-use Rattle.vast.specs.Statements.{listed}
+use Rattle.vast.specs.Statements.{with_commas}
 use Rattle.vast.specs.Modules.{spell_net_assignment}
 use Rattle.vast.specs.ModuleTrees.{net_assignment}
 use Rattle.vast.specs.Inner.{listed_from}
@@ -10,4 +10,4 @@ use Rattle.vast.proofs.module_parts_spelling.put_net_assignments.Given as goal
 abbrev pub invariant-loop-one : goal.invariant-loop-one
 invariant-loop-one l =
     texts_of l.out.items ++ listed_from l.first spell_net_assignment (map (net_assignment (texts l.words)) (drop l.one-index l.list))
-    ≡ texts_of l.initial.out.items ++ listed spell_net_assignment (map (net_assignment (texts l.words)) l.list)
+    ≡ texts_of l.initial.out.items ++ with_commas spell_net_assignment (map (net_assignment (texts l.words)) l.list)

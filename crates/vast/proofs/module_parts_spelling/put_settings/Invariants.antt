@@ -1,7 +1,7 @@
 use Rattle.std.proofs.Common.{◌≡◌, ◌++◌, drop, map}
 use Rattle.vast.specs.TokenTexts.{texts}
 use Rattle.vast.specs.Spellings.{texts_of}
-use Rattle.vast.specs.Statements.{listed}
+use Rattle.vast.specs.Statements.{with_commas}
 use Rattle.vast.specs.Modules.{spell_setting}
 use Rattle.vast.specs.ModuleTrees.{setting_tree}
 use Rattle.vast.specs.Inner.{listed_from}
@@ -10,4 +10,4 @@ use Rattle.vast.proofs.module_parts_spelling.put_settings.Given as goal
 abbrev pub invariant-loop-setting : goal.invariant-loop-setting
 invariant-loop-setting l =
     texts_of l.out.items ++ listed_from l.first spell_setting (map (setting_tree (texts l.words)) (drop l.setting-index l.settings))
-    ≡ texts_of l.initial.out.items ++ listed spell_setting (map (setting_tree (texts l.words)) l.settings)
+    ≡ texts_of l.initial.out.items ++ with_commas spell_setting (map (setting_tree (texts l.words)) l.settings)

@@ -1,7 +1,7 @@
 use Rattle.std.proofs.Common.{◌≡◌, ◌++◌, drop, map}
 use Rattle.vast.specs.TokenTexts.{texts}
 use Rattle.vast.specs.Spellings.{texts_of}
-use Rattle.vast.specs.Statements.{listed}
+use Rattle.vast.specs.Statements.{with_commas}
 use Rattle.vast.specs.Expressions.{spell_expression}
 use Rattle.vast.specs.ExpressionTrees.{tree_of}
 use Rattle.vast.specs.Inner.{listed_from}
@@ -10,4 +10,4 @@ use Rattle.vast.proofs.module_parts_spelling.put_values.Given as goal
 abbrev pub invariant-loop-value : goal.invariant-loop-value
 invariant-loop-value l =
     texts_of l.out.items ++ listed_from l.first spell_expression (map (tree_of (texts l.words)) (drop l.value-index l.values))
-    ≡ texts_of l.initial.out.items ++ listed spell_expression (map (tree_of (texts l.words)) l.values)
+    ≡ texts_of l.initial.out.items ++ with_commas spell_expression (map (tree_of (texts l.words)) l.values)

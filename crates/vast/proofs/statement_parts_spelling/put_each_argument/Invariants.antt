@@ -1,7 +1,7 @@
 use Rattle.std.proofs.Common.{◌≡◌, ◌++◌, drop, map}
 use Rattle.vast.specs.TokenTexts.{texts}
 use Rattle.vast.specs.Spellings.{texts_of}
-use Rattle.vast.specs.Statements.{listed, spell_argument}
+use Rattle.vast.specs.Statements.{with_commas, spell_argument}
 use Rattle.vast.specs.StatementTrees.{argument_tree}
 use Rattle.vast.specs.Inner.{listed_from}
 use Rattle.vast.proofs.statement_parts_spelling.put_each_argument.Given as goal
@@ -9,4 +9,4 @@ use Rattle.vast.proofs.statement_parts_spelling.put_each_argument.Given as goal
 abbrev pub invariant-loop-argument : goal.invariant-loop-argument
 invariant-loop-argument l =
     texts_of l.out.items ++ listed_from l.first spell_argument (map (argument_tree (texts l.words)) (drop l.argument-index l.arguments))
-    ≡ texts_of l.initial.out.items ++ listed spell_argument (map (argument_tree (texts l.words)) l.arguments)
+    ≡ texts_of l.initial.out.items ++ with_commas spell_argument (map (argument_tree (texts l.words)) l.arguments)

@@ -1,6 +1,6 @@
 use Rattle.std.proofs.Common.{◌∷◌, [], ap, sym, ◌∙◌}
 use Rattle.vcd_read.specs.Bytes.{left}
-use Rattle.vcd_read.specs.Timescale.{count_of, span_of, spanned, unit_of}
+use Rattle.vcd_read.specs.Timescale.{count_of, span_of, span_of_parts, unit_of}
 use Rattle.vcd_read.proofs.WordLemmas.{more_come}
 use Rattle.vcd_read.proofs.timescale.read_span.Goals as goal
 
@@ -19,6 +19,6 @@ returns-clause-span g c = (
       c.in_ok-first.ensures.word c.in_ok-second.ensures.word,
   (
     (c.in_ok-first.ensures.inner, (c.in_ok-second.ensures.inner, tt)),
-    sym (c.spanned.ensures ∙ (λ i. spanned (count_of (c.deref-2.ensures.value i)) (unit_of (c.deref-3.ensures.value i)))),
+    sym (c.span_of_parts.ensures ∙ (λ i. span_of_parts (count_of (c.deref-2.ensures.value i)) (unit_of (c.deref-3.ensures.value i)))),
   ),
 )

@@ -1,5 +1,5 @@
 use Rattle.std.proofs.Common.{◌≡◌, true, Some, refl, arith}
-use Rattle.vast.specs.NumberedWords.{numbered}
+use Rattle.vast.specs.NumberedWords.{word_of}
 use Rattle.vexpr_parse.specs.Texts.{words_of}
 use Rattle.vmodules.specs.Names.{is_declared, again_behind}
 use Rattle.vmodules.proofs.ListLemmas.{handed_on, word_names, word_new, word_again, words_all, none_again}
@@ -12,9 +12,9 @@ pub loop-one-preserved : goal.loop-one-preserved
 loop-one-preserved c =
     let words = words_of c.args.tokens.now in
     record {
-      names = word_names c.args.list.now c.loop-one.one-index c.one-item.result c.loop-one-test.true c.one-item.is (texts_of words) (λ y. numbered words y.name) (λ y ys. refl)
+      names = word_names c.args.list.now c.loop-one.one-index c.one-item.result c.loop-one-test.true c.one-item.is (texts_of words) (λ y. word_of words y.name) (λ y ys. refl)
           c.loop-one.into c.letters.result.now c.letters.ensures c.note.new.names _ c.in_ok-note.ensures.added c.loop-one.invariant.names;
-      again = word_new c.args.list.now c.loop-one.one-index c.one-item.result c.loop-one-test.true c.one-item.is (texts_of words) (λ y. numbered words y.name) (λ y ys. refl)
+      again = word_new c.args.list.now c.loop-one.one-index c.one-item.result c.loop-one-test.true c.one-item.is (texts_of words) (λ y. word_of words y.name) (λ y ys. refl)
           c.loop-one.into c.letters.result.now c.letters.ensures c.note.new.names _ c.in_ok-note.ensures.added c.in_ok-note.ensures.fresh c.loop-one.invariant.again;
     }
 
@@ -24,7 +24,7 @@ returns-in_err-note-clause-err c =
     handed_on (λ f. (is_declared c.loop-one.into c.letters.result.now ≡ true) × (f ≡ record { rule = Doubled; at = Some c.one-item.result.name.number })) (DoublesIn c.args.into.now (texts_of words c.args.list.now))
     c.from_residual.result c.in_err-note.field-0.0 c.from_residual.ensures.1
     (λ f there. told_by Doubled (again_behind c.args.into.now (texts_of words c.args.list.now)) c.one-item.result.name.number f
-    (word_again c.args.list.now c.loop-one.one-index c.one-item.result c.loop-one-test.true c.one-item.is (texts_of words) (λ y. numbered words y.name) (λ y ys. refl)
+    (word_again c.args.list.now c.loop-one.one-index c.one-item.result c.loop-one-test.true c.one-item.is (texts_of words) (λ y. word_of words y.name) (λ y ys. refl)
     c.loop-one.into c.letters.result.now c.letters.ensures _ c.one-item.result.name.number refl there.0 c.loop-one.invariant.again) there.1)
     c.in_err-note.ensures.err
 

@@ -1,6 +1,6 @@
 use Rattle.std.proofs.Common.{◌≡◌, ◌+◌, true, List, drop, sym, ap, subst, ◌∙◌}
 use Rattle.vast.specs.NumberedExpressions.{ExpressionTree, bit, part}
-use Rattle.vast.specs.NumberedWords.{numbered}
+use Rattle.vast.specs.NumberedWords.{word_of}
 use Rattle.vast.specs.NumberedTrees.{tree_of, trees_of}
 use Rattle.vast.specs.declared.expression.Expression.{Expression}
 use Rattle.vexpr_parse.specs.Texts.{words_of}
@@ -34,7 +34,7 @@ put_connected-returns-in_err-bit_target-in-Bit t c =
     let words = words_of c.args.tokens.now in
     let scope = c.args.scope.now in
     let old = c.args.into.now.items in
-    let letters = numbered words c.in-Bit.name in
+    let letters = word_of words c.in-Bit.name in
     let index = tree_of words c.deref.result.now in
     let is : bit letters index ≡ tree_of words c.args.value.now =
     (λ i. bit letters (tree_of words (c.deref.ensures i))) ∙ sym (ap (tree_of words) c.in-Bit.is) in
@@ -48,7 +48,7 @@ put_connected-returns-in_err-part_target-in-Part t c =
     let words = words_of c.args.tokens.now in
     let scope = c.args.scope.now in
     let old = c.args.into.now.items in
-    let letters = numbered words c.in-Part.name in
+    let letters = word_of words c.in-Part.name in
     let left = tree_of words c.deref-in-Part.result.now in
     let right = tree_of words c.deref-in-Part-2.result.now in
     let is : part letters left right ≡ tree_of words c.args.value.now =

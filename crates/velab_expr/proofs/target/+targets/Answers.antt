@@ -1,6 +1,6 @@
 use Rattle.std.proofs.Common.{◌≡◌, ◌+◌, List, drop, sym, ap, subst, ◌∙◌}
 use Rattle.vast.specs.NumberedStatements.{TargetTree, bit, part}
-use Rattle.vast.specs.NumberedWords.{numbered}
+use Rattle.vast.specs.NumberedWords.{word_of}
 use Rattle.vast.specs.NumberedTrees.{tree_of, target_tree, target_trees}
 use Rattle.vast.specs.declared.statement.Target.{Target}
 use Rattle.vexpr_parse.specs.Texts.{words_of}
@@ -35,7 +35,7 @@ put_target-returns-in_err-bit_target-in-Bit t c =
     let words = words_of c.args.tokens.now in
     let scope = c.args.scope.now in
     let old = c.args.into.now.items in
-    let letters = numbered words c.in-Bit.name in
+    let letters = word_of words c.in-Bit.name in
     let index = tree_of words c.deref.result.now in
     let is : bit letters index ≡ target_tree words c.args.target.now =
     (λ i. bit letters (tree_of words (c.deref.ensures i))) ∙ sym (ap (target_tree words) c.in-Bit.is) in
@@ -49,7 +49,7 @@ put_target-returns-in_err-part_target-in-Part t c =
     let words = words_of c.args.tokens.now in
     let scope = c.args.scope.now in
     let old = c.args.into.now.items in
-    let letters = numbered words c.in-Part.name in
+    let letters = word_of words c.in-Part.name in
     let left = tree_of words c.deref-in-Part.result.now in
     let right = tree_of words c.deref-in-Part-2.result.now in
     let is : part letters left right ≡ target_tree words c.args.target.now =

@@ -1,6 +1,6 @@
 use Rattle.std.proofs.Common.{◌≡◌, ◌++◌, List, Result, Ok, map, sym, ap, subst, ◌∙◌}
 use Rattle.vast.specs.NumberedTrees.{event_tree, further_term, statement_tree}
-use Rattle.vast.specs.NumberedWords.{numbered}
+use Rattle.vast.specs.NumberedWords.{word_of}
 use Rattle.vast.specs.declared.statement.Event.{Event}
 use Rattle.vast.specs.declared.statement.FurtherTerm.{FurtherTerm}
 use Rattle.vdesign.specs.declared.action.Term.{Term}
@@ -17,7 +17,7 @@ returns-in_ok-put_edge-in-Terms c =
     let words = words_of c.args.tokens.now in
     let scope = c.args.scope.now in
     let done = c.args.terms.now.items in
-    let front = lower_term scope (edge_of c.in-Terms.term.edge) (numbered words c.in-Terms.term.name) in
+    let front = lower_term scope (edge_of c.in-Terms.term.edge) (word_of words c.in-Terms.term.name) in
     subst (λ (answer : Result (List Term) ElabFault). Makes c.put_further.result c.put_further.new.terms.items answer)
     (goes_behind done front (lower_further scope (map (further_term words) c.deref.result.now)) c.put_edge.new.terms.items c.in_ok-put_edge-in-Terms.ensures
     ∙ ap (λ (l : List FurtherTerm). behind done (front >>= λ one. lower_further scope (map (further_term words) l) >>= λ others. Ok (one ++ others))) c.deref.ensures.value
@@ -29,7 +29,7 @@ returns-in_err-put_edge-in-Terms c =
     let words = words_of c.args.tokens.now in
     let scope = c.args.scope.now in
     let done = c.args.terms.now.items in
-    let front = lower_term scope (edge_of c.in-Terms.term.edge) (numbered words c.in-Terms.term.name) in
+    let front = lower_term scope (edge_of c.in-Terms.term.edge) (word_of words c.in-Terms.term.name) in
     let answer = behind done (lower_control scope (event_tree words c.args.event.now) (statement_tree words c.args.body.now)) in
     hands_on c.from_residual-in_err-put_edge-in-Terms.result c.in_err-put_edge-in-Terms.field-0.0 c.put_edge.new.terms.items answer c.from_residual-in_err-put_edge-in-Terms.ensures.1
     (still_refused (behind done front) answer

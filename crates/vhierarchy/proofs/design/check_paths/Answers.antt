@@ -1,7 +1,7 @@
 use Rattle.std.proofs.Common.{◌≡◌, List, Option, None, Some, false, OnOk, ap, subst, sym, ◌∙◌}
 use Rattle.basis.specs.Reasons.{Because, IfFault}
 use Rattle.basis.proofs.Results.{on_ok}
-use Rattle.vast.specs.NumberedWords.{Word, numbered}
+use Rattle.vast.specs.NumberedWords.{Word, word_of}
 use Rattle.vdesign.specs.Design.{Variable, Scope as Room}
 use Rattle.vmodules.specs.Names.{has_double}
 use Rattle.velab_expr.specs.declared.fault.Rule.TheVariants.{Doubled}
@@ -16,7 +16,7 @@ use Rattle.vhierarchy.proofs.design.check_paths.Goals as goal
 
 pub returns-in_err-variables-clause-err : goal.returns-in_err-variables-clause-err
 returns-in_err-variables-clause-err c words =
-    let top : Word = numbered words c.args.top in
+    let top : Word = word_of words c.args.top in
     let e = c.in_err-variables.field-0.0 in
     subst (λ (p : Part). IfFault c.from_residual.result (IsBroken (broken_paths top p))) c.part.view_is
     (handed_on _ c.from_residual.result e c.from_residual.ensures.1
@@ -25,7 +25,7 @@ returns-in_err-variables-clause-err c words =
 
 pub returns-in_err-scopes-clause-err : goal.returns-in_err-scopes-clause-err
 returns-in_err-scopes-clause-err c words =
-    let top : Word = numbered words c.args.top in
+    let top : Word = word_of words c.args.top in
     let e = c.in_err-scopes.field-0.0 in
     let variables : broken_if (has_double (variable_names c.part.inside.variables.items)) Doubled (Some top) ≡ None =
     ap (λ b. broken_if b Doubled (Some top)) (subst (λ (l : List Variable). has_double (variable_names l) ≡ false) c.deref.ensures.value c.in_ok-variables.ensures.once) in
@@ -37,7 +37,7 @@ returns-in_err-scopes-clause-err c words =
 
 pub returns-clause-right : goal.returns-clause-right
 returns-clause-right c words =
-    let top : Word = numbered words c.args.top in
+    let top : Word = word_of words c.args.top in
     let variables : broken_if (has_double (variable_names c.part.inside.variables.items)) Doubled (Some top) ≡ None =
     ap (λ b. broken_if b Doubled (Some top)) (subst (λ (l : List Variable). has_double (variable_names l) ≡ false) c.deref.ensures.value c.in_ok-variables.ensures.once) in
     let scopes : broken_if (has_double (scope_names c.part.inside.scopes.items)) Doubled (Some top) ≡ None =
@@ -54,7 +54,7 @@ returns-clause-right c words =
 
 pub returns-clause-err : goal.returns-clause-err
 returns-clause-err c words =
-    let top : Word = numbered words c.args.top in
+    let top : Word = word_of words c.args.top in
     let variables : broken_if (has_double (variable_names c.part.inside.variables.items)) Doubled (Some top) ≡ None =
     ap (λ b. broken_if b Doubled (Some top)) (subst (λ (l : List Variable). has_double (variable_names l) ≡ false) c.deref.ensures.value c.in_ok-variables.ensures.once) in
     let scopes : broken_if (has_double (scope_names c.part.inside.scopes.items)) Doubled (Some top) ≡ None =

@@ -3,7 +3,7 @@ use Rattle.vast.specs.Words.{Text}
 use Rattle.vast.specs.NumberedModules.{ModuleTree}
 use Rattle.vast.specs.NumberedTrees.{module_tree}
 use Rattle.vmodules.specs.Inner.{units_tree}
-use Rattle.vhierarchy.specs.Instances.{as_design, checked, nothing}
+use Rattle.vhierarchy.specs.Instances.{as_design, check, nothing}
 use Rattle.vhierarchy.proofs.StepLemmas.{hands_over, same_given}
 use Rattle.vhierarchy.proofs.DesignLemmas.{top_wrong, top_sound}
 use Rattle.vhierarchy.proofs.design.design_of.Goals as goal
@@ -18,6 +18,6 @@ pub returns : goal.returns
 returns c =
     let m : ModuleTree = module_tree c.args.modules.now.words c.args.unit.now in
     same_given c.checked_design.result _ _
-    (ap (λ (words : List Text). as_design c.args.scale (checked (module_tree words c.args.unit.now) c.in_ok-part.part)) c.tokens.ensures
+    (ap (λ (words : List Text). as_design c.args.scale (check (module_tree words c.args.unit.now) c.in_ok-part.part)) c.tokens.ensures
     ∙ sym (top_sound c.args.scale m c.in_ok-part.part (units_tree c.args.modules.now) c.in_ok-part.ensures))
     c.checked_design.ensures

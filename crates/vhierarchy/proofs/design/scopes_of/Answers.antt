@@ -1,5 +1,5 @@
 use Rattle.std.proofs.Common.{◌≡◌, true, Some, ap, sym, ◌∙◌, arith}
-use Rattle.vast.specs.NumberedWords.{numbered}
+use Rattle.vast.specs.NumberedWords.{word_of}
 use Rattle.vmodules.specs.Names.{has_double, is_declared}
 use Rattle.vmodules.proofs.ListLemmas.{handed_on}
 use Rattle.velab_expr.specs.Rules.{broken_if, IsBroken}
@@ -13,8 +13,8 @@ pub returns-in_err-note-clause-err : goal.returns-in_err-note-clause-err
 returns-in_err-note-clause-err c words =
     let named = c.deref.ensures.value ∙ ap (λ (one : Room). one.path) c.scope.view_is in
     handed_on (λ f. (is_declared c.loop-scope.names c.deref.result.now ≡ true) × (f ≡ record { rule = Doubled; at = Some c.args.top.number }))
-    (IsBroken (broken_if (has_double (scope_names c.args.scopes.now)) Doubled (Some (numbered words c.args.top)))) c.from_residual.result c.in_err-note.field-0.0 c.from_residual.ensures.1
-    (λ f there. ap (λ b. broken_if b Doubled (Some (numbered words c.args.top)))
+    (IsBroken (broken_if (has_double (scope_names c.args.scopes.now)) Doubled (Some (word_of words c.args.top)))) c.from_residual.result c.in_err-note.field-0.0 c.from_residual.ensures.1
+    (λ f there. ap (λ b. broken_if b Doubled (Some (word_of words c.args.top)))
     (scopes_again c.args.scopes.now c.loop-scope.scope-index c.scope-item.result c.loop-scope.names _ (omega arith) c.scope-item.is c.loop-scope.invariant
     (ap (is_declared c.loop-scope.names) (sym named) ∙ there.0))
     ∙ ap Some (sym there.1))

@@ -26,5 +26,5 @@ returns-in_ok-at-in-None c =
     let tree : SourceTree = units_tree c.args.modules.now in
     let top : Option Text = named_text c.args.top in
     let is_top : top_of tree top ≡ None = sym c.in_ok-unit.ensures ∙ ap (unit_tree c.args.modules.now.words) c.in-None.is in
-    subst (λ (e : OrMemory ElabFault). Refuses e (as_design c.args.scale (top_whole tree top))) (sym c.refused.ensures)
+    subst (λ (e : OrMemory ElabFault). Refuses e (as_design c.args.scale (top_whole tree top))) (sym c.refusal.ensures)
     (top_missing tree top c.args.scale is_top ∙ ap (λ at. Err (record { rule = Top; at = at })) (sym c.in_ok-at-in-None.ensures))

@@ -2,7 +2,7 @@ use Rattle.std.proofs.Common.{◌≡◌, true, map, arith}
 use Rattle.vast.specs.NumberedModules.{by_order}
 use Rattle.vast.specs.NumberedTrees.{tree_of}
 use Rattle.vmodules.specs.Names.{is_declared}
-use Rattle.vast.specs.NumberedWords.{numbered}
+use Rattle.vast.specs.NumberedWords.{word_of}
 use Rattle.vmodules.specs.Connected.{by_places, misfit}
 use Rattle.vmodules.specs.Inner.{entry_names, IsTold}
 use Rattle.vmodules.proofs.ConnectLemmas.{not_before, order_step, order_done, names_step}
@@ -12,7 +12,7 @@ use Rattle.vmodules.proofs.connect.by_order.Goals as goal
 pub returns-in_err-add-clause-err : goal.returns-in_err-add-clause-err
 returns-in_err-add-clause-err c words =
     handed_on (λ f. (is_declared (entry_names c.loop-place.connected) c.name.result.now ≡ true) × (f.at ≡ c.args.whose.number))
-    (λ f. IsTold (misfit (numbered words c.args.whose) c.args.names.now (by_order (map (tree_of words) c.args.values.now))) f.at)
+    (λ f. IsTold (misfit (word_of words c.args.whose) c.args.names.now (by_order (map (tree_of words) c.args.values.now))) f.at)
     c.from_residual.result c.in_err-add.field-0.0 c.from_residual.ensures.1
     (λ f there. absurd (not_before c.args.names.now (entry_names c.loop-place.connected) c.loop-place.place c.name.result.now c.len.ensures.unique c.name.ensures c.loop-place.invariant.names there.0))
     c.in_err-add.ensures.err

@@ -1,5 +1,5 @@
 use Rattle.std.proofs.Common.{◌≡◌, ℕ, List, get_or, true, refl, arith}
-use Rattle.vast.specs.NumberedWords.{numbered}
+use Rattle.vast.specs.NumberedWords.{word_of}
 use Rattle.vast.specs.declared.token.Token.{Token}
 use Rattle.vexpr_parse.specs.Texts.{words_of}
 use Rattle.vmodules.specs.Names.{is_declared, first_again}
@@ -14,19 +14,19 @@ pub loop-token-preserved : goal.loop-token-preserved
 loop-token-preserved c =
     let words = words_of c.args.tokens.now in
     record {
-      names = word_names c.args.list.now c.loop-token.token-index (token_at c.args.list.now c.loop-token.token-index) c.loop-token-test.true (within_same c.args.list.now c.loop-token.token-index _ _ c.loop-token-test.true) (words_told words) (numbered words) (λ y ys. refl)
-          c.loop-token.names (numbered words (token_at c.args.list.now c.loop-token.token-index)).letters refl c.add_token.new.into _ c.in_ok-add_token.ensures.added c.loop-token.invariant.names;
-      again = word_new c.args.list.now c.loop-token.token-index (token_at c.args.list.now c.loop-token.token-index) c.loop-token-test.true (within_same c.args.list.now c.loop-token.token-index _ _ c.loop-token-test.true) (words_told words) (numbered words) (λ y ys. refl)
-          c.loop-token.names (numbered words (token_at c.args.list.now c.loop-token.token-index)).letters refl c.add_token.new.into _ c.in_ok-add_token.ensures.added c.in_ok-add_token.ensures.fresh c.loop-token.invariant.again;
+      names = word_names c.args.list.now c.loop-token.token-index (token_at c.args.list.now c.loop-token.token-index) c.loop-token-test.true (within_same c.args.list.now c.loop-token.token-index _ _ c.loop-token-test.true) (words_told words) (word_of words) (λ y ys. refl)
+          c.loop-token.names (word_of words (token_at c.args.list.now c.loop-token.token-index)).letters refl c.add_token.new.into _ c.in_ok-add_token.ensures.added c.loop-token.invariant.names;
+      again = word_new c.args.list.now c.loop-token.token-index (token_at c.args.list.now c.loop-token.token-index) c.loop-token-test.true (within_same c.args.list.now c.loop-token.token-index _ _ c.loop-token-test.true) (words_told words) (word_of words) (λ y ys. refl)
+          c.loop-token.names (word_of words (token_at c.args.list.now c.loop-token.token-index)).letters refl c.add_token.new.into _ c.in_ok-add_token.ensures.added c.in_ok-add_token.ensures.fresh c.loop-token.invariant.again;
     }
 
 pub returns-in_err-add_token-clause-err : goal.returns-in_err-add_token-clause-err
 returns-in_err-add_token-clause-err c =
     let words = words_of c.args.tokens.now in
-    handed_on (λ f. (is_declared c.loop-token.names (numbered words (token_at c.args.list.now c.loop-token.token-index)).letters ≡ true) × (f.at ≡ (token_at c.args.list.now c.loop-token.token-index).number)) (λ f. IsTold (first_again (words_told words c.args.list.now)) f.at)
+    handed_on (λ f. (is_declared c.loop-token.names (word_of words (token_at c.args.list.now c.loop-token.token-index)).letters ≡ true) × (f.at ≡ (token_at c.args.list.now c.loop-token.token-index).number)) (λ f. IsTold (first_again (words_told words c.args.list.now)) f.at)
     c.from_residual.result c.in_err-add_token.field-0.0 c.from_residual.ensures.1
-    (λ f there. word_again c.args.list.now c.loop-token.token-index (token_at c.args.list.now c.loop-token.token-index) c.loop-token-test.true (within_same c.args.list.now c.loop-token.token-index _ _ c.loop-token-test.true) (words_told words) (numbered words) (λ y ys. refl)
-    c.loop-token.names (numbered words (token_at c.args.list.now c.loop-token.token-index)).letters refl _ f.at there.1 there.0 c.loop-token.invariant.again)
+    (λ f there. word_again c.args.list.now c.loop-token.token-index (token_at c.args.list.now c.loop-token.token-index) c.loop-token-test.true (within_same c.args.list.now c.loop-token.token-index _ _ c.loop-token-test.true) (words_told words) (word_of words) (λ y ys. refl)
+    c.loop-token.names (word_of words (token_at c.args.list.now c.loop-token.token-index)).letters refl _ f.at there.1 there.0 c.loop-token.invariant.again)
     c.in_err-add_token.ensures.err
 
 pub returns-clause-ok : goal.returns-clause-ok

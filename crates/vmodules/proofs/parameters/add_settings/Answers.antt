@@ -1,5 +1,5 @@
 use Rattle.std.proofs.Common.{◌≡◌, true, refl, arith}
-use Rattle.vast.specs.NumberedWords.{numbered}
+use Rattle.vast.specs.NumberedWords.{word_of}
 use Rattle.vexpr_parse.specs.Texts.{words_of}
 use Rattle.vmodules.specs.Names.{is_declared, again_behind}
 use Rattle.vmodules.specs.Inner.{setting_names, IsTold}
@@ -10,9 +10,9 @@ pub loop-setting-preserved : goal.loop-setting-preserved
 loop-setting-preserved c =
     let words = words_of c.args.tokens.now in
     record {
-      names = word_names c.args.settings.now c.loop-setting.setting-index c.setting-item.result c.loop-setting-test.true c.setting-item.is (setting_names words) (λ y. numbered words y.name) (λ y ys. refl)
+      names = word_names c.args.settings.now c.loop-setting.setting-index c.setting-item.result c.loop-setting-test.true c.setting-item.is (setting_names words) (λ y. word_of words y.name) (λ y ys. refl)
           c.loop-setting.into c.letters.result.now c.letters.ensures c.add_new.new.self _ c.in_ok-add_new.ensures.added c.loop-setting.invariant.names;
-      again = word_new c.args.settings.now c.loop-setting.setting-index c.setting-item.result c.loop-setting-test.true c.setting-item.is (setting_names words) (λ y. numbered words y.name) (λ y ys. refl)
+      again = word_new c.args.settings.now c.loop-setting.setting-index c.setting-item.result c.loop-setting-test.true c.setting-item.is (setting_names words) (λ y. word_of words y.name) (λ y ys. refl)
           c.loop-setting.into c.letters.result.now c.letters.ensures c.add_new.new.self _ c.in_ok-add_new.ensures.added c.in_ok-add_new.ensures.fresh c.loop-setting.invariant.again;
     }
 
@@ -21,7 +21,7 @@ returns-in_err-add_new-clause-err c =
     let words = words_of c.args.tokens.now in
     handed_on (λ f. (is_declared c.loop-setting.into c.letters.result.now ≡ true) × (f.at ≡ c.setting-item.result.name.number)) (λ f. IsTold (again_behind c.args.into.now (setting_names words c.args.settings.now)) f.at)
     c.from_residual.result c.in_err-add_new.field-0.0 c.from_residual.ensures.1
-    (λ f there. word_again c.args.settings.now c.loop-setting.setting-index c.setting-item.result c.loop-setting-test.true c.setting-item.is (setting_names words) (λ y. numbered words y.name) (λ y ys. refl)
+    (λ f there. word_again c.args.settings.now c.loop-setting.setting-index c.setting-item.result c.loop-setting-test.true c.setting-item.is (setting_names words) (λ y. word_of words y.name) (λ y ys. refl)
     c.loop-setting.into c.letters.result.now c.letters.ensures _ f.at there.1 there.0 c.loop-setting.invariant.again)
     c.in_err-add_new.ensures.err
 

@@ -8,7 +8,7 @@ use Rattle.vexpr_parse.specs.Readers.{and_then}
 use Rattle.vexpr_parse.specs.Texts.{words_of}
 use Rattle.vexpr_parse.proofs.Complete.{past_word}
 use Rattle.vexpr_parse.proofs.Kept.{kept_behind}
-use Rattle.vgrammar.specs.Statements.{named}
+use Rattle.vgrammar.specs.Statements.{name_word}
 use Rattle.vstatement_parse.specs.Gives.{Answered}
 use Rattle.vparse.specs.ModuleGives.{all_leaves, module_headed, module_named, module_at}
 use Rattle.vparse.proofs.ModuleForms.{module_is}
@@ -22,7 +22,7 @@ returns-clause-gives g c =
     subst (λ a. Answered (tree_of_module words) a (left c.module_after_parameters.new.cursor) c.module_after_parameters.result)
     (sym (module_is (left c.args.cursor.now)
     ∙ ap module_at c.in_ok-symbol.ensures.passes
-    ∙ past_word (codes "module") (λ ws. and_then (named ws) module_named) (left c.symbol.new.self)
+    ∙ past_word (codes "module") (λ ws. and_then (name_word ws) module_named) (left c.symbol.new.self)
     ∙ ap (λ a. and_then a module_named) c.in_ok-name.ensures.gives
     ∙ ap (λ a. and_then a (module_headed (token_text words c.in_ok-name.name))) c.in_ok-parameters.ensures.gives))
     c.module_after_parameters.ensures.gives

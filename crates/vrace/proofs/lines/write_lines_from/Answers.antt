@@ -16,10 +16,10 @@ pub returns-clause-ok : goal.returns-clause-ok
 returns-clause-ok g c =
     let setting = c.args.machine.now in
     let old = c.args.byte_sink.now in
-    let taken = subst (λ new. g.O.ByteSink.takes old c.args.front.text new) (sym c.resumed-sink.ensures.unwritten)
+    let taken = subst (λ new. g.O.ByteSink.takes old c.args.front.text new) (sym c.resume-sink.ensures.unwritten)
     (subst (λ (text : List ℕ). g.O.ByteSink.takes old text c.put.new.byte_sink) c.text-2.ensures c.in_ok-put.ensures.ok) in
-    let front = resumed_front g.O.ByteSink.takes g.O.ByteSink.fails g.met.O.ByteSink.lawful setting c.args.steps c.args.front c.requires.front c.resumed-sink.result old
-    (c.resumed-sink.ensures.design ∙ c.design.ensures) c.resumed-sink.ensures.in_force taken in
+    let front = resumed_front g.O.ByteSink.takes g.O.ByteSink.fails g.met.O.ByteSink.lawful setting c.args.steps c.args.front c.requires.front c.resume-sink.result old
+    (c.resume-sink.ensures.design ∙ c.design.ensures) c.resume-sink.ensures.in_force taken in
     let same = c.fill_on-result.ensures.same _ front in
     subst (λ new. OnOk c.fill_on-result.result (TakesLines g.O.ByteSink.takes setting c.args.front.run.log.now c.args.steps old new)) (search (rules, same))
     (c.fill_on-result.ensures.ok _ front)
@@ -28,10 +28,10 @@ pub returns-clause-err : goal.returns-clause-err
 returns-clause-err g c =
     let setting = c.args.machine.now in
     let old = c.args.byte_sink.now in
-    let taken = subst (λ new. g.O.ByteSink.takes old c.args.front.text new) (sym c.resumed-sink.ensures.unwritten)
+    let taken = subst (λ new. g.O.ByteSink.takes old c.args.front.text new) (sym c.resume-sink.ensures.unwritten)
     (subst (λ (text : List ℕ). g.O.ByteSink.takes old text c.put.new.byte_sink) c.text-2.ensures c.in_ok-put.ensures.ok) in
-    let front = resumed_front g.O.ByteSink.takes g.O.ByteSink.fails g.met.O.ByteSink.lawful setting c.args.steps c.args.front c.requires.front c.resumed-sink.result old
-    (c.resumed-sink.ensures.design ∙ c.design.ensures) c.resumed-sink.ensures.in_force taken in
+    let front = resumed_front g.O.ByteSink.takes g.O.ByteSink.fails g.met.O.ByteSink.lawful setting c.args.steps c.args.front c.requires.front c.resume-sink.result old
+    (c.resume-sink.ensures.design ∙ c.design.ensures) c.resume-sink.ensures.in_force taken in
     let same = c.fill_on-result.ensures.same _ front in
     subst (λ new. IfErr c.fill_on-result.result (λ fault. StopsLines g.O.ByteSink.takes g.O.ByteSink.fails setting c.args.front.run.log.now c.args.steps old fault new)) (search (rules, same))
     (c.fill_on-result.ensures.err _ front)

@@ -3,7 +3,7 @@ use Rattle.vexpr_parse.specs.Answers.{ahead, leaves_ahead}
 use Rattle.std.proofs.Common.{codes, sym, ◌∙◌, ◌++◌, ◌∷◌, []}
 use Rattle.vast.specs.TokenTexts.{token_text}
 use Rattle.vexpr_parse.specs.Readers.{past, is_front}
-use Rattle.vgrammar.specs.Statements.{named}
+use Rattle.vgrammar.specs.Statements.{name_word}
 use Rattle.vgrammar.proofs.ManyTurns.{pushed}
 use Rattle.vstatement_parse.proofs.StatementTurns.{name_eats}
 use Rattle.vstatement_parse.proofs.KeptLists.{name_next}
@@ -21,7 +21,7 @@ names-preserved c =
     let left = ahead c.args.tokens.now in
     record {
       read =
-          pushed (token_text words) (is_front (codes ".")) (past (codes ".") named) name_eats (left c.names.cursor)
+          pushed (token_text words) (is_front (codes ".")) (past (codes ".") name_word) name_eats (left c.names.cursor)
           (sym c.begins.ensures.front ∙ c.names-test.true) c.names.names.items c.push-in-names.new.self.items c.in_ok-name.name
           (left c.further_name.new.cursor) _ c.in_ok-push-2.ensures.items c.in_ok-name.ensures.gives c.names.invariant.read;
       kept =

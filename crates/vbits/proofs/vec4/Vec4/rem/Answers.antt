@@ -25,10 +25,10 @@ returns-then-divisor-eq0 c =
 
 pub returns : goal.returns
 returns c =
-    let digits = rw (c.sign_bit-left_sign.ensures, c.magnitude.ensures, c.magnitude-divisor.ensures) at c.wrapped.ensures.digits in
+    let digits = rw (c.sign_bit-left_sign.ensures, c.magnitude.ensures, c.magnitude-divisor.ensures) at c.wrap.ensures.digits in
     rem-view _ _ _ _ _ _ _ _ _ _
     (record { left = c.self.invariant; right = c.other.invariant; left_is = c.self.view_is; right_is = c.other.view_is; same_length = c.requires })
     c.if-self-other-ne0.false
     (λ e. c.if-divisor-eq0.false (c.magnitude-divisor.ensures ∙ e))
-    c.wrapped.result
+    c.wrap.result
     digits

@@ -9,10 +9,10 @@ returns-then-len-self c =
 pub invariant_of-result-2 : goal.invariant_of-result-2
 invariant_of-result-2 c =
     let longer : c.self.inside.len ≤ c.args.len = omega arith in
-    rw (c.extended.ensures, c.extended-2.ensures) (extend-planes _ _ _ c.args.len _ _ c.self.invariant longer c.requires.few)
+    rw (c.extend.ensures, c.extend-2.ensures) (extend-planes _ _ _ c.args.len _ _ c.self.invariant longer c.requires.few)
 
 pub returns : goal.returns
 returns c =
     let longer : c.self.inside.len ≤ c.args.len = omega arith in
-    rw (c.extended.ensures, c.extended-2.ensures, c.sign_bit-value_top.ensures, c.sign_bit-unknown_top.ensures)
+    rw (c.extend.ensures, c.extend-2.ensures, c.sign_bit-value_top.ensures, c.sign_bit-unknown_top.ensures)
     (extend-view _ _ _ c.args.len _ _ c.self.invariant c.self.view_is longer)

@@ -14,32 +14,32 @@ returns-in_default c =
 pub returns-then-places-self : goal.returns-then-places-self
 returns-then-places-self c =
     let amount : number c.args.amount.letters ≡ Some c.in-Some.places = sym c.to_u64.ensures ∙ c.in-Some.is in
-    rw (← c.self.view_is, amount, c.filled.ensures, c.filled-then-places-self.ensures)
+    rw (← c.self.view_is, amount, c.fill.ensures, c.fill-then-places-self.ensures)
     (λ i. record {
       letters = shr-past-bits c.self.inside.len c.self.inside.value c.self.inside.unknown c.in-Some.places _ _ c.requires.value_bit c.requires.unknown_bit c.if-places-self.true i;
       signed = c.self.inside.signed;
     })
 
-pub extended-requires-clause-within : goal.extended-requires-clause-within
-extended-requires-clause-within c =
+pub extend-requires-clause-within : goal.extend-requires-clause-within
+extend-requires-clause-within c =
     let within : c.in-Some.places ≤ c.self.inside.len = omega arith in
     shr_below_places _ _ _ c.self.invariant.value_within within
 
-pub extended-requires-2-clause-within : goal.extended-requires-2-clause-within
-extended-requires-2-clause-within c =
+pub extend-requires-2-clause-within : goal.extend-requires-2-clause-within
+extend-requires-2-clause-within c =
     let within : c.in-Some.places ≤ c.self.inside.len = omega arith in
     shr_below_places _ _ _ c.self.invariant.unknown_within within
 
 pub invariant_of-result-2 : goal.invariant_of-result-2
 invariant_of-result-2 c =
-    rw (c.extended.ensures, c.extended-2.ensures)
+    rw (c.extend.ensures, c.extend-2.ensures)
     (shr-planes _ _ _ c.in-Some.places _ _ c.self.invariant c.if-places-self.false)
 
 pub returns : goal.returns
 returns c =
     let amount : number c.args.amount.letters ≡ Some c.in-Some.places = sym c.to_u64.ensures ∙ c.in-Some.is in
     let within : c.in-Some.places ≤ c.self.inside.len = omega arith in
-    rw (← c.self.view_is, amount, c.extended.ensures, c.extended-2.ensures)
+    rw (← c.self.view_is, amount, c.extend.ensures, c.extend-2.ensures)
     (λ i. record {
       letters = shr-within-bits c.self.inside.len c.self.inside.value c.self.inside.unknown c.in-Some.places _ _ c.requires.value_bit c.requires.unknown_bit c.self.invariant within i;
       signed = c.self.inside.signed;

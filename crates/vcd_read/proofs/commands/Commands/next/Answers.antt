@@ -28,8 +28,8 @@ returns-in-Some-clause-item g c =
     let word : Text = c.deref.result.now in (
       list ++ word ∷ more,
       words_come list more c.next.new.self.word.items word first old next new come (c.in_ok-next.ensures.word c.if-not-branch.false)
-          (c.deref.ensures.value ∙ c.taken-word.ensures.word)
-          (subst (λ b. Come more (left g.R.Read.remaining b) new) c.taken-word.ensures.bytes coming),
+          (c.deref.ensures.value ∙ c.take_word-word.ensures.word)
+          (subst (λ b. Come more (left g.R.Read.remaining b) new) c.take_word-word.ensures.bytes coming),
       tell_then list (word ∷ more) c.args.self.now.inside c.commands.self.inside c.command.new.self.inside [] (items_of (Some c.in-Some.item)) tell
           (subst (λ (told : Option _). Tell (word ∷ more) c.commands.self.inside c.command.new.self.inside (items_of told)) c.in-Some.is telling),
     )
@@ -45,12 +45,12 @@ commands-preserved g c =
     let word : Text = c.deref.result.now in
     record {
       ready = c.command.ensures.ready;
-      budget = omega (arith, c.commands.invariant.budget, c.in_ok-next.ensures.budget c.if-not-branch.false, ap (λ b. b.budget) c.taken-word.ensures.bytes, c.in_ok-item.ensures.budget);
+      budget = omega (arith, c.commands.invariant.budget, c.in_ok-next.ensures.budget c.if-not-branch.false, ap (λ b. b.budget) c.take_word-word.ensures.bytes, c.in_ok-item.ensures.budget);
       come = (
         list ++ word ∷ more,
         words_come list more c.next.new.self.word.items word first old next new come (c.in_ok-next.ensures.word c.if-not-branch.false)
-            (c.deref.ensures.value ∙ c.taken-word.ensures.word)
-            (subst (λ b. Come more (left g.R.Read.remaining b) new) c.taken-word.ensures.bytes coming),
+            (c.deref.ensures.value ∙ c.take_word-word.ensures.word)
+            (subst (λ b. Come more (left g.R.Read.remaining b) new) c.take_word-word.ensures.bytes coming),
         tell_then list (word ∷ more) c.args.self.now.inside c.commands.self.inside c.command.new.self.inside [] [] tell
             (subst (λ (told : Option _). Tell (word ∷ more) c.commands.self.inside c.command.new.self.inside (items_of told)) c.in_default.is telling),
       );

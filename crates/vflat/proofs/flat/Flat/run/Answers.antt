@@ -1,7 +1,7 @@
 use Rattle.std.proofs.Common.{sym, ap, ◌∙◌}
 use Rattle.vmodel.specs.Step.{environment_of}
 use Rattle.vflat.specs.Flat.{Flat, held_by}
-use Rattle.vflat.specs.InnerFlat.{finished}
+use Rattle.vflat.specs.InnerFlat.{finish}
 use Rattle.vflat.proofs.FlatLemmas.{ran_flat}
 use Rattle.vflat.proofs.flat.Flat.run.Goals as goal
 
@@ -14,5 +14,5 @@ returns-clause-ok c =
     (c.held_by-held.ensures ∙ ap (λ held. held_by held c.args.process) c.deref.ensures.value ∙ ap (λ (f : Flat). held_by f.held c.args.process) c.self.view_is)
     (c.environment-environment.ensures ∙ ap (λ (f : Flat). environment_of c.args.design.now f.rest) c.self.view_is)
     c.in_ok-course.ensures c.turns_left-left.ensures
-    ∙ ap (finished c.args.code.now effect) (sym c.in_ok-place.ensures.ok)
+    ∙ ap (finish c.args.code.now effect) (sym c.in_ok-place.ensures.ok)
     ∙ sym c.finish.ensures

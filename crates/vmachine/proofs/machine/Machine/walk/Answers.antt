@@ -118,8 +118,8 @@ returns-in-Err-clause-left g c = λ first start.
     hands_there g.S.HistorySink.takes c.args.self.now c.walk.run.state now c.rest.result.now c.walk.sink c.hand.new.sink c.walk.run.pending c.hand.new.pending c.walk.invariant.0.stands c.rest.ensures c.in_ok-hand.ensures.ok in
     let after = taken_on g.S.HistorySink.takes g.met.S.HistorySink.joins (is_mark now) first c.walk.sink c.hand.new.sink given.handed (waiting c.walk.run)
     (waiting_in c.hand.new.pending (rest_in c.walk.run.state)) given.taken on in
-    subst (λ l. LeavesSink g.S.HistorySink.takes g.S.HistorySink.fails setting l c.args.steps first c.refused.result c.hand.new.sink) c.walk.invariant.1
-    (subst (λ (e : OrMemory (RunFault _)). LeavesSink g.S.HistorySink.takes g.S.HistorySink.fails setting log c.args.steps first e c.hand.new.sink) (sym c.refused.ensures)
+    subst (λ l. LeavesSink g.S.HistorySink.takes g.S.HistorySink.fails setting l c.args.steps first c.replay_refusal.result c.hand.new.sink) c.walk.invariant.1
+    (subst (λ (e : OrMemory (RunFault _)). LeavesSink g.S.HistorySink.takes g.S.HistorySink.fails setting log c.args.steps first e c.hand.new.sink) (sym c.replay_refusal.ensures)
     (handed_first g.S.HistorySink.takes setting log c.walk.run.rest.now c.args.steps c.walk.run.n now first c.hand.new.sink after.handed (waiting_in c.hand.new.pending (rest_in c.walk.run.state)) here after.taken (after.is ∙ given.is)))
 
 pub returns-in_err-step_into-clause-left : goal.returns-in_err-step_into-clause-left

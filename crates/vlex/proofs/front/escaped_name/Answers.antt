@@ -2,7 +2,7 @@ use Rattle.std.proofs.Common.{◌≡◌, sym, ◌∙◌}
 use Rattle.vlex.specs.declared.bytes.Lead.TheVariants as lead
 use Rattle.vlex.proofs.Pieces.{not_open}
 use Rattle.vlex.proofs.Words.{backslash_alone, dotted_escape, escaped_name}
-use Rattle.vlex.proofs.front.escaped.Goals as goal
+use Rattle.vlex.proofs.front.escaped_name.Goals as goal
 
 pub returns-then-len-eq0 : goal.returns-then-len-eq0
 returns-then-len-eq0 c = (

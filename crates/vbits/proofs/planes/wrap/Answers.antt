@@ -1,6 +1,6 @@
 use Rattle.std.proofs.Common.{true, false}
 use Rattle.vbits.proofs.Integers.{signed-letters, whole_word}
-use Rattle.vbits.proofs.planes.wrapped.Goals as goal
+use Rattle.vbits.proofs.planes.wrap.Goals as goal
 
 pub returns-then-negative-clause-digits : goal.returns-then-negative-clause-digits
 returns-then-negative-clause-digits c =

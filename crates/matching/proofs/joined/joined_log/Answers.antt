@@ -1,10 +1,10 @@
 use Rattle.std.proofs.Common.{◌≡◌, ℕ, ◌+◌, ◌≤◌, List, [], ◌∷◌, ◌++◌, Option, IfSome, IfNone, ap, sym, ◌∙◌, subst}
 use Rattle.basis.proofs.Bools.{clash}
 use Rattle.sched_core.specs.Logs.{IsLog}
-use Rattle.matching.specs.Inner.Slots.{shifted}
+use Rattle.matching.specs.Inner.Slots.{log_later}
 use Rattle.matching.proofs.Cuts.{is_beyond, is_beyond_all}
-use Rattle.matching.proofs.joined.joined.Goals as goal
-use Rattle.matching.proofs.joined.joined.Goals.{in_default-later-via-in-Some-later+else-takes, in_default-later-via-in_default-later}
+use Rattle.matching.proofs.joined.joined_log.Goals as goal
+use Rattle.matching.proofs.joined.joined_log.Goals.{in_default-later-via-in-Some-later+else-takes, in_default-later-via-in_default-later}
 
 pub returns-in_default-later-clause-none : goal.returns-in_default-later-clause-none
 returns-in_default-later-clause-none c =
@@ -12,7 +12,7 @@ returns-in_default-later-clause-none c =
     let put : List (ℕ × ℕ) = c.loop-member.joined in
     let m : ℕ × ℕ = c.in-Some.member.now in
     let after : List (ℕ × ℕ) = c.in-Some.after.now in
-    let whole : put ++ shifted n (m ∷ after) ≡ c.args.log.now ++ shifted n c.args.slot.now = ap (λ l. put ++ shifted n l)
+    let whole : put ++ log_later n (m ∷ after) ≡ c.args.log.now ++ log_later n c.args.slot.now = ap (λ l. put ++ log_later n l)
     (sym c.in-Some.ensures.cases.0) ∙ c.loop-member.invariant in
     elim c.in_default-later.branch [
       | in_default-later-via-in-Some-later+else-takes w ↦ is_beyond n c.args.log.now c.args.slot.now put after m whole

@@ -5,7 +5,7 @@ use Rattle.vmodules.specs.Names.{first_again, letters_of}
 use Rattle.vmodules.proofs.ListLemmas.{handed_on}
 use Rattle.velab_declaration.specs.Inner.{names_declared, DoublesIn}
 use Rattle.velab_declaration.proofs.VariableLemmas.{names_are}
-use Rattle.velab_declaration.proofs.declared.declared.Goals as goal
+use Rattle.velab_declaration.proofs.declared.names_declared.Goals as goal
 
 pub returns-in_err-names-clause-err : goal.returns-in_err-names-clause-err
 returns-in_err-names-clause-err c =

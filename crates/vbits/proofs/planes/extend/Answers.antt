@@ -1,6 +1,6 @@
 use Rattle.std.proofs.Common.{arith, ◌-◌}
 use Rattle.vbits.proofs.Parts.{ones_within, run-set, run-added}
-use Rattle.vbits.proofs.planes.extended.Goals as goal
+use Rattle.vbits.proofs.planes.extend.Goals as goal
 
 pub overflow_sub-result : goal.overflow_sub-result
 overflow_sub-result c =

@@ -4,7 +4,7 @@ use Rattle.vbits.specs.Vectors.{Vector, filled}
 use Rattle.vdesign.specs.Design.{Variable}
 use Rattle.velab_declaration.specs.DriveMarks.{marks_from}
 use Rattle.velab_declaration.proofs.DriveLemmas.{unmarked_step}
-use Rattle.velab_declaration.proofs.drives.unmarked.Goals as goal
+use Rattle.velab_declaration.proofs.drives.no_marks.Goals as goal
 
 pub loop-variable-preserved : goal.loop-variable-preserved
 loop-variable-preserved c =

@@ -1,6 +1,6 @@
 use Rattle.std.proofs.Common.{◌-◌, ◌+◌}
 use Rattle.vbits.proofs.Parts.{field_whole, part_whole, field_within, spliced-at, spliced_below}
-use Rattle.vbits.proofs.planes.spliced.Goals as goal
+use Rattle.vbits.proofs.planes.splice.Goals as goal
 
 pub overflow_sub-result : goal.overflow_sub-result
 overflow_sub-result c =

@@ -12,7 +12,7 @@ use Rattle.velab_expr.specs.Rules.{IsBroken}
 use Rattle.vhierarchy.specs.Instances.{as_design, broken_ports, top_whole}
 use Rattle.vhierarchy.proofs.StepLemmas.{hands_over, same_given}
 use Rattle.vhierarchy.proofs.DesignLemmas.{modules_doubled, ports_broken, ports_sound}
-use Rattle.vhierarchy.proofs.design.elaborated.Goals as goal
+use Rattle.vhierarchy.proofs.design.elaborate_design.Goals as goal
 
 pub returns-in_err-modules : goal.returns-in_err-modules
 returns-in_err-modules c =
