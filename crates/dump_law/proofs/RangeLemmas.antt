@@ -16,10 +16,10 @@ use Rattle.vast.specs.declared.module.NetKind.TheVariants as net
 use Rattle.vmodules.specs.Ports.{Port, type_in}
 use Rattle.velab_expr.specs.declared.fault.ElabFault.{ElabFault}
 use Rattle.velab_expr.specs.declared.fault.Rule.TheVariants.{Width}
-use Rattle.velab_expr.specs.Answers.{◌>>=◌, found}
+use Rattle.velab_expr.specs.Answers.{◌>>=◌, value_or_fault}
 use Rattle.velab_expr.specs.Constants.{is_negative, bound_in}
 use Rattle.velab_expr.specs.FirstWords.{first_in}
-use Rattle.velab_expr.specs.Ranges.{span, lower_bound, narrow, lower_range, lower_bounds}
+use Rattle.velab_expr.specs.Ranges.{span, lower_bound, check_range_size, lower_range, lower_bounds}
 use Rattle.velab_expr.specs.Resolved.{lower_value}
 use Rattle.velab_expr.specs.Scopes.{Scope}
 use Rattle.velab_expr.specs.Symbols.{behind_item}
@@ -48,7 +48,7 @@ positive_small false value n is = some_small value n is
 
 bound_small : (scope : Scope) (tree : text.ExpressionTree) (n : ℕ) → lower_bound scope tree ≡ Ok n → n ≤ 65535
 bound_small scope tree n is =
-    let value = then_ok (lower_value scope tree) (λ value. found (bound_in value) Width (first_in tree)) n is in
+    let value = then_ok (lower_value scope tree) (λ value. value_or_fault (bound_in value) Width (first_in tree)) n is in
     positive_small (is_negative value.0) (numbers.number value.0.letters) n (found_ok (bound_in value.0) Width (first_in tree) n value.2)
 
 -- where there is a range it has at most 64 bits, from one small bound to another
@@ -59,8 +59,8 @@ IsRanged (Some bounds) = (span bounds ≤ 64) × (bounds.left ≤ 65535) × (bou
 range_small : (scope : Scope) (range : RangeTree) (bounds : Bounds) → lower_range scope range ≡ Ok bounds → IsRanged (Some bounds)
 range_small scope range bounds is =
     let left = then_ok (lower_bound scope range.left)
-    (λ left. lower_bound scope range.right >>= λ right. narrow (first_in range.left) (record { left = left; right = right })) bounds is in
-    let right = then_ok (lower_bound scope range.right) (λ right. narrow (first_in range.left) (record { left = left.0; right = right })) bounds left.2 in
+    (λ left. lower_bound scope range.right >>= λ right. check_range_size (first_in range.left) (record { left = left; right = right })) bounds is in
+    let right = then_ok (lower_bound scope range.right) (λ right. check_range_size (first_in range.left) (record { left = left.0; right = right })) bounds left.2 in
     let both : Bounds = record { left = left.0; right = right.0 } in
     let whole = required_ok (nat_le (span both) 64) Width (first_in range.left) both bounds right.2 in
     let ranged : IsRanged (Some both) = (le_so (span both) 64 whole.0, bound_small scope range.left left.0 left.1, bound_small scope range.right right.0 right.1) in

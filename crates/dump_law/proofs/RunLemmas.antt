@@ -22,7 +22,7 @@ use Rattle.vmodel.specs.declared.choice.Choice.TheVariants.{Run, Update, Advance
 use Rattle.vmodel.specs.Queue.{Later, Queue, slot_with_sleeper, slot_with_update, later_at, later}
 use Rattle.vmodel.specs.State.{State}
 use Rattle.vmodel.specs.Choices.{choices}
-use Rattle.vmodel.specs.Step.{Transition, StepResult, environment_of, execute_at, place_of, goes_on, becomes_inactive, sleeps, reschedule, posts_after, posts, process_to_continue, with_strobe, regions, with_moves_by, with_woken, with_step, transition_with, action_transition, continuation_transition, continuation_of, held_of, without_update, with_update, with_advance, transition_of, transition_by, next, shown_items, idle_items, slot_end_by, slot_end_of, strobe_items, before_end, end_items, items_of}
+use Rattle.vmodel.specs.Step.{Transition, StepResult, environment_of, execute_at, place_of, with_next_step, becomes_inactive, with_delay, reschedule, posts_after, posts, process_to_continue, with_strobe, activate_next_region, with_moves_by, with_woken, with_step, transition_with, action_transition, continuation_transition, continuation_of, held_of, without_update, with_update, with_advance, transition_of, transition_by, next, shown_items, idle_items, slot_end_by, slot_end_of, strobe_items, before_end, end_items, items_of}
 use Rattle.vmodel.specs.Run.{Setting, opening_of, state_after, items_after, history_after}
 use Rattle.vmodel.specs.RunProgress.{opening_is, after_is}
 use Rattle.vmodel.specs.RunLaws.{IsAlwaysKept, IsAlwaysFull, IsAlwaysShaped, ShowsOnlySlotEnds}
@@ -88,7 +88,7 @@ module _ (until : ℕ) where
   abbrev IsWithin : Queue → Type 0
   IsWithin q = (q.until ≡ until) × (q.time ≤ until)
 
-  regions_within : (active : List ℕ) (activated : List (List Part)) (inactive : List ℕ) (posted : List (List Part)) (q : Queue) → IsWithin q → IsWithin (regions active activated inactive posted q)
+  regions_within : (active : List ℕ) (activated : List (List Part)) (inactive : List ℕ) (posted : List (List Part)) (q : Queue) → IsWithin q → IsWithin (activate_next_region active activated inactive posted q)
   regions_within (p ∷ ps) us is posted q h = h
   regions_within [] (u ∷ us) is posted q h = h
   regions_within [] [] (i ∷ is) posted q h = h
@@ -106,7 +106,7 @@ module _ (until : ℕ) where
       by true = h
       by false = h
 
-  goes_within : (p : ℕ) (goes : Option ℕ) (q : Queue) → IsWithin q → IsWithin (goes_on p goes q)
+  goes_within : (p : ℕ) (goes : Option ℕ) (q : Queue) → IsWithin q → IsWithin (with_next_step p goes q)
   goes_within p None q h = h
   goes_within p (Some same) q h = h
 
@@ -114,7 +114,7 @@ module _ (until : ℕ) where
   inactive_within None q h = h
   inactive_within (Some p) q h = h
 
-  sleeps_within : (d : ℕ) (sleeper : Option ℕ) (q : Queue) → IsWithin q → IsWithin (sleeps d sleeper q)
+  sleeps_within : (d : ℕ) (sleeper : Option ℕ) (q : Queue) → IsWithin q → IsWithin (with_delay d sleeper q)
   sleeps_within zero sleeper q h = inactive_within sleeper q h
   sleeps_within (suc d) sleeper q h = later_within (suc d) (slot_with_sleeper sleeper) q h
 

@@ -31,7 +31,7 @@ use Rattle.velab_declaration.specs.Variables.{declared_names}
 use Rattle.velab_process.specs.Statements.{Table}
 use Rattle.velab_process.specs.Processes.{ProcessTree, Processes as Made, with_begins_before, lower_process, lower_processes, process_trees_by, lower_items}
 use Rattle.velab_process.specs.Connections.{lower_connection, lower_join, lower_joins, one_process}
-use Rattle.vhierarchy.specs.Instances.{barring, Instantiation, lower_list, named_again, lower_instances_of, lower_instances_by, lower_instances, Part, Context, base_of, lower_names, lower_own_processes, has_room, letters_held, letters_added}
+use Rattle.vhierarchy.specs.Instances.{unless_word, Instantiation, lower_list, named_again, lower_instances_of, lower_instances_by, lower_instances, Part, Context, base_of, lower_names, lower_own_processes, has_room, letters_held, letters_added}
 use Rattle.elaboration_law.specs.Hierarchy.{instance_by, instances_of, instances_by}
 use Rattle.elaboration_law.specs.Counts.{values_connected, events_by}
 use Rattle.elaboration_law.proofs.ToldLemmas.{is_local, is_of_connections, untold}
@@ -368,13 +368,13 @@ module _ (modules : SourceTree) (path : Text) (fault : ElabFault) (rule : fault.
       lower_instances_of name before known found overrides list ≡ Err fault → 1024 < before + length (instances_of path found list)
   of_many name before known None overrides list is = let same : fault_at Top (Some name) ≡ fault = cc in absurd (let other : Top ≡ fault.rule = ap (λ (f : ElabFault). f.rule) same in cc)
   of_many name before known (Some m) overrides list is =
-      by (provided_err (nat_le (before + length list) 1024) TooMany (Some name) (barring (named_again m) Doubled (lower_list m known overrides list)) fault is)
+      by (provided_err (nat_le (before + length list) 1024) TooMany (Some name) (unless_word (named_again m) Doubled (lower_list m known overrides list)) fault is)
     where
       again : ((w : Word) × (named_again m ≡ Some w) × (fault.rule ≡ Doubled)) ⊎ ((named_again m ≡ None) × (lower_list m known overrides list ≡ Err fault)) → ⊥
       again (inl (w, is, other)) = cc
       again (inr (none, err)) = untold is_of_connections (lower_list m known overrides list) fault TooMany (list_tells m known overrides list) refl err rule
 
-      by : ((nat_le (before + length list) 1024 ≡ false) × (fault.rule ≡ TooMany)) ⊎ ((nat_le (before + length list) 1024 ≡ true) × (barring (named_again m) Doubled (lower_list m known overrides list) ≡ Err fault)) →
+      by : ((nat_le (before + length list) 1024 ≡ false) × (fault.rule ≡ TooMany)) ⊎ ((nat_le (before + length list) 1024 ≡ true) × (unless_word (named_again m) Doubled (lower_list m known overrides list) ≡ Err fault)) →
           1024 < before + length (instances_of path (Some m) list)
       by (inl (many, other)) =
           let more = gt_of (before + length list) 1024 many in

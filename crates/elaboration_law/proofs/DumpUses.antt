@@ -15,7 +15,7 @@ use Rattle.vdesign.specs.Expressions.{ExpressionTree}
 use Rattle.vdesign.specs.declared.dump.Chosen.{Chosen}
 use Rattle.velab_expr.specs.declared.fault.Rule.TheVariants.{Kind}
 use Rattle.velab_expr.specs.declared.fault.ElabFault.{ElabFault}
-use Rattle.velab_expr.specs.Answers.{◌>>=◌, found}
+use Rattle.velab_expr.specs.Answers.{◌>>=◌, value_or_fault}
 use Rattle.velab_expr.specs.Scopes.{Scope, lower_event}
 use Rattle.velab_expr.specs.Symbols.{behind_item}
 use Rattle.vast.specs.NumberedModules.{ItemTree}
@@ -120,7 +120,7 @@ module _ (scope : Scope) where
           all levels (names ∷ others) = ap (λ (l : List Text). dotted_path names ∷ l) (all levels others)
 
       by : (levels : Option ℕ) → Adds of_lowered table (paths_of scope.top selection.paths)
-          ((found levels Kind (Some selection.levels) >>= λ levels. Ok (chosen_by scope.top levels selection.paths)) >>= λ chosen. Ok (lowered_action table word (DumpVars chosen)))
+          ((value_or_fault levels Kind (Some selection.levels) >>= λ levels. Ok (chosen_by scope.top levels selection.paths)) >>= λ chosen. Ok (lowered_action table word (DumpVars chosen)))
       by None = tt
       by (Some levels) = acted table (DumpVars (chosen_by scope.top levels selection.paths)) ∙ ap (λ (l : List Text). dumped table ++ l) (same levels selection.paths)
 

@@ -19,8 +19,8 @@ use Rattle.velab_expr.specs.declared.scope.Operand.TheVariants as operand
 use Rattle.velab_expr.specs.Answers.{◌>>=◌, unless_flawed}
 use Rattle.velab_expr.specs.FirstWords.{first_in, first_among}
 use Rattle.velab_expr.specs.Scopes.{Scope, bounds_for, operand_by, lower_name, variable_by, lower_variable, event_by, lower_event, meaning_of}
-use Rattle.velab_expr.specs.Constants.{nothing, worth, checked_worth, bound_in, part_bounds}
-use Rattle.velab_expr.specs.Resolved.{plain, part_in, count_of, few, lower, lower_parts, lower_expression, lower_constant, lower_value}
+use Rattle.velab_expr.specs.Constants.{nothing, constant_value, checked_constant, bound_in, part_bounds}
+use Rattle.velab_expr.specs.Resolved.{plain, part_in, count_of, check_part_count, lower, lower_parts, lower_expression, lower_constant, lower_value}
 use Rattle.velab_expr.specs.Ranges.{span, lower_bound, lower_range, lower_bounds}
 use Rattle.velab_expr.specs.Written as written
 use Rattle.velab_expr.specs.Written.{lower_index, lower_target_by, lower_targets_by}
@@ -67,15 +67,15 @@ unflawed_tells None word x = tt
 unflawed_tells (Some NoBits) word x = refl
 unflawed_tells (Some Size) word x = refl
 
-measured_tells : (word : Option Word) (tree : ExpressionTree) → Tells is_local (checked_worth word tree)
-measured_tells word tree = unflawed_tells (flaw_of nothing tree) word (worth tree)
+measured_tells : (word : Option Word) (tree : ExpressionTree) → Tells is_local (checked_constant word tree)
+measured_tells word tree = unflawed_tells (flaw_of nothing tree) word (constant_value tree)
 
 part_tells : (operand : Operand) (bounds : Bounds) (name : Word) → Tells is_local (part_in operand bounds name)
 part_tells (operand.Variable number) bounds name = tt
 part_tells (operand.Parameter value all) bounds name =
     required_tells is_local (is_part all bounds) Width (Some name) (plain (part_of value all bounds (part_size bounds))) refl
 
-few_tells : (parts : text.ExpressionTrees) (a : Result ExpressionTree ElabFault) → Tells is_local a → Tells is_local (few parts a)
+few_tells : (parts : text.ExpressionTrees) (a : Result ExpressionTree ElabFault) → Tells is_local a → Tells is_local (check_part_count parts a)
 few_tells parts a h = provided_tells is_local (nat_le (count_of parts) 64) Width (first_among parts) a refl h
 
 mutual
@@ -88,17 +88,17 @@ mutual
       then_tells is_local (lower fixed scope index) _ (lower_tells fixed scope index) (λ place. tt))
   lower_tells fixed scope (text.part letters left right) =
       then_tells is_local (lower_name fixed scope letters) _ (name_tells fixed scope letters) (λ operand.
-      then_tells is_local (lower true scope left >>= checked_worth (first_in left)) _
+      then_tells is_local (lower true scope left >>= checked_constant (first_in left)) _
       (then_tells is_local (lower true scope left) _ (lower_tells true scope left) (λ e. measured_tells (first_in left) e)) (λ high.
-      then_tells is_local (lower true scope right >>= checked_worth (first_in right)) _
+      then_tells is_local (lower true scope right >>= checked_constant (first_in right)) _
       (then_tells is_local (lower true scope right) _ (lower_tells true scope right) (λ e. measured_tells (first_in right) e)) (λ low.
       part_tells operand (part_bounds high low) letters)))
   lower_tells fixed scope (text.parentheses inner) = lower_tells fixed scope inner
   lower_tells fixed scope (text.concatenation parts) = few_tells parts (lower_parts fixed scope parts) (parts_tell fixed scope parts)
   lower_tells fixed scope (text.replication count parts) =
-      then_tells is_local (lower true scope count >>= checked_worth (first_in count)) _
+      then_tells is_local (lower true scope count >>= checked_constant (first_in count)) _
       (then_tells is_local (lower true scope count) _ (lower_tells true scope count) (λ e. measured_tells (first_in count) e)) (λ amount.
-      then_tells is_local (few parts (lower_parts fixed scope parts)) _ (few_tells parts (lower_parts fixed scope parts) (parts_tell fixed scope parts)) (λ e. tt))
+      then_tells is_local (check_part_count parts (lower_parts fixed scope parts)) _ (few_tells parts (lower_parts fixed scope parts) (parts_tell fixed scope parts)) (λ e. tt))
   lower_tells fixed scope (text.conversion signed inner) = then_tells is_local (lower fixed scope inner) _ (lower_tells fixed scope inner) (λ operand. tt)
   lower_tells fixed scope (text.apply operator inner) = then_tells is_local (lower fixed scope inner) _ (lower_tells fixed scope inner) (λ operand. tt)
   lower_tells fixed scope (text.combine operator left right) =

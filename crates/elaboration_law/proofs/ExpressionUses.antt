@@ -18,11 +18,11 @@ use Rattle.velab_expr.specs.declared.fault.Rule.TheVariants.{Width, Constant, Ki
 use Rattle.velab_expr.specs.declared.fault.ElabFault.{ElabFault}
 use Rattle.velab_expr.specs.declared.scope.Operand.{Operand}
 use Rattle.velab_expr.specs.declared.scope.Operand.TheVariants as operand
-use Rattle.velab_expr.specs.Answers.{◌>>=◌, require, found, unless_flawed}
+use Rattle.velab_expr.specs.Answers.{◌>>=◌, require, value_or_fault, unless_flawed}
 use Rattle.velab_expr.specs.FirstWords.{first_in, first_among}
 use Rattle.velab_expr.specs.Scopes.{Scope, lower_name, lower_variable, lower_event}
-use Rattle.velab_expr.specs.Constants.{nothing, worth, checked_worth, bound_in, part_bounds}
-use Rattle.velab_expr.specs.Resolved.{plain, part_in, count_of, few, lower, lower_parts, lower_expression, lower_constant, lower_value}
+use Rattle.velab_expr.specs.Constants.{nothing, constant_value, checked_constant, bound_in, part_bounds}
+use Rattle.velab_expr.specs.Resolved.{plain, part_in, count_of, check_part_count, lower, lower_parts, lower_expression, lower_constant, lower_value}
 use Rattle.velab_expr.specs.Ranges.{span, lower_bound, lower_range, lower_bounds}
 use Rattle.velab_expr.specs.Written as written
 use Rattle.velab_expr.specs.Written.{lower_index, lower_target_by, lower_targets_by}
@@ -62,8 +62,8 @@ sizes_only (design.joined left right) =
     or_of_size (flaw_of nothing left) (option_or (flaw_of nothing right) size) (sizes_only left)
     (or_of_size (flaw_of nothing right) size (sizes_only right) (unless_of_size (nat_le (size_of nothing left + size_of nothing right) 64)))
 sizes_only (design.repeated count o) =
-    let few = nat_le 1 count && nat_le (count * size_of nothing o) 64 in
-    or_of_size (flaw_of nothing o) (flaws.unless few Size) (sizes_only o) (unless_of_size few)
+    let check_part_count = nat_le 1 count && nat_le (count * size_of nothing o) 64 in
+    or_of_size (flaw_of nothing o) (flaws.unless check_part_count Size) (sizes_only o) (unless_of_size check_part_count)
 
 module _ (q : Question) (scope : Scope) where
   -- ---- names
@@ -101,11 +101,11 @@ module _ (q : Question) (scope : Scope) where
   part_knows (operand.Parameter value all) bounds name =
       required_judges q.asked (is_part all bounds) Width (Some name) (plain (part_of value all bounds (part_size bounds))) q.no_width
 
-  few_knows : (uses : List Use) (parts : text.ExpressionTrees) (a : Result ExpressionTree ElabFault) → Fits q scope uses a → Fits q scope uses (few parts a)
+  few_knows : (uses : List Use) (parts : text.ExpressionTrees) (a : Result ExpressionTree ElabFault) → Fits q scope uses a → Fits q scope uses (check_part_count parts a)
   few_knows uses parts a h = provided_judges q.asked (list_all (q.fits scope) uses) (nat_le (count_of parts) 64) Width (first_among parts) a q.no_width h
 
-  measured_knows : (tree : text.ExpressionTree) → Fits q scope (used_in true tree) (lower true scope tree) → Fits q scope (used_in true tree) (lower true scope tree >>= checked_worth (first_in tree))
-  measured_knows tree h = last q scope (used_in true tree) (lower true scope tree) (checked_worth (first_in tree)) h (λ e. unflawed_knows e (first_in tree) (worth e))
+  measured_knows : (tree : text.ExpressionTree) → Fits q scope (used_in true tree) (lower true scope tree) → Fits q scope (used_in true tree) (lower true scope tree >>= checked_constant (first_in tree))
+  measured_knows tree h = last q scope (used_in true tree) (lower true scope tree) (checked_constant (first_in tree)) h (λ e. unflawed_knows e (first_in tree) (constant_value e))
 
   mutual
     pub lower_knows : (fixed : Bool) (tree : text.ExpressionTree) → Fits q scope (used_in fixed tree) (lower fixed scope tree)
@@ -117,14 +117,14 @@ module _ (q : Question) (scope : Scope) where
         last q scope (used_in fixed index) (lower fixed scope index) _ (lower_knows fixed index) (λ place. refl))
     lower_knows fixed (text.part letters left right) =
         both q scope (use_of ReadIn fixed letters ∷ []) (used_in true left ++ used_in true right) (lower_name fixed scope letters) _ (bits_know fixed letters) (λ operand.
-        both q scope (used_in true left) (used_in true right) (lower true scope left >>= checked_worth (first_in left)) _ (measured_knows left (lower_knows true left)) (λ high.
-        last q scope (used_in true right) (lower true scope right >>= checked_worth (first_in right)) _ (measured_knows right (lower_knows true right)) (λ low.
+        both q scope (used_in true left) (used_in true right) (lower true scope left >>= checked_constant (first_in left)) _ (measured_knows left (lower_knows true left)) (λ high.
+        last q scope (used_in true right) (lower true scope right >>= checked_constant (first_in right)) _ (measured_knows right (lower_knows true right)) (λ low.
         part_knows operand (part_bounds high low) letters)))
     lower_knows fixed (text.parentheses inner) = lower_knows fixed inner
     lower_knows fixed (text.concatenation parts) = few_knows (used_in_parts fixed parts) parts (lower_parts fixed scope parts) (parts_know fixed parts)
     lower_knows fixed (text.replication count parts) =
-        both q scope (used_in true count) (used_in_parts fixed parts) (lower true scope count >>= checked_worth (first_in count)) _ (measured_knows count (lower_knows true count)) (λ amount.
-        last q scope (used_in_parts fixed parts) (few parts (lower_parts fixed scope parts)) _ (few_knows (used_in_parts fixed parts) parts (lower_parts fixed scope parts) (parts_know fixed parts)) (λ e. refl))
+        both q scope (used_in true count) (used_in_parts fixed parts) (lower true scope count >>= checked_constant (first_in count)) _ (measured_knows count (lower_knows true count)) (λ amount.
+        last q scope (used_in_parts fixed parts) (check_part_count parts (lower_parts fixed scope parts)) _ (few_knows (used_in_parts fixed parts) parts (lower_parts fixed scope parts) (parts_know fixed parts)) (λ e. refl))
     lower_knows fixed (text.conversion signed inner) = last q scope (used_in fixed inner) (lower fixed scope inner) _ (lower_knows fixed inner) (λ operand. refl)
     lower_knows fixed (text.apply operator inner) = last q scope (used_in fixed inner) (lower fixed scope inner) _ (lower_knows fixed inner) (λ operand. refl)
     lower_knows fixed (text.combine operator left right) =
@@ -192,5 +192,5 @@ module _ (q : Question) (scope : Scope) where
   pub selection_knows : (selection : Option SelectionTree) → Fits q scope (used_in_selection selection) (lower_selection scope selection)
   selection_knows None = refl
   selection_knows (Some selection) =
-      last q scope (use_of_levels selection.levels ∷ []) (found (levels_in selection.levels) Kind (Some selection.levels)) _
-      (single q scope (use_of_levels selection.levels) (found (levels_in selection.levels) Kind (Some selection.levels)) (q.of_levels scope selection.levels)) (λ levels. refl)
+      last q scope (use_of_levels selection.levels ∷ []) (value_or_fault (levels_in selection.levels) Kind (Some selection.levels)) _
+      (single q scope (use_of_levels selection.levels) (value_or_fault (levels_in selection.levels) Kind (Some selection.levels)) (q.of_levels scope selection.levels)) (λ levels. refl)

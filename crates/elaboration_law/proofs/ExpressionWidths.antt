@@ -27,13 +27,13 @@ use Rattle.velab_expr.specs.declared.scope.Meaning.{Meaning}
 use Rattle.velab_expr.specs.declared.scope.Meaning.TheVariants.{Variable, Parameter, Event, Instance}
 use Rattle.velab_expr.specs.declared.scope.Operand.{Operand}
 use Rattle.velab_expr.specs.declared.scope.Operand.TheVariants as operand
-use Rattle.velab_expr.specs.Answers.{◌>>=◌, require, answer_if, found, unless_flawed}
+use Rattle.velab_expr.specs.Answers.{◌>>=◌, require, answer_if, value_or_fault, unless_flawed}
 use Rattle.velab_expr.specs.FirstWords.{first_in, first_among}
 use Rattle.velab_expr.specs.Scopes.{Scope, meaning_of, bounds_for, operand_by, lower_name}
-use Rattle.velab_expr.specs.Constants.{nothing, worth, checked_worth, bound_in, part_bounds, count_in}
-use Rattle.velab_expr.specs.Resolved.{plain, operand_tree, bit_in, count_of, few, times, lower, lower_parts, lower_constant, lower_value}
+use Rattle.velab_expr.specs.Constants.{nothing, constant_value, checked_constant, bound_in, part_bounds, count_in}
+use Rattle.velab_expr.specs.Resolved.{plain, operand_tree, bit_in, count_of, check_part_count, replicate_by, lower, lower_parts, lower_constant, lower_value}
 use Rattle.velab_expr.specs.Resolved as resolved
-use Rattle.velab_expr.specs.Ranges.{span, lower_bound, narrow, lower_bounds}
+use Rattle.velab_expr.specs.Ranges.{span, lower_bound, check_range_size, lower_bounds}
 use Rattle.elaboration_law.specs.Widths.{Worth, meant, meant_parts, constant_in, selected_by, size_in, joined_size, part_in, can_repeat, is_sized, are_sized, is_bound, is_range}
 use Rattle.elaboration_law.specs.Worths.{bounds_by}
 use Rattle.elaboration_law.proofs.UseLemmas.{first_false, second_false}
@@ -103,9 +103,9 @@ joined_within front rest = same_truth (nat_le rest 64 && nat_le (front + min 64 
   where
     forth : (nat_le rest 64 && nat_le (front + min 64 rest) 64) ≡ true → nat_le (front + rest) 64 ≡ true
     forth e =
-        let few = is_within rest (and_left (nat_le rest 64) (nat_le (front + min 64 rest) 64) e) in
+        let check_part_count = is_within rest (and_left (nat_le rest 64) (nat_le (front + min 64 rest) 64) e) in
         let all = is_within (front + min 64 rest) (and_right (nat_le rest 64) (nat_le (front + min 64 rest) 64) e) in
-        within_holds (front + rest) (omega (arith, few, all))
+        within_holds (front + rest) (omega (arith, check_part_count, all))
 
     back : nat_le (front + rest) 64 ≡ true → (nat_le rest 64 && nat_le (front + min 64 rest) 64) ≡ true
     back e =
@@ -161,15 +161,15 @@ module _ (fixed : Bool) (now : Environment) where
 
 -- a constant is worth what is meant, and its sizes are right
 abbrev pub IsMeasured : ExpressionTree → Bool → Result Vector ElabFault → Type 0
-IsMeasured meaning holds (Ok v) = (v ≡ worth meaning) × (holds ≡ true)
+IsMeasured meaning holds (Ok v) = (v ≡ constant_value meaning) × (holds ≡ true)
 IsMeasured meaning holds (Err fault) = is_width fault.rule ≡ true → holds ≡ false
 
 pub measured_is : (word : Option Word) (meaning : ExpressionTree) (holds : Bool) (a : Result ExpressionTree ElabFault) → Sizes true nothing meaning holds a →
-    IsMeasured meaning holds (a >>= checked_worth word)
+    IsMeasured meaning holds (a >>= checked_constant word)
 measured_is word meaning holds (Ok e) h = by (flaw_of nothing e) h.says
   where
-    by : (flaw : Option Flaw) → Says flaw holds → IsMeasured meaning holds (unless_flawed flaw word (worth e))
-    by None s = (ap worth (h.same refl), s)
+    by : (flaw : Option Flaw) → Says flaw holds → IsMeasured meaning holds (unless_flawed flaw word (constant_value e))
+    by None s = (ap constant_value (h.same refl), s)
     by (Some NoBits) s = λ no. absurd cc
     by (Some Size) s = λ is. s
 measured_is word meaning holds (Err fault) h = h
@@ -234,19 +234,19 @@ module _ (fixed : Bool) (now : Environment) where
 
   part_sizes : (w : Worth) (left right : ExpressionTree) (one other : Bool) (name : Word) (a : Result Operand ElabFault) (b c : Result Vector ElabFault) →
       AnswerStands fixed now w a → IsMeasured left one b → IsMeasured right other c →
-      Sizes fixed now (part_in w (part_bounds (worth left) (worth right))) (one && (other && is_part w.bounds (part_bounds (worth left) (worth right))))
+      Sizes fixed now (part_in w (part_bounds (constant_value left) (constant_value right))) (one && (other && is_part w.bounds (part_bounds (constant_value left) (constant_value right))))
       (a >>= λ o. b >>= λ high. c >>= λ low. resolved.part_in o (part_bounds high low) name)
   part_sizes w left right one other name (Ok o) (Ok high) (Ok low) s h k =
-      let selected = part_bounds (worth left) (worth right) in
+      let selected = part_bounds (constant_value left) (constant_value right) in
       let holds = one && (other && is_part w.bounds selected) in
       let is : selected ≡ part_bounds high low = λ i. part_bounds (sym h.0 i) (sym k.0 i) in
       subst (λ (b : Bounds). Sizes fixed now (part_in w selected) holds (resolved.part_in o b name)) is
       (subst (λ (b : Bool). Sizes fixed now (part_in w selected) b (resolved.part_in o selected name)) (sym (behind_both one other (is_part w.bounds selected) h.1 k.1))
       (selected_sizes w selected name o s))
   part_sizes w left right one other name (Ok o) (Ok high) (Err fault) s h k =
-      λ e. second_false one (other && is_part w.bounds (part_bounds (worth left) (worth right))) (first_false other (is_part w.bounds (part_bounds (worth left) (worth right))) (k e))
+      λ e. second_false one (other && is_part w.bounds (part_bounds (constant_value left) (constant_value right))) (first_false other (is_part w.bounds (part_bounds (constant_value left) (constant_value right))) (k e))
   part_sizes w left right one other name (Ok o) (Err fault) c s h k =
-      λ e. first_false one (other && is_part w.bounds (part_bounds (worth left) (worth right))) (h e)
+      λ e. first_false one (other && is_part w.bounds (part_bounds (constant_value left) (constant_value right))) (h e)
   part_sizes w left right one other name (Err fault) b c s h k = λ e. absurd cc
 
   conversion_sizes : (signed : Bool) (meaning : ExpressionTree) (holds : Bool) (a : Result ExpressionTree ElabFault) → Sizes fixed now meaning holds a →
@@ -288,10 +288,10 @@ module _ (fixed : Bool) (now : Environment) where
 
   times_sizes : (count meaning : ExpressionTree) (one other : Bool) (a : Result Vector ElabFault) (b : Result ExpressionTree ElabFault) →
       IsMeasured count one a → Sizes fixed now meaning other b →
-      Sizes fixed now (design.repeated (count_in (worth count)) meaning) (one && (other && can_repeat (count_in (worth count)) (size_of nothing meaning)))
-      (a >>= λ amount. times amount b)
+      Sizes fixed now (design.repeated (count_in (constant_value count)) meaning) (one && (other && can_repeat (count_in (constant_value count)) (size_of nothing meaning)))
+      (a >>= λ amount. replicate_by amount b)
   times_sizes count meaning one other (Ok v) (Ok e) h k =
-      let n = count_in (worth count) in
+      let n = count_in (constant_value count) in
       subst (λ (x : Vector). IsLike fixed now (design.repeated (count_in x) e) (design.repeated n meaning) (one && (other && can_repeat n (size_of nothing meaning)))) (sym h.0)
       (record {
         same = λ f. ap (design.repeated n) (k.same f);
@@ -301,8 +301,8 @@ module _ (fixed : Bool) (now : Environment) where
             (both_say (flaw_of now e) (flaws.unless (can_repeat n (size_of now e)) Size) other (can_repeat n (size_of now e)) k.says (unless_says (can_repeat n (size_of now e)))));
       })
   times_sizes count meaning one other (Ok v) (Err fault) h k =
-      λ e. second_false one (other && can_repeat (count_in (worth count)) (size_of nothing meaning)) (first_false other (can_repeat (count_in (worth count)) (size_of nothing meaning)) (k e))
-  times_sizes count meaning one other (Err fault) b h k = λ e. first_false one (other && can_repeat (count_in (worth count)) (size_of nothing meaning)) (h e)
+      λ e. second_false one (other && can_repeat (count_in (constant_value count)) (size_of nothing meaning)) (first_false other (can_repeat (count_in (constant_value count)) (size_of nothing meaning)) (k e))
+  times_sizes count meaning one other (Err fault) b h k = λ e. first_false one (other && can_repeat (count_in (constant_value count)) (size_of nothing meaning)) (h e)
 
 -- ---- parts
 
@@ -315,7 +315,7 @@ module _ (named : Text → Worth) (vectors : AreVectors named) (fixed : Bool) (n
   PartsSizes parts (Err fault) = is_width fault.rule ≡ true → are_sized named parts ≡ false
 
   few_sizes : (parts : text.ExpressionTrees) (a : Result ExpressionTree ElabFault) → PartsSizes parts a →
-      Sizes fixed now (meant_parts named parts) (are_joined parts) (few parts a)
+      Sizes fixed now (meant_parts named parts) (are_joined parts) (check_part_count parts a)
   few_sizes parts a h = by (nat_le (count_of parts) 64) refl a h
     where
       by : (test : Bool) → nat_le (count_of parts) 64 ≡ test → (a : Result ExpressionTree ElabFault) → PartsSizes parts a →
@@ -383,7 +383,7 @@ module _ (scope : Scope) (named : Text → Worth) (vectors : AreVectors named) w
 
   -- lowered as a constant, an expression is worth what is meant
   measured_as : (tree : text.ExpressionTree) → Sizes true nothing (meant named tree) (is_sized named tree) (lower true scope tree) →
-      IsMeasured (meant named tree) (is_sized named tree) (lower true scope tree >>= checked_worth (first_in tree))
+      IsMeasured (meant named tree) (is_sized named tree) (lower true scope tree >>= checked_constant (first_in tree))
   measured_as tree h = measured_is (first_in tree) (meant named tree) (is_sized named tree) (lower true scope tree) h
 
   mutual
@@ -397,14 +397,14 @@ module _ (scope : Scope) (named : Text → Worth) (vectors : AreVectors named) w
         (name_stands fixed now h letters) (lower_sizes fixed now h index)
     lower_sizes fixed now h (text.part letters left right) =
         part_sizes fixed now (named letters.letters) (meant named left) (meant named right) (is_sized named left) (is_sized named right) letters
-        (lower_name fixed scope letters) (lower true scope left >>= checked_worth (first_in left)) (lower true scope right >>= checked_worth (first_in right))
+        (lower_name fixed scope letters) (lower true scope left >>= checked_constant (first_in left)) (lower true scope right >>= checked_constant (first_in right))
         (name_stands fixed now h letters) (measured_as left (lower_sizes true nothing (worth_of_constants fixed now scope named h) left))
         (measured_as right (lower_sizes true nothing (worth_of_constants fixed now scope named h) right))
     lower_sizes fixed now h (text.parentheses inner) = lower_sizes fixed now h inner
     lower_sizes fixed now h (text.concatenation parts) = few_sizes named vectors fixed now parts (lower_parts fixed scope parts) (parts_sizes fixed now h parts)
     lower_sizes fixed now h (text.replication count parts) =
         times_sizes fixed now (meant named count) (meant_parts named parts) (is_sized named count) (are_sized named parts && nat_le (joined_size named parts) 64)
-        (lower true scope count >>= checked_worth (first_in count)) (few parts (lower_parts fixed scope parts))
+        (lower true scope count >>= checked_constant (first_in count)) (check_part_count parts (lower_parts fixed scope parts))
         (measured_as count (lower_sizes true nothing (worth_of_constants fixed now scope named h) count))
         (few_sizes named vectors fixed now parts (lower_parts fixed scope parts) (parts_sizes fixed now h parts))
     lower_sizes fixed now h (text.conversion signed inner) =
@@ -454,12 +454,12 @@ module _ (scope : Scope) (named : Text → Worth) (vectors : AreVectors named) w
   pub bound_sizes : AreWorth true nothing scope named → (tree : text.ExpressionTree) → IsBound (constant_in named tree) (is_bound named tree) (lower_bound scope tree)
   bound_sizes h tree = by (lower_value scope tree) (value_sizes h tree)
     where
-      known : (bound : Option ℕ) → bound_in (constant_in named tree) ≡ bound → is_sized named tree ≡ true → IsBound (constant_in named tree) (is_bound named tree) (found bound Width (first_in tree))
+      known : (bound : Option ℕ) → bound_in (constant_in named tree) ≡ bound → is_sized named tree ≡ true → IsBound (constant_in named tree) (is_bound named tree) (value_or_fault bound Width (first_in tree))
       known None is s = λ e. second_false (is_sized named tree) (is_some (bound_in (constant_in named tree))) (ap is_some is)
       known (Some n) is s = (is, and_both (is_sized named tree) (is_some (bound_in (constant_in named tree))) s (ap is_some is))
 
       by : (a : Result Vector ElabFault) → IsMeasured (meant named tree) (is_sized named tree) a →
-          IsBound (constant_in named tree) (is_bound named tree) (a >>= λ value. found (bound_in value) Width (first_in tree))
+          IsBound (constant_in named tree) (is_bound named tree) (a >>= λ value. value_or_fault (bound_in value) Width (first_in tree))
       by (Ok v) k = known (bound_in v) (ap bound_in (sym k.0)) k.1
       by (Err fault) k = λ e. first_false (is_sized named tree) (is_some (bound_in (constant_in named tree))) (k e)
 
@@ -474,20 +474,20 @@ module _ (scope : Scope) (named : Text → Worth) (vectors : AreVectors named) w
       right : Bool
       right = is_bound named range.right
 
-      few : Bool
-      few = nat_le (span (selected_by named range.left range.right)) 64
+      check_part_count : Bool
+      check_part_count = nat_le (span (selected_by named range.left range.right)) 64
 
       told : (bounds : Bounds) → bounds ≡ selected_by named range.left range.right → (test : Bool) → nat_le (span bounds) 64 ≡ test → left ≡ true → right ≡ true →
           IsRange named (Some range) (is_range named (Some range)) (require test Width (first_in range.left) bounds >>= λ bounds. Ok (Some bounds))
-      told bounds is true e l r = (ap Some is, and_both left (right && few) l (and_both right few r (ap (λ (b : Bounds). nat_le (span b) 64) (sym is) ∙ e)))
-      told bounds is false e l r = λ f. second_false left (right && few) (second_false right few (ap (λ (b : Bounds). nat_le (span b) 64) (sym is) ∙ e))
+      told bounds is true e l r = (ap Some is, and_both left (right && check_part_count) l (and_both right check_part_count r (ap (λ (b : Bounds). nat_le (span b) 64) (sym is) ∙ e)))
+      told bounds is false e l r = λ f. second_false left (right && check_part_count) (second_false right check_part_count (ap (λ (b : Bounds). nat_le (span b) 64) (sym is) ∙ e))
 
       by : (a b : Result ℕ ElabFault) → IsBound (constant_in named range.left) left a → IsBound (constant_in named range.right) right b →
           IsRange named (Some range) (is_range named (Some range))
-          ((a >>= λ high. b >>= λ low. narrow (first_in range.left) (record { left = high; right = low })) >>= λ bounds. Ok (Some bounds))
+          ((a >>= λ high. b >>= λ low. check_range_size (first_in range.left) (record { left = high; right = low })) >>= λ bounds. Ok (Some bounds))
       by (Ok high) (Ok low) k l =
           told (record { left = high; right = low })
           (λ i. record { left = unwrap_or (sym k.0 i) 65536; right = unwrap_or (sym l.0 i) 65536 })
           (nat_le (span (record { left = high; right = low })) 64) refl k.1 l.1
-      by (Ok high) (Err fault) k l = λ e. second_false left (right && few) (first_false right few (l e))
-      by (Err fault) b k l = λ e. first_false left (right && few) (k e)
+      by (Ok high) (Err fault) k l = λ e. second_false left (right && check_part_count) (first_false right check_part_count (l e))
+      by (Err fault) b k l = λ e. first_false left (right && check_part_count) (k e)

@@ -19,11 +19,11 @@ use Rattle.velab_expr.specs.declared.fault.Rule.{Rule}
 use Rattle.velab_expr.specs.declared.fault.Rule.TheVariants.{Top, Doubled, Unknown, Drivers, Ports, Width, Constant, Depth, TooMany, Kind}
 use Rattle.velab_expr.specs.declared.fault.ElabFault.{ElabFault}
 use Rattle.velab_expr.specs.Rules.{fault_at}
-use Rattle.velab_expr.specs.Answers.{◌>>=◌, found}
+use Rattle.velab_expr.specs.Answers.{◌>>=◌, value_or_fault}
 use Rattle.velab_expr.specs.Scopes.{Scope}
 use Rattle.velab_expr.specs.Symbols.{symbols_by}
 use Rattle.velab_declaration.specs.Variables.{port_names}
-use Rattle.vhierarchy.specs.Instances.{rule_of_port, broken_ports, unless_fault, top_whole, faultless, Instantiation, instantiation_by, lower_instance, lower_list, named_again, lower_instances_of, lower_instances_by, lower_instances, Part, Context, lower_names, lower_own, child_context, each, elaborate_instance, nothing, top_context, elaborate_top, design_by, broken_design, Whole, check, whole_of, elaborated_whole, elaborated}
+use Rattle.vhierarchy.specs.Instances.{rule_of_port, broken_ports, unless_fault, top_whole, value_unless_fault, Instantiation, instantiation_by, lower_instance, lower_list, named_again, lower_instances_of, lower_instances_by, lower_instances, Part, Context, lower_names, lower_own, child_context, each, elaborate_instance, nothing, top_context, elaborate_top, design_by, broken_design, Whole, check, whole_of, elaborated_whole, elaborated}
 use Rattle.elaboration_law.specs.Hierarchy.{Instance, instance_by, instances_of, instances_by, instances_in, StandsBelow, top_instance}
 use Rattle.elaboration_law.proofs.StepLemmas.{same_value, then_ok, then_err, provided_ok, barring_ok, barring_err, found_ok, found_err, contains_first, contains_more, contains_none, contains_mapped, mapped_contains}
 
@@ -182,9 +182,9 @@ module _ (modules : SourceTree) where
       let listed = subst (λ (l : List Instance). Contains l child) (sym (children_are modules context.path 0 own.scope.known context.unit.items own.children own.instances_are)) inside in
       let it = mapped_contains (instance_of context.path) child own.children listed in
       let step = each_ok (λ so_far c. elaborate_instance levels modules so_far (child_context own.scope context c)) own.whole all own.children it.0 opened.1 it.1 in
-      let found = elaborated_below depth levels step.0 (child_context own.scope context it.0) step.1 one step.2
+      let value_or_fault = elaborated_below depth levels step.0 (child_context own.scope context it.0) step.1 one step.2
       (subst (λ (i : Instance). StandsBelow modules depth i one) (sym it.2) stands) in
-      (found.0, omega (arith, found.1), found.2)
+      (value_or_fault.0, omega (arith, value_or_fault.1), value_or_fault.2)
 
 -- where a fault is told: by an instance, or by one that is too deep
 pub data ToldBelow (modules : SourceTree) (levels : ℕ) (top : Instance) (fault : ElabFault) : Type 0 where
@@ -235,11 +235,11 @@ pub data Told (modules : SourceTree) (top : Option Text) (fault : ElabFault) : T
 same_design : (scale : Timescale) (whole other : Whole) (design : Design) → other ≡ whole → (let made : Result Design ElabFault = Ok (design_by scale whole.unit whole.part) in made ≡ Ok design) → design_by scale other.unit other.part ≡ design
 same_design scale whole other design same is = ap (λ (w : Whole). design_by scale w.unit w.part) same ∙ same_value (design_by scale whole.unit whole.part) design is
 
-faultless_ok : {A : Type 0} (broken : Option ElabFault) (x y : A) → faultless broken x ≡ Ok y → (broken ≡ None) × (x ≡ y)
+faultless_ok : {A : Type 0} (broken : Option ElabFault) (x y : A) → value_unless_fault broken x ≡ Ok y → (broken ≡ None) × (x ≡ y)
 faultless_ok None x y is = (refl, same_value x y is)
 faultless_ok (Some fault) x y is = absurd cc
 
-faultless_err : {A : Type 0} (broken : Option ElabFault) (x : A) (fault : ElabFault) → faultless broken x ≡ Err fault → broken ≡ Some fault
+faultless_err : {A : Type 0} (broken : Option ElabFault) (x : A) (fault : ElabFault) → value_unless_fault broken x ≡ Err fault → broken ≡ Some fault
 faultless_err None x fault is = absurd cc
 faultless_err (Some f) x fault is = let same : f ≡ fault = cc in ap Some same
 
@@ -309,7 +309,7 @@ module _ (modules : SourceTree) (top : Option Text) (scale : Timescale) where
       let whole = then_ok (elaborated_whole modules top) (λ whole. Ok (design_by scale whole.unit whole.part)) design is in
       let differ = barring_ok (first_again (module_names modules)) Doubled with_ports whole.0 whole.1 in
       let ports = ports_ok (first_misdeclared modules) topped whole.0 differ.1 in
-      let unit = then_ok (found (top_of modules top) Top (rival_of modules top)) (λ m. whole_of modules m) whole.0 ports.1 in
+      let unit = then_ok (value_or_fault (top_of modules top) Top (rival_of modules top)) (λ m. whole_of modules m) whole.0 ports.1 in
       let part = then_ok (elaborate_top modules unit.0) (λ p. check unit.0 p) whole.0 unit.2 in
       let right = faultless_ok (broken_design unit.0.name part.0) (record { unit = unit.0; part = part.0 }) whole.0 part.2 in
       record {
@@ -329,7 +329,7 @@ module _ (modules : SourceTree) (top : Option Text) (scale : Timescale) where
     checked_told unit is_top (inl err) = in_hierarchy unit is_top err
     checked_told unit is_top (inr (part, ok, err)) = in_design unit part is_top ok (faultless_err (broken_design unit.name part) (record { unit = unit; part = part }) fault err)
 
-    top_told : (found (top_of modules top) Top (rival_of modules top) ≡ Err fault) ⊎ ((unit : ModuleTree) × (found (top_of modules top) Top (rival_of modules top) ≡ Ok unit) × (whole_of modules unit ≡ Err fault)) →
+    top_told : (value_or_fault (top_of modules top) Top (rival_of modules top) ≡ Err fault) ⊎ ((unit : ModuleTree) × (value_or_fault (top_of modules top) Top (rival_of modules top) ≡ Ok unit) × (whole_of modules unit ≡ Err fault)) →
         Told modules top fault
     top_told (inl err) = let missing = found_err (top_of modules top) Top (rival_of modules top) fault err in in_top missing.0 missing.1
     top_told (inr (unit, ok, err)) =
@@ -337,7 +337,7 @@ module _ (modules : SourceTree) (top : Option Text) (scale : Timescale) where
 
     ports_told : ((m : Misdeclared) × (first_misdeclared modules ≡ Some m) × (rule_of_port m.flaw ≡ fault.rule)) ⊎ (topped ≡ Err fault) → Told modules top fault
     ports_told (inl (m, is, rule)) = in_ports m is rule
-    ports_told (inr err) = top_told (then_err (found (top_of modules top) Top (rival_of modules top)) (λ m. whole_of modules m) fault err)
+    ports_told (inr err) = top_told (then_err (value_or_fault (top_of modules top) Top (rival_of modules top)) (λ m. whole_of modules m) fault err)
 
     modules_told : ((w : Word) × (first_again (module_names modules) ≡ Some w) × (fault.rule ≡ Doubled)) ⊎ ((first_again (module_names modules) ≡ None) × (with_ports ≡ Err fault)) → Told modules top fault
     modules_told (inl (w, again, rule)) = in_modules w again rule

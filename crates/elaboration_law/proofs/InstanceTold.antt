@@ -32,7 +32,7 @@ use Rattle.velab_declaration.specs.Variables.{port_declaration, declarations, po
 use Rattle.velab_process.specs.Statements.{Table}
 use Rattle.velab_process.specs.Processes.{Processes, with_begins_before, lower_items}
 use Rattle.velab_process.specs.Connections.{lower_input, lower_output, lower_connection, lower_join, lower_joins}
-use Rattle.vhierarchy.specs.Instances.{barring, lower_instance, lower_list, named_again, lower_instances_of, lower_instances_by, lower_instances, Part, Context, base_of, has_room, lower_names, lower_own, lower_own_variables, lower_own_processes, with_own, few_enough}
+use Rattle.vhierarchy.specs.Instances.{unless_word, lower_instance, lower_list, named_again, lower_instances_of, lower_instances_by, lower_instances, Part, Context, base_of, has_room, lower_names, lower_own, lower_own_variables, lower_own_processes, with_own, few_enough}
 use Rattle.elaboration_law.specs.Widths.{Worth, is_sized, is_target}
 use Rattle.elaboration_law.specs.Worths.{are_set_in, are_ranged, is_port_ranged, is_item_ranged}
 use Rattle.elaboration_law.specs.WrongWidths.{is_sized_output, is_sized_at, is_sized_connection, Instantiated, constants_in, worth_in, is_connected, is_sized_item, has_right_widths}
@@ -50,11 +50,11 @@ use Rattle.elaboration_law.proofs.StatementWidths.{Told, Quiet, goes_on, quiet_t
 
 -- ---- the instances that it wants: no size is told of them
 
-ports_quiet : {A : Type 0} (word : Option Word) (a : Result A ElabFault) → Quiet a → Quiet (barring word Ports a)
+ports_quiet : {A : Type 0} (word : Option Word) (a : Result A ElabFault) → Quiet a → Quiet (unless_word word Ports a)
 ports_quiet None a h = h
 ports_quiet (Some word) a h = refl
 
-doubled_quiet : {A : Type 0} (word : Option Word) (a : Result A ElabFault) → Quiet a → Quiet (barring word Doubled a)
+doubled_quiet : {A : Type 0} (word : Option Word) (a : Result A ElabFault) → Quiet a → Quiet (unless_word word Doubled a)
 doubled_quiet None a h = h
 doubled_quiet (Some word) a h = refl
 

@@ -29,7 +29,7 @@ use Rattle.velab_expr.specs.Written.{lower_net_target, target_of}
 use Rattle.velab_process.specs.Statements.{Table}
 use Rattle.velab_process.specs.Processes.{Processes, process_trees_by, lower_processes, lower_items, with_begins_before}
 use Rattle.velab_process.specs.Connections.{lower_input, lower_output, lower_connection, lower_join, lower_joins}
-use Rattle.vhierarchy.specs.Instances.{barring, Instantiation, instantiation_by, lower_instance, lower_list, named_again, lower_instances_of, lower_instances_by, lower_instances, lower_own_variables, lower_own_processes, with_own, few_enough, lower_own, base_of, lower_names, Part, Context, has_room}
+use Rattle.vhierarchy.specs.Instances.{unless_word, Instantiation, instantiation_by, lower_instance, lower_list, named_again, lower_instances_of, lower_instances_by, lower_instances, lower_own_variables, lower_own_processes, with_own, few_enough, lower_own, base_of, lower_names, Part, Context, has_room}
 use Rattle.elaboration_law.specs.Uses.{Use, Read, Driven, use_of, used_in, used_in_range, used_in_target_by}
 use Rattle.elaboration_law.specs.Places.{Place, UseAt, at_place, all_fit, variables_of, place_behind, place_after, used_in_type, used_outside, used_by_output, used_at_port, used_if_connected, used_in_kind, used_in_declaration, used_in_processes, used_in_placed, used_in_symbol, used_in_symbols, used_again, port_place, used_in_port, used_in_connection, used_by_items, used_by_own_processes, used_in_instance}
 use Rattle.elaboration_law.proofs.HierarchyLemmas.{Own, OwnFault, in_names, in_instances, in_own}
@@ -270,7 +270,7 @@ module _ (r : UseRule) where
   instance_silent child before overrides one =
       let word = misfit one.name (letters_of (port_names child)) one.connections in
       let made : Result Instantiation ElabFault = Ok (instantiation_by child before overrides one) in
-      barring_judges asked true (misfit_if one.name (letters_of (open_names child)) overrides) Ports (barring word Ports made) r.no_ports (barring_judges asked true word Ports made r.no_ports refl)
+      barring_judges asked true (misfit_if one.name (letters_of (open_names child)) overrides) Ports (unless_word word Ports made) r.no_ports (barring_judges asked true word Ports made r.no_ports refl)
 
   list_silent : (child : ModuleTree) (before : ℕ) (overrides : Option ConnectionsTree) (list : List InstanceTree) → Judges asked true (lower_list child before overrides list)
   list_silent child before overrides [] = refl
@@ -282,7 +282,7 @@ module _ (r : UseRule) where
   of_silent name count before None overrides list = λ e. absurd (let no = r.no_top in cc)
   of_silent name count before (Some child) overrides list =
       let all = lower_list child before overrides list in
-      provided_judges asked true (nat_le (count + length list) 1024) TooMany (Some name) (barring (named_again child) Doubled all) r.no_many
+      provided_judges asked true (nat_le (count + length list) 1024) TooMany (Some name) (unless_word (named_again child) Doubled all) r.no_many
       (barring_judges asked true (named_again child) Doubled all r.no_doubled (list_silent child before overrides list))
 
   by_silent : (modules : SourceTree) (count before : ℕ) (item : ItemTree) → Judges asked true (lower_instances_by modules count before item)

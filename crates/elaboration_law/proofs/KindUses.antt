@@ -27,7 +27,7 @@ use Rattle.velab_expr.specs.declared.fault.ElabFault.{ElabFault}
 use Rattle.velab_expr.specs.declared.scope.Meaning.{Meaning}
 use Rattle.velab_expr.specs.declared.scope.Meaning.TheVariants.{Variable, Parameter, Event, Instance}
 use Rattle.velab_expr.specs.declared.scope.Operand.TheVariants as operand
-use Rattle.velab_expr.specs.Answers.{◌>>=◌, require, found}
+use Rattle.velab_expr.specs.Answers.{◌>>=◌, require, value_or_fault}
 use Rattle.velab_expr.specs.FirstWords.{first_argument}
 use Rattle.velab_expr.specs.Scopes.{Scope, meaning_at, meaning_of, bounds_for, operand_by, variable_by, event_by}
 use Rattle.velab_expr.specs.Resolved.{lower_expression}
@@ -257,14 +257,14 @@ ended_some : (ends : Bool) (pieces : Option (List Piece)) → is_some (with_line
 ended_some ends None = refl
 ended_some ends (Some pieces) = refl
 
-found_kind : {A : Type 0} (x : Option A) (word : Option Word) → Judges is_kind (is_some x) (found x Kind word)
+found_kind : {A : Type 0} (x : Option A) (word : Option Word) → Judges is_kind (is_some x) (value_or_fault x Kind word)
 found_kind None word = λ e. refl
 found_kind (Some x) word = refl
 
 formats_kind : (scope : Scope) (default : Form) (ends : Bool) (arguments : List ArgumentTree) (all : List Argument) → lower_arguments scope (arguments_given arguments) ≡ Ok all →
-    Judges is_kind (formats_fit [] arguments) (found (pieces_of default ends all) Kind (first_argument arguments))
+    Judges is_kind (formats_fit [] arguments) (value_or_fault (pieces_of default ends all) Kind (first_argument arguments))
 formats_kind scope default ends arguments all is =
-    subst (λ (b : Bool). Judges is_kind b (found (pieces_of default ends all) Kind (first_argument arguments)))
+    subst (λ (b : Bool). Judges is_kind b (value_or_fault (pieces_of default ends all) Kind (first_argument arguments)))
     (ended_some ends (pieces_by default [] all) ∙ formats_are default scope [] (arguments_given arguments) all is ∙ given_same (formats_fit []) refl arguments)
     (found_kind (pieces_of default ends all) (first_argument arguments))
 

@@ -11,7 +11,7 @@ use Rattle.velab_expr.specs.declared.fault.Rule.TheVariants.{Doubled, TooMany, P
 use Rattle.velab_expr.specs.Symbols.{symbols_by}
 use Rattle.velab_expr.specs.Answers.{◌>>=◌}
 use Rattle.velab_declaration.specs.Variables.{port_names}
-use Rattle.vhierarchy.specs.Instances.{barring, Instantiation, instantiation_by, lower_instance, lower_list, named_again, lower_instances_of, lower_instances_by, lower_instances}
+use Rattle.vhierarchy.specs.Instances.{unless_word, Instantiation, instantiation_by, lower_instance, lower_list, named_again, lower_instances_of, lower_instances_by, lower_instances}
 use Rattle.elaboration_law.proofs.StepLemmas.{same_value, then_ok, provided_ok, barring_ok, contains_first, contains_more, contains_cases, contains_none}
 
 -- what is made of an instance that an item lists, where so many names stand before all items
@@ -32,7 +32,7 @@ module _ (child : ModuleTree) (known : ℕ) (overrides : Option ConnectionsTree)
   one_made : (one : InstanceTree) (x : Instantiation) → lower_instance child known overrides one ≡ Ok x → instantiation_by child known overrides one ≡ x
   one_made one x is =
       let made : Result Instantiation _ = Ok (instantiation_by child known overrides one) in
-      let fits = barring_ok (misfit_if one.name (letters_of (open_names child)) overrides) Ports (barring (misfit one.name (letters_of (port_names child)) one.connections) Ports made) x is in
+      let fits = barring_ok (misfit_if one.name (letters_of (open_names child)) overrides) Ports (unless_word (misfit one.name (letters_of (port_names child)) one.connections) Ports made) x is in
       same_value (instantiation_by child known overrides one) x (barring_ok (misfit one.name (letters_of (port_names child)) one.connections) Ports made x fits.1).1
 
   list_made : (list : List InstanceTree) (children : List Instantiation) (one : InstanceTree) → lower_list child known overrides list ≡ Ok children → Contains list one → Contains children (instantiation_by child known overrides one)
@@ -69,7 +69,7 @@ module _ (modules : SourceTree) where
       lower_instances_of name before known (Some m) overrides list ≡ Ok children → lower_list m known overrides list ≡ Ok children
   of_list name before known m overrides list children is =
       (barring_ok (named_again m) Doubled (lower_list m known overrides list) children
-      (provided_ok (nat_le (before + length list) 1024) TooMany (Some name) (barring (named_again m) Doubled (lower_list m known overrides list)) children is).1).1
+      (provided_ok (nat_le (before + length list) 1024) TooMany (Some name) (unless_word (named_again m) Doubled (lower_list m known overrides list)) children is).1).1
 
   of_made : (name : Word) (before known : ℕ) (found : Option ModuleTree) (overrides : Option ConnectionsTree) (list : List InstanceTree) (children : List Instantiation) (child : ModuleTree) (made : InstanceTree) →
       lower_instances_of name before known found overrides list ≡ Ok children → found ≡ Some child → Contains list made → Contains children (instantiation_by child known overrides made)

@@ -25,7 +25,7 @@ use Rattle.velab_declaration.specs.Variables.{port_names}
 use Rattle.velab_process.specs.Statements.{Table}
 use Rattle.velab_process.specs.Processes.{Processes as Made, with_begins_before, lower_items}
 use Rattle.velab_process.specs.Connections.{lower_input, lower_output, lower_connection, lower_join, lower_joins, one_process}
-use Rattle.vhierarchy.specs.Instances.{barring, Instantiation, instantiation_by, lower_instance, lower_list, named_again, lower_instances_of, lower_instances, lower_own_variables, with_own, lower_names, Part, Context, broken_design, elaborated}
+use Rattle.vhierarchy.specs.Instances.{unless_word, Instantiation, instantiation_by, lower_instance, lower_list, named_again, lower_instances_of, lower_instances, lower_own_variables, with_own, lower_names, Part, Context, broken_design, elaborated}
 use Rattle.elaboration_law.specs.Hierarchy.{Instance, StandsBelow, top_instance}
 use Rattle.elaboration_law.specs.Laws.{IsMeant}
 use Rattle.elaboration_law.specs.Misfits.{Misfits, HasMisfit, of_instance, of_output}
@@ -56,9 +56,9 @@ module _ (child : ModuleTree) (known : ℕ) (overrides : Option ConnectionsTree)
   made_of one = Ok (instantiation_by child known overrides one)
 
   fits_one : (one : InstanceTree) (x : Instantiation) (word : Word) → lower_instance child known overrides one ≡ Ok x → Misfits child overrides one word → ⊥
-  fits_one one x word is (inl some) = not_both (own_word one) word (barring_ok (own_word one) Ports (barring (port_word one) Ports (made_of one)) x is).0 some
+  fits_one one x word is (inl some) = not_both (own_word one) word (barring_ok (own_word one) Ports (unless_word (port_word one) Ports (made_of one)) x is).0 some
   fits_one one x word is (inr some) =
-      not_both (port_word one) word (barring_ok (port_word one) Ports (made_of one) x (barring_ok (own_word one) Ports (barring (port_word one) Ports (made_of one)) x is).1).0 some
+      not_both (port_word one) word (barring_ok (port_word one) Ports (made_of one) x (barring_ok (own_word one) Ports (unless_word (port_word one) Ports (made_of one)) x is).1).0 some
 
   fits_all : (list : List InstanceTree) (children : List Instantiation) (one : InstanceTree) (word : Word) → lower_list child known overrides list ≡ Ok children → Contains list one → Misfits child overrides one word → ⊥
   fits_all [] children one word is inside m = contains_none one inside
@@ -79,13 +79,13 @@ module _ (child : ModuleTree) (known : ℕ) (overrides : Option ConnectionsTree)
 
   module _ (fault : ElabFault) where
     one_misfit : (one : InstanceTree) → lower_instance child known overrides one ≡ Err fault → (word : Word) × Misfits child overrides one word
-    one_misfit one is = by (barring_err (own_word one) Ports (barring (port_word one) Ports (made_of one)) fault is)
+    one_misfit one is = by (barring_err (own_word one) Ports (unless_word (port_word one) Ports (made_of one)) fault is)
       where
         inner : ((w : Word) × (port_word one ≡ Some w) × (fault.rule ≡ Ports)) ⊎ ((port_word one ≡ None) × (made_of one ≡ Err fault)) → (word : Word) × Misfits child overrides one word
         inner (inl (w, some, rule)) = (w, inr some)
         inner (inr (none, err)) = absurd cc
 
-        by : ((w : Word) × (own_word one ≡ Some w) × (fault.rule ≡ Ports)) ⊎ ((own_word one ≡ None) × (barring (port_word one) Ports (made_of one) ≡ Err fault)) → (word : Word) × Misfits child overrides one word
+        by : ((w : Word) × (own_word one ≡ Some w) × (fault.rule ≡ Ports)) ⊎ ((own_word one ≡ None) × (unless_word (port_word one) Ports (made_of one) ≡ Err fault)) → (word : Word) × Misfits child overrides one word
         by (inl (w, some, rule)) = (w, inl some)
         by (inr (none, err)) = inner (barring_err (port_word one) Ports (made_of one) fault err)
 
@@ -115,7 +115,7 @@ module _ (modules : SourceTree) where
       let same : c ≡ child = cc in
       fits_all c known overrides list children made word
       (barring_ok (named_again c) Doubled (lower_list c known overrides list) children
-      (provided_ok (nat_le (before + length list) 1024) TooMany (Some name) (barring (named_again c) Doubled (lower_list c known overrides list)) children is).1).1
+      (provided_ok (nat_le (before + length list) 1024) TooMany (Some name) (unless_word (named_again c) Doubled (lower_list c known overrides list)) children is).1).1
       inside (subst (λ (u : ModuleTree). Misfits u overrides made word) (sym same) m)
 
   all_fit : (before known : ℕ) (items : List ItemTree) (children : List Instantiation) (name : Word) (overrides : Option ConnectionsTree) (list : List InstanceTree) (child : ModuleTree) (made : InstanceTree) (word : Word) →
@@ -131,13 +131,13 @@ module _ (modules : SourceTree) where
     of_misfit name before known None overrides list is =
         let same : fault_at Top (Some name) ≡ fault = cc in absurd (let other : Top ≡ fault.rule = ap (λ (f : ElabFault). f.rule) same in cc)
     of_misfit name before known (Some m) overrides list is =
-        (m, refl, by (provided_err (nat_le (before + length list) 1024) TooMany (Some name) (barring (named_again m) Doubled (lower_list m known overrides list)) fault is))
+        (m, refl, by (provided_err (nat_le (before + length list) 1024) TooMany (Some name) (unless_word (named_again m) Doubled (lower_list m known overrides list)) fault is))
       where
         again : ((w : Word) × (named_again m ≡ Some w) × (fault.rule ≡ Doubled)) ⊎ ((named_again m ≡ None) × (lower_list m known overrides list ≡ Err fault)) → MisfitIn m known overrides list
         again (inl (w, is, other)) = absurd cc
         again (inr (none, err)) = misfit_in m known overrides fault list err
 
-        by : ((nat_le (before + length list) 1024 ≡ false) × (fault.rule ≡ TooMany)) ⊎ ((nat_le (before + length list) 1024 ≡ true) × (barring (named_again m) Doubled (lower_list m known overrides list) ≡ Err fault)) →
+        by : ((nat_le (before + length list) 1024 ≡ false) × (fault.rule ≡ TooMany)) ⊎ ((nat_le (before + length list) 1024 ≡ true) × (unless_word (named_again m) Doubled (lower_list m known overrides list) ≡ Err fault)) →
             MisfitIn m known overrides list
         by (inl (many, other)) = absurd cc
         by (inr (few, err)) = again (barring_err (named_again m) Doubled (lower_list m known overrides list) fault err)

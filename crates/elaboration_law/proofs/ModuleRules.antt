@@ -24,7 +24,7 @@ use Rattle.velab_declaration.specs.Parameters.{Overrides, Base, lower_type, lowe
 use Rattle.velab_declaration.specs.Variables.{port_names, declared_names, lower_kind, lower_declaration, lower_variables, same_bounds, lower_again, lower_port, lower_ports, port_scope}
 use Rattle.velab_process.specs.Connections.{lower_joins}
 use Rattle.velab_process.specs.Processes.{lower_items}
-use Rattle.vhierarchy.specs.Instances.{barring, Instantiation, instantiation_by, lower_instance, lower_list, named_again, lower_instances_of, lower_instances_by, lower_instances, Part, Context, base_of, lower_names, lower_own_processes, with_own, few_enough, lower_own_variables, lower_own, has_room}
+use Rattle.vhierarchy.specs.Instances.{unless_word, Instantiation, instantiation_by, lower_instance, lower_list, named_again, lower_instances_of, lower_instances_by, lower_instances, Part, Context, base_of, lower_names, lower_own_processes, with_own, few_enough, lower_own_variables, lower_own, has_room}
 use Rattle.elaboration_law.proofs.ToldLemmas.{Tells, is_local, is_of_connections, local_connections, wider, then_tells, required_tells, provided_tells, barring_tells}
 use Rattle.elaboration_law.proofs.ExpressionRules.{constant_tells, bounds_tell}
 use Rattle.elaboration_law.proofs.StatementRules.{items_tell, joins_tell}
@@ -216,7 +216,7 @@ instance_tells : (child : ModuleTree) (known : ℕ) (overrides : Option Connecti
 instance_tells child known overrides one =
     let word = misfit one.name (letters_of (port_names child)) one.connections in
     let made : Result Instantiation ElabFault = Ok (instantiation_by child known overrides one) in
-    barring_tells is_of_connections (misfit_if one.name (letters_of (open_names child)) overrides) Ports (barring word Ports made) refl (barring_tells is_of_connections word Ports made refl tt)
+    barring_tells is_of_connections (misfit_if one.name (letters_of (open_names child)) overrides) Ports (unless_word word Ports made) refl (barring_tells is_of_connections word Ports made refl tt)
 
 pub list_tells : (child : ModuleTree) (known : ℕ) (overrides : Option ConnectionsTree) (list : List InstanceTree) → Tells is_of_connections (lower_list child known overrides list)
 list_tells child known overrides [] = tt
@@ -229,7 +229,7 @@ of_tells : (name : Word) (before known : ℕ) (child : Option ModuleTree) (overr
 of_tells name before known None overrides list = refl
 of_tells name before known (Some child) overrides list =
     let all = lower_list child known overrides list in
-    provided_tells is_of_instances (nat_le (before + length list) 1024) TooMany (Some name) (barring (named_again child) Doubled all) refl
+    provided_tells is_of_instances (nat_le (before + length list) 1024) TooMany (Some name) (unless_word (named_again child) Doubled all) refl
     (barring_tells is_of_instances (named_again child) Doubled all refl (wider is_of_connections is_of_instances connections_instances all (list_tells child known overrides list)))
 
 by_tells : (modules : SourceTree) (before known : ℕ) (item : ItemTree) → Tells is_of_instances (lower_instances_by modules before known item)

@@ -19,7 +19,7 @@ use Rattle.velab_expr.specs.Scopes.{Scope, at}
 use Rattle.velab_expr.specs.Symbols.{Symbol, name_in, symbols_in_head, symbols_by, valueless_by}
 use Rattle.velab_declaration.specs.Parameters.{Overrides, Base, lower_meaning, with_meaning, add_symbol, add_symbols, first_scope, item_scope}
 use Rattle.velab_declaration.specs.Variables.{port_names, declared_names}
-use Rattle.vhierarchy.specs.Instances.{barring, Instantiation, lower_list, named_again, lower_instances_of, lower_instances, Part, Context, base_of, lower_names, has_room}
+use Rattle.vhierarchy.specs.Instances.{unless_word, Instantiation, lower_list, named_again, lower_instances_of, lower_instances, Part, Context, base_of, lower_names, has_room}
 use Rattle.elaboration_law.specs.Doubles.{other_names, names_in_module, has_head_twice}
 use Rattle.elaboration_law.proofs.ToldLemmas.{is_of_connections, untold}
 use Rattle.elaboration_law.proofs.ModuleRules.{is_of_meaning, meaning_tells, list_tells}
@@ -245,13 +245,13 @@ module _ (modules : SourceTree) where
         lower_instances_of name before known found overrides list ≡ Err fault → (child : ModuleTree) × (found ≡ Some child) × (has_head_twice child ≡ true)
     of_twice name before known None overrides list is = let same : fault_at Top (Some name) ≡ fault = cc in absurd (let other : Top ≡ fault.rule = ap (λ (f : ElabFault). f.rule) same in cc)
     of_twice name before known (Some m) overrides list is =
-        (m, refl, counted_again (provided_err (nat_le (before + length list) 1024) TooMany (Some name) (barring (named_again m) Doubled (lower_list m known overrides list)) fault is))
+        (m, refl, counted_again (provided_err (nat_le (before + length list) 1024) TooMany (Some name) (unless_word (named_again m) Doubled (lower_list m known overrides list)) fault is))
       where
         again : ((w : Word) × (named_again m ≡ Some w) × (fault.rule ≡ Doubled)) ⊎ ((named_again m ≡ None) × (lower_list m known overrides list ≡ Err fault)) → has_head_twice m ≡ true
         again (inl (w, is, same)) = head_again m w is
         again (inr (none, err)) = absurd (untold is_of_connections (lower_list m known overrides list) fault Doubled (list_tells m known overrides list) refl err rule)
 
-        counted_again : ((nat_le (before + length list) 1024 ≡ false) × (fault.rule ≡ TooMany)) ⊎ ((nat_le (before + length list) 1024 ≡ true) × (barring (named_again m) Doubled (lower_list m known overrides list) ≡ Err fault)) →
+        counted_again : ((nat_le (before + length list) 1024 ≡ false) × (fault.rule ≡ TooMany)) ⊎ ((nat_le (before + length list) 1024 ≡ true) × (unless_word (named_again m) Doubled (lower_list m known overrides list) ≡ Err fault)) →
             has_head_twice m ≡ true
         counted_again (inl (many, other)) = absurd cc
         counted_again (inr (holds, err)) = again (barring_err (named_again m) Doubled (lower_list m known overrides list) fault err)

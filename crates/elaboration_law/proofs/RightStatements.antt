@@ -26,7 +26,7 @@ use Rattle.format_text.specs.Formats.{FormatFront, letters_of, front_of}
 use Rattle.format_text.specs.Pieces.{Argument, string, value, Taken, text_piece, without_form, last_pieces, letters_in, value_taken, string_by, string_shown, string_taken, format_left, pieces_with_taken, pieces_by, pieces_of, line_end, with_line_end}
 use Rattle.velab_expr.specs.declared.fault.Rule.TheVariants.{Kind}
 use Rattle.velab_expr.specs.declared.fault.ElabFault.{ElabFault}
-use Rattle.velab_expr.specs.Answers.{◌>>=◌, found}
+use Rattle.velab_expr.specs.Answers.{◌>>=◌, value_or_fault}
 use Rattle.velab_expr.specs.FirstWords.{first_argument}
 use Rattle.velab_expr.specs.Scopes.{Scope, lower_event}
 use Rattle.velab_expr.specs.Resolved.{lower_expression}
@@ -212,7 +212,7 @@ module _ (vs : List Variable) (place : Place) (scope : Scope) (h : IsAt place sc
       (last_says (λ l. list_all argument_bits l) (λ l. list_all (piece_bits vs) l) (hold (used_in_arguments (arguments_given arguments))) (lower_arguments scope (arguments_given arguments)) _ (arguments_say (arguments_given arguments)) (λ all. by (list_all argument_bits all) (pieces_of (default_form kind) (ends_line kind) all)
       (ended_bits (ends_line kind) (list_all argument_bits all) (pieces_by (default_form kind) [] all) (pieces_are (default_form kind) [] all))))
     where
-      by : (b : Bool) (pieces : Option (List Piece)) → Pieces b pieces → Says (λ l. list_all (piece_bits vs) l) b (found pieces Kind (first_argument arguments))
+      by : (b : Bool) (pieces : Option (List Piece)) → Pieces b pieces → Says (λ l. list_all (piece_bits vs) l) b (value_or_fault pieces Kind (first_argument arguments))
       by b None s = tt
       by b (Some pieces) s = s
 

@@ -26,8 +26,8 @@ use Rattle.velab_expr.specs.declared.scope.Operand.TheVariants as operand
 use Rattle.velab_expr.specs.Answers.{◌>>=◌, require, answer_if, unless_flawed}
 use Rattle.velab_expr.specs.FirstWords.{first_in, first_among}
 use Rattle.velab_expr.specs.Scopes.{Scope, meaning_of, bounds_for, operand_by, variable_by, lower_name, lower_variable}
-use Rattle.velab_expr.specs.Constants.{nothing, checked_worth, part_bounds}
-use Rattle.velab_expr.specs.Resolved.{plain, operand_tree, bit_in, part_in, in_front, count_of, few, lower, lower_parts}
+use Rattle.velab_expr.specs.Constants.{nothing, checked_constant, part_bounds}
+use Rattle.velab_expr.specs.Resolved.{plain, operand_tree, bit_in, part_in, in_front, count_of, check_part_count, lower, lower_parts}
 use Rattle.velab_expr.specs.Written as written
 use Rattle.velab_expr.specs.Written.{lower_index, lower_target_by, lower_targets_by}
 use Rattle.velab_declaration.specs.Right.{is_net, is_some_net, writes_net, writes_nets}
@@ -341,15 +341,15 @@ module _ (vs : List Variable) (place : Place) (scope : Scope) (h : IsAt place sc
     lower_says fixed (text.part letters left right) =
         with_constants (bits_in vs) (use_of ReadIn fixed letters) (used_in true left ++ used_in true right) _ (both_hold place (used_in true left) (used_in true right) (constants_hold place left) (constants_hold place right))
         (last_says operand_bits (bits_in vs) (is_suited_later place (use_of ReadIn fixed letters)) (lower_name fixed scope letters) _ (bits_say fixed letters) (λ operand.
-        silent_says (bits_in vs) (operand_bits operand) (lower true scope left >>= checked_worth (first_in left)) _ (λ high.
-        silent_says (bits_in vs) (operand_bits operand) (lower true scope right >>= checked_worth (first_in right)) _ (λ low. part_says operand (part_bounds high low) letters))))
+        silent_says (bits_in vs) (operand_bits operand) (lower true scope left >>= checked_constant (first_in left)) _ (λ high.
+        silent_says (bits_in vs) (operand_bits operand) (lower true scope right >>= checked_constant (first_in right)) _ (λ low. part_says operand (part_bounds high low) letters))))
     lower_says fixed (text.parentheses inner) = lower_says fixed inner
     lower_says fixed (text.concatenation parts) =
         provided_says (bits_in vs) (holds (used_in_parts fixed parts)) (nat_le (count_of parts) 64) Width (first_among parts) (lower_parts fixed scope parts) (parts_say fixed parts)
     lower_says fixed (text.replication count parts) =
         behind_constants (bits_in vs) (used_in true count) (used_in_parts fixed parts) _ (constants_hold place count)
-        (silent_says (bits_in vs) (holds (used_in_parts fixed parts)) (lower true scope count >>= checked_worth (first_in count)) _ (λ amount.
-        last_says (bits_in vs) (bits_in vs) (holds (used_in_parts fixed parts)) (few parts (lower_parts fixed scope parts)) _
+        (silent_says (bits_in vs) (holds (used_in_parts fixed parts)) (lower true scope count >>= checked_constant (first_in count)) _ (λ amount.
+        last_says (bits_in vs) (bits_in vs) (holds (used_in_parts fixed parts)) (check_part_count parts (lower_parts fixed scope parts)) _
         (provided_says (bits_in vs) (holds (used_in_parts fixed parts)) (nat_le (count_of parts) 64) Width (first_among parts) (lower_parts fixed scope parts) (parts_say fixed parts)) (λ e. refl)))
     lower_says fixed (text.conversion signed inner) = last_says (bits_in vs) (bits_in vs) (holds (used_in fixed inner)) (lower fixed scope inner) _ (lower_says fixed inner) (λ o. refl)
     lower_says fixed (text.apply operator inner) = last_says (bits_in vs) (bits_in vs) (holds (used_in fixed inner)) (lower fixed scope inner) _ (lower_says fixed inner) (λ o. refl)

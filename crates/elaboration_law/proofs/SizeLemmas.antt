@@ -12,14 +12,14 @@ use Rattle.vast.specs.NumberedExpressions as text
 use Rattle.vvalue.specs.Value.{size_by, unary_size, part_size, size_of}
 use Rattle.vvalue.specs.OperandRules.{operand_rule, unary_operand_rule}
 use Rattle.vvalue.specs.declared.operand_rule.OperandRule.{OperandRule}
-use Rattle.vvalue.specs.declared.operand_rule.OperandRule.TheVariants.{Shares, Compares, Combines, Shifts}
+use Rattle.vvalue.specs.declared.operand_rule.OperandRule.TheVariants.{ContextDetermined, MaxSized, SelfDetermined, LeftContextDetermined}
 use Rattle.vvalue.specs.declared.operand_rule.UnaryOperandRule.{UnaryOperandRule}
-use Rattle.vvalue.specs.declared.operand_rule.UnaryOperandRule.TheVariants.{Keeps, Folds, Denies}
+use Rattle.vvalue.specs.declared.operand_rule.UnaryOperandRule.TheVariants.{SameContext, SelfReduced, SelfNegated}
 use Rattle.vdesign.specs.declared.expression.Bounds.{Bounds}
 use Rattle.vvalue.proofs.SelectLemmas.{part_length}
 use Rattle.velab_expr.specs.Literals as literals
 use Rattle.velab_expr.specs.Literals.{spelled_letters, first_byte, filling_letters, is_decimal_base, letters_per_digit, lettered_value, based_value, without_mark, digits_behind, size_before, constant_by, constant_of}
-use Rattle.velab_expr.specs.Constants.{nothing, worth, count_in}
+use Rattle.velab_expr.specs.Constants.{nothing, constant_value, count_in}
 use Rattle.velab_expr.specs.Resolved.{count_of}
 use Rattle.elaboration_law.specs.Widths.{Worth, meant, meant_parts, size_in, joined_size, part_in, selected_by}
 
@@ -33,15 +33,15 @@ abbrev pub AreVectors : (Text → Worth) → Type 0
 AreVectors named = (letters : Text) → IsSize (length (named letters).value.letters)
 
 binary_sized : (rule : OperandRule) (m n : ℕ) → IsSize m → IsSize n → IsSize (size_by rule m n)
-binary_sized (Shares operator) m n h k = record { some = omega (arith, h.some, k.some); few = omega (arith, h.few, k.few) }
-binary_sized (Compares operator) m n h k = record { some = omega arith; few = omega arith }
-binary_sized (Combines operator) m n h k = record { some = omega arith; few = omega arith }
-binary_sized (Shifts operator) m n h k = h
+binary_sized (ContextDetermined operator) m n h k = record { some = omega (arith, h.some, k.some); few = omega (arith, h.few, k.few) }
+binary_sized (MaxSized operator) m n h k = record { some = omega arith; few = omega arith }
+binary_sized (SelfDetermined operator) m n h k = record { some = omega arith; few = omega arith }
+binary_sized (LeftContextDetermined operator) m n h k = h
 
 unary_sized : (rule : UnaryOperandRule) (n : ℕ) → IsSize n → IsSize (unary_size rule n)
-unary_sized (Keeps operator) n h = h
-unary_sized (Folds operator) n h = record { some = omega arith; few = omega arith }
-unary_sized Denies n h = record { some = omega arith; few = omega arith }
+unary_sized (SameContext operator) n h = h
+unary_sized (SelfReduced operator) n h = record { some = omega arith; few = omega arith }
+unary_sized SelfNegated n h = record { some = omega arith; few = omega arith }
 
 max_sized : (m n : ℕ) → IsSize m → IsSize n → IsSize (max m n)
 max_sized m n h k = record { some = omega (arith, h.some, k.some); few = omega (arith, h.few, k.few) }
@@ -117,7 +117,7 @@ module _ (named : Text → Worth) (vectors : AreVectors named) where
     sized (text.parentheses inner) = sized inner
     sized (text.concatenation parts) = parts_sized parts
     sized (text.replication count parts) =
-        let times = count_in (worth (meant named count)) in
+        let times = count_in (constant_value (meant named count)) in
         clipped_sized (max 1 times * size_of nothing (meant_parts named parts))
         (times_some (max 1 times) (size_of nothing (meant_parts named parts)) (omega arith) (parts_sized parts).some)
     sized (text.conversion signed inner) = sized inner

@@ -8,7 +8,7 @@ use Rattle.vdesign.specs.declared.action.Edge.TheVariants.{Any}
 use Rattle.format_text.specs.Pieces.{pieces_of}
 use Rattle.velab_expr.specs.declared.fault.Rule.TheVariants.{Kind}
 use Rattle.velab_expr.specs.declared.fault.ElabFault.{ElabFault}
-use Rattle.velab_expr.specs.Answers.{found}
+use Rattle.velab_expr.specs.Answers.{value_or_fault}
 use Rattle.velab_expr.specs.FirstWords.{first_argument}
 use Rattle.velab_expr.specs.Scopes.{Scope, lower_event}
 use Rattle.velab_expr.specs.Resolved.{lower_expression}
@@ -61,7 +61,7 @@ module _ (q : Question) (scope : Scope) where
   line_knows kind arguments =
       subst (λ (uses : List Use). Fits q scope (uses ++ use_of_formats arguments ∷ []) (lower_line scope kind arguments)) (given_same used_in_arguments refl arguments)
       (known_judges q.asked (q.fits scope) (used_in_arguments (arguments_given arguments)) (use_of_formats arguments ∷ []) (lower_arguments scope (arguments_given arguments)) _ (arguments_know (arguments_given arguments)) (λ all is.
-      single q scope (use_of_formats arguments) (found (pieces_of (default_form kind) (ends_line kind) all) Kind (first_argument arguments))
+      single q scope (use_of_formats arguments) (value_or_fault (pieces_of (default_form kind) (ends_line kind) all) Kind (first_argument arguments))
       (q.of_formats scope (default_form kind) (ends_line kind) arguments all is)))
 
   task_knows : (table : Table) (call : TaskTree) → Fits q scope (used_in_task call) (lower_task scope table call)

@@ -35,7 +35,7 @@ use Rattle.velab_expr.specs.declared.fault.Rule.TheVariants.{Kind}
 use Rattle.velab_expr.specs.declared.fault.ElabFault.{ElabFault}
 use Rattle.velab_expr.specs.declared.scope.Meaning.{Meaning}
 use Rattle.velab_expr.specs.declared.scope.Meaning.TheVariants.{Variable, Parameter, Event, Instance}
-use Rattle.velab_expr.specs.Answers.{◌>>=◌, found}
+use Rattle.velab_expr.specs.Answers.{◌>>=◌, value_or_fault}
 use Rattle.velab_expr.specs.FirstWords.{first_in, first_argument}
 use Rattle.velab_expr.specs.Scopes.{Scope, meaning_of, event_by, lower_event}
 use Rattle.velab_expr.specs.Symbols.{behind_item}
@@ -157,9 +157,9 @@ control_quiet scope (by_terms term further) body =
 
 selection_quiet : (scope : Scope) (selection : Option SelectionTree) → Quiet (lower_selection scope selection)
 selection_quiet scope None = tt
-selection_quiet scope (Some selection) = quiet_then (found (levels_in selection.levels) Kind (Some selection.levels)) _ (by (levels_in selection.levels)) (λ levels. tt)
+selection_quiet scope (Some selection) = quiet_then (value_or_fault (levels_in selection.levels) Kind (Some selection.levels)) _ (by (levels_in selection.levels)) (λ levels. tt)
   where
-    by : (levels : Option ℕ) → Quiet (found levels Kind (Some selection.levels))
+    by : (levels : Option ℕ) → Quiet (value_or_fault levels Kind (Some selection.levels))
     by None = refl
     by (Some n) = tt
 
@@ -377,7 +377,7 @@ module _ (scope : Scope) (named : Text → Worth) (vectors : AreVectors named) (
           subst (λ (b : Bool). Told (first_flaw (argument_flaw now)) b (lower_arguments scope (arguments_given arguments)))
           (given_same (list_all (is_sized_argument named)) refl arguments) (arguments_told (arguments_given arguments))
 
-      by : (flaw : Option Flaw) (pieces : Option (List Piece)) → Says flaw holds → Have now flaw pieces → Told (first_flaw (piece_flaw now)) holds (found pieces Kind (first_argument arguments))
+      by : (flaw : Option Flaw) (pieces : Option (List Piece)) → Says flaw holds → Have now flaw pieces → Told (first_flaw (piece_flaw now)) holds (value_or_fault pieces Kind (first_argument arguments))
       by flaw None h k = λ e. absurd cc
       by flaw (Some pieces) h k = subst (λ (f : Option Flaw). Says f holds) (sym k) h
 

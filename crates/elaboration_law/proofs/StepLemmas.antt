@@ -6,8 +6,8 @@ use Rattle.velab_expr.specs.declared.fault.Rule.{Rule}
 use Rattle.velab_expr.specs.declared.fault.Rule.TheVariants.{TooMany}
 use Rattle.velab_expr.specs.declared.fault.ElabFault.{ElabFault}
 use Rattle.velab_expr.specs.Rules.{fault_at}
-use Rattle.velab_expr.specs.Answers.{◌>>=◌, answer_if, require, found}
-use Rattle.vhierarchy.specs.Instances.{barring, Part, few_enough}
+use Rattle.velab_expr.specs.Answers.{◌>>=◌, answer_if, require, value_or_fault}
+use Rattle.vhierarchy.specs.Instances.{unless_word, Part, few_enough}
 
 module _ {A : Type 0} where
   pub same_value : (x y : A) → (let one : Result A ElabFault = Ok x in one ≡ Ok y) → x ≡ y
@@ -39,20 +39,20 @@ module _ {A : Type 0} where
   required_err true rule word x fault is = absurd cc
   required_err false rule word x fault is = let same : fault_at rule word ≡ fault = cc in (refl, ap (λ (f : ElabFault). f.rule) (sym same))
 
-  pub barring_ok : (word : Option Word) (rule : Rule) (a : Result A ElabFault) (x : A) → barring word rule a ≡ Ok x → (word ≡ None) × (a ≡ Ok x)
+  pub barring_ok : (word : Option Word) (rule : Rule) (a : Result A ElabFault) (x : A) → unless_word word rule a ≡ Ok x → (word ≡ None) × (a ≡ Ok x)
   barring_ok None rule a x is = (refl, is)
   barring_ok (Some w) rule a x is = absurd cc
 
-  pub barring_err : (word : Option Word) (rule : Rule) (a : Result A ElabFault) (fault : ElabFault) → barring word rule a ≡ Err fault →
+  pub barring_err : (word : Option Word) (rule : Rule) (a : Result A ElabFault) (fault : ElabFault) → unless_word word rule a ≡ Err fault →
       ((w : Word) × (word ≡ Some w) × (fault.rule ≡ rule)) ⊎ ((word ≡ None) × (a ≡ Err fault))
   barring_err None rule a fault is = inr (refl, is)
   barring_err (Some w) rule a fault is = let same : fault_at rule (Some w) ≡ fault = cc in inl (w, refl, ap (λ (f : ElabFault). f.rule) (sym same))
 
-  pub found_ok : (x : Option A) (rule : Rule) (word : Option Word) (y : A) → found x rule word ≡ Ok y → x ≡ Some y
+  pub found_ok : (x : Option A) (rule : Rule) (word : Option Word) (y : A) → value_or_fault x rule word ≡ Ok y → x ≡ Some y
   found_ok None rule word y is = absurd cc
   found_ok (Some x) rule word y is = ap Some (same_value x y is)
 
-  pub found_err : (x : Option A) (rule : Rule) (word : Option Word) (fault : ElabFault) → found x rule word ≡ Err fault → (x ≡ None) × (fault.rule ≡ rule)
+  pub found_err : (x : Option A) (rule : Rule) (word : Option Word) (fault : ElabFault) → value_or_fault x rule word ≡ Err fault → (x ≡ None) × (fault.rule ≡ rule)
   found_err None rule word fault is = let same : fault_at rule word ≡ fault = cc in (refl, ap (λ (f : ElabFault). f.rule) (sym same))
   found_err (Some x) rule word fault is = absurd cc
 

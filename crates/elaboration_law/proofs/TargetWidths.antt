@@ -22,7 +22,7 @@ use Rattle.velab_expr.specs.declared.scope.Meaning.TheVariants.{Variable, Parame
 use Rattle.velab_expr.specs.Answers.{◌>>=◌, unless_flawed}
 use Rattle.velab_expr.specs.FirstWords.{first_in}
 use Rattle.velab_expr.specs.Scopes.{Scope, meaning_of, variable_by, lower_variable}
-use Rattle.velab_expr.specs.Constants.{nothing, worth, part_bounds}
+use Rattle.velab_expr.specs.Constants.{nothing, constant_value, part_bounds}
 use Rattle.velab_expr.specs.Resolved.{lower, lower_value}
 use Rattle.velab_expr.specs.Written.{lower_index, lower_target_by, lower_targets_by}
 use Rattle.elaboration_law.specs.Widths.{Worth, meant, is_sized, has_sized_parts, have_sized_parts, is_target}
@@ -90,18 +90,18 @@ module _ (now : Environment) where
 
   part_rows : (w : Worth) (left right : ExpressionTree) (one other : Bool) (a : Result ℕ ElabFault) (b c : Result Vector ElabFault) →
       IsVariable w a → IsMeasured left one b → IsMeasured right other c →
-      Rows (part_size (part_bounds (worth left) (worth right))) (one && (other && is_part w.bounds (part_bounds (worth left) (worth right))))
+      Rows (part_size (part_bounds (constant_value left) (constant_value right))) (one && (other && is_part w.bounds (part_bounds (constant_value left) (constant_value right))))
       (a >>= λ number. (b >>= λ high. c >>= λ low. Ok (part_bounds high low)) >>= λ bounds. Ok (target.Part number bounds ∷ []))
   part_rows w left right one other (Ok number) (Ok high) (Ok low) s h k =
-      let selected = part_bounds (worth left) (worth right) in
+      let selected = part_bounds (constant_value left) (constant_value right) in
       let holds = one && (other && is_part w.bounds selected) in
       let is : selected ≡ part_bounds high low = λ i. part_bounds (sym h.0 i) (sym k.0 i) in
       subst (λ (b : Bounds). IsRow (target.Part number b ∷ []) (part_size selected) holds) is
       (subst (IsRow (target.Part number selected ∷ []) (part_size selected)) (sym (behind_both one other (is_part w.bounds selected) h.1 k.1)) (selected_row w selected number s))
   part_rows w left right one other (Ok number) (Ok high) (Err fault) s h k =
-      λ e. second_false one (other && is_part w.bounds (part_bounds (worth left) (worth right))) (first_false other (is_part w.bounds (part_bounds (worth left) (worth right))) (k e))
+      λ e. second_false one (other && is_part w.bounds (part_bounds (constant_value left) (constant_value right))) (first_false other (is_part w.bounds (part_bounds (constant_value left) (constant_value right))) (k e))
   part_rows w left right one other (Ok number) (Err fault) c s h k =
-      λ e. first_false one (other && is_part w.bounds (part_bounds (worth left) (worth right))) (h e)
+      λ e. first_false one (other && is_part w.bounds (part_bounds (constant_value left) (constant_value right))) (h e)
   part_rows w left right one other (Err fault) b c s h k = λ e. absurd cc
 
   further_rows : (m n : ℕ) (one other : Bool) (a b : Result (List Target) ElabFault) → Rows m one a → Rows n other b →

@@ -4,8 +4,8 @@ use Rattle.vast.specs.NumberedWords.{Word}
 use Rattle.velab_expr.specs.declared.fault.Rule.{Rule}
 use Rattle.velab_expr.specs.declared.fault.Rule.TheVariants.{Top, Doubled, Unknown, Drivers, Ports, Width, Constant, Depth, TooMany, Kind}
 use Rattle.velab_expr.specs.declared.fault.ElabFault.{ElabFault}
-use Rattle.velab_expr.specs.Answers.{◌>>=◌, require, answer_if, found}
-use Rattle.vhierarchy.specs.Instances.{barring}
+use Rattle.velab_expr.specs.Answers.{◌>>=◌, require, answer_if, value_or_fault}
+use Rattle.vhierarchy.specs.Instances.{unless_word}
 
 -- a fault in it is of one of these rules
 abbrev pub Tells : {A : Type 0} → (Rule → Bool) → Result A ElabFault → Type 0
@@ -74,11 +74,11 @@ module _ (rules : Rule → Bool) where
   provided_tells true rule word a e h = h
   provided_tells false rule word a e h = e
 
-  pub barring_tells : {A : Type 0} (word : Option Word) (rule : Rule) (a : Result A ElabFault) → rules rule ≡ true → Tells rules a → Tells rules (barring word rule a)
+  pub barring_tells : {A : Type 0} (word : Option Word) (rule : Rule) (a : Result A ElabFault) → rules rule ≡ true → Tells rules a → Tells rules (unless_word word rule a)
   barring_tells None rule a e h = h
   barring_tells (Some word) rule a e h = e
 
-  pub found_tells : {A : Type 0} (x : Option A) (rule : Rule) (word : Option Word) → rules rule ≡ true → Tells rules (found x rule word)
+  pub found_tells : {A : Type 0} (x : Option A) (rule : Rule) (word : Option Word) → rules rule ≡ true → Tells rules (value_or_fault x rule word)
   found_tells None rule word e = e
   found_tells (Some x) rule word e = tt
 

@@ -10,7 +10,7 @@ use Rattle.vmodules.specs.Hierarchy.{module_of, top_of}
 use Rattle.vmodules.specs.Ports.{ports_of}
 use Rattle.velab_expr.specs.declared.fault.Rule.TheVariants.{Top, Doubled, TooMany}
 use Rattle.velab_expr.specs.declared.fault.ElabFault.{ElabFault}
-use Rattle.vhierarchy.specs.Instances.{barring, Instantiation, lower_list, named_again, lower_instances_of, lower_instances, lower_own, lower_names, Part, Context, broken_design, elaborated}
+use Rattle.vhierarchy.specs.Instances.{unless_word, Instantiation, lower_list, named_again, lower_instances_of, lower_instances, lower_own, lower_names, Part, Context, broken_design, elaborated}
 use Rattle.elaboration_law.specs.Hierarchy.{Instance, StandsBelow, top_instance}
 use Rattle.elaboration_law.specs.Laws.{IsMeant}
 use Rattle.elaboration_law.specs.Tops.{LacksModule, no_top, no_module}
@@ -39,13 +39,13 @@ module _ (modules : SourceTree) where
         lower_instances_of name before known found overrides list ≡ Err fault → found ≡ None
     of_missing name before known None overrides list is = refl
     of_missing name before known (Some m) overrides list is =
-        absurd (by (provided_err (nat_le (before + length list) 1024) TooMany (Some name) (barring (named_again m) Doubled (lower_list m known overrides list)) fault is))
+        absurd (by (provided_err (nat_le (before + length list) 1024) TooMany (Some name) (unless_word (named_again m) Doubled (lower_list m known overrides list)) fault is))
       where
         again : ((w : Word) × (named_again m ≡ Some w) × (fault.rule ≡ Doubled)) ⊎ ((named_again m ≡ None) × (lower_list m known overrides list ≡ Err fault)) → ⊥
         again (inl (w, is, other)) = cc
         again (inr (none, err)) = untold is_of_connections (lower_list m known overrides list) fault Top (list_tells m known overrides list) refl err rule
 
-        by : ((nat_le (before + length list) 1024 ≡ false) × (fault.rule ≡ TooMany)) ⊎ ((nat_le (before + length list) 1024 ≡ true) × (barring (named_again m) Doubled (lower_list m known overrides list) ≡ Err fault)) → ⊥
+        by : ((nat_le (before + length list) 1024 ≡ false) × (fault.rule ≡ TooMany)) ⊎ ((nat_le (before + length list) 1024 ≡ true) × (unless_word (named_again m) Doubled (lower_list m known overrides list) ≡ Err fault)) → ⊥
         by (inl (many, other)) = cc
         by (inr (few, err)) = again (barring_err (named_again m) Doubled (lower_list m known overrides list) fault err)
 

@@ -8,7 +8,7 @@ use Rattle.vast.specs.NumberedWords.{Word}
 use Rattle.velab_expr.specs.declared.fault.Rule.{Rule}
 use Rattle.velab_expr.specs.declared.fault.ElabFault.{ElabFault}
 use Rattle.velab_expr.specs.declared.fault.Rule.TheVariants.{Width, Constant, Kind}
-use Rattle.velab_expr.specs.Answers.{◌>>=◌, require, answer_if, found}
+use Rattle.velab_expr.specs.Answers.{◌>>=◌, require, answer_if, value_or_fault}
 use Rattle.velab_expr.specs.Scopes.{Scope, lower_name, lower_variable, lower_event}
 use Rattle.vast.specs.NumberedStatements.{ArgumentTree}
 use Rattle.vdesign.specs.declared.print.Form.{Form}
@@ -18,7 +18,7 @@ use Rattle.velab_expr.specs.Selections.{levels_in}
 use Rattle.velab_process.specs.Prints.{lower_arguments, arguments_given}
 use Rattle.velab_process.specs.Waits.{lower_term}
 use Rattle.vdesign.specs.declared.action.Edge.{Edge}
-use Rattle.vhierarchy.specs.Instances.{barring}
+use Rattle.vhierarchy.specs.Instances.{unless_word}
 use Rattle.elaboration_law.specs.Uses.{Use, Read, ReadIn, Written, WrittenIn, Driven, DrivenIn, Triggered, Awaited, use_of, use_of_time, use_of_formats, use_of_levels}
 
 abbrev pub Judges : {A : Type 0} → (Rule → Bool) → Bool → Result A ElabFault → Type 0
@@ -61,11 +61,11 @@ module _ (asked : Rule → Bool) where
   provided_judges one true rule word a not h = h
   provided_judges one false rule word a not h = λ e. absurd cc
 
-  pub barring_judges : {A : Type 0} (one : Bool) (word : Option Word) (rule : Rule) (a : Result A ElabFault) → asked rule ≡ false → Judges asked one a → Judges asked one (barring word rule a)
+  pub barring_judges : {A : Type 0} (one : Bool) (word : Option Word) (rule : Rule) (a : Result A ElabFault) → asked rule ≡ false → Judges asked one a → Judges asked one (unless_word word rule a)
   barring_judges one None rule a not h = h
   barring_judges one (Some word) rule a not h = λ e. absurd cc
 
-  pub found_judges : {A : Type 0} (x : Option A) (rule : Rule) (word : Option Word) → asked rule ≡ false → Judges asked true (found x rule word)
+  pub found_judges : {A : Type 0} (x : Option A) (rule : Rule) (word : Option Word) → asked rule ≡ false → Judges asked true (value_or_fault x rule word)
   found_judges None rule word not = λ e. absurd cc
   found_judges (Some x) rule word not = refl
 
@@ -106,8 +106,8 @@ pub record Question : Type 1 where
   pub of_term : (scope : Scope) (edge : Edge) (name : Word) → Judges asked (fits scope (use_of (Awaited edge) false name)) (lower_term scope edge name)
   pub of_time : {A : Type 0} (constant : Bool) (scope : Scope) (word : Option Word) (x : A) → Judges asked (fits scope (use_of_time constant)) (require (not constant) Constant word x)
   pub of_formats : (scope : Scope) (default : Form) (ends : Bool) (arguments : List ArgumentTree) (all : List Argument) → lower_arguments scope (arguments_given arguments) ≡ Ok all →
-      Judges asked (fits scope (use_of_formats arguments)) (found (pieces_of default ends all) Kind (first_argument arguments))
-  pub of_levels : (scope : Scope) (levels : Word) → Judges asked (fits scope (use_of_levels levels)) (found (levels_in levels) Kind (Some levels))
+      Judges asked (fits scope (use_of_formats arguments)) (value_or_fault (pieces_of default ends all) Kind (first_argument arguments))
+  pub of_levels : (scope : Scope) (levels : Word) → Judges asked (fits scope (use_of_levels levels)) (value_or_fault (levels_in levels) Kind (Some levels))
 
 -- the answer is one only where the question holds of all of these, and a fault of its rules only where it doesn't of one
 abbrev pub Fits : {A : Type 0} → Question → Scope → List Use → Result A ElabFault → Type 0

@@ -11,7 +11,7 @@ use Rattle.vdesign.specs.declared.expression.Bounds.{Bounds}
 use Rattle.vvalue.specs.Value.{part_of, part_size, size_of}
 use Rattle.vvalue.specs.Flaws.{is_part}
 use Rattle.velab_expr.specs.Literals.{constant_of}
-use Rattle.velab_expr.specs.Constants.{nothing, worth, bound_in, part_bounds, count_in}
+use Rattle.velab_expr.specs.Constants.{nothing, constant_value, bound_in, part_bounds, count_in}
 use Rattle.velab_expr.specs.Ranges.{span}
 use Rattle.velab_expr.specs.Resolved.{plain, no_parts, in_front}
 
@@ -37,10 +37,10 @@ module _ (named : Text → Worth) where
     meant (text.name letters) = plain (named letters.letters).value
     meant (text.time word) = design.time
     meant (text.bit letters index) = design.bit_of (named letters.letters).value (named letters.letters).bounds (meant index)
-    meant (text.part letters left right) = part_in (named letters.letters) (part_bounds (worth (meant left)) (worth (meant right)))
+    meant (text.part letters left right) = part_in (named letters.letters) (part_bounds (constant_value (meant left)) (constant_value (meant right)))
     meant (text.parentheses inner) = meant inner
     meant (text.concatenation parts) = meant_parts parts
-    meant (text.replication count parts) = design.repeated (count_in (worth (meant count))) (meant_parts parts)
+    meant (text.replication count parts) = design.repeated (count_in (constant_value (meant count))) (meant_parts parts)
     meant (text.conversion signed inner) = design.conversion signed (meant inner)
     meant (text.apply operator inner) = design.apply operator (meant inner)
     meant (text.combine operator left right) = design.combine operator (meant left) (meant right)
@@ -52,7 +52,7 @@ module _ (named : Text → Worth) where
 
   -- what a constant is worth
   abbrev pub constant_in : text.ExpressionTree → Vector
-  constant_in tree = worth (meant tree)
+  constant_in tree = constant_value (meant tree)
 
   -- 5.2.1: the bounds of a part
   abbrev pub selected_by : text.ExpressionTree → text.ExpressionTree → Bounds

@@ -16,7 +16,7 @@ use Rattle.vmodel.specs.Queue.{Later, Queue}
 use Rattle.vmodel.specs.State.{State}
 use Rattle.vmodel.specs.Choices.{choices}
 use Rattle.vmodel.specs.Holding.{held_after}
-use Rattle.vmodel.specs.Step.{StepResult, environment_of, execute_at, held_of, continuation_of, process_to_continue, goes_on, reschedule, posts, with_strobe, regions, with_moves_by, with_moves, with_step, with_woken, transition_with, action_transition, continuation_transition, without_update, with_update, with_advance, transition_of, with_views, transition_by, next}
+use Rattle.vmodel.specs.Step.{StepResult, environment_of, execute_at, held_of, continuation_of, process_to_continue, with_next_step, reschedule, posts, with_strobe, activate_next_region, with_moves_by, with_moves, with_step, with_woken, transition_with, action_transition, continuation_transition, without_update, with_update, with_advance, transition_of, with_views, transition_by, next}
 use Rattle.vmodel.specs.Run.{Setting, state_after}
 use Rattle.vmodel.specs.RunProgress.{opening_is, after_is}
 use Rattle.vmodel.specs.RunLaws.{IsAlwaysKept}
@@ -30,7 +30,7 @@ use Rattle.holding_law.proofs.ReleaseLemmas.{taken_none}
 -- ---- which process made the last step
 
 last-regions : (active : List ℕ) (activated : List (List Part)) (inactive : List ℕ) (posted : List (List Part)) (q : Queue) →
-    (regions active activated inactive posted q).last ≡ q.last
+    (activate_next_region active activated inactive posted q).last ≡ q.last
 last-regions (p ∷ ps) us is posts q = refl
 last-regions [] (u ∷ us) is posts q = refl
 last-regions [] [] (i ∷ is) posts q = refl
@@ -51,7 +51,7 @@ IsOwn p last = ForSome last (λ r. r ≡ p)
 own_none : (p : ℕ) → IsOwn p None
 own_none p = λ r e. cc
 
-own-goes_on : (p : ℕ) (left : List Frame) (q : Queue) → IsOwn p (goes_on p (process_to_continue p left) q).last
+own-goes_on : (p : ℕ) (left : List Frame) (q : Queue) → IsOwn p (with_next_step p (process_to_continue p left) q).last
 own-goes_on p [] q = own_none p
 own-goes_on p (frame ∷ rest) q = λ r e. let same : p ≡ r = cc in sym same
 

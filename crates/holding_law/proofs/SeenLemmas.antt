@@ -13,7 +13,7 @@ use Rattle.vmodel.specs.declared.choice.Choice.{Choice}
 use Rattle.vmodel.specs.declared.choice.Choice.TheVariants.{Run, Update, Advance}
 use Rattle.vmodel.specs.State.{State}
 use Rattle.vmodel.specs.InnerStep.{transition_to}
-use Rattle.vmodel.specs.Step.{Transition, environment_of, quiet, execute_at, held_of, with_step, place_of, with_moves_by, with_woken, monitors_by, complete, first_of, with_update, with_advance, action_transition, continuation_transition, continuation_of, transition_of, line_item, shown_items, slot_end_by, slot_end_of, strobe_items, before_end, items_of}
+use Rattle.vmodel.specs.Step.{Transition, environment_of, no_effect, execute_at, held_of, with_step, place_of, with_moves_by, with_woken, monitors_by, complete, first_of, with_update, with_advance, action_transition, continuation_transition, continuation_of, transition_of, line_item, shown_items, slot_end_by, slot_end_of, strobe_items, before_end, items_of}
 
 -- a state with this held back and printed, and a step whose state has that
 abbrev pub with_seen : Option (List ℕ) → Option (List (List ℕ)) → State → State
@@ -48,8 +48,8 @@ module _ (held : Option (List ℕ)) (printed : Option (List (List ℕ))) where
       transition_of design c (with_seen held printed s) ≡ with_seen_after held printed (transition_of design c s)
   transition-seen design (Run p) s = process-seen design p (continuation_of (slice_get s.processes p)) s
   transition-seen design Update s =
-      complete-seen (record quiet { wrote = first_of s.queue.activated }) (with_woken design s.values None (with_update s))
-  transition-seen design Advance s = complete-seen quiet (record s { queue = with_advance s.queue.future s.queue })
+      complete-seen (record no_effect { wrote = first_of s.queue.activated }) (with_woken design s.values None (with_update s))
+  transition-seen design Advance s = complete-seen no_effect (record s { queue = with_advance s.queue.future s.queue })
 
   shown-seen : (design : Design) (s : State) (shown : Option Shown) → shown_items design (with_seen held printed s) shown ≡ shown_items design s shown
   shown-seen design s None = refl

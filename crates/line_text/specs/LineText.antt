@@ -10,7 +10,7 @@ use Rattle.vdesign.specs.declared.print.Width.TheVariants.{Natural, Least, Place
 use Rattle.vdesign.specs.declared.print.Piece.{Piece}
 use Rattle.vdesign.specs.declared.print.Piece.TheVariants.{Text, Value}
 use Rattle.value_text.specs.ValueText.{binary, octal, hexadecimal, without_zeros, decimal_text, short_decimal, time_text, short_time, character, letters_text, short_letters, filled_in, right_in, zeros_in}
-use Rattle.vvalue.specs.Value.{Environment, by_itself}
+use Rattle.vvalue.specs.Value.{Environment, self_determined_value}
 
 -- 17.1.1.2: a value in all its digits, or letters; a time is told in units of the precision, of which so many make one of its own
 -- (17.3.2, 19.8)
@@ -64,7 +64,7 @@ shown_as form factor v = text_in form.width form.notation factor v
 
 abbrev pub piece_text : Environment → Piece → List ℕ
 piece_text now (Text bytes) = bytes
-piece_text now (Value form values_watched value) = shown_as form now.factor (by_itself now value)
+piece_text now (Value form values_watched value) = shown_as form now.factor (self_determined_value now value)
 
 abbrev pub pieces_text : Environment → List Piece → List ℕ
 pieces_text now [] = []
@@ -72,7 +72,7 @@ pieces_text now (piece ∷ pieces) = piece_text now piece ++ pieces_text now pie
 
 -- 17.1.3: the values of the arguments whose changes make a monitor print: all but a bare `$time`
 abbrev pub watched_one : Environment → Bool → ExpressionTree → List Vector
-watched_one now true value = by_itself now value ∷ []
+watched_one now true value = self_determined_value now value ∷ []
 watched_one now false value = []
 
 abbrev pub watched_in : Environment → Piece → List Vector

@@ -8,7 +8,7 @@ use Rattle.vdesign.specs.Expressions.{ExpressionTree}
 use Rattle.vdesign.specs.declared.action.Action.{Action}
 use Rattle.vdesign.specs.declared.action.Branch.{Branch}
 use Rattle.vvalue.specs.declared.size_and_sign.SizeAndSign.{SizeAndSign}
-use Rattle.vvalue.specs.Value.{Environment, own, common, value_of}
+use Rattle.vvalue.specs.Value.{Environment, self_determined, common, value_of}
 use Rattle.vvalue.specs.Cases.{matches, widest, places_at, places_of_case}
 use Rattle.velab_expr.specs.Scopes.{Scope}
 use Rattle.velab_expr.specs.Resolved.{no_parts, lower_expression}
@@ -100,7 +100,7 @@ module _ (scope : Scope) (actions : List Action) where
     widest_is here [] (b ∷ bs) are = absurd are
     widest_is here (c ∷ cs) [] are = absurd are
     widest_is here (c ∷ cs) (b ∷ bs) are =
-        ap (λ item. widest_of now (common here (own now item)) cs) (sym are.0.item) ∙ widest_is (common here (own now b.item)) cs bs are.1
+        ap (λ item. widest_of now (common here (self_determined now item)) cs) (sym are.0.item) ∙ widest_is (common here (self_determined now b.item)) cs bs are.1
 
     module _ (kind : CaseKind) (here : SizeAndSign) (value : Vector) (rest : List Pending) (after : List Frame) (stand : StandAt scope actions rest after) where
       either : (test : Bool) (one other : List Pending) (places others : List ℕ) → StandAt scope actions one (frames places after) → StandAt scope actions other (frames others after) →
@@ -129,8 +129,8 @@ module _ (scope : Scope) (actions : List Action) where
     chosen_stands kind value branches start lowered rest after is front stand =
         let laid : AreLaid (choices_of scope branches) (default_before branches) lowered =
         told_of (Laying (choices_of scope branches) (default_before branches)) (lower_branches scope start branches) lowered is (branches_stand start branches) front in
-        let here : SizeAndSign = widest now (own now value) lowered.branches in
+        let here : SizeAndSign = widest now (self_determined now value) lowered.branches in
         subst (λ size. StandAt scope actions (first_match now kind size (value_of now value size) (choices_of scope branches) rest (default_before branches rest))
         (frames (places_at now kind here (value_of now value here) lowered.branches lowered.otherwise) after))
-        (sym (widest_is (own now value) (choices_of scope branches) lowered.branches laid.branches))
+        (sym (widest_is (self_determined now value) (choices_of scope branches) lowered.branches laid.branches))
         (first_stands kind here (value_of now value here) rest after stand (choices_of scope branches) lowered.branches (default_before branches rest) lowered.otherwise laid.branches (laid.defaults rest after stand))

@@ -20,14 +20,14 @@ use Rattle.velab_process.specs.Waits.{any_of, names_in}
 use Rattle.velab_expr.specs.declared.fault.Rule.{Rule}
 use Rattle.velab_expr.specs.declared.fault.Rule.TheVariants as rules
 use Rattle.velab_expr.specs.declared.fault.ElabFault.{ElabFault}
-use Rattle.velab_expr.specs.Answers.{◌>>=◌, answer_if, require, found, value_or}
+use Rattle.velab_expr.specs.Answers.{◌>>=◌, answer_if, require, value_or_fault, value_or}
 use Rattle.velab_expr.specs.Scopes.{Scope}
 use Rattle.velab_expr.specs.Written.{lower_net_target, target_of}
 use Rattle.velab_expr.specs.Resolved.{lower_expression}
 use Rattle.velab_process.specs.Connections.{lower_input, lower_output, one_process, lower_join, lower_joins}
 use Rattle.velab_process.specs.Processes.{Processes, lower_items}
 use Rattle.velab_process.specs.Statements.{Table}
-use Rattle.vhierarchy.specs.Instances.{barring, broken_ports, unless_fault, top_whole, faultless, Part, Context, Instantiation, lower_names, lower_instances, lower_own_processes, with_own, few_enough, lower_own_variables, lower_own, child_context, each, elaborate_instance, nothing, no_scope, top_context, elaborate_top, Whole, design_by, broken_design, whole_of, elaborated_whole, elaborated, Elaborates}
+use Rattle.vhierarchy.specs.Instances.{unless_word, broken_ports, unless_fault, top_whole, value_unless_fault, Part, Context, Instantiation, lower_names, lower_instances, lower_own_processes, with_own, few_enough, lower_own_variables, lower_own, child_context, each, elaborate_instance, nothing, no_scope, top_context, elaborate_top, Whole, design_by, broken_design, whole_of, elaborated_whole, elaborated, Elaborates}
 use Rattle.vmodel.specs.Step.{frames}
 use Rattle.vmodel.specs.Run.{Setting, state_after}
 use Rattle.statement_law.specs.RunLaws.{IsSomewhere}
@@ -66,7 +66,7 @@ told_joined : {A B C : Type 0} (P : C → Type 0) (answer : Result A ElabFault) 
 told_joined P (Ok x) next last told = told
 told_joined P (Err fault) next last told = tt
 
-told_barring : {A : Type 0} (P : A → Type 0) (word : Option Word) (rule : Rule) (answer : Result A ElabFault) → Told P answer → Told P (barring word rule answer)
+told_barring : {A : Type 0} (P : A → Type 0) (word : Option Word) (rule : Rule) (answer : Result A ElabFault) → Told P answer → Told P (unless_word word rule answer)
 told_barring P None rule answer told = told
 told_barring P (Some word) rule answer told = tt
 
@@ -74,7 +74,7 @@ told_unbroken : {A : Type 0} (P : A → Type 0) (broken : Option ElabFault) (ans
 told_unbroken P None answer told = told
 told_unbroken P (Some fault) answer told = tt
 
-told_faultless : {A : Type 0} (P : A → Type 0) (fault : Option ElabFault) (x : A) → P x → Told P (faultless fault x)
+told_faultless : {A : Type 0} (P : A → Type 0) (fault : Option ElabFault) (x : A) → P x → Told P (value_unless_fault fault x)
 told_faultless P None x told = told
 told_faultless P (Some fault) x told = tt
 
@@ -212,7 +212,7 @@ top_stands modules m =
     told_faultless (WholeStands modules (Some m)) (broken_design m.name part) (record { unit = m; part = part })
     (subst (AllStand part.table.actions (begins_below 16 modules nothing (top_context m))) (sym adds.whole) (adds.stand (front_of_itself part.table.actions))))
 
-found_stands : (modules : SourceTree) (top : Option ModuleTree) (rule : Rule) (word : Option Word) → Told (WholeStands modules top) (found top rule word >>= λ m. whole_of modules m)
+found_stands : (modules : SourceTree) (top : Option ModuleTree) (rule : Rule) (word : Option Word) → Told (WholeStands modules top) (value_or_fault top rule word >>= λ m. whole_of modules m)
 found_stands modules None rule word = tt
 found_stands modules (Some m) rule word = top_stands modules m
 

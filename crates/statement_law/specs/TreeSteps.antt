@@ -15,7 +15,7 @@ use Rattle.vdesign.specs.declared.dump.DumpSwitch.{DumpSwitch}
 use Rattle.vdesign.specs.declared.dump.DumpSwitch.TheVariants as switches
 use Rattle.vdesign.specs.declared.print.Piece.{Piece}
 use Rattle.vvalue.specs.declared.size_and_sign.SizeAndSign.{SizeAndSign}
-use Rattle.vvalue.specs.Value.{Environment, holds, delay_of, own, common, value_of}
+use Rattle.vvalue.specs.Value.{Environment, holds, delay_of, self_determined, common, value_of}
 use Rattle.vvalue.specs.Cases.{matches, turns_of}
 use Rattle.velab_expr.specs.Answers.{value_or}
 use Rattle.velab_expr.specs.Scopes.{Scope, event_of}
@@ -166,7 +166,7 @@ default_before (first_branch branch more) rest = default_of_branch branch (defau
 -- the longest of the sizes, signed where all are
 abbrev pub widest_of : Environment → SizeAndSign → List Choice → SizeAndSign
 widest_of now here [] = here
-widest_of now here (choice ∷ more) = widest_of now (common here (own now choice.item)) more
+widest_of now here (choice ∷ more) = widest_of now (common here (self_determined now choice.item)) more
 
 -- the statement behind the first item that matches, and else what is under `default`
 abbrev pub first_match : Environment → CaseKind → SizeAndSign → Vector → List Choice → List Pending → List Pending → List Pending
@@ -177,7 +177,7 @@ first_match now kind here value (choice ∷ more) rest otherwise =
 
 abbrev pub chosen_before : Environment → CaseKind → ExpressionTree → List Choice → List Pending → List Pending → List Pending
 chosen_before now kind value choices rest otherwise =
-    let here = widest_of now (own now value) choices in
+    let here = widest_of now (self_determined now value) choices in
     first_match now kind here (value_of now value here) choices rest otherwise
 
 -- ---- clause 9

@@ -21,7 +21,7 @@ use Rattle.vvalue.specs.Cases.{matches, case_size_and_sign, places_at, places_of
 use Rattle.vmodel.specs.declared.process.Frame.{Frame}
 use Rattle.vmodel.specs.declared.process.Frame.TheVariants as frame
 use Rattle.vmodel.specs.declared.effect.Disposition.TheVariants.{Waiting}
-use Rattle.vmodel.specs.Step.{StepResult, quiet, frames, turns_left, place_of, execute, execute_turn, resume, execute_at}
+use Rattle.vmodel.specs.Step.{StepResult, no_effect, frames, turns_left, place_of, execute, execute_turn, resume, execute_at}
 use Rattle.vmodel.specs.InnerStep.{wait_result}
 use Rattle.vcompile.specs.Links.{place_number, first_point, branch_bodies, links_of, begins_by, is_repeat, counter_by, next_counter, counters_from}
 use Rattle.vcompile.specs.Listening.{resumes_at, events_in, lists_of}
@@ -352,8 +352,8 @@ module _ (design : Design) (code : Code) (facts : Holds design code) where
     step_executing (EventControl terms body) now there h = body_leads body (and_left (is_chain code.links (link_at code.links place).owner body (link_at code.links place).next) true h)
     step_executing (Wait condition terms body) now there h =
         choose (λ (result : StepResult). AreLed code process turns result.continuation) (holds now condition)
-        (record { continuation = frames body after; effect = quiet })
-        (record { continuation = frame.Executing place ∷ after; effect = record quiet { disposition = Waiting place } })
+        (record { continuation = frames body after; effect = no_effect })
+        (record { continuation = frame.Executing place ∷ after; effect = record no_effect { disposition = Waiting place } })
         (body_leads body (and_left (is_chain code.links (link_at code.links place).owner body (link_at code.links place).next) true h)) here
     step_executing (ContinuousAssign targets value terms) now there h = here
     step_executing (Print when pieces) now there h = rest

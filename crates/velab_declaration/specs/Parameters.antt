@@ -16,7 +16,7 @@ use Rattle.velab_expr.specs.declared.scope.Meaning.{Meaning}
 use Rattle.velab_expr.specs.declared.scope.Meaning.TheVariants.{Parameter, Event, Instance}
 use Rattle.velab_expr.specs.Answers.{◌>>=◌, require}
 use Rattle.velab_expr.specs.Scopes.{Scope, at}
-use Rattle.velab_expr.specs.Constants.{nothing, worth}
+use Rattle.velab_expr.specs.Constants.{nothing, constant_value}
 use Rattle.velab_expr.specs.Resolved.{lower_constant}
 use Rattle.velab_expr.specs.Ranges.{span, lower_bounds}
 use Rattle.velab_expr.specs.Symbols.{Symbol, symbols_in_head, symbols_by, valueless_by, name_in, events_in, parameter_symbol, event_symbol, instance_symbol}
@@ -30,8 +30,8 @@ pub record Overrides : Type 0 where
 -- 4.10.1: without a range it has the size of its value, and the value's sign unless it is declared to be signed
 abbrev pub typed_value : Bool → Option Bounds → ExpressionTree → Vector
 typed_value signed (Some bounds) value = with_sign (right_side nothing (span bounds) value) signed
-typed_value true None value = with_sign (worth value) true
-typed_value false None value = worth value
+typed_value true None value = with_sign (constant_value value) true
+typed_value false None value = constant_value value
 
 -- the bounds that a parameter is declared with, where it is
 abbrev pub lower_type : Scope → Option ParameterType → Result (Option Bounds) ElabFault
@@ -44,7 +44,7 @@ abbrev pub integer_length : Bool → ℕ
 integer_length long = if long then 64 else 32
 
 abbrev pub parameter_by : Option ParameterType → Option Bounds → ExpressionTree → Vector
-parameter_by None bounds value = worth value
+parameter_by None bounds value = constant_value value
 parameter_by (Some (integer long)) bounds value = with_sign (right_side nothing (integer_length long) value) (not long)
 parameter_by (Some (typed type)) bounds value = typed_value type.signed bounds value
 

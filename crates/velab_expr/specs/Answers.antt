@@ -29,9 +29,9 @@ answer_if true rule word answer = answer
 answer_if false rule word answer = refuse rule word
 
 -- what there is; where there is nothing, the rule is broken at this word
-abbrev pub found : {A : Type 0} → Option A → Rule → Option Word → Result A ElabFault
-found None rule word = refuse rule word
-found (Some x) rule word = Ok x
+abbrev pub value_or_fault : {A : Type 0} → Option A → Rule → Option Word → Result A ElabFault
+value_or_fault None rule word = refuse rule word
+value_or_fault (Some x) rule word = Ok x
 
 -- this, where no size is wrong
 abbrev pub unless_flawed : {A : Type 0} → Option Flaw → Option Word → A → Result A ElabFault

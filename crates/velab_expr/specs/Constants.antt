@@ -5,7 +5,7 @@ use Rattle.vbits.specs.Numbers as numbers
 use Rattle.vbits.specs.Vectors.{Vector, sign_letter}
 use Rattle.vdesign.specs.Expressions.{ExpressionTree}
 use Rattle.vdesign.specs.declared.expression.Bounds.{Bounds}
-use Rattle.vvalue.specs.Value.{Environment, by_itself}
+use Rattle.vvalue.specs.Value.{Environment, self_determined_value}
 use Rattle.vvalue.specs.Flaws.{flaw_of}
 use Rattle.vast.specs.NumberedWords.{Word}
 use Rattle.velab_expr.specs.Answers.{unless_flawed}
@@ -16,12 +16,12 @@ abbrev pub nothing : Environment
 nothing = record { values = []; variables = []; time = 0; factor = 1 }
 
 -- what a constant expression is worth
-abbrev pub worth : ExpressionTree → Vector
-worth tree = by_itself nothing tree
+abbrev pub constant_value : ExpressionTree → Vector
+constant_value tree = self_determined_value nothing tree
 
 -- the same where its sizes are right; else this is told by its first word
-abbrev pub checked_worth : Option Word → ExpressionTree → Result Vector ElabFault
-checked_worth word tree = unless_flawed (flaw_of nothing tree) word (worth tree)
+abbrev pub checked_constant : Option Word → ExpressionTree → Result Vector ElabFault
+checked_constant word tree = unless_flawed (flaw_of nothing tree) word (constant_value tree)
 
 abbrev pub is_negative : Vector → Bool
 is_negative value = is_one (sign_letter value)

@@ -9,7 +9,7 @@ use Rattle.velab_expr.specs.declared.fault.Rule.TheVariants as rule
 use Rattle.velab_expr.specs.FirstWords.{first_in}
 use Rattle.velab_expr.specs.Scopes.{Scope}
 use Rattle.velab_expr.specs.Constants.{bound_in}
-use Rattle.velab_expr.specs.Answers.{◌>>=◌, require, found}
+use Rattle.velab_expr.specs.Answers.{◌>>=◌, require, value_or_fault}
 use Rattle.velab_expr.specs.Resolved.{lower_value}
 
 -- rising or falling
@@ -18,17 +18,17 @@ span bounds = max bounds.left bounds.right - min bounds.left bounds.right + 1
 
 -- 4.3.1: a bound, told by its first word where it is none
 abbrev pub lower_bound : Scope → text.ExpressionTree → Result ℕ ElabFault
-lower_bound scope tree = lower_value scope tree >>= λ value. found (bound_in value) rule.Width (first_in tree)
+lower_bound scope tree = lower_value scope tree >>= λ value. value_or_fault (bound_in value) rule.Width (first_in tree)
 
 -- at most 64 bits from one bound to the other
-abbrev pub narrow : Option Word → Bounds → Result Bounds ElabFault
-narrow word bounds = require (nat_le (span bounds) 64) rule.Width word bounds
+abbrev pub check_range_size : Option Word → Bounds → Result Bounds ElabFault
+check_range_size word bounds = require (nat_le (span bounds) 64) rule.Width word bounds
 
 abbrev pub lower_range : Scope → RangeTree → Result Bounds ElabFault
 lower_range scope range =
     lower_bound scope range.left >>= λ left.
     lower_bound scope range.right >>= λ right.
-    narrow (first_in range.left) (record { left = left; right = right })
+    check_range_size (first_in range.left) (record { left = left; right = right })
 
 -- the bounds of a range, where there is one
 abbrev pub lower_bounds : Scope → Option RangeTree → Result (Option Bounds) ElabFault

@@ -13,7 +13,7 @@ use Rattle.velab_expr.specs.Answers.{◌>>=◌, require, answer_if, unless_flawe
 use Rattle.velab_expr.specs.Literals.{constant_of}
 use Rattle.velab_expr.specs.FirstWords.{first_in, first_among}
 use Rattle.velab_expr.specs.Scopes.{Scope, lower_name}
-use Rattle.velab_expr.specs.Constants.{nothing, checked_worth, part_bounds, count_in}
+use Rattle.velab_expr.specs.Constants.{nothing, checked_constant, part_bounds, count_in}
 use Rattle.velab_expr.specs.declared.fault.ElabFault.{ElabFault}
 use Rattle.velab_expr.specs.declared.fault.Rule.TheVariants.{Width, Constant}
 use Rattle.velab_expr.specs.declared.scope.Operand.{Operand}
@@ -53,12 +53,12 @@ count_of text.none = 0
 count_of (text.first one more) = count_of more + 1
 
 -- a vector has at most 64 bits (own), and each part has one at least
-abbrev pub few : text.ExpressionTrees → Result ExpressionTree ElabFault → Result ExpressionTree ElabFault
-few parts whole = answer_if (nat_le (count_of parts) 64) Width (first_among parts) whole
+abbrev pub check_part_count : text.ExpressionTrees → Result ExpressionTree ElabFault → Result ExpressionTree ElabFault
+check_part_count parts whole = answer_if (nat_le (count_of parts) 64) Width (first_among parts) whole
 
 -- the whole, so many times
-abbrev pub times : Vector → Result ExpressionTree ElabFault → Result ExpressionTree ElabFault
-times count whole = whole >>= λ e. Ok (repeated (count_in count) e)
+abbrev pub replicate_by : Vector → Result ExpressionTree ElabFault → Result ExpressionTree ElabFault
+replicate_by count whole = whole >>= λ e. Ok (repeated (count_in count) e)
 
 -- An expression of any kind, or one that is to be constant. Bounds of a part and counts are constants in either, and their sizes are right,
 -- or this is told by their first word. Parentheses have done their work.
@@ -71,13 +71,13 @@ abbrev mutual
       lower_name fixed scope letters >>= λ operand. lower fixed scope index >>= λ place. Ok (bit_in operand place)
   lower fixed scope (text.part letters left right) =
       lower_name fixed scope letters >>= λ operand.
-      (lower true scope left >>= checked_worth (first_in left)) >>= λ high.
-      (lower true scope right >>= checked_worth (first_in right)) >>= λ low.
+      (lower true scope left >>= checked_constant (first_in left)) >>= λ high.
+      (lower true scope right >>= checked_constant (first_in right)) >>= λ low.
       part_in operand (part_bounds high low) letters
   lower fixed scope (text.parentheses inner) = lower fixed scope inner
-  lower fixed scope (text.concatenation parts) = few parts (lower_parts fixed scope parts)
+  lower fixed scope (text.concatenation parts) = check_part_count parts (lower_parts fixed scope parts)
   lower fixed scope (text.replication count parts) =
-      (lower true scope count >>= checked_worth (first_in count)) >>= λ amount. times amount (few parts (lower_parts fixed scope parts))
+      (lower true scope count >>= checked_constant (first_in count)) >>= λ amount. replicate_by amount (check_part_count parts (lower_parts fixed scope parts))
   lower fixed scope (text.conversion signed inner) = lower fixed scope inner >>= λ operand. Ok (conversion signed operand)
   lower fixed scope (text.apply operator inner) = lower fixed scope inner >>= λ operand. Ok (apply operator operand)
   lower fixed scope (text.combine operator left right) =
@@ -96,7 +96,7 @@ abbrev mutual
 
 -- a concatenation
 abbrev pub lower_joined : Bool → Scope → text.ExpressionTrees → Result ExpressionTree ElabFault
-lower_joined fixed scope parts = few parts (lower_parts fixed scope parts)
+lower_joined fixed scope parts = check_part_count parts (lower_parts fixed scope parts)
 
 -- an expression of any kind
 abbrev pub lower_expression : Scope → text.ExpressionTree → Result ExpressionTree ElabFault
@@ -107,7 +107,7 @@ abbrev pub lower_constant : Scope → text.ExpressionTree → Result ExpressionT
 lower_constant scope tree = lower true scope tree >>= λ e. unless_flawed (flaw_of nothing e) (first_in tree) e
 
 abbrev pub lower_value : Scope → text.ExpressionTree → Result Vector ElabFault
-lower_value scope tree = lower true scope tree >>= checked_worth (first_in tree)
+lower_value scope tree = lower true scope tree >>= checked_constant (first_in tree)
 
 -- the expression, for those who know that there is one
 abbrev pub known_expression : Scope → text.ExpressionTree → ExpressionTree

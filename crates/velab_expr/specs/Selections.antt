@@ -7,7 +7,7 @@ use Rattle.vast.specs.NumberedWords.{Word}
 use Rattle.vast.specs.NumberedStatements.{SelectionTree}
 use Rattle.vdesign.specs.declared.dump.Chosen.{Chosen}
 use Rattle.velab_expr.specs.Literals.{constant_of}
-use Rattle.velab_expr.specs.Answers.{◌>>=◌, found, value_or}
+use Rattle.velab_expr.specs.Answers.{◌>>=◌, value_or_fault, value_or}
 use Rattle.velab_expr.specs.Scopes.{Scope}
 use Rattle.velab_expr.specs.declared.fault.ElabFault.{ElabFault}
 use Rattle.velab_expr.specs.declared.fault.Rule.TheVariants.{Kind}
@@ -33,7 +33,7 @@ chosen_by top levels (path ∷ more) = map (λ names. chosen_of levels (dotted_p
 abbrev pub lower_selection : Scope → Option SelectionTree → Result (List Chosen) ElabFault
 lower_selection scope None = Ok []
 lower_selection scope (Some selection) =
-    found (levels_in selection.levels) Kind (Some selection.levels) >>= λ levels. Ok (chosen_by scope.top levels selection.paths)
+    value_or_fault (levels_in selection.levels) Kind (Some selection.levels) >>= λ levels. Ok (chosen_by scope.top levels selection.paths)
 
 -- the selection, for those who know that there is one
 abbrev pub selection_of : Scope → Option SelectionTree → List Chosen

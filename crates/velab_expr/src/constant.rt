@@ -50,7 +50,7 @@ pub fn rule_of(flaw: Flaw) -> Rule
 /// What a constant expression is worth, which is written so. E306, or E310, where its sizes are wrong, at the first word that is written.
 pub fn worth_of(expression: &Expression, written: &Written) -> Result<Vec4, OrMemory<ElabFault>>
     ensures { (words : List Text) → Gives result
-        (spec.checked_worth (first_in (tree_of words written.now)) expression.now) }
+        (spec.checked_constant (first_in (tree_of words written.now)) expression.now) }
 {
     let environment = nothing();
     match flaw_of(expression, &environment) {

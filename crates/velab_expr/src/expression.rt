@@ -214,7 +214,7 @@ fn put_repeated(
     nodes: &mut Vec<Node>,
 ) -> Result<(), OrMemory<ElabFault>>
     ensures { Makes result nodes.new.items (nodes_behind nodes.old.items
-        (spec.times count
+        (spec.replicate_by count
         (lower_joined fixed scope.now (text.trees_of (words_of tokens.now) parts.now)))) }
 {
     put(nodes, Node::Repeated(count_in(count)))?;

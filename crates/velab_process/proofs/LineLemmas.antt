@@ -9,7 +9,7 @@ use Rattle.vast.specs.declared.statement.Printing.{Printing}
 use Rattle.velab_process.specs.Prints.{default_form, ends_line, arguments_given, lower_arguments, lower_line}
 use Rattle.velab_expr.specs.declared.fault.Rule.TheVariants.{Kind}
 use Rattle.velab_expr.specs.declared.fault.ElabFault.{ElabFault}
-use Rattle.velab_expr.specs.Answers.{◌>>=◌, found, Refuses, Gives}
+use Rattle.velab_expr.specs.Answers.{◌>>=◌, value_or_fault, Refuses, Gives}
 use Rattle.velab_expr.specs.FirstWords.{first_argument}
 use Rattle.velab_expr.specs.Scopes.{Scope}
 use Rattle.velab_expr.proofs.AnswerLemmas.{still_refused}
@@ -72,9 +72,9 @@ pub line_by : (default form : Form) (ends line_ends : Bool) (answer : Result (Li
     (pieces right : Option (List Piece)) (word : Option Word) → form ≡ default → line_ends ≡ ends →
     old ≡ record { pieces = []; format = []; default = form } → HasOk answer (λ all. Prints old all is_right new) →
     pieces ≡ with_line_end line_ends (pieces_with new []) → right ≡ right_pieces is_right pieces →
-    (answer >>= λ all. found (pieces_of default ends all) Kind word) ≡ found right Kind word
+    (answer >>= λ all. value_or_fault (pieces_of default ends all) Kind word) ≡ value_or_fault right Kind word
 line_by default form ends line_ends (Ok all) is_right old new pieces right word form_is ends_is starts prints is same =
-    ap (λ (ps : Option (List Piece)). found ps Kind word)
+    ap (λ (ps : Option (List Piece)). value_or_fault ps Kind word)
     (whole_line default ends old all is_right new pieces
     (starts ∙ ap (λ (f : Form). record { pieces = []; format = []; default = f }) form_is) prints
     (is ∙ ap (λ (e : Bool). with_line_end e (pieces_with new [])) ends_is)
@@ -96,5 +96,5 @@ line_refused scope kind arguments trees (Ok x) e h is refused = absurd h
 line_refused scope kind arguments trees (Err y) e h is refused =
     subst (λ (o : OrMemory ElabFault). Refuses o (lower_line scope kind arguments)) (sym h)
     (still_refused (lower_arguments scope trees) (lower_line scope kind arguments)
-    (λ fault same. ap (λ (a : Result (List Argument) ElabFault). a >>= λ all. found (pieces_of (default_form kind) (ends_line kind) all) Kind (first_argument arguments))
+    (λ fault same. ap (λ (a : Result (List Argument) ElabFault). a >>= λ all. value_or_fault (pieces_of (default_form kind) (ends_line kind) all) Kind (first_argument arguments))
     (ap (lower_arguments scope) (sym is) ∙ same)) e refused)

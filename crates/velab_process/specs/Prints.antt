@@ -18,7 +18,7 @@ use Rattle.format_text.specs.Pieces.{Argument, string, value, pieces_of}
 use Rattle.velab_expr.specs.declared.fault.ElabFault.{ElabFault}
 use Rattle.velab_expr.specs.declared.fault.Rule.TheVariants.{Kind}
 use Rattle.velab_expr.specs.FirstWords.{first_argument}
-use Rattle.velab_expr.specs.Answers.{◌>>=◌, found}
+use Rattle.velab_expr.specs.Answers.{◌>>=◌, value_or_fault}
 use Rattle.velab_expr.specs.Scopes.{Scope}
 use Rattle.velab_expr.specs.Resolved.{lower_expression}
 
@@ -85,4 +85,4 @@ arguments_given (one ∷ other ∷ more) = one ∷ other ∷ more
 -- the pieces that a task prints, where its formats are right (17.1.1); they are told by the first word of the arguments
 abbrev pub lower_line : Scope → Printing → List ArgumentTree → Result (List Piece) ElabFault
 lower_line scope kind arguments =
-    lower_arguments scope (arguments_given arguments) >>= λ all. found (pieces_of (default_form kind) (ends_line kind) all) Kind (first_argument arguments)
+    lower_arguments scope (arguments_given arguments) >>= λ all. value_or_fault (pieces_of (default_form kind) (ends_line kind) all) Kind (first_argument arguments)

@@ -46,16 +46,16 @@ lower_further scope (further ∷ more) =
     lower_term scope (edge_of further.term.edge) further.term.name >>= λ front. lower_further scope more >>= λ others. Ok (front ++ others)
 
 -- any change of a variable is heard; a parameter never changes, and an event or an instance has no value
-abbrev pub heard : Option Meaning → List Term
-heard None = []
-heard (Some (Variable number)) = Change Any number ∷ []
-heard (Some (Parameter value bounds before)) = []
-heard (Some (Event number)) = []
-heard (Some Instance) = []
+abbrev pub change_terms_of : Option Meaning → List Term
+change_terms_of None = []
+change_terms_of (Some (Variable number)) = Change Any number ∷ []
+change_terms_of (Some (Parameter value bounds before)) = []
+change_terms_of (Some (Event number)) = []
+change_terms_of (Some Instance) = []
 
 -- any change of each of these
 abbrev pub heard_by : Scope → Word → List Term
-heard_by scope name = heard (meaning_of scope name)
+heard_by scope name = change_terms_of (meaning_of scope name)
 
 abbrev pub any_of : Scope → List Word → List Term
 any_of scope list = flat_map (heard_by scope) list

@@ -10,7 +10,7 @@ ghost use Rattle.velab_expr.specs.Answers.{Gives, Makes, behind};
 ghost use Rattle.velab_expr.specs.Scopes.{meaning_of as spec_meaning};
 ghost use Rattle.velab_process.specs.Inner.{own_read, inner_read};
 ghost use Rattle.velab_process.specs.Waits as spec;
-ghost use Rattle.velab_process.specs.Waits.{any_of, names_in, names_in_parts, read_by, read_by_all, read_by_target, read_by_targets, read_by_own, read_by_assignment, read_by_argument, read_by_arguments, read_by_task, read_by_delay, lower_term, lower_further, lower_control, heard, read_by_items, read_by_branch, read_by_branches};
+ghost use Rattle.velab_process.specs.Waits.{any_of, names_in, names_in_parts, read_by, read_by_all, read_by_target, read_by_targets, read_by_own, read_by_assignment, read_by_argument, read_by_arguments, read_by_task, read_by_delay, lower_term, lower_further, lower_control, change_terms_of, read_by_items, read_by_branch, read_by_branches};
 
 use basis::{NoMemory, OrMemory};
 use std::alloc::Global;
@@ -62,7 +62,7 @@ fn put_name(
     terms: &mut Vec<Term>,
 ) -> Result<(), NoMemory>
     ensures { OnOk result (terms.new.items ≡ terms.old.items
-        ++ heard (spec_meaning scope.now (word_of (words_of tokens.now) name))) }
+        ++ change_terms_of (spec_meaning scope.now (word_of (words_of tokens.now) name))) }
 {
     match meaning_of(scope, tokens, name) {
         Some(Meaning::Variable(variable)) => {

@@ -10,7 +10,7 @@ use Rattle.vmodel.specs.declared.process.Frame.{Frame}
 use Rattle.vmodel.specs.declared.process.Frame.TheVariants.{Executing, Repeating, Writing}
 use Rattle.vmodel.specs.declared.effect.Disposition.TheVariants.{Delayed, Waiting}
 use Rattle.vmodel.specs.declared.effect.Effect.{Effect}
-use Rattle.vmodel.specs.Step.{StepResult, quiet, frames, turns_left, place_of, execute_at}
+use Rattle.vmodel.specs.Step.{StepResult, no_effect, frames, turns_left, place_of, execute_at}
 use Rattle.vmodel.specs.InnerStep.{wait_result, while_result}
 use Rattle.vcompile.specs.Laws.{turns_behind, HasCounters}
 
@@ -33,11 +33,11 @@ turns_more place zero after = refl
 turns_more place (suc n) after = refl
 
 while_more : (place : ℕ) (b : Bool) (body : List ℕ) (after : List Frame) → while_result place b body after ≡ before_left (while_result place b body []) after
-while_more place true body after = with_effect quiet (frames body (Executing place ∷ after)) (frames body (Executing place ∷ []) ++ after) (frames_more body (Executing place ∷ []) after)
+while_more place true body after = with_effect no_effect (frames body (Executing place ∷ after)) (frames body (Executing place ∷ []) ++ after) (frames_more body (Executing place ∷ []) after)
 while_more place false body after = refl
 
 wait_more : (place : ℕ) (b : Bool) (body : List ℕ) (after : List Frame) → wait_result place b body after ≡ before_left (wait_result place b body []) after
-wait_more place true body after = with_effect quiet (frames body after) (frames body [] ++ after) (frames_more body [] after)
+wait_more place true body after = with_effect no_effect (frames body after) (frames body [] ++ after) (frames_more body [] after)
 wait_more place false body after = refl
 
 pub continues : (frame : Frame) (action : Action) (after : List Frame) (held : Option Vector) (now : Environment) →
@@ -48,16 +48,16 @@ continues (Executing place) (AssignDelayed amount targets value) after held now 
 continues (Executing place) (NonblockingDelayed amount targets value) after held now = refl
 continues (Executing place) (Trigger event) after held now = refl
 continues (Executing place) (Test condition when_true otherwise) after held now =
-    with_effect quiet (frames (if holds now condition then when_true else otherwise) after) (frames (if holds now condition then when_true else otherwise) [] ++ after)
+    with_effect no_effect (frames (if holds now condition then when_true else otherwise) after) (frames (if holds now condition then when_true else otherwise) [] ++ after)
     (frames_more (if holds now condition then when_true else otherwise) [] after)
 continues (Executing place) (Case kind value branches otherwise) after held now =
-    with_effect quiet (frames (places_of_case now kind value branches otherwise) after) (frames (places_of_case now kind value branches otherwise) [] ++ after)
+    with_effect no_effect (frames (places_of_case now kind value branches otherwise) after) (frames (places_of_case now kind value branches otherwise) [] ++ after)
     (frames_more (places_of_case now kind value branches otherwise) [] after)
 continues (Executing place) (While condition body) after held now = while_more place (holds now condition) body after
-continues (Executing place) (Repeat count body) after held now = with_effect quiet (turns_left place (turns_of now count) after) (turns_left place (turns_of now count) [] ++ after) (turns_more place (turns_of now count) after)
-continues (Executing place) (Forever body) after held now = with_effect quiet (frames body (Executing place ∷ after)) (frames body (Executing place ∷ []) ++ after) (frames_more body (Executing place ∷ []) after)
-continues (Executing place) (Delay amount body) after held now = with_effect (record quiet { disposition = Delayed (delay_of now amount) }) (frames body after) (frames body [] ++ after) (frames_more body [] after)
-continues (Executing place) (EventControl terms body) after held now = with_effect (record quiet { disposition = Waiting place }) (frames body after) (frames body [] ++ after) (frames_more body [] after)
+continues (Executing place) (Repeat count body) after held now = with_effect no_effect (turns_left place (turns_of now count) after) (turns_left place (turns_of now count) [] ++ after) (turns_more place (turns_of now count) after)
+continues (Executing place) (Forever body) after held now = with_effect no_effect (frames body (Executing place ∷ after)) (frames body (Executing place ∷ []) ++ after) (frames_more body (Executing place ∷ []) after)
+continues (Executing place) (Delay amount body) after held now = with_effect (record no_effect { disposition = Delayed (delay_of now amount) }) (frames body after) (frames body [] ++ after) (frames_more body [] after)
+continues (Executing place) (EventControl terms body) after held now = with_effect (record no_effect { disposition = Waiting place }) (frames body after) (frames body [] ++ after) (frames_more body [] after)
 continues (Executing place) (Wait condition terms body) after held now = wait_more place (holds now condition) body after
 continues (Executing place) (ContinuousAssign targets value terms) after held now = refl
 continues (Executing place) (Print when pieces) after held now = refl
@@ -75,7 +75,7 @@ continues (Repeating place n) (Test condition when_true otherwise) after held no
 continues (Repeating place n) (Case kind value branches otherwise) after held now = refl
 continues (Repeating place n) (While condition body) after held now = refl
 continues (Repeating place n) (Repeat count body) after held now =
-    with_effect quiet (frames body (turns_left place (n - 1) after)) (frames body (turns_left place (n - 1) []) ++ after)
+    with_effect no_effect (frames body (turns_left place (n - 1) after)) (frames body (turns_left place (n - 1) []) ++ after)
     (ap (frames body) (turns_more place (n - 1) after) ∙ frames_more body (turns_left place (n - 1) []) after)
 continues (Repeating place n) (Forever body) after held now = refl
 continues (Repeating place n) (Delay amount body) after held now = refl

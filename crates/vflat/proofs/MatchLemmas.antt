@@ -21,7 +21,7 @@ use Rattle.vmodel.specs.Parts.{with_parts}
 use Rattle.vmodel.specs.Printed.{printed_after}
 use Rattle.vmodel.specs.Queue.{Queue}
 use Rattle.vmodel.specs.State.{Process, State, without_processes}
-use Rattle.vmodel.specs.Step.{StepResult, Transition, quiet, place_of, execute_at, process_to_continue, process_by, with_strobe, with_moves_by, monitors_by, complete, with_step, with_woken, transition_with, no_transition, environment_of, held_of, action_transition, continuation_transition, first_of, without_update, with_update, with_advance, transition_of, shown_items, slot_end_by, line_item, strobe_items, before_end, items_of, with_held_after, with_views, transition_by, next}
+use Rattle.vmodel.specs.Step.{StepResult, Transition, no_effect, place_of, execute_at, process_to_continue, process_by, with_strobe, with_moves_by, monitors_by, complete, with_step, with_woken, transition_with, no_transition, environment_of, held_of, action_transition, continuation_transition, first_of, without_update, with_update, with_advance, transition_of, shown_items, slot_end_by, line_item, strobe_items, before_end, items_of, with_held_after, with_views, transition_by, next}
 use Rattle.vmodel.specs.Waking.{wakes, awake}
 use Rattle.vmodel.proofs.MovedLemmas.{is_there, order-process_with_move}
 use Rattle.vmodel.proofs.OpenLemmas.{IsOpen, open_choice}
@@ -300,7 +300,7 @@ module _ (design : Design) (whole : (code_of design).whole ≡ true) (linked : I
 
     update_steps : StandsForStep design (flat_transition_of design (code_of design) Update (record f { rest = without_processes t })) (transition_of design Update t)
     update_steps = completes design (flat_updated (code_of design) (record f { rest = without_processes t })) (with_woken design t.values None (with_update t))
-        (record quiet { wrote = first_of t.queue.activated })
+        (record no_effect { wrote = first_of t.queue.activated })
         (woken_matches (record f { rest = with_update (without_processes t) }) (with_update t) t.values (first_of t.queue.activated) None
         (record { rest = refl; held = h.held; stands = h.stands; count = h.count; counted = h.counted }) refl (rises_without t.queue.activated t.queue kept.order.active))
 
@@ -308,7 +308,7 @@ module _ (design : Design) (whole : (code_of design).whole ≡ true) (linked : I
     advance_steps =
         rest_stands design (record f { rest = without_processes t }) t (transition_of design Advance (without_processes t)) (transition_of design Advance t) h
         (moves_processes_by t.cause (record t { queue = with_advance t.queue.future t.queue }))
-        (complete_bare quiet (record t { queue = with_advance t.queue.future t.queue }))
+        (complete_bare no_effect (record t { queue = with_advance t.queue.future t.queue }))
 
     choice_steps : (c : Choice) → IsOpen c t.queue → StandsForStep design (flat_transition_of design (code_of design) c (record f { rest = without_processes t })) (transition_of design c t)
     choice_steps (Run p) offered = run_steps p offered

@@ -30,7 +30,7 @@ use Rattle.vmodel.specs.Kept.{waits_of}
 use Rattle.vmodel.specs.Parts.{with_parts}
 use Rattle.vmodel.specs.Queue.{with_process}
 use Rattle.vmodel.specs.State.{Process, State, without_processes}
-use Rattle.vmodel.specs.Step.{StepResult, Transition, quiet, place_of, execute_at, posts, with_strobe, reschedule, complete, no_transition, environment_of, continuation_of, first_of, with_update, transition_of, with_views}
+use Rattle.vmodel.specs.Step.{StepResult, Transition, no_effect, place_of, execute_at, posts, with_strobe, reschedule, complete, no_transition, environment_of, continuation_of, first_of, with_update, transition_of, with_views}
 use Rattle.vmodel.specs.Waking.{hears}
 use Rattle.vcompile.specs.Links.{place_number}
 use Rattle.vcompile.specs.CodeOf.{code_of}
@@ -193,7 +193,7 @@ abbrev pub flat_transition_of : Design → Code → Choice → Flat → FlatTran
 flat_transition_of design code (Run p) f = flat_frame design code p (frame_at code f.turns (point_in f.points p)) f
 flat_transition_of design code Update f =
     let after = flat_updated code f in
-    with_rest after (complete (record quiet { wrote = first_of f.rest.queue.activated }) after.rest)
+    with_rest after (complete (record no_effect { wrote = first_of f.rest.queue.activated }) after.rest)
 flat_transition_of design code Advance f = with_rest f (transition_of design Advance f.rest)
 
 -- with what is held back and the lines of the slot

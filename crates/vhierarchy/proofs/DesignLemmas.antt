@@ -14,14 +14,14 @@ use Rattle.vmodules.proofs.NameLemmas.{doubles}
 use Rattle.vmodules.specs.Hierarchy.{top_of, module_names, rival_of}
 use Rattle.velab_expr.specs.declared.fault.Rule.TheVariants.{Doubled, Top}
 use Rattle.velab_expr.specs.declared.fault.ElabFault.{ElabFault}
-use Rattle.velab_expr.specs.Answers.{◌>>=◌, found, fault_of, Refuses, Gives}
+use Rattle.velab_expr.specs.Answers.{◌>>=◌, value_or_fault, fault_of, Refuses, Gives}
 use Rattle.velab_expr.specs.Rules.{fault_at, broken_at, IsBroken}
 use Rattle.velab_expr.proofs.ListLemmas.{drop_at}
 use Rattle.velab_expr.proofs.AnswerLemmas.{still_refused}
 use Rattle.velab_declaration.specs.Drives.{Place, start_of, with_start_values}
 use Rattle.velab_declaration.specs.DriveMarks.{starts_from}
 use Rattle.vhierarchy.proofs.StepLemmas.{barred, first_refused}
-use Rattle.vhierarchy.specs.Instances.{barring, faultless, Part, Context, nothing, top_context, elaborate_instance, elaborate_top, design_by, broken_design, Whole, check, whole_of, broken_ports, unless_fault, top_whole, elaborated_whole, as_design, elaborated, Elaborates}
+use Rattle.vhierarchy.specs.Instances.{unless_word, value_unless_fault, Part, Context, nothing, top_context, elaborate_instance, elaborate_top, design_by, broken_design, Whole, check, whole_of, broken_ports, unless_fault, top_whole, elaborated_whole, as_design, elaborated, Elaborates}
 use Rattle.vhierarchy.specs.Reasons.{IsDesignReason, IsOnlyDesign, HasNoDesign}
 use Rattle.vhierarchy.specs.Inner.{variable_names, scope_names, with_starts}
 
@@ -72,7 +72,7 @@ top_is m name names connections named none nothing_tied = λ i. record {
 -- what is broken of it is told, and nothing where none is
 module _ (scale : Timescale) (m : ModuleTree) (part : Part) where
   pub wrong : (e : OrMemory ElabFault) → Because (IsBroken (broken_design m.name part)) e → Refuses e (as_design scale (check m part))
-  wrong (Fault fault) h = ap (λ (b : Option ElabFault). as_design scale (faultless b (record { unit = m; part = part }))) h
+  wrong (Fault fault) h = ap (λ (b : Option ElabFault). as_design scale (value_unless_fault b (record { unit = m; part = part }))) h
   wrong (Memory memory) h = tt
 
   -- of the top
@@ -92,7 +92,7 @@ module _ (tree : SourceTree) (top : Option Text) (scale : Timescale) where
 
   module _ (differ : first_again (module_names tree) ≡ None) where
     ports_first : elaborated tree top scale ≡ as_design scale (unless_fault (broken_ports tree) (top_whole tree top))
-    ports_first = ap (λ (w : Option Word). as_design scale (barring w Doubled (unless_fault (broken_ports tree) (top_whole tree top)))) differ
+    ports_first = ap (λ (w : Option Word). as_design scale (unless_word w Doubled (unless_fault (broken_ports tree) (top_whole tree top)))) differ
 
     pub ports_broken : (e : OrMemory ElabFault) → Because (IsBroken (broken_ports tree)) e → Refuses e (elaborated tree top scale)
     ports_broken (Fault fault) h = ports_first ∙ ap (λ (b : Option ElabFault). as_design scale (unless_fault b (top_whole tree top))) h
@@ -102,7 +102,7 @@ module _ (tree : SourceTree) (top : Option Text) (scale : Timescale) where
     ports_sound none = ports_first ∙ ap (λ (b : Option ElabFault). as_design scale (unless_fault b (top_whole tree top))) none
 
   abbrev with_top : Option ModuleTree → Result Design ElabFault
-  with_top unit = as_design scale (found unit Top (rival_of tree top) >>= λ m. whole_of tree m)
+  with_top unit = as_design scale (value_or_fault unit Top (rival_of tree top) >>= λ m. whole_of tree m)
 
   pub top_missing : top_of tree top ≡ None → as_design scale (top_whole tree top) ≡ Err (fault_at Top (rival_of tree top))
   top_missing is = ap (λ (u : Option ModuleTree). with_top u) is

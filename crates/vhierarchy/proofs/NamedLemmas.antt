@@ -29,7 +29,7 @@ use Rattle.velab_expr.specs.Symbols.{behind_item, symbols_by}
 use Rattle.velab_declaration.specs.Variables.{port_names, Declaration, all_declared, kind_of, declared_as, declarations_of, port_declaration, variable_in, port_form, variables_in, variables_as, lower_kind, lower_declaration, lower_variables, lower_again, port_scope, lower_ports, integer_kind}
 use Rattle.velab_declaration.specs.declared.variable.Form.{Form}
 use Rattle.velab_declaration.specs.Drives.{Place, with_start_values}
-use Rattle.velab_expr.specs.Answers.{◌>>=◌, answer_if, require, found}
+use Rattle.velab_expr.specs.Answers.{◌>>=◌, answer_if, require, value_or_fault}
 use Rattle.velab_expr.specs.Ranges.{lower_bounds}
 use Rattle.velab_expr.specs.declared.fault.ElabFault.{ElabFault}
 use Rattle.vdesign.specs.declared.expression.Bounds.{Bounds}
@@ -37,7 +37,7 @@ use Rattle.velab_expr.specs.declared.fault.Rule.{Rule}
 use Rattle.velab_expr.specs.declared.fault.Rule.TheVariants.{Doubled, Ports, TooMany, Top}
 use Rattle.velab_expr.specs.Rules.{broken_if}
 use Rattle.velab_expr.proofs.FaultLemmas.{first_right}
-use Rattle.vhierarchy.specs.Instances.{barring, faultless, Instantiation, instantiation_by, lower_instance, lower_list, named_again, lower_instances_of, lower_instances_by, lower_instances, Part, Context, lower_names, lower_own_variables, lower_own_processes, with_own, few_enough, lower_own, child_context, each, elaborate_instance, nothing, top_context, elaborate_top, variable_paths, driven_in, design_by, broken_paths, broken_table, broken_design, Whole, check, whole_of, broken_ports, unless_fault, top_whole, elaborated_whole, as_design, Elaborates}
+use Rattle.vhierarchy.specs.Instances.{unless_word, value_unless_fault, Instantiation, instantiation_by, lower_instance, lower_list, named_again, lower_instances_of, lower_instances_by, lower_instances, Part, Context, lower_names, lower_own_variables, lower_own_processes, with_own, few_enough, lower_own, child_context, each, elaborate_instance, nothing, top_context, elaborate_top, variable_paths, driven_in, design_by, broken_paths, broken_table, broken_design, Whole, check, whole_of, broken_ports, unless_fault, top_whole, elaborated_whole, as_design, Elaborates}
 
 -- ---- letters and paths
 
@@ -302,11 +302,11 @@ passes_one p (Err fault) = true
 all_told : {A : Type 0} (p : A → Bool) (a : Result (List A) ElabFault) (list : List A) → all_pass p a ≡ true → a ≡ Ok list → list_all p list ≡ true
 all_told p a list all is = sym (ap (all_pass p) is) ∙ all
 
-barred_pass : {A : Type 0} (p : A → Bool) (word : Option Word) (rule : Rule) (a : Result (List A) ElabFault) → all_pass p a ≡ true → all_pass p (barring word rule a) ≡ true
+barred_pass : {A : Type 0} (p : A → Bool) (word : Option Word) (rule : Rule) (a : Result (List A) ElabFault) → all_pass p a ≡ true → all_pass p (unless_word word rule a) ≡ true
 barred_pass p None rule a all = all
 barred_pass p (Some word) rule a all = refl
 
-barred_one : {A : Type 0} (p : A → Bool) (word : Option Word) (rule : Rule) (a : Result A ElabFault) → passes_one p a ≡ true → passes_one p (barring word rule a) ≡ true
+barred_one : {A : Type 0} (p : A → Bool) (word : Option Word) (rule : Rule) (a : Result A ElabFault) → passes_one p a ≡ true → passes_one p (unless_word word rule a) ≡ true
 barred_one p None rule a all = all
 barred_one p (Some word) rule a all = refl
 
@@ -335,7 +335,7 @@ list_named child known overrides (one ∷ more) e all =
     let fits : Option Word = misfit one.name (letters_of (port_names child)) one.connections in
     let given : Result Instantiation ElabFault = Ok (instantiation_by child known overrides one) in
     one_passes wanted_is_named (lower_instance child known overrides one) (lower_list child known overrides more)
-    (barred_one wanted_is_named (misfit_if one.name (letters_of (open_names child)) overrides) Ports (barring fits Ports given)
+    (barred_one wanted_is_named (misfit_if one.name (letters_of (open_names child)) overrides) Ports (unless_word fits Ports given)
     (barred_one wanted_is_named fits Ports given
     (and_both (are_printable one.name.letters) (is_named child) (and_left (are_printable one.name.letters) (list_all are_printable (map (λ (x : InstanceTree). x.name.letters) more)) all) e)))
     (list_named child known overrides more e (and_right (are_printable one.name.letters) (list_all are_printable (map (λ (x : InstanceTree). x.name.letters) more)) all))
@@ -345,7 +345,7 @@ of_named : (name : Word) (before known : ℕ) (child : Option ModuleTree) (overr
     all_pass wanted_is_named (lower_instances_of name before known child overrides list) ≡ true
 of_named name before known None overrides list e all = refl
 of_named name before known (Some child) overrides list e all =
-    provided_pass wanted_is_named (nat_le (before + length list) 1024) TooMany (Some name) (barring (named_again child) Doubled (lower_list child known overrides list))
+    provided_pass wanted_is_named (nat_le (before + length list) 1024) TooMany (Some name) (unless_word (named_again child) Doubled (lower_list child known overrides list))
     (barred_pass wanted_is_named (named_again child) Doubled (lower_list child known overrides list) (list_named child known overrides list (e child refl) all))
 
 module _ (modules : SourceTree) (named : list_all is_named modules ≡ true) where
@@ -595,7 +595,7 @@ module _ (scale : Timescale) (m : ModuleTree) (unit : is_named m ≡ true) (whol
   checked_named : (part : Part) → all_paths part.variables ≡ true → check m part ≡ Ok whole → AreNamed (design_by scale whole.unit whole.part)
   checked_named part paths = by (broken_design m.name part) refl
     where
-      by : (broken : Option ElabFault) → broken_design m.name part ≡ broken → faultless broken (record { unit = m; part = part }) ≡ Ok whole → AreNamed (design_by scale whole.unit whole.part)
+      by : (broken : Option ElabFault) → broken_design m.name part ≡ broken → value_unless_fault broken (record { unit = m; part = part }) ≡ Ok whole → AreNamed (design_by scale whole.unit whole.part)
       by None right is =
           let same : record { unit = m; part = part } ≡ whole = cc in
           subst (λ (w : Whole). AreNamed (design_by scale w.unit w.part)) same
@@ -606,7 +606,7 @@ module _ (scale : Timescale) (m : ModuleTree) (unit : is_named m ≡ true) (whol
   whole_named (Ok part) paths is = checked_named part paths is
   whole_named (Err fault) paths is = absurd cc
 
-not_barred_is : {A : Type 0} (rule : Rule) (word : Option Word) (answer : Result A ElabFault) (x : A) → barring word rule answer ≡ Ok x → answer ≡ Ok x
+not_barred_is : {A : Type 0} (rule : Rule) (word : Option Word) (answer : Result A ElabFault) (x : A) → unless_word word rule answer ≡ Ok x → answer ≡ Ok x
 not_barred_is rule None answer x is = is
 not_barred_is rule (Some word) answer x is = absurd cc
 
@@ -615,7 +615,7 @@ unbroken_is None answer x is = is
 unbroken_is (Some fault) answer x is = absurd cc
 
 module _ (tree : SourceTree) (all : list_all is_named tree ≡ true) (top : Option Text) (scale : Timescale) where
-  found_named : (whole : Whole) (rival : Option Word) (unit : Option ModuleTree) → top_of tree top ≡ unit → (found unit Top rival >>= λ m. whole_of tree m) ≡ Ok whole →
+  found_named : (whole : Whole) (rival : Option Word) (unit : Option ModuleTree) → top_of tree top ≡ unit → (value_or_fault unit Top rival >>= λ m. whole_of tree m) ≡ Ok whole →
       AreNamed (design_by scale whole.unit whole.part)
   found_named whole rival None is_top is = absurd cc
   found_named whole rival (Some m) is_top is =

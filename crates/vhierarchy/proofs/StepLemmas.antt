@@ -9,7 +9,7 @@ use Rattle.velab_expr.specs.declared.fault.ElabFault.{ElabFault}
 use Rattle.velab_expr.specs.Answers.{◌>>=◌, behind, Refuses, Gives, Makes}
 use Rattle.velab_expr.specs.Rules.{fault_at, broken_at, IsBroken}
 use Rattle.velab_expr.proofs.AnswerLemmas.{still_refused}
-use Rattle.vhierarchy.specs.Instances.{barring}
+use Rattle.vhierarchy.specs.Instances.{unless_word}
 use Rattle.vhierarchy.specs.Inner.{GivesAs}
 
 -- the same answer under another name
@@ -40,7 +40,7 @@ pub then_is : {A B F : Type 0} (a : Result A F) (rest : A → Result B F) (x : A
 then_is a rest x is = ap (λ (r : Result _ _). r >>= rest) is
 
 -- a rule that is broken at a word, or at none
-pub barred : {A : Type 0} (rule : Rule) (word : Option Word) (answer : Result A ElabFault) (e : OrMemory ElabFault) → Because (IsBroken (broken_at rule word)) e → Refuses e (barring word rule answer)
+pub barred : {A : Type 0} (rule : Rule) (word : Option Word) (answer : Result A ElabFault) (e : OrMemory ElabFault) → Because (IsBroken (broken_at rule word)) e → Refuses e (unless_word word rule answer)
 barred rule None answer (Fault fault) h = absurd cc
 barred rule (Some word) answer (Fault fault) h = let same : fault_at rule (Some word) ≡ fault = cc in ap Err same
 barred rule word answer (Memory m) h = tt

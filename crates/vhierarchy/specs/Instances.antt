@@ -22,7 +22,7 @@ use Rattle.vdesign.specs.declared.dump.Chosen.{Chosen}
 use Rattle.velab_expr.specs.declared.fault.Rule.{Rule}
 use Rattle.velab_expr.specs.declared.fault.Rule.TheVariants as rule
 use Rattle.velab_expr.specs.declared.fault.ElabFault.{ElabFault}
-use Rattle.velab_expr.specs.Answers.{◌>>=◌, refuse, require, answer_if, found, fault_of}
+use Rattle.velab_expr.specs.Answers.{◌>>=◌, refuse, require, answer_if, value_or_fault, fault_of}
 use Rattle.velab_expr.specs.Rules.{fault_at, unless, broken_if}
 use Rattle.velab_declaration.specs.Right.{kind_rule}
 use Rattle.velab_declaration.specs.ActionFlaws.{blank_environment, flaw_rule, table_fault}
@@ -36,18 +36,18 @@ use Rattle.velab_declaration.specs.Parameters.{Overrides, Base, item_scope}
 use Rattle.velab_declaration.specs.Variables.{port_names, declared_names, port_scope, lower_ports, lower_variables}
 
 -- this answer, barring a word at which the rule is broken
-abbrev pub barring : {A : Type 0} → Option Word → Rule → Result A ElabFault → Result A ElabFault
-barring None rule answer = answer
-barring (Some word) rule answer = refuse rule (Some word)
+abbrev pub unless_word : {A : Type 0} → Option Word → Rule → Result A ElabFault → Result A ElabFault
+unless_word None rule answer = answer
+unless_word (Some word) rule answer = refuse rule (Some word)
 
 -- this answer, where none of these words stands again
-abbrev pub none_again : {A : Type 0} → Rule → List Word → Result A ElabFault → Result A ElabFault
-none_again rule words answer = barring (first_again words) rule answer
+abbrev pub unless_doubled : {A : Type 0} → Rule → List Word → Result A ElabFault → Result A ElabFault
+unless_doubled rule words answer = unless_word (first_again words) rule answer
 
 -- this, where no fault was found in it
-abbrev pub faultless : {A : Type 0} → Option ElabFault → A → Result A ElabFault
-faultless None x = Ok x
-faultless (Some fault) x = Err fault
+abbrev pub value_unless_fault : {A : Type 0} → Option ElabFault → A → Result A ElabFault
+value_unless_fault None x = Ok x
+value_unless_fault (Some fault) x = Err fault
 
 -- ---- the instances that a module has (12.1.2)
 
@@ -72,8 +72,8 @@ instantiation_by child known overrides one = record {
 -- what is said of parameters and what is connected to ports fits those that there are
 abbrev pub lower_instance : ModuleTree → ℕ → Option ConnectionsTree → InstanceTree → Result Instantiation ElabFault
 lower_instance child known overrides one =
-    barring (misfit_if one.name (letters_of (open_names child)) overrides) rule.Ports
-    (barring (misfit one.name (letters_of (port_names child)) one.connections) rule.Ports
+    unless_word (misfit_if one.name (letters_of (open_names child)) overrides) rule.Ports
+    (unless_word (misfit one.name (letters_of (port_names child)) one.connections) rule.Ports
     (Ok (instantiation_by child known overrides one)))
 
 abbrev pub lower_list : ModuleTree → ℕ → Option ConnectionsTree → List InstanceTree → Result (List Instantiation) ElabFault
@@ -91,7 +91,7 @@ abbrev pub lower_instances_of : Word → ℕ → ℕ → Option ModuleTree → O
 lower_instances_of name before known None overrides list = refuse rule.Top (Some name)
 lower_instances_of name before known (Some child) overrides list =
     answer_if (nat_le (before + length list) 1024) rule.TooMany (Some name)
-    (barring (named_again child) rule.Doubled (lower_list child known overrides list))
+    (unless_word (named_again child) rule.Doubled (lower_list child known overrides list))
 
 abbrev pub lower_instances_by : SourceTree → ℕ → ℕ → ItemTree → Result (List Instantiation) ElabFault
 lower_instances_by modules before known (parameters local type settings) = Ok []
@@ -160,7 +160,7 @@ has_room part context =
 -- its names, as they are known at its first item; a design has at most 1,024 variables
 abbrev pub lower_names : Part → Context → Result Scope ElabFault
 lower_names part context =
-    none_again rule.Doubled (declared_names context.unit)
+    unless_doubled rule.Doubled (declared_names context.unit)
     (answer_if (nat_le (length part.variables + length (declared_names context.unit)) 1024) rule.TooMany (Some context.name)
     (answer_if (has_room part context) rule.TooMany (Some context.name)
     (item_scope (base_of part context) context.unit)))
@@ -335,7 +335,7 @@ pub record Whole : Type 0 where
   pub part : Part
 
 abbrev pub check : ModuleTree → Part → Result Whole ElabFault
-check m part = faultless (broken_design m.name part) (record { unit = m; part = part })
+check m part = value_unless_fault (broken_design m.name part) (record { unit = m; part = part })
 
 abbrev pub whole_of : SourceTree → ModuleTree → Result Whole ElabFault
 whole_of modules m = elaborate_top modules m >>= λ part. check m part
@@ -357,10 +357,10 @@ unless_fault (Some fault) answer = Err fault
 
 -- where there is no top, a second module that could be it is told
 abbrev pub top_whole : SourceTree → Option Text → Result Whole ElabFault
-top_whole modules top = found (top_of modules top) rule.Top (rival_of modules top) >>= λ m. whole_of modules m
+top_whole modules top = value_or_fault (top_of modules top) rule.Top (rival_of modules top) >>= λ m. whole_of modules m
 
 abbrev pub elaborated_whole : SourceTree → Option Text → Result Whole ElabFault
-elaborated_whole modules top = none_again rule.Doubled (module_names modules) (unless_fault (broken_ports modules) (top_whole modules top))
+elaborated_whole modules top = unless_doubled rule.Doubled (module_names modules) (unless_fault (broken_ports modules) (top_whole modules top))
 
 abbrev pub as_design : Timescale → Result Whole ElabFault → Result design.Design ElabFault
 as_design scale answer = answer >>= λ whole. Ok (design_by scale whole.unit whole.part)

@@ -10,7 +10,7 @@ use Rattle.vmodel.specs.declared.part.Part.{Part}
 use Rattle.vmodel.specs.declared.process.Frame.{Frame}
 use Rattle.vmodel.specs.State.{Process}
 use Rattle.vmodel.specs.Queue.{Later, Queue, with_process, slot_with_sleeper, slot_with_update, later_at, later}
-use Rattle.vmodel.specs.Step.{leaves, process_to_continue, goes_on, sleeps, reschedule, posts_after, posts, regions, with_queue_moves, continuation_of, waits_by}
+use Rattle.vmodel.specs.Step.{without_active, process_to_continue, with_next_step, with_delay, reschedule, posts_after, posts, activate_next_region, with_queue_moves, continuation_of, waits_by}
 use Rattle.vmodel.specs.Kept.{IsInOrder, count_in, places, most_places, HasRest, waits_of, IsInPlace, IsIdle}
 use Rattle.vmodel.proofs.PlaceLemmas.{alike, count-other, count-self, count-without_self, count-without, count-with, asleep-wake, asleep-update, without_rises, with_rises, wake_rises, update_rises}
 
@@ -30,7 +30,7 @@ pub sleeps_by : (P : Queue → Type 0) (d : ℕ) (sleeper : Option ℕ) (q : Que
     ((p : ℕ) → sleeper ≡ Some p → P (record q { inactive = with_process p q.inactive })) →
     P (record q { beyond = true }) →
     ((t : ℕ) → q.time < t → t ≤ q.until → P (record q { future = later_at t (slot_with_sleeper sleeper) q.future })) →
-    P (sleeps d sleeper q)
+    P (with_delay d sleeper q)
 sleeps_by P zero None q stays lies past wakes = stays
 sleeps_by P zero (Some p) q stays lies past wakes = lies p refl
 sleeps_by P (suc d) sleeper q stays lies past wakes = later_by P (suc d) (slot_with_sleeper sleeper) q (omega arith) past wakes
@@ -59,7 +59,7 @@ pub settled_by : (P : Queue → Type 0) (q : Queue) → (¬ IsIdle q → P q) �
 settled_by P q stays wakes activates ends = at q.active q.activated q.inactive q.posted refl refl refl refl
   where
     at : (active : List ℕ) (activated : List (List Part)) (inactive : List ℕ) (posted : List (List Part)) →
-        q.active ≡ active → q.activated ≡ activated → q.inactive ≡ inactive → q.posted ≡ posted → P (regions active activated inactive posted q)
+        q.active ≡ active → q.activated ≡ activated → q.inactive ≡ inactive → q.posted ≡ posted → P (activate_next_region active activated inactive posted q)
     at (p ∷ ps) us is posts a b c d = stays (λ idle. let e : p ∷ ps ≡ [] = sym a ∙ idle.0 in cc)
     at [] (u ∷ us) is posts a b c d = stays (λ idle. let e : u ∷ us ≡ [] = sym b ∙ idle.1 in cc)
     at [] [] (i ∷ is) posts a b c d = wakes i is a c
@@ -68,10 +68,10 @@ settled_by P q stays wakes activates ends = at q.active q.activated q.inactive q
 
 -- ---- order
 
-order-leaves : (p : ℕ) (q : Queue) → IsInOrder q → IsInOrder (leaves p q)
+order-leaves : (p : ℕ) (q : Queue) → IsInOrder q → IsInOrder (without_active p q)
 order-leaves p q h = record { active = without_rises p 0 q.active h.active; inactive = h.inactive; future = h.future }
 
-order-sleeps : (d : ℕ) (sleeper : Option ℕ) (q : Queue) → IsInOrder q → IsInOrder (sleeps d sleeper q)
+order-sleeps : (d : ℕ) (sleeper : Option ℕ) (q : Queue) → IsInOrder q → IsInOrder (with_delay d sleeper q)
 order-sleeps d sleeper q h = sleeps_by IsInOrder d sleeper q h
     (λ p is. record { active = h.active; inactive = with_rises p 0 q.inactive h.inactive (omega arith); future = h.future })
     (record { active = h.active; inactive = h.inactive; future = h.future })
@@ -81,7 +81,7 @@ order-sleeps d sleeper q h = sleeps_by IsInOrder d sleeper q h
       future = wake_rises t (suc q.time) q.until sleeper q.future h.future lt within;
     })
 
-order-goes_on : (p : ℕ) (goes : Option ℕ) (q : Queue) → IsInOrder q → IsInOrder (goes_on p goes q)
+order-goes_on : (p : ℕ) (goes : Option ℕ) (q : Queue) → IsInOrder q → IsInOrder (with_next_step p goes q)
 order-goes_on p None q h = order-leaves p q h
 order-goes_on p (Some same) q h = record { active = h.active; inactive = h.inactive; future = h.future }
 
@@ -97,7 +97,7 @@ order-posts posted q h = posts_by IsInOrder posted q h
 
 order-reschedule : (p : ℕ) (disposition : Disposition) (goes : Option ℕ) (q : Queue) → IsInOrder q → IsInOrder (reschedule p disposition goes q)
 order-reschedule p Runnable goes q h = order-goes_on p goes q h
-order-reschedule p (Delayed d) goes q h = order-leaves p (sleeps d goes q) (order-sleeps d goes q h)
+order-reschedule p (Delayed d) goes q h = order-leaves p (with_delay d goes q) (order-sleeps d goes q h)
 order-reschedule p (Waiting place) goes q h = order-leaves p q h
 
 pub order-process_with_move : (p : ℕ) (disposition : Disposition) (posted : Option Post) (goes : Option ℕ) (q : Queue) → IsInOrder q → IsInOrder (reschedule p disposition goes (posts posted q))
@@ -106,10 +106,10 @@ order-process_with_move p disposition posted goes q h = order-reschedule p dispo
 -- ---- places
 
 -- what else stands somewhere stays where it is, or is gone
-places-leaves : (p r : ℕ) (q : Queue) → places r (leaves p q) ≤ places r q
+places-leaves : (p r : ℕ) (q : Queue) → places r (without_active p q) ≤ places r q
 places-leaves p r q = omega (arith, count-without p r q.active)
 
-places-sleeps : (r d : ℕ) (sleeper : Option ℕ) (q : Queue) → places r (sleeps d sleeper q) ≤ places r q + count_in r (option_to_list sleeper)
+places-sleeps : (r d : ℕ) (sleeper : Option ℕ) (q : Queue) → places r (with_delay d sleeper q) ≤ places r q + count_in r (option_to_list sleeper)
 places-sleeps r d sleeper q =
     sleeps_by (λ (after : Queue). places r after ≤ places r q + count_in r (option_to_list sleeper)) d sleeper q
     (omega arith)
@@ -121,7 +121,7 @@ count-process_to_continue : (r p : ℕ) (continuation : List Frame) → r ≢ p 
 count-process_to_continue r p [] ne = refl
 count-process_to_continue r p (frame ∷ rest) ne = count-other r p [] ne
 
-places-goes_on : (r p : ℕ) (goes : Option ℕ) (q : Queue) → places r (goes_on p goes q) ≤ places r q
+places-goes_on : (r p : ℕ) (goes : Option ℕ) (q : Queue) → places r (with_next_step p goes q) ≤ places r q
 places-goes_on r p None q = places-leaves p r q
 places-goes_on r p (Some same) q = omega arith
 
@@ -135,7 +135,7 @@ places-posts r posted q = posts_by (λ (after : Queue). places r after ≤ place
 places-reschedule : (r p : ℕ) (disposition : Disposition) (continuation : List Frame) (q : Queue) → r ≢ p → places r (reschedule p disposition (process_to_continue p continuation) q) ≤ places r q
 places-reschedule r p Runnable continuation q ne = places-goes_on r p (process_to_continue p continuation) q
 places-reschedule r p (Delayed d) continuation q ne =
-    omega (arith, places-leaves p r (sleeps d (process_to_continue p continuation) q), places-sleeps r d (process_to_continue p continuation) q, count-process_to_continue r p continuation ne)
+    omega (arith, places-leaves p r (with_delay d (process_to_continue p continuation) q), places-sleeps r d (process_to_continue p continuation) q, count-process_to_continue r p continuation ne)
 places-reschedule r p (Waiting place) continuation q ne = places-leaves p r q
 
 places-others : (r p : ℕ) (disposition : Disposition) (posted : Option Post) (continuation : List Frame) (q : Queue) → r ≢ p →
@@ -143,11 +143,11 @@ places-others : (r p : ℕ) (disposition : Disposition) (posted : Option Post) (
 places-others r p disposition posted continuation q ne = omega (arith, places-reschedule r p disposition continuation (posts posted q) ne, places-posts r posted q)
 
 -- an active process that stands nowhere else stands nowhere once it has left
-left_all : (p : ℕ) (q : Queue) → places p q ≤ 1 → 1 ≤ count_in p q.active → places p (leaves p q) ≡ 0
+left_all : (p : ℕ) (q : Queue) → places p q ≤ 1 → 1 ≤ count_in p q.active → places p (without_active p q) ≡ 0
 left_all p q once active = omega (arith, count-without_self p q.active)
 
 own-goes_on : (p : ℕ) (continuation : List Frame) (q : Queue) → places p q ≤ 1 → 1 ≤ count_in p q.active →
-    places p (goes_on p (process_to_continue p continuation) q) ≤ most_places None continuation
+    places p (with_next_step p (process_to_continue p continuation) q) ≤ most_places None continuation
 own-goes_on p [] q once active = omega (arith, left_all p q once active)
 own-goes_on p (frame ∷ rest) q once active = once
 
@@ -157,9 +157,9 @@ own-process_to_continue p (frame ∷ rest) = omega (arith, count-self p [])
 
 -- one that sleeps is where it sleeps, and active no more
 own-sleeps : (p d : ℕ) (sleeper : Option ℕ) (q : Queue) → places p q ≤ 1 → 1 ≤ count_in p q.active →
-    places p (leaves p (sleeps d sleeper q)) ≤ count_in p (option_to_list sleeper)
+    places p (without_active p (with_delay d sleeper q)) ≤ count_in p (option_to_list sleeper)
 own-sleeps p d sleeper q once active =
-    sleeps_by (λ (after : Queue). places p (leaves p after) ≤ count_in p (option_to_list sleeper)) d sleeper q
+    sleeps_by (λ (after : Queue). places p (without_active p after) ≤ count_in p (option_to_list sleeper)) d sleeper q
     (omega (arith, count-without_self p q.active))
     (λ s is. omega (arith, count-without_self p q.active, count-with s p q.inactive, ap (λ (o : Option ℕ). count_in p (option_to_list o)) is))
     (omega (arith, count-without_self p q.active))
@@ -186,14 +186,14 @@ LastIsActive q = ForSome q.last (λ p. 1 ≤ count_in p q.active)
 pub nobody_last : (q : Queue) → q.last ≡ None → LastIsActive q
 nobody_last q none = λ p e. let no : None ≡ Some p = sym none ∙ e in cc
 
-last-goes_on : (p : ℕ) (continuation : List Frame) (q : Queue) → 1 ≤ count_in p q.active → LastIsActive (goes_on p (process_to_continue p continuation) q)
-last-goes_on p [] q active = nobody_last (leaves p q) refl
+last-goes_on : (p : ℕ) (continuation : List Frame) (q : Queue) → 1 ≤ count_in p q.active → LastIsActive (with_next_step p (process_to_continue p continuation) q)
+last-goes_on p [] q active = nobody_last (without_active p q) refl
 last-goes_on p (frame ∷ rest) q active = λ r e. let same : p ≡ r = cc in subst (λ (n : ℕ). 1 ≤ count_in n q.active) same active
 
 last-reschedule : (p : ℕ) (disposition : Disposition) (continuation : List Frame) (q : Queue) → 1 ≤ count_in p q.active → LastIsActive (reschedule p disposition (process_to_continue p continuation) q)
 last-reschedule p Runnable continuation q active = last-goes_on p continuation q active
-last-reschedule p (Delayed d) continuation q active = nobody_last (leaves p (sleeps d (process_to_continue p continuation) q)) refl
-last-reschedule p (Waiting place) continuation q active = nobody_last (leaves p q) refl
+last-reschedule p (Delayed d) continuation q active = nobody_last (without_active p (with_delay d (process_to_continue p continuation) q)) refl
+last-reschedule p (Waiting place) continuation q active = nobody_last (without_active p q) refl
 
 last-process_with_move : (p : ℕ) (disposition : Disposition) (posted : Option Post) (continuation : List Frame) (q : Queue) → 1 ≤ count_in p q.active →
     LastIsActive (reschedule p disposition (process_to_continue p continuation) (posts posted q))

@@ -20,7 +20,7 @@ use Rattle.vmodel.specs.declared.choice.Choice.TheVariants.{Run, Update, Advance
 use Rattle.vmodel.specs.Queue.{Later, Queue}
 use Rattle.vmodel.specs.State.{State}
 use Rattle.vmodel.specs.Choices.{choices}
-use Rattle.vmodel.specs.Step.{environment_of, Transition, StepResult, execute_at, place_of, process_to_continue, goes_on, reschedule, posts, with_strobe, with_queue_moves, with_moves_by, with_woken, with_moves, with_step, transition_with, action_transition, continuation_transition, continuation_of, held_of, without_update, with_update, with_advance, transition_of, with_views, transition_by, next, shown_items, idle_items, slot_end_by, slot_end_of, strobe_items, before_end, end_items, items_of}
+use Rattle.vmodel.specs.Step.{environment_of, Transition, StepResult, execute_at, place_of, process_to_continue, with_next_step, reschedule, posts, with_strobe, with_queue_moves, with_moves_by, with_woken, with_moves, with_step, transition_with, action_transition, continuation_transition, continuation_of, held_of, without_update, with_update, with_advance, transition_of, with_views, transition_by, next, shown_items, idle_items, slot_end_by, slot_end_of, strobe_items, before_end, end_items, items_of}
 use Rattle.vmodel.specs.Run.{Setting, rules_of, opening_of, state_after, items_after}
 use Rattle.vmodel.specs.RunProgress.{opening_is, after_is, width_is}
 use Rattle.vmodel.specs.Kept.{RisesFrom, IsIdle, IsKept, slot_times, count_in}
@@ -121,7 +121,7 @@ time-with_moves s = by_cause s.cause
     by_cause (Some cause) = refl
     by_cause None = time-with_queue_moves s.queue
 
-time-goes_on : (p : ℕ) (goes : Option ℕ) (q : Queue) → (goes_on p goes q).time ≡ q.time
+time-goes_on : (p : ℕ) (goes : Option ℕ) (q : Queue) → (with_next_step p goes q).time ≡ q.time
 time-goes_on p None q = refl
 time-goes_on p (Some same) q = refl
 

@@ -8,7 +8,7 @@ use Rattle.vmodel.specs.declared.effect.Disposition.TheVariants.{Waiting}
 use Rattle.vmodel.specs.Queue.{Queue}
 use Rattle.sched_core.specs.declared.end.Cause.{Cause}
 use Rattle.vmodel.specs.State.{Process, State}
-use Rattle.vmodel.specs.Step.{StepResult, Transition, frames, process_to_continue, process_by, reschedule, posts, with_strobe, continuation_of, held_of, quiet}
+use Rattle.vmodel.specs.Step.{StepResult, Transition, frames, process_to_continue, process_by, reschedule, posts, with_strobe, continuation_of, held_of, no_effect}
 
 -- what a process holds, among all
 abbrev pub held_in : List Process → ℕ → Option Vector
@@ -53,13 +53,13 @@ step_result frame next after effect = record { continuation = frames next (behin
 
 -- what a loop at a place does where its condition holds, and where it does not
 abbrev pub while_result : ℕ → Bool → List ℕ → List Frame → StepResult
-while_result place holds body after = record { continuation = if holds then frames body (Executing place ∷ after) else after; effect = quiet }
+while_result place holds body after = record { continuation = if holds then frames body (Executing place ∷ after) else after; effect = no_effect }
 
 -- what a `wait` at a place does where its condition holds, and where it does not
 abbrev pub wait_result : ℕ → Bool → List ℕ → List Frame → StepResult
 wait_result place holds body after =
-    if holds then record { continuation = frames body after; effect = quiet }
-    else record { continuation = Executing place ∷ after; effect = record quiet { disposition = Waiting place } }
+    if holds then record { continuation = frames body after; effect = no_effect }
+    else record { continuation = Executing place ∷ after; effect = record no_effect { disposition = Waiting place } }
 
 -- the state after a step, what the step did, and the monitor events that ran
 abbrev pub transition_to : State → Effect → List ℕ → Transition
@@ -67,4 +67,4 @@ transition_to state effect monitors = record { state = state; effect = effect; m
 
 -- a step that ends the run
 abbrev pub effect_of_end : Cause → Effect
-effect_of_end cause = record quiet { cause = Some cause }
+effect_of_end cause = record no_effect { cause = Some cause }

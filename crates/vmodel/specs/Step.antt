@@ -49,8 +49,8 @@ pub record StepResult : Type 0 where
   pub effect : Effect
 
 -- a step that does nothing but go on
-abbrev pub quiet : Effect
-quiet = record {
+abbrev pub no_effect : Effect
+no_effect = record {
   held = None;
   disposition = Runnable;
   wrote = [];
@@ -77,9 +77,9 @@ turns_left place (suc n) after = Repeating place (suc n) ∷ after
 -- what a print action at a place shows: `$display` prints at once (17.1.1), `$strobe` makes a monitor event (17.1.2), and `$monitor`
 -- is in force from now on (17.1.3)
 abbrev pub print_effect : When → ℕ → Effect
-print_effect Now place = record quiet { shown = Some (Prints place) }
-print_effect AtSlotEnd place = record quiet { strobed = Some place }
-print_effect AtChange place = record quiet { shown = Some (Watches place) }
+print_effect Now place = record no_effect { shown = Some (Prints place) }
+print_effect AtSlotEnd place = record no_effect { strobed = Some place }
+print_effect AtChange place = record no_effect { shown = Some (Watches place) }
 
 -- the command that a dump task gives, but for $dumpvars (18.1.3, 18.1.4)
 abbrev pub command_of : DumpSwitch → DumpCommand
@@ -90,64 +90,64 @@ command_of switch.All = command.All
 -- what an action at a place does at a moment, of a process that has `after` left to do then
 abbrev pub execute : ℕ → Action → List Frame → Environment → StepResult
 -- 9.2.1: `targets = value` writes
-execute place (Assign targets value) after now = record { continuation = after; effect = record quiet { wrote = assigned_parts now targets value } }
+execute place (Assign targets value) after now = record { continuation = after; effect = record no_effect { wrote = assigned_parts now targets value } }
 -- 9.2.2, 11.6.4: `targets <= value` takes value and targets, and posts the update
-execute place (Nonblocking targets value) after now = record { continuation = after; effect = record quiet { posted = Some (post_after 0 (assigned_parts now targets value)) } }
+execute place (Nonblocking targets value) after now = record { continuation = after; effect = record no_effect { posted = Some (post_after 0 (assigned_parts now targets value)) } }
 -- 9.7.7, 11.6.3: `targets = #amount value` takes value and delay, and sleeps until it writes
 execute place (AssignDelayed amount targets value) after now =
-    record { continuation = Writing place ∷ after; effect = record quiet { held = Some (held_value now targets value); disposition = Delayed (delay_of now amount) } }
+    record { continuation = Writing place ∷ after; effect = record no_effect { held = Some (held_value now targets value); disposition = Delayed (delay_of now amount) } }
 -- 9.2.2, 9.7.7, 11.6.4: `targets <= #amount value` takes value, targets and delay, and posts the update for then
 execute place (NonblockingDelayed amount targets value) after now =
-    record { continuation = after; effect = record quiet { posted = Some (post_after (delay_of now amount) (assigned_parts now targets value)) } }
+    record { continuation = after; effect = record no_effect { posted = Some (post_after (delay_of now amount) (assigned_parts now targets value)) } }
 -- 9.7.3: `-> event` wakes what waits for the event; where nothing does, it is lost
-execute place (Trigger event) after now = record { continuation = after; effect = record quiet { triggered = Some event } }
+execute place (Trigger event) after now = record { continuation = after; effect = record no_effect { triggered = Some event } }
 -- 9.4: `if (condition) .. else ..`
 execute place (Test condition when_true otherwise) after now =
-    record { continuation = frames (if holds now condition then when_true else otherwise) after; effect = quiet }
+    record { continuation = frames (if holds now condition then when_true else otherwise) after; effect = no_effect }
 -- 9.5: `case (value) ..`
 execute place (Case kind value branches otherwise) after now =
-    record { continuation = frames (places_of_case now kind value branches otherwise) after; effect = quiet }
+    record { continuation = frames (places_of_case now kind value branches otherwise) after; effect = no_effect }
 -- 9.6: `while (condition) ..` tests once more after its body
 execute place (While condition body) after now =
-    record { continuation = if holds now condition then frames body (Executing place ∷ after) else after; effect = quiet }
+    record { continuation = if holds now condition then frames body (Executing place ∷ after) else after; effect = no_effect }
 -- 9.6: `repeat (count) ..` takes its count
-execute place (Repeat count body) after now = record { continuation = turns_left place (turns_of now count) after; effect = quiet }
+execute place (Repeat count body) after now = record { continuation = turns_left place (turns_of now count) after; effect = no_effect }
 -- 9.6: `forever ..` comes again after its body
-execute place (Forever body) after now = record { continuation = frames body (Executing place ∷ after); effect = quiet }
+execute place (Forever body) after now = record { continuation = frames body (Executing place ∷ after); effect = no_effect }
 -- 9.7.1: `#amount` suspends, and the body comes after it
-execute place (Delay amount body) after now = record { continuation = frames body after; effect = record quiet { disposition = Delayed (delay_of now amount) } }
+execute place (Delay amount body) after now = record { continuation = frames body after; effect = record no_effect { disposition = Delayed (delay_of now amount) } }
 -- 9.7.2: `@(terms)` waits, and the body comes after it
-execute place (EventControl terms body) after now = record { continuation = frames body after; effect = record quiet { disposition = Waiting place } }
+execute place (EventControl terms body) after now = record { continuation = frames body after; effect = record no_effect { disposition = Waiting place } }
 -- 9.7.6: `wait (condition)` goes on to its body, or waits and then tests once more; a condition that held only until then isn't seen (own)
 execute place (Wait condition terms body) after now =
-    if holds now condition then record { continuation = frames body after; effect = quiet }
-    else record { continuation = Executing place ∷ after; effect = record quiet { disposition = Waiting place } }
+    if holds now condition then record { continuation = frames body after; effect = no_effect }
+    else record { continuation = Executing place ∷ after; effect = record no_effect { disposition = Waiting place } }
 -- 6.1, 11.6.1: `assign targets = value` writes, waits for a change, and writes again, each in one step (own)
 execute place (ContinuousAssign targets value terms) after now =
-    record { continuation = Executing place ∷ after; effect = record quiet { wrote = assigned_parts now targets value; disposition = Waiting place } }
+    record { continuation = Executing place ∷ after; effect = record no_effect { wrote = assigned_parts now targets value; disposition = Waiting place } }
 -- 17.1: `$display(..)`, `$strobe(..)`, `$monitor(..)`
 execute place (Print when pieces) after now = record { continuation = after; effect = print_effect when place }
 -- 18.1: `$dumpvars(..)`, whose selection stands at its place, and its kin
-execute place (DumpVars selection) after now = record { continuation = after; effect = record quiet { shown = Some (Commands (command.Vars place)) } }
-execute place (Dump asked) after now = record { continuation = after; effect = record quiet { shown = Some (Commands (command_of asked)) } }
+execute place (DumpVars selection) after now = record { continuation = after; effect = record no_effect { shown = Some (Commands (command.Vars place)) } }
+execute place (Dump asked) after now = record { continuation = after; effect = record no_effect { shown = Some (Commands (command_of asked)) } }
 -- 18.1.1, 18.1.6: `$dumpfile` and `$dumpflush` do nothing more
-execute place NoOperation after now = record { continuation = after; effect = quiet }
+execute place NoOperation after now = record { continuation = after; effect = no_effect }
 -- 17.4.1: `$finish`
-execute place Finish after now = record { continuation = after; effect = record quiet { cause = Some Finished } }
+execute place Finish after now = record { continuation = after; effect = record no_effect { cause = Some Finished } }
 -- 17.4.2: `$stop`, which ends the run, as nobody is there to go on (own)
-execute place Stop after now = record { continuation = after; effect = record quiet { cause = Some Stopped } }
+execute place Stop after now = record { continuation = after; effect = record no_effect { cause = Some Stopped } }
 
 -- 9.6: what the start of a turn of the action at a place does, where so many turns are left: the body comes, and then the turns
 -- that are left after this one. No other action than `repeat` has turns
 abbrev pub execute_turn : ℕ → ℕ → Action → List Frame → StepResult
-execute_turn place n (Repeat count body) after = record { continuation = frames body (turns_left place (n - 1) after); effect = quiet }
-execute_turn place n _ after = record { continuation = Repeating place n ∷ after; effect = quiet }
+execute_turn place n (Repeat count body) after = record { continuation = frames body (turns_left place (n - 1) after); effect = no_effect }
+execute_turn place n _ after = record { continuation = Repeating place n ∷ after; effect = no_effect }
 
 -- 9.7.7, 11.6.3: what the second step of the suspended assignment at a place does, with the value that its process holds: the targets are
 -- found now, and written. No other action than `targets = #amount value` has such a step
 abbrev pub resume : ℕ → Action → List Frame → Option Vector → Environment → StepResult
-resume place (AssignDelayed amount targets value) after held now = record { continuation = after; effect = record quiet { wrote = resumed_parts now targets held } }
-resume place _ after held now = record { continuation = Writing place ∷ after; effect = quiet }
+resume place (AssignDelayed amount targets value) after held now = record { continuation = after; effect = record no_effect { wrote = resumed_parts now targets held } }
+resume place _ after held now = record { continuation = Writing place ∷ after; effect = no_effect }
 
 -- what the first of what is left does by the action at its place, with the value that the process holds
 abbrev pub execute_at : Frame → Action → List Frame → Option Vector → Environment → StepResult
@@ -163,8 +163,8 @@ place_of (Writing place) = place
 -- ---- what becomes of the process in the queue
 
 -- it isn't active any more
-abbrev pub leaves : ℕ → Queue → Queue
-leaves p q = record q { last = None; active = without_process p q.active }
+abbrev pub without_active : ℕ → Queue → Queue
+without_active p q = record q { last = None; active = without_process p q.active }
 
 -- the process, where it has something left
 abbrev pub process_to_continue : ℕ → List Frame → Option ℕ
@@ -172,9 +172,9 @@ process_to_continue p [] = None
 process_to_continue p (frame ∷ rest) = Some p
 
 -- it goes on as the process that made the last step, or has ended, where nothing is left
-abbrev pub goes_on : ℕ → Option ℕ → Queue → Queue
-goes_on p None q = leaves p q
-goes_on p (Some same) q = record q { last = Some same }
+abbrev pub with_next_step : ℕ → Option ℕ → Queue → Queue
+with_next_step p None q = without_active p q
+with_next_step p (Some same) q = record q { last = Some same }
 
 abbrev pub becomes_inactive : Option ℕ → Queue → Queue
 becomes_inactive None q = q
@@ -182,14 +182,14 @@ becomes_inactive (Some p) q = record q { inactive = with_process p q.inactive }
 
 -- 11.3, 9.7.1: it sleeps, inactive after a delay of 0 and else in the future; where nothing is left it has ended, and
 -- its delay still stands as a future time
-abbrev pub sleeps : ℕ → Option ℕ → Queue → Queue
-sleeps zero sleeper q = becomes_inactive sleeper q
-sleeps (suc d) sleeper q = later (suc d) (slot_with_sleeper sleeper) q
+abbrev pub with_delay : ℕ → Option ℕ → Queue → Queue
+with_delay zero sleeper q = becomes_inactive sleeper q
+with_delay (suc d) sleeper q = later (suc d) (slot_with_sleeper sleeper) q
 
 abbrev pub reschedule : ℕ → Disposition → Option ℕ → Queue → Queue
-reschedule p Runnable goes q = goes_on p goes q
-reschedule p (Delayed d) goes q = leaves p (sleeps d goes q)
-reschedule p (Waiting place) goes q = leaves p q
+reschedule p Runnable goes q = with_next_step p goes q
+reschedule p (Delayed d) goes q = without_active p (with_delay d goes q)
+reschedule p (Waiting place) goes q = without_active p q
 
 -- 11.4: an update stands after those posted before for its time, which is the current time, or later after a delay
 abbrev pub posts_after : ℕ → List Part → Queue → Queue
@@ -208,15 +208,15 @@ with_strobe strobed q = record q { strobes = q.strobes ++ option_to_list strobed
 
 -- while something is active it stays; else what is inactive becomes active; else what is posted is activated; else the monitor
 -- events have run, and the slot has ended
-abbrev pub regions : List ℕ → List (List Part) → List ℕ → List (List Part) → Queue → Queue
-regions (p ∷ ps) us is posts q = q
-regions [] (u ∷ us) is posts q = q
-regions [] [] (i ∷ is) posts q = record q { active = i ∷ is; inactive = [] }
-regions [] [] [] (u ∷ us) q = record q { activated = u ∷ us; posted = [] }
-regions [] [] [] [] q = record q { strobes = [] }
+abbrev pub activate_next_region : List ℕ → List (List Part) → List ℕ → List (List Part) → Queue → Queue
+activate_next_region (p ∷ ps) us is posts q = q
+activate_next_region [] (u ∷ us) is posts q = q
+activate_next_region [] [] (i ∷ is) posts q = record q { active = i ∷ is; inactive = [] }
+activate_next_region [] [] [] (u ∷ us) q = record q { activated = u ∷ us; posted = [] }
+activate_next_region [] [] [] [] q = record q { strobes = [] }
 
 abbrev pub with_queue_moves : Queue → Queue
-with_queue_moves q = regions q.active q.activated q.inactive q.posted q
+with_queue_moves q = activate_next_region q.active q.activated q.inactive q.posted q
 
 -- the monitor events that run in these moves, in order of creation (17.1.2)
 abbrev pub run_monitors : List ℕ → List (List Part) → List ℕ → List (List Part) → List ℕ → List ℕ
@@ -292,7 +292,7 @@ transition_with design p step s = complete step.effect (with_woken design s.valu
 
 -- nothing happens
 abbrev pub no_transition : State → Transition
-no_transition s = record { state = s; effect = quiet; monitors = [] }
+no_transition s = record { state = s; effect = no_effect; monitors = [] }
 
 -- 17.7.1: a time in units in which delays are written. Every time of a run is a multiple of its unit, so nothing is rounded
 abbrev pub written_time : ℕ → ℕ → ℕ
@@ -354,8 +354,8 @@ with_advance (e ∷ es) q =
 
 abbrev pub transition_of : Design → Choice → State → Transition
 transition_of design (Run p) s = process_transition design p s
-transition_of design Update s = complete (record quiet { wrote = first_of s.queue.activated }) (with_woken design s.values None (with_update s))
-transition_of design Advance s = complete quiet (record s { queue = with_advance s.queue.future s.queue })
+transition_of design Update s = complete (record no_effect { wrote = first_of s.queue.activated }) (with_woken design s.values None (with_update s))
+transition_of design Advance s = complete no_effect (record s { queue = with_advance s.queue.future s.queue })
 
 -- ---- what a step gives to the history
 

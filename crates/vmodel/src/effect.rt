@@ -75,7 +75,7 @@ pub struct Effect {
 impl Effect {
     /// What a step does that only goes on.
     pub fn quiet() -> Effect
-        ensures { result ≡ spec.quiet }
+        ensures { result ≡ spec.no_effect }
     {
         Effect {
             held: None,
@@ -92,7 +92,7 @@ impl Effect {
 
 /// A step that writes (6.2).
 pub(crate) fn write_effect(parts: Parts) -> Effect
-    ensures { result ≡ record spec.quiet { wrote = parts } }
+    ensures { result ≡ record spec.no_effect { wrote = parts } }
 {
     Effect {
         wrote: parts,
@@ -103,7 +103,7 @@ pub(crate) fn write_effect(parts: Parts) -> Effect
 impl Effect {
     // From here on it is that of a step that only goes on. Field by field, so that nothing is moved.
     fn quieten(&mut self)
-        ensures { self.new ≡ spec.quiet }
+        ensures { self.new ≡ spec.no_effect }
     {
         self.held = None;
         self.disposition = Disposition::Runnable;
@@ -125,7 +125,7 @@ impl Effect {
 
     // That of a step that writes (6.2).
     fn write(&mut self, parts: Parts)
-        ensures { self.new ≡ record spec.quiet { wrote = parts } }
+        ensures { self.new ≡ record spec.no_effect { wrote = parts } }
     {
         self.quieten();
         self.wrote = parts;
@@ -133,7 +133,7 @@ impl Effect {
 
     // That of a step that posts an update for so much later (11.4).
     fn post(&mut self, after: u128, parts: Parts)
-        ensures { self.new ≡ record spec.quiet { posted = Some (spec.post_after after parts) } }
+        ensures { self.new ≡ record spec.no_effect { posted = Some (spec.post_after after parts) } }
     {
         self.quieten();
         self.posted = Some(Post { after, parts });
@@ -141,7 +141,7 @@ impl Effect {
 
     // That of a step that triggers a named event (9.7.3).
     fn trigger(&mut self, event: usize)
-        ensures { self.new ≡ record spec.quiet { triggered = Some event } }
+        ensures { self.new ≡ record spec.no_effect { triggered = Some event } }
     {
         self.quieten();
         self.triggered = Some(event);
@@ -149,7 +149,7 @@ impl Effect {
 
     // That of a step that suspends its process (9.7).
     fn suspend(&mut self, disposition: Disposition)
-        ensures { self.new ≡ record spec.quiet { disposition = disposition } }
+        ensures { self.new ≡ record spec.no_effect { disposition = disposition } }
     {
         self.quieten();
         self.disposition = disposition;
@@ -157,7 +157,7 @@ impl Effect {
 
     // That of a step that shows something at once.
     fn show(&mut self, shown: Shown)
-        ensures { self.new ≡ record spec.quiet { shown = Some shown } }
+        ensures { self.new ≡ record spec.no_effect { shown = Some shown } }
     {
         self.quieten();
         self.shown = Some(shown);
@@ -165,7 +165,7 @@ impl Effect {
 
     // That of a step that creates a monitor event (17.1.2).
     fn strobe(&mut self, place: usize)
-        ensures { self.new ≡ record spec.quiet { strobed = Some place } }
+        ensures { self.new ≡ record spec.no_effect { strobed = Some place } }
     {
         self.quieten();
         self.strobed = Some(place);
@@ -304,7 +304,7 @@ fn branch_of<'d>(
 fn continuous_assign_of<'d>(place: usize, parts: Parts, effect: &mut Effect) -> Course<'d>
     ensures next { result.next.now ≡ [] }
     ensures then { result.then ≡ Some (Frame.Executing place) }
-    ensures effect { effect.new ≡ record spec.quiet { wrote = parts; disposition = Disposition.Waiting place } }
+    ensures effect { effect.new ≡ record spec.no_effect { wrote = parts; disposition = Disposition.Waiting place } }
 {
     effect.write(parts);
     effect.disposition = Disposition::Waiting(place);
@@ -322,7 +322,7 @@ fn assign_of<'d>(
     ensures next { IfOk result (λ course. course.next.now ≡ []) }
     ensures then { IfOk result (λ course. course.then ≡ None) }
     ensures effect { OnOk result
-        (effect.new ≡ record spec.quiet { wrote = assigned_at environment.now targets.now value.now }) }
+        (effect.new ≡ record spec.no_effect { wrote = assigned_at environment.now targets.now value.now }) }
 {
     effect.write(assigned_parts(alloc, targets, value, environment)?);
     Ok(goes_to(&[]))
@@ -339,7 +339,7 @@ fn post_of<'d>(
 ) -> Result<Course<'d>, NoMemory>
     ensures next { IfOk result (λ course. course.next.now ≡ []) }
     ensures then { IfOk result (λ course. course.then ≡ None) }
-    ensures effect { OnOk result (effect.new ≡ record spec.quiet {
+    ensures effect { OnOk result (effect.new ≡ record spec.no_effect {
       posted = Some (spec.post_after delay (assigned_at environment.now targets.now value.now));
     }) }
 {
@@ -358,7 +358,7 @@ fn assign_delayed_of<'d>(
 ) -> Course<'d>
     ensures next { result.next.now ≡ [] }
     ensures then { result.then ≡ Some (Frame.Writing place) }
-    ensures effect { effect.new ≡ record spec.quiet {
+    ensures effect { effect.new ≡ record spec.no_effect {
       held = Some (held_at environment.now targets.now value.now);
       disposition = Disposition.Delayed (delay_at environment.now amount.now);
     } }
@@ -519,7 +519,7 @@ fn written_of<'d>(
     ensures next { IfOk result (λ course. course.next.now ≡ []) }
     ensures then { IfOk result (λ course. course.then ≡ None) }
     ensures effect { OnOk result
-        (effect.new ≡ record spec.quiet { wrote = resumed_at environment.now targets.now held }) }
+        (effect.new ≡ record spec.no_effect { wrote = resumed_at environment.now targets.now held }) }
 {
     effect.write(resumed_parts(alloc, targets, held, environment)?);
     Ok(goes_to(&[]))

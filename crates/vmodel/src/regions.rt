@@ -4,7 +4,7 @@ ghost use Rattle.std.specs.Prelude.{◌≡◌, ◌<◌, ◌==◌, ◌&&◌, OnOk
 ghost use Rattle.std.specs.Option.{ForSome};
 ghost use Rattle.vmodel.specs.Queue.{slot_with_sleeper, slot_with_update, later};
 ghost use Rattle.vmodel.specs.Inner.{time_after as time_after_of, without_last_strobe};
-ghost use Rattle.vmodel.specs.Step.{leaves, goes_on, sleeps, reschedule, posts as posts_update, with_strobe, with_queue_moves, monitors_in, without_update, with_advance};
+ghost use Rattle.vmodel.specs.Step.{without_active, with_next_step, with_delay, reschedule, posts as posts_update, with_strobe, with_queue_moves, monitors_in, without_update, with_advance};
 
 use crate::effect::{Disposition, Effect, Post};
 use crate::future::{copy_future, post_at, wake_at};
@@ -52,7 +52,7 @@ impl Queue {
 
     /// The process isn't active any more.
     fn leave(&mut self, process: u32)
-        ensures { self.new ≡ leaves process self.old }
+        ensures { self.new ≡ without_active process self.old }
     {
         self.last = None;
         self.active.remove(process);
@@ -61,7 +61,7 @@ impl Queue {
     /// The process goes on as the one that made the last step, or has ended, where nothing is left of it.
     fn go_on(&mut self, process: u32, goes: Option<u32>)
         requires { ForSome goes (λ p. p < 256) }
-        ensures { self.new ≡ goes_on process goes self.old }
+        ensures { self.new ≡ with_next_step process goes self.old }
     {
         match goes {
             None => self.leave(process),
@@ -72,7 +72,7 @@ impl Queue {
     /// The process sleeps: inactive after a delay of 0, else in the future.
     fn sleep(&mut self, delay: u128, sleeper: Option<u32>) -> Result<(), NoMemory>
         requires { ForSome sleeper (λ p. p < 256) }
-        ensures ok { OnOk result (self.new ≡ sleeps delay sleeper self.old) }
+        ensures ok { OnOk result (self.new ≡ with_delay delay sleeper self.old) }
         ensures err { OnErr result (self.new ≡ self.old) }
     {
         if delay > 0 {

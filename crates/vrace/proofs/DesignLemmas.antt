@@ -25,7 +25,7 @@ use Rattle.vmodules.specs.Names.{first_again}
 use Rattle.vmodules.specs.Hierarchy.{module_names}
 use Rattle.velab_expr.specs.Answers.{◌>>=◌}
 use Rattle.velab_expr.specs.declared.fault.Rule.TheVariants.{Doubled}
-use Rattle.vhierarchy.specs.Instances.{Elaborates, Whole, as_design, barring, broken_ports, unless_fault, top_whole}
+use Rattle.vhierarchy.specs.Instances.{Elaborates, Whole, as_design, unless_word, broken_ports, unless_fault, top_whole}
 use Rattle.vhierarchy.specs.Reasons.{IsDesignReason, HasNoDesign}
 use Rattle.velab_expr.specs.declared.fault.ElabFault.{ElabFault}
 use Rattle.vrace.specs.ActionPlaces.{ArePlaced, ArePlacedInFiles}
@@ -94,7 +94,7 @@ err_of_text (Err fault) files source top read is reason =
 pub names_once : (tree : SourceTree) (top : Option Text) (scale : Timescale) (design : Design) → Elaborates tree top scale design → first_again (module_names tree) ≡ None
 names_once tree top scale design is = none_in (first_again (module_names tree)) (unless_fault (broken_ports tree) (top_whole tree top)) is
   where
-    none_in : (again : Option Word) (rest : Result Whole ElabFault) → as_design scale (barring again Doubled rest) ≡ Ok design → again ≡ None
+    none_in : (again : Option Word) (rest : Result Whole ElabFault) → as_design scale (unless_word again Doubled rest) ≡ Ok design → again ≡ None
     none_in None rest is = refl
     none_in (Some word) rest is = absurd cc
 

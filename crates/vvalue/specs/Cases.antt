@@ -9,7 +9,7 @@ use Rattle.vbits.specs.Vectors.{Vector, sign_letter}
 use Rattle.vdesign.specs.Expressions.{ExpressionTree}
 use Rattle.vdesign.specs.declared.action.Branch.{Branch}
 use Rattle.vvalue.specs.declared.size_and_sign.SizeAndSign.{SizeAndSign}
-use Rattle.vvalue.specs.Value.{Environment, own, common, value_of, by_itself}
+use Rattle.vvalue.specs.Value.{Environment, self_determined, common, value_of, self_determined_value}
 
 -- ---- 9.5: `case`
 
@@ -35,10 +35,10 @@ matches kind value item = all_pass kind value.letters item.letters
 -- 9.5: all expressions of a `case` stand at the longest of their sizes, signed where all are
 abbrev pub widest : Environment → SizeAndSign → List Branch → SizeAndSign
 widest now here [] = here
-widest now here (branch ∷ more) = widest now (common here (own now branch.item)) more
+widest now here (branch ∷ more) = widest now (common here (self_determined now branch.item)) more
 
 abbrev pub case_size_and_sign : Environment → ExpressionTree → List Branch → SizeAndSign
-case_size_and_sign now value branches = widest now (own now value) branches
+case_size_and_sign now value branches = widest now (self_determined now value) branches
 
 -- what comes next is the body of the first branch whose item matches, or else what stands under `default`
 abbrev pub places_at : Environment → CaseKind → SizeAndSign → Vector → List Branch → List ℕ → List ℕ
@@ -59,4 +59,4 @@ abbrev pub turns_in : Vector → ℕ
 turns_in count = if is_one (sign_letter count) then 0 else unwrap_or (number count.letters) 0
 
 unfoldable pub turns_of : Environment → ExpressionTree → ℕ
-turns_of now count = turns_in (by_itself now count)
+turns_of now count = turns_in (self_determined_value now count)

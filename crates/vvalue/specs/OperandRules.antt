@@ -9,46 +9,46 @@ use Rattle.vvalue.specs.declared.operand_rule.Compared.TheVariants as compared
 use Rattle.vvalue.specs.declared.operand_rule.Logical.TheVariants as logical
 use Rattle.vvalue.specs.declared.operand_rule.Shift.TheVariants as shift
 use Rattle.vvalue.specs.declared.operand_rule.OperandRule.{OperandRule}
-use Rattle.vvalue.specs.declared.operand_rule.OperandRule.TheVariants.{Shares, Compares, Combines, Shifts}
+use Rattle.vvalue.specs.declared.operand_rule.OperandRule.TheVariants.{ContextDetermined, MaxSized, SelfDetermined, LeftContextDetermined}
 use Rattle.vvalue.specs.declared.operand_rule.Sign.TheVariants as signs
 use Rattle.vvalue.specs.declared.operand_rule.UnaryOperandRule.{UnaryOperandRule}
-use Rattle.vvalue.specs.declared.operand_rule.UnaryOperandRule.TheVariants.{Keeps, Folds, Denies}
+use Rattle.vvalue.specs.declared.operand_rule.UnaryOperandRule.TheVariants.{SameContext, SelfReduced, SelfNegated}
 
 abbrev pub operand_rule : BinaryOperator → OperandRule
-operand_rule binary.Times = Shares shared.Times
-operand_rule binary.Divide = Shares shared.Divide
-operand_rule binary.Remainder = Shares shared.Remainder
-operand_rule binary.Plus = Shares shared.Plus
-operand_rule binary.Minus = Shares shared.Minus
-operand_rule binary.ShiftLeft = Shifts shift.Left
-operand_rule binary.ShiftRight = Shifts shift.Right
-operand_rule binary.ShiftLeftSigned = Shifts shift.Left
-operand_rule binary.ShiftRightSigned = Shifts shift.RightSigned
-operand_rule binary.Less = Compares compared.Less
-operand_rule binary.LessOrEqual = Compares compared.LessOrEqual
-operand_rule binary.Greater = Compares compared.Greater
-operand_rule binary.GreaterOrEqual = Compares compared.GreaterOrEqual
-operand_rule binary.Equal = Compares compared.Equal
-operand_rule binary.NotEqual = Compares compared.NotEqual
-operand_rule binary.CaseEqual = Compares compared.CaseEqual
-operand_rule binary.CaseNotEqual = Compares compared.CaseNotEqual
-operand_rule binary.And = Shares shared.And
-operand_rule binary.Xor = Shares shared.Xor
-operand_rule binary.Xnor = Shares shared.Xnor
-operand_rule binary.XorNot = Shares shared.Xnor
-operand_rule binary.Or = Shares shared.Or
-operand_rule binary.LogicalAnd = Combines logical.And
-operand_rule binary.LogicalOr = Combines logical.Or
+operand_rule binary.Times = ContextDetermined shared.Times
+operand_rule binary.Divide = ContextDetermined shared.Divide
+operand_rule binary.Remainder = ContextDetermined shared.Remainder
+operand_rule binary.Plus = ContextDetermined shared.Plus
+operand_rule binary.Minus = ContextDetermined shared.Minus
+operand_rule binary.ShiftLeft = LeftContextDetermined shift.Left
+operand_rule binary.ShiftRight = LeftContextDetermined shift.Right
+operand_rule binary.ShiftLeftSigned = LeftContextDetermined shift.Left
+operand_rule binary.ShiftRightSigned = LeftContextDetermined shift.RightSigned
+operand_rule binary.Less = MaxSized compared.Less
+operand_rule binary.LessOrEqual = MaxSized compared.LessOrEqual
+operand_rule binary.Greater = MaxSized compared.Greater
+operand_rule binary.GreaterOrEqual = MaxSized compared.GreaterOrEqual
+operand_rule binary.Equal = MaxSized compared.Equal
+operand_rule binary.NotEqual = MaxSized compared.NotEqual
+operand_rule binary.CaseEqual = MaxSized compared.CaseEqual
+operand_rule binary.CaseNotEqual = MaxSized compared.CaseNotEqual
+operand_rule binary.And = ContextDetermined shared.And
+operand_rule binary.Xor = ContextDetermined shared.Xor
+operand_rule binary.Xnor = ContextDetermined shared.Xnor
+operand_rule binary.XorNot = ContextDetermined shared.Xnor
+operand_rule binary.Or = ContextDetermined shared.Or
+operand_rule binary.LogicalAnd = SelfDetermined logical.And
+operand_rule binary.LogicalOr = SelfDetermined logical.Or
 
 abbrev pub unary_operand_rule : UnaryOperator → UnaryOperandRule
-unary_operand_rule unary.Plus = Keeps signs.Plus
-unary_operand_rule unary.Minus = Keeps signs.Minus
-unary_operand_rule unary.Not = Denies
-unary_operand_rule unary.Invert = Keeps signs.Invert
-unary_operand_rule unary.And = Folds reduction.And
-unary_operand_rule unary.Nand = Folds reduction.Nand
-unary_operand_rule unary.Or = Folds reduction.Or
-unary_operand_rule unary.Nor = Folds reduction.Nor
-unary_operand_rule unary.Xor = Folds reduction.Xor
-unary_operand_rule unary.Xnor = Folds reduction.Xnor
-unary_operand_rule unary.XorNot = Folds reduction.Xnor
+unary_operand_rule unary.Plus = SameContext signs.Plus
+unary_operand_rule unary.Minus = SameContext signs.Minus
+unary_operand_rule unary.Not = SelfNegated
+unary_operand_rule unary.Invert = SameContext signs.Invert
+unary_operand_rule unary.And = SelfReduced reduction.And
+unary_operand_rule unary.Nand = SelfReduced reduction.Nand
+unary_operand_rule unary.Or = SelfReduced reduction.Or
+unary_operand_rule unary.Nor = SelfReduced reduction.Nor
+unary_operand_rule unary.Xor = SelfReduced reduction.Xor
+unary_operand_rule unary.Xnor = SelfReduced reduction.Xnor
+unary_operand_rule unary.XorNot = SelfReduced reduction.Xnor

@@ -7,7 +7,7 @@ use Rattle.vdesign.specs.Expressions.{ExpressionTree}
 use Rattle.vdesign.specs.declared.action.Target.{Target}
 use Rattle.vdesign.specs.declared.action.Target.TheVariants.{Whole, Bit, Part}
 use Rattle.vvalue.specs.declared.target.Span.{Span}
-use Rattle.vvalue.specs.Value.{Environment, value_at, bounds_of, place_in, index_in, part_size, by_itself}
+use Rattle.vvalue.specs.Value.{Environment, value_at, bounds_of, place_in, index_in, part_size, self_determined_value}
 
 abbrev pub target_size : Environment → Target → ℕ
 target_size now (Whole n) = length (value_at now n).letters
@@ -21,7 +21,7 @@ targets_size now (target ∷ more) = target_size now target + targets_size now m
 
 -- how far the bit `name[index]` stands from the rightmost; there is none where the index is unknown, negative or out of range
 abbrev pub place_at : Environment → ℕ → ExpressionTree → Option ℕ
-place_at now n index = option_and_then (place_in (bounds_of now n)) (index_in (by_itself now index))
+place_at now n index = option_and_then (place_in (bounds_of now n)) (index_in (self_determined_value now index))
 
 -- whether numbers fall from left to right
 abbrev pub falls : Bounds → Bool

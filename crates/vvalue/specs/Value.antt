@@ -16,12 +16,12 @@ use Rattle.vvalue.specs.declared.operand_rule.Logical.TheVariants as logical
 use Rattle.vvalue.specs.declared.operand_rule.Shift.{Shift}
 use Rattle.vvalue.specs.declared.operand_rule.Shift.TheVariants as shift
 use Rattle.vvalue.specs.declared.operand_rule.OperandRule.{OperandRule}
-use Rattle.vvalue.specs.declared.operand_rule.OperandRule.TheVariants.{Shares, Compares, Combines, Shifts}
+use Rattle.vvalue.specs.declared.operand_rule.OperandRule.TheVariants.{ContextDetermined, MaxSized, SelfDetermined, LeftContextDetermined}
 use Rattle.vvalue.specs.declared.size_and_sign.SizeAndSign.{SizeAndSign}
 use Rattle.vvalue.specs.declared.operand_rule.Sign.{Sign}
 use Rattle.vvalue.specs.declared.operand_rule.Sign.TheVariants as signs
 use Rattle.vvalue.specs.declared.operand_rule.UnaryOperandRule.{UnaryOperandRule}
-use Rattle.vvalue.specs.declared.operand_rule.UnaryOperandRule.TheVariants.{Keeps, Folds, Denies}
+use Rattle.vvalue.specs.declared.operand_rule.UnaryOperandRule.TheVariants.{SameContext, SelfReduced, SelfNegated}
 use Rattle.vvalue.specs.OperandRules.{operand_rule, unary_operand_rule}
 use Rattle.vdesign.specs.Design.{Variable}
 use Rattle.vdesign.specs.declared.expression.Bounds.{Bounds}
@@ -42,15 +42,15 @@ value_at now n = unwrap_or (slice_get now.values n) (filled 1 X)
 -- ---- the size and the sign of an expression by itself
 
 abbrev pub size_by : OperandRule → ℕ → ℕ → ℕ
-size_by (Shares operator) left right = max left right
-size_by (Compares operator) left right = 1
-size_by (Combines operator) left right = 1
-size_by (Shifts operator) left right = left
+size_by (ContextDetermined operator) left right = max left right
+size_by (MaxSized operator) left right = 1
+size_by (SelfDetermined operator) left right = 1
+size_by (LeftContextDetermined operator) left right = left
 
 abbrev pub unary_size : UnaryOperandRule → ℕ → ℕ
-unary_size (Keeps operator) size = size
-unary_size (Folds operator) size = 1
-unary_size Denies size = 1
+unary_size (SameContext operator) size = size
+unary_size (SelfReduced operator) size = 1
+unary_size SelfNegated size = 1
 
 -- 5.2.1: how many bits a part has. More than 64 are no design's (E306): where they stand all the same, only 64 are looked at
 abbrev pub part_size : Bounds → ℕ
@@ -73,15 +73,15 @@ size_of now (joined left right) = min 64 (size_of now left + size_of now right)
 size_of now (repeated count o) = min 64 (max 1 count * size_of now o)
 
 abbrev pub sign_by : OperandRule → Bool → Bool → Bool
-sign_by (Shares operator) left right = left && right
-sign_by (Compares operator) left right = false
-sign_by (Combines operator) left right = false
-sign_by (Shifts operator) left right = left
+sign_by (ContextDetermined operator) left right = left && right
+sign_by (MaxSized operator) left right = false
+sign_by (SelfDetermined operator) left right = false
+sign_by (LeftContextDetermined operator) left right = left
 
 abbrev pub unary_sign : UnaryOperandRule → Bool → Bool
-unary_sign (Keeps operator) sign = sign
-unary_sign (Folds operator) sign = false
-unary_sign Denies sign = false
+unary_sign (SameContext operator) sign = sign
+unary_sign (SelfReduced operator) sign = false
+unary_sign SelfNegated sign = false
 
 -- 5.5.1: whether an expression by itself is signed
 abbrev pub is_signed : Environment → ExpressionTree → Bool
@@ -228,8 +228,8 @@ abbrev pub size_and_sign : ℕ → Bool → SizeAndSign
 size_and_sign size signed = record { size = size; signed = signed }
 
 -- an expression by itself
-abbrev pub own : Environment → ExpressionTree → SizeAndSign
-own now e = size_and_sign (size_of now e) (is_signed now e)
+abbrev pub self_determined : Environment → ExpressionTree → SizeAndSign
+self_determined now e = size_and_sign (size_of now e) (is_signed now e)
 
 -- 5.4.1, 5.5.1: operands that are compared
 abbrev pub common : SizeAndSign → SizeAndSign → SizeAndSign
@@ -237,67 +237,67 @@ common left right = size_and_sign (max left.size right.size) (left.signed && rig
 
 -- the left operand of an operator, by what both operands are by themselves and where the result stands
 abbrev pub left_size_and_sign : OperandRule → SizeAndSign → SizeAndSign → SizeAndSign → SizeAndSign
-left_size_and_sign (Shares operator) left right here = here
-left_size_and_sign (Compares operator) left right here = common left right
-left_size_and_sign (Combines operator) left right here = left
-left_size_and_sign (Shifts operator) left right here = here
+left_size_and_sign (ContextDetermined operator) left right here = here
+left_size_and_sign (MaxSized operator) left right here = common left right
+left_size_and_sign (SelfDetermined operator) left right here = left
+left_size_and_sign (LeftContextDetermined operator) left right here = here
 
 -- the right one
 abbrev pub right_size_and_sign : OperandRule → SizeAndSign → SizeAndSign → SizeAndSign → SizeAndSign
-right_size_and_sign (Shares operator) left right here = here
-right_size_and_sign (Compares operator) left right here = common left right
-right_size_and_sign (Combines operator) left right here = right
-right_size_and_sign (Shifts operator) left right here = right
+right_size_and_sign (ContextDetermined operator) left right here = here
+right_size_and_sign (MaxSized operator) left right here = common left right
+right_size_and_sign (SelfDetermined operator) left right here = right
+right_size_and_sign (LeftContextDetermined operator) left right here = right
 
 -- the only one
 abbrev pub unary_size_and_sign : UnaryOperandRule → SizeAndSign → SizeAndSign → SizeAndSign
-unary_size_and_sign (Keeps operator) operand here = here
-unary_size_and_sign (Folds operator) operand here = operand
-unary_size_and_sign Denies operand here = operand
+unary_size_and_sign (SameContext operator) operand here = here
+unary_size_and_sign (SelfReduced operator) operand here = operand
+unary_size_and_sign SelfNegated operand here = operand
 
 abbrev pub unary_value : UnaryOperandRule → Vector → Vector
-unary_value (Keeps operator) v = kept_value operator v
-unary_value (Folds operator) v = vectors.reduce v operator
-unary_value Denies v = single (not_letter (truth v))
+unary_value (SameContext operator) v = kept_value operator v
+unary_value (SelfReduced operator) v = vectors.reduce v operator
+unary_value SelfNegated v = single (not_letter (truth v))
 
 abbrev pub binary_value : OperandRule → Vector → Vector → Vector
-binary_value (Shares operator) v w = shared_value operator v w
-binary_value (Compares operator) v w = compared_value operator v w
-binary_value (Combines operator) v w = combined_value operator v w
-binary_value (Shifts operator) v w = shifted_value operator v w
+binary_value (ContextDetermined operator) v w = shared_value operator v w
+binary_value (MaxSized operator) v w = compared_value operator v w
+binary_value (SelfDetermined operator) v w = combined_value operator v w
+binary_value (LeftContextDetermined operator) v w = shifted_value operator v w
 
 -- 5.4, 5.5: the value where it stands. Where an operator takes its operands by themselves, or at a size of their own, its result is then
 -- extended to the size of where it stands. A number that spreads is extended by its leftmost letter (3.5.1)
 abbrev pub value_of : Environment → ExpressionTree → SizeAndSign → Vector
 value_of now (constant c) here = extended_value c.value (c.spreads || here.signed) here
 value_of now (variable n) here = fitted_value (value_at now n) here
-value_of now (bit n index) here = fitted_value (bit_value now n (value_of now index (own now index))) here
-value_of now (bit_of v bounds index) here = fitted_value (indexed_bit v bounds (value_of now index (own now index))) here
+value_of now (bit n index) here = fitted_value (bit_value now n (value_of now index (self_determined now index))) here
+value_of now (bit_of v bounds index) here = fitted_value (indexed_bit v bounds (value_of now index (self_determined now index))) here
 value_of now (part n bounds) here = fitted_value (part_value now n bounds) here
 value_of now time here = fitted_value (of_number 64 now.time) here
-value_of now (conversion signed o) here = fitted_value (with_sign (value_of now o (own now o)) signed) here
+value_of now (conversion signed o) here = fitted_value (with_sign (value_of now o (self_determined now o)) signed) here
 value_of now (apply operator o) here =
     let operand_rule = unary_operand_rule operator in
-    fitted_value (unary_value operand_rule (value_of now o (unary_size_and_sign operand_rule (own now o) here))) here
+    fitted_value (unary_value operand_rule (value_of now o (unary_size_and_sign operand_rule (self_determined now o) here))) here
 value_of now (combine operator left right) here =
     let by = operand_rule operator in
     fitted_value (binary_value by
-    (value_of now left (left_size_and_sign by (own now left) (own now right) here))
-    (value_of now right (right_size_and_sign by (own now left) (own now right) here))) here
+    (value_of now left (left_size_and_sign by (self_determined now left) (self_determined now right) here))
+    (value_of now right (right_size_and_sign by (self_determined now left) (self_determined now right) here))) here
 value_of now (conditional condition when_true when_false) here =
-    fitted_value (chosen_value (truth (value_of now condition (own now condition))) (value_of now when_true here) (value_of now when_false here)) here
-value_of now (joined left right) here = fitted_value (joined_value (value_of now left (own now left)) (value_of now right (own now right))) here
-value_of now (repeated count o) here = fitted_value (repeated_value count (value_of now o (own now o))) here
+    fitted_value (chosen_value (truth (value_of now condition (self_determined now condition))) (value_of now when_true here) (value_of now when_false here)) here
+value_of now (joined left right) here = fitted_value (joined_value (value_of now left (self_determined now left)) (value_of now right (self_determined now right))) here
+value_of now (repeated count o) here = fitted_value (repeated_value count (value_of now o (self_determined now o))) here
 
 -- ---- what actions ask of an expression
 
 -- at its own size and sign
-abbrev pub by_itself : Environment → ExpressionTree → Vector
-by_itself now e = value_of now e (own now e)
+abbrev pub self_determined_value : Environment → ExpressionTree → Vector
+self_determined_value now e = value_of now e (self_determined now e)
 
 -- 9.4: a condition holds where its truth is 1
 unfoldable pub holds : Environment → ExpressionTree → Bool
-holds now e = is_one (truth (by_itself now e))
+holds now e = is_one (truth (self_determined_value now e))
 
 -- 5.4.1, 5.5.3: the right side of an assignment to so many bits, at the larger size of both sides, extended by its own sign
 -- and cut on the left
@@ -310,4 +310,4 @@ amount_in v = unwrap_or (number (resize v 64).letters) 0
 
 -- 9.7.1, 19.8: a delay in units of the precision
 unfoldable pub delay_of : Environment → ExpressionTree → ℕ
-delay_of now e = amount_in (by_itself now e) * now.factor
+delay_of now e = amount_in (self_determined_value now e) * now.factor

@@ -5,7 +5,7 @@ ghost use Rattle.vvalue.specs.Value as spec;
 
 use crate::environment::Environment;
 use crate::select::is_one;
-use crate::size::own;
+use crate::size::self_determined;
 use crate::size_and_sign::SizeAndSign;
 use crate::value::value_of;
 use vbits::Vec4;
@@ -13,10 +13,10 @@ use vdesign::expression::Expression;
 
 /// The value of an expression at its own size and sign.
 pub fn by_itself(expression: &Expression, environment: &Environment<'_>) -> Vec4
-    ensures { result ≡ spec.by_itself environment.now expression.now }
+    ensures { result ≡ spec.self_determined_value environment.now expression.now }
 {
     let nodes = expression.nodes();
-    let (there, _) = own(nodes, environment);
+    let (there, _) = self_determined(nodes, environment);
     let (value, _) = value_of(nodes, environment, there);
     value
 }
@@ -38,7 +38,7 @@ pub fn right_side(expression: &Expression, count: u32, environment: &Environment
     ensures { result ≡ spec.right_side environment.now count expression.now }
 {
     let nodes = expression.nodes();
-    let (there, _) = own(nodes, environment);
+    let (there, _) = self_determined(nodes, environment);
     let here = SizeAndSign {
         size: count.max(there.size),
         signed: there.signed,

@@ -4,12 +4,12 @@ ghost use Rattle.std.specs.Prelude.{◌≡◌, length};
 ghost use Rattle.vbits.specs.Letters as letters;
 ghost use Rattle.vvalue.specs.Cases as spec;
 ghost use Rattle.vvalue.specs.Fits.{IsWithin};
-ghost use Rattle.vvalue.specs.Value.{own as own_size_and_sign, value_of as value_there};
+ghost use Rattle.vvalue.specs.Value.{self_determined as own_size_and_sign, value_of as value_there};
 
 use crate::asked::by_itself;
 use crate::environment::Environment;
 use crate::select::is_negative;
-use crate::size::own;
+use crate::size::self_determined;
 use crate::size_and_sign::{SizeAndSign, common};
 use crate::value::value_of;
 use vast::statement::CaseKind;
@@ -68,7 +68,7 @@ fn size_and_sign_of(expression: &Expression, environment: &Environment<'_>) -> S
     ensures exact { result ≡ own_size_and_sign environment.now expression.now }
     ensures within { IsWithin result }
 {
-    own(expression.nodes(), environment).0
+    self_determined(expression.nodes(), environment).0
 }
 
 // The value of an expression where it stands.

@@ -7,7 +7,7 @@ ghost use Rattle.vvalue.specs.Fits.{IsWithin};
 ghost use Rattle.vvalue.specs.Reads.{IsOfFirst, AreBehindFirst};
 
 use crate::environment::{Environment, bounds_of};
-use crate::size::own;
+use crate::size::self_determined;
 use crate::size_and_sign::SizeAndSign;
 use crate::target::{both_fall, targets_size};
 use vdesign::action::{Target, Targets};
@@ -143,14 +143,14 @@ fn flaw_at<'n>(nodes: &'n [Node], environment: &Environment<'_>) -> (Option<Flaw
             (condition.or(when_true.or(when_false)), behind)
         }
         Node::Joined => {
-            let (first, next) = own(behind, environment);
-            let (second, _) = own(next, environment);
+            let (first, next) = self_determined(behind, environment);
+            let (second, _) = self_determined(next, environment);
             let (left, behind) = flaw_at(behind, environment);
             let (right, behind) = flaw_at(behind, environment);
             (left.or(right.or(joined_flaw(first, second))), behind)
         }
         Node::Repeated(count) => {
-            let (there, _) = own(behind, environment);
+            let (there, _) = self_determined(behind, environment);
             let (operand, behind) = flaw_at(behind, environment);
             (operand.or(repeated_flaw(*count, there)), behind)
         }

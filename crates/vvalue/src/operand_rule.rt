@@ -52,13 +52,13 @@ pub enum Shift {
 #[derive(Clone, Copy)]
 pub enum OperandRule {
     /// Both have the size and the sign of the result.
-    Shares(Shared),
+    ContextDetermined(Shared),
     /// Both have the greater of their sizes, and are signed where both are; the result is one bit.
-    Compares(Compared),
+    MaxSized(Compared),
     /// Each is by itself; the result is one bit.
-    Combines(Logical),
+    SelfDetermined(Logical),
     /// The left one has the size and the sign of the result, the right one is by itself.
-    Shifts(Shift),
+    LeftContextDetermined(Shift),
 }
 
 /// What becomes of the operands of this operator.
@@ -66,30 +66,30 @@ pub fn operand_rule_of(operator: BinaryOperator) -> OperandRule
     ensures { result ≡ spec.operand_rule operator }
 {
     match operator {
-        BinaryOperator::Times => OperandRule::Shares(Shared::Times),
-        BinaryOperator::Divide => OperandRule::Shares(Shared::Divide),
-        BinaryOperator::Remainder => OperandRule::Shares(Shared::Remainder),
-        BinaryOperator::Plus => OperandRule::Shares(Shared::Plus),
-        BinaryOperator::Minus => OperandRule::Shares(Shared::Minus),
-        BinaryOperator::ShiftLeft => OperandRule::Shifts(Shift::Left),
-        BinaryOperator::ShiftRight => OperandRule::Shifts(Shift::Right),
-        BinaryOperator::ShiftLeftSigned => OperandRule::Shifts(Shift::Left),
-        BinaryOperator::ShiftRightSigned => OperandRule::Shifts(Shift::RightSigned),
-        BinaryOperator::Less => OperandRule::Compares(Compared::Less),
-        BinaryOperator::LessOrEqual => OperandRule::Compares(Compared::LessOrEqual),
-        BinaryOperator::Greater => OperandRule::Compares(Compared::Greater),
-        BinaryOperator::GreaterOrEqual => OperandRule::Compares(Compared::GreaterOrEqual),
-        BinaryOperator::Equal => OperandRule::Compares(Compared::Equal),
-        BinaryOperator::NotEqual => OperandRule::Compares(Compared::NotEqual),
-        BinaryOperator::CaseEqual => OperandRule::Compares(Compared::CaseEqual),
-        BinaryOperator::CaseNotEqual => OperandRule::Compares(Compared::CaseNotEqual),
-        BinaryOperator::And => OperandRule::Shares(Shared::And),
-        BinaryOperator::Xor => OperandRule::Shares(Shared::Xor),
-        BinaryOperator::Xnor => OperandRule::Shares(Shared::Xnor),
-        BinaryOperator::XorNot => OperandRule::Shares(Shared::Xnor),
-        BinaryOperator::Or => OperandRule::Shares(Shared::Or),
-        BinaryOperator::LogicalAnd => OperandRule::Combines(Logical::And),
-        BinaryOperator::LogicalOr => OperandRule::Combines(Logical::Or),
+        BinaryOperator::Times => OperandRule::ContextDetermined(Shared::Times),
+        BinaryOperator::Divide => OperandRule::ContextDetermined(Shared::Divide),
+        BinaryOperator::Remainder => OperandRule::ContextDetermined(Shared::Remainder),
+        BinaryOperator::Plus => OperandRule::ContextDetermined(Shared::Plus),
+        BinaryOperator::Minus => OperandRule::ContextDetermined(Shared::Minus),
+        BinaryOperator::ShiftLeft => OperandRule::LeftContextDetermined(Shift::Left),
+        BinaryOperator::ShiftRight => OperandRule::LeftContextDetermined(Shift::Right),
+        BinaryOperator::ShiftLeftSigned => OperandRule::LeftContextDetermined(Shift::Left),
+        BinaryOperator::ShiftRightSigned => OperandRule::LeftContextDetermined(Shift::RightSigned),
+        BinaryOperator::Less => OperandRule::MaxSized(Compared::Less),
+        BinaryOperator::LessOrEqual => OperandRule::MaxSized(Compared::LessOrEqual),
+        BinaryOperator::Greater => OperandRule::MaxSized(Compared::Greater),
+        BinaryOperator::GreaterOrEqual => OperandRule::MaxSized(Compared::GreaterOrEqual),
+        BinaryOperator::Equal => OperandRule::MaxSized(Compared::Equal),
+        BinaryOperator::NotEqual => OperandRule::MaxSized(Compared::NotEqual),
+        BinaryOperator::CaseEqual => OperandRule::MaxSized(Compared::CaseEqual),
+        BinaryOperator::CaseNotEqual => OperandRule::MaxSized(Compared::CaseNotEqual),
+        BinaryOperator::And => OperandRule::ContextDetermined(Shared::And),
+        BinaryOperator::Xor => OperandRule::ContextDetermined(Shared::Xor),
+        BinaryOperator::Xnor => OperandRule::ContextDetermined(Shared::Xnor),
+        BinaryOperator::XorNot => OperandRule::ContextDetermined(Shared::Xnor),
+        BinaryOperator::Or => OperandRule::ContextDetermined(Shared::Or),
+        BinaryOperator::LogicalAnd => OperandRule::SelfDetermined(Logical::And),
+        BinaryOperator::LogicalOr => OperandRule::SelfDetermined(Logical::Or),
     }
 }
 
@@ -105,11 +105,11 @@ pub enum Sign {
 #[derive(Clone, Copy)]
 pub enum UnaryOperandRule {
     /// It has the size and the sign of the result.
-    Keeps(Sign),
+    SameContext(Sign),
     /// It is by itself, and its bits are folded to one.
-    Folds(Reduction),
+    SelfReduced(Reduction),
     /// It is by itself, and the result is the opposite of its truth.
-    Denies,
+    SelfNegated,
 }
 
 /// What becomes of the operand of this operator.
@@ -117,16 +117,16 @@ pub fn unary_operand_rule_of(operator: UnaryOperator) -> UnaryOperandRule
     ensures { result ≡ spec.unary_operand_rule operator }
 {
     match operator {
-        UnaryOperator::Plus => UnaryOperandRule::Keeps(Sign::Plus),
-        UnaryOperator::Minus => UnaryOperandRule::Keeps(Sign::Minus),
-        UnaryOperator::Not => UnaryOperandRule::Denies,
-        UnaryOperator::Invert => UnaryOperandRule::Keeps(Sign::Invert),
-        UnaryOperator::And => UnaryOperandRule::Folds(Reduction::And),
-        UnaryOperator::Nand => UnaryOperandRule::Folds(Reduction::Nand),
-        UnaryOperator::Or => UnaryOperandRule::Folds(Reduction::Or),
-        UnaryOperator::Nor => UnaryOperandRule::Folds(Reduction::Nor),
-        UnaryOperator::Xor => UnaryOperandRule::Folds(Reduction::Xor),
-        UnaryOperator::Xnor => UnaryOperandRule::Folds(Reduction::Xnor),
-        UnaryOperator::XorNot => UnaryOperandRule::Folds(Reduction::Xnor),
+        UnaryOperator::Plus => UnaryOperandRule::SameContext(Sign::Plus),
+        UnaryOperator::Minus => UnaryOperandRule::SameContext(Sign::Minus),
+        UnaryOperator::Not => UnaryOperandRule::SelfNegated,
+        UnaryOperator::Invert => UnaryOperandRule::SameContext(Sign::Invert),
+        UnaryOperator::And => UnaryOperandRule::SelfReduced(Reduction::And),
+        UnaryOperator::Nand => UnaryOperandRule::SelfReduced(Reduction::Nand),
+        UnaryOperator::Or => UnaryOperandRule::SelfReduced(Reduction::Or),
+        UnaryOperator::Nor => UnaryOperandRule::SelfReduced(Reduction::Nor),
+        UnaryOperator::Xor => UnaryOperandRule::SelfReduced(Reduction::Xor),
+        UnaryOperator::Xnor => UnaryOperandRule::SelfReduced(Reduction::Xnor),
+        UnaryOperator::XorNot => UnaryOperandRule::SelfReduced(Reduction::Xnor),
     }
 }

@@ -156,9 +156,9 @@ pub fn unary_value(operand_rule: UnaryOperandRule, value: Vec4) -> Vec4
     ensures { result ≡ spec.unary_value operand_rule value }
 {
     match operand_rule {
-        UnaryOperandRule::Keeps(operator) => kept_value(operator, value),
-        UnaryOperandRule::Folds(operator) => value.reduce(operator),
-        UnaryOperandRule::Denies => Vec4::of_bit(value.truth().not()),
+        UnaryOperandRule::SameContext(operator) => kept_value(operator, value),
+        UnaryOperandRule::SelfReduced(operator) => value.reduce(operator),
+        UnaryOperandRule::SelfNegated => Vec4::of_bit(value.truth().not()),
     }
 }
 
@@ -168,10 +168,10 @@ pub fn binary_value(operand_rule: OperandRule, left: Vec4, right: Vec4) -> Vec4
     ensures { result ≡ spec.binary_value operand_rule left right }
 {
     match operand_rule {
-        OperandRule::Shares(operator) => shared_value(operator, left, right),
-        OperandRule::Compares(operator) => compared_value(operator, left, right),
-        OperandRule::Combines(operator) => combined_value(operator, left, right),
-        OperandRule::Shifts(operator) => shifted_value(operator, left, right),
+        OperandRule::ContextDetermined(operator) => shared_value(operator, left, right),
+        OperandRule::MaxSized(operator) => compared_value(operator, left, right),
+        OperandRule::SelfDetermined(operator) => combined_value(operator, left, right),
+        OperandRule::LeftContextDetermined(operator) => shifted_value(operator, left, right),
     }
 }
 

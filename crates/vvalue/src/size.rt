@@ -44,9 +44,9 @@ fn own_unary(operand_rule: UnaryOperandRule, operand: SizeAndSign) -> SizeAndSig
     ensures within { IsWithin result }
 {
     match operand_rule {
-        UnaryOperandRule::Keeps(_) => operand,
-        UnaryOperandRule::Folds(_) => ONE_BIT,
-        UnaryOperandRule::Denies => ONE_BIT,
+        UnaryOperandRule::SameContext(_) => operand,
+        UnaryOperandRule::SelfReduced(_) => ONE_BIT,
+        UnaryOperandRule::SelfNegated => ONE_BIT,
     }
 }
 
@@ -59,10 +59,10 @@ fn own_binary(operand_rule: OperandRule, left: SizeAndSign, right: SizeAndSign) 
     ensures within { IsWithin result }
 {
     match operand_rule {
-        OperandRule::Shares(_) => common(left, right),
-        OperandRule::Compares(_) => ONE_BIT,
-        OperandRule::Combines(_) => ONE_BIT,
-        OperandRule::Shifts(_) => left,
+        OperandRule::ContextDetermined(_) => common(left, right),
+        OperandRule::MaxSized(_) => ONE_BIT,
+        OperandRule::SelfDetermined(_) => ONE_BIT,
+        OperandRule::LeftContextDetermined(_) => left,
     }
 }
 
@@ -104,8 +104,8 @@ fn own_repeated(count: u32, operand: SizeAndSign) -> SizeAndSign
 
 /// The size and the sign that the expression has by itself that these nodes begin with, and the nodes
 /// after it.
-pub fn own<'n>(nodes: &'n [Node], environment: &Environment<'_>) -> (SizeAndSign, &'n [Node])
-    ensures exact { IsOfFirst nodes.now (spec.own environment.now) result.0 }
+pub fn self_determined<'n>(nodes: &'n [Node], environment: &Environment<'_>) -> (SizeAndSign, &'n [Node])
+    ensures exact { IsOfFirst nodes.now (spec.self_determined environment.now) result.0 }
     ensures rest { AreBehindFirst nodes.now result.1.now }
     ensures within { IsWithin result.0 }
     ensures fewer { length result.1.now ≤ length nodes.now - 1 }
@@ -117,42 +117,42 @@ pub fn own<'n>(nodes: &'n [Node], environment: &Environment<'_>) -> (SizeAndSign
         Node::Constant(constant) => (own_value(constant.value), behind),
         Node::Variable(number) => (own_value(value_at(environment, *number)), behind),
         Node::Bit(_) => {
-            let (_, behind) = own(behind, environment);
+            let (_, behind) = self_determined(behind, environment);
             (ONE_BIT, behind)
         }
         Node::BitOf { .. } => {
-            let (_, behind) = own(behind, environment);
+            let (_, behind) = self_determined(behind, environment);
             (ONE_BIT, behind)
         }
         Node::Part { bounds, .. } => (own_part(*bounds), behind),
         Node::Time => (TIME, behind),
         Node::Conversion(signed) => {
-            let (operand, behind) = own(behind, environment);
+            let (operand, behind) = self_determined(behind, environment);
             let (size, signed) = (operand.size, *signed);
             (SizeAndSign { size, signed }, behind)
         }
         Node::Unary(operator) => {
-            let (operand, behind) = own(behind, environment);
+            let (operand, behind) = self_determined(behind, environment);
             (own_unary(unary_operand_rule_of(*operator), operand), behind)
         }
         Node::Binary(operator) => {
-            let (left, behind) = own(behind, environment);
-            let (right, behind) = own(behind, environment);
+            let (left, behind) = self_determined(behind, environment);
+            let (right, behind) = self_determined(behind, environment);
             (own_binary(operand_rule_of(*operator), left, right), behind)
         }
         Node::Conditional => {
-            let (_, behind) = own(behind, environment);
-            let (when_true, behind) = own(behind, environment);
-            let (when_false, behind) = own(behind, environment);
+            let (_, behind) = self_determined(behind, environment);
+            let (when_true, behind) = self_determined(behind, environment);
+            let (when_false, behind) = self_determined(behind, environment);
             (common(when_true, when_false), behind)
         }
         Node::Joined => {
-            let (left, behind) = own(behind, environment);
-            let (right, behind) = own(behind, environment);
+            let (left, behind) = self_determined(behind, environment);
+            let (right, behind) = self_determined(behind, environment);
             (own_joined(left, right), behind)
         }
         Node::Repeated(count) => {
-            let (operand, behind) = own(behind, environment);
+            let (operand, behind) = self_determined(behind, environment);
             (own_repeated(*count, operand), behind)
         }
     }

@@ -11,7 +11,7 @@ use crate::environment::{Environment, time_of, value_at};
 use crate::operand_rule::{OperandRule, UnaryOperandRule, operand_rule_of, unary_operand_rule_of};
 use crate::operators::{binary_value, chosen_value, extended_value, fitted_value, unary_value};
 use crate::select::{bit_value, indexed_bit, joined_value, part_value, repeated_value};
-use crate::size::own;
+use crate::size::self_determined;
 use crate::size_and_sign::{SizeAndSign, common};
 use vast::expression::{BinaryOperator, UnaryOperator};
 use vbits::Vec4;
@@ -35,13 +35,13 @@ fn side(
 ) -> SizeAndSign
     requires { IsWithin here }
     ensures exact { IsOfFirst nodes.now
-        (λ operand. spec.unary_size_and_sign operand_rule (spec.own environment.now operand) here) result }
+        (λ operand. spec.unary_size_and_sign operand_rule (spec.self_determined environment.now operand) here) result }
     ensures within { IsWithin result }
 {
     match operand_rule {
-        UnaryOperandRule::Keeps(_) => here,
-        UnaryOperandRule::Folds(_) => own(nodes, environment).0,
-        UnaryOperandRule::Denies => own(nodes, environment).0,
+        UnaryOperandRule::SameContext(_) => here,
+        UnaryOperandRule::SelfReduced(_) => self_determined(nodes, environment).0,
+        UnaryOperandRule::SelfNegated => self_determined(nodes, environment).0,
     }
 }
 
@@ -55,30 +55,30 @@ fn sides(
     requires { IsWithin here }
     ensures left { (left right : ExpressionTree) (more : List Node)
         → nodes.now ≡ nodes_of left ++ (nodes_of right ++ more) → result.0 ≡ spec.left_size_and_sign
-        operand_rule (spec.own environment.now left) (spec.own environment.now right) here }
+        operand_rule (spec.self_determined environment.now left) (spec.self_determined environment.now right) here }
     ensures right { (left right : ExpressionTree) (more : List Node)
         → nodes.now ≡ nodes_of left ++ (nodes_of right ++ more) → result.1 ≡ spec.right_size_and_sign
-        operand_rule (spec.own environment.now left) (spec.own environment.now right) here }
+        operand_rule (spec.self_determined environment.now left) (spec.self_determined environment.now right) here }
     ensures left_within { IsWithin result.0 }
     ensures right_within { IsWithin result.1 }
     ensures sizes { HaveOneSize operand_rule result.0 result.1 }
 {
     match operand_rule {
-        OperandRule::Shares(_) => (here, here),
-        OperandRule::Compares(_) => {
-            let (left, behind) = own(nodes, environment);
-            let (right, _) = own(behind, environment);
+        OperandRule::ContextDetermined(_) => (here, here),
+        OperandRule::MaxSized(_) => {
+            let (left, behind) = self_determined(nodes, environment);
+            let (right, _) = self_determined(behind, environment);
             let both = common(left, right);
             (both, both)
         }
-        OperandRule::Combines(_) => {
-            let (left, behind) = own(nodes, environment);
-            let (right, _) = own(behind, environment);
+        OperandRule::SelfDetermined(_) => {
+            let (left, behind) = self_determined(nodes, environment);
+            let (right, _) = self_determined(behind, environment);
             (left, right)
         }
-        OperandRule::Shifts(_) => {
-            let (_, behind) = own(nodes, environment);
-            let (right, _) = own(behind, environment);
+        OperandRule::LeftContextDetermined(_) => {
+            let (_, behind) = self_determined(nodes, environment);
+            let (right, _) = self_determined(behind, environment);
             (here, right)
         }
     }
@@ -115,7 +115,7 @@ fn of_bit<'n>(
     ensures len { length result.0.letters ≡ here.size }
     ensures fewer { length result.1.now ≤ length nodes.now }
 {
-    let (there, _) = own(nodes, environment);
+    let (there, _) = self_determined(nodes, environment);
     let (index, behind) = value_of(nodes, environment, there);
     (
         fitted_value(bit_value(environment, variable, index), here),
@@ -139,7 +139,7 @@ fn of_bit_of<'n>(
     ensures len { length result.0.letters ≡ here.size }
     ensures fewer { length result.1.now ≤ length nodes.now }
 {
-    let (there, _) = own(nodes, environment);
+    let (there, _) = self_determined(nodes, environment);
     let (index, behind) = value_of(nodes, environment, there);
     (
         fitted_value(indexed_bit(value, bounds, index), here),
@@ -162,7 +162,7 @@ fn of_conversion<'n>(
     ensures len { length result.0.letters ≡ here.size }
     ensures fewer { length result.1.now ≤ length nodes.now }
 {
-    let (there, _) = own(nodes, environment);
+    let (there, _) = self_determined(nodes, environment);
     let (value, behind) = value_of(nodes, environment, there);
     (fitted_value(value.with_sign(signed), here), behind)
 }
@@ -230,7 +230,7 @@ fn of_conditional<'n>(
     ensures len { length result.0.letters ≡ here.size }
     ensures fewer { length result.1.now ≤ length nodes.now }
 {
-    let (there, _) = own(nodes, environment);
+    let (there, _) = self_determined(nodes, environment);
     let (condition, behind) = value_of(nodes, environment, there);
     let (when_true, behind) = value_of(behind, environment, here);
     let (when_false, behind) = value_of(behind, environment, here);
@@ -254,8 +254,8 @@ fn of_joined<'n>(
     ensures len { length result.0.letters ≡ here.size }
     ensures fewer { length result.1.now ≤ length nodes.now }
 {
-    let (first, behind) = own(nodes, environment);
-    let (second, _) = own(behind, environment);
+    let (first, behind) = self_determined(nodes, environment);
+    let (second, _) = self_determined(behind, environment);
     let (left, behind) = value_of(nodes, environment, first);
     let (right, behind) = value_of(behind, environment, second);
     (fitted_value(joined_value(left, right), here), behind)
@@ -276,7 +276,7 @@ fn of_repeated<'n>(
     ensures len { length result.0.letters ≡ here.size }
     ensures fewer { length result.1.now ≤ length nodes.now }
 {
-    let (there, _) = own(nodes, environment);
+    let (there, _) = self_determined(nodes, environment);
     let (value, behind) = value_of(nodes, environment, there);
     (fitted_value(repeated_value(count, value), here), behind)
 }

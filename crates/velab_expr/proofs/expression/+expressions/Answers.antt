@@ -9,7 +9,7 @@ use Rattle.vdesign.specs.declared.expression.Node.{Node}
 use Rattle.vbits.specs.Vectors.{Vector}
 use Rattle.velab_expr.specs.Answers.{◌>>=◌, Makes}
 use Rattle.velab_expr.specs.InnerParts.{nodes_behind}
-use Rattle.velab_expr.specs.Resolved.{lower, lower_parts, lower_joined, times}
+use Rattle.velab_expr.specs.Resolved.{lower, lower_parts, lower_joined, replicate_by}
 use Rattle.velab_expr.specs.declared.fault.ElabFault.{ElabFault}
 use Rattle.velab_expr.proofs.PartLemmas.{concatenation_is, replication_is, part_put, part_refused, none_behind, all_parts}
 use Rattle.velab_expr.proofs.AnswerLemmas.{hands_on, still_refused}
@@ -31,7 +31,7 @@ put_expression-returns-in_ok-count-in-Replication t c =
     c.deref-in-Replication.result.now c.deref-in-Replication-2.result.now c.in-Replication.is c.deref-in-Replication.ensures
     c.deref-in-Replication-2.ensures.value)
     (subst (λ (v : Result Vector ElabFault). Makes c.put_repeated.result c.put_repeated.new.nodes.items (nodes_behind c.args.nodes.now.items
-    (v >>= λ amount. times amount (lower_joined c.args.fixed c.args.scope.now (trees_of words c.deref-in-Replication-2.result.now)))))
+    (v >>= λ amount. replicate_by amount (lower_joined c.args.fixed c.args.scope.now (trees_of words c.deref-in-Replication-2.result.now)))))
     (sym c.in_ok-count-in-Replication.ensures) c.put_repeated.ensures)
 
 pub put_parts-loop-one-preserved : goal.put_parts-loop-one-preserved

@@ -7,4 +7,4 @@ pub returns : goal.returns
 returns c =
     let is = alone c.args.expression.now c.nodes-nodes.result.now c.nodes-nodes.ensures in
     c.value_of-value.ensures.exact c.args.expression.now [] is
-    ∙ ap (value_of c.args.environment.now c.args.expression.now) (c.own.ensures.exact c.args.expression.now [] is)
+    ∙ ap (value_of c.args.environment.now c.args.expression.now) (c.self_determined.ensures.exact c.args.expression.now [] is)

@@ -5,7 +5,7 @@ use Rattle.vdesign.specs.declared.expression.Node.TheVariants.{Constant, Variabl
 use Rattle.vvalue.specs.declared.size_and_sign.SizeAndSign.{SizeAndSign}
 use Rattle.vvalue.specs.declared.flaw.Flaw.{Flaw}
 use Rattle.vvalue.specs.declared.flaw.Flaw.TheVariants.{Size}
-use Rattle.vvalue.specs.Value.{own}
+use Rattle.vvalue.specs.Value.{self_determined}
 use Rattle.vvalue.specs.Flaws.{unless, flaw_of}
 use Rattle.vvalue.proofs.NodeLemmas.{by_node, by_none}
 use Rattle.vvalue.proofs.flaw.+flaw_at.Goals as goal
@@ -154,9 +154,9 @@ returns-in-Joined-clause-exact t c =
     ∙ ap (option_or (flaw_of c.args.environment.now left)) (c.or-in-Joined.ensures
     ∙ ap (λ (o : Option Flaw). option_or o c.joined_flaw.result) (c.flaw_at-right-in-Joined.ensures.exact right more (c.flaw_at-left-in-Joined.ensures.rest left (nodes_of right ++ more) is))
     ∙ ap (option_or (flaw_of c.args.environment.now right)) (c.joined_flaw.ensures
-    ∙ ap (λ (x : SizeAndSign). unless (nat_le (x.size + c.own-in-Joined.result.0.size) 64) Size) (c.own.ensures.exact left (nodes_of right ++ more) is)
-    ∙ ap (λ (x : SizeAndSign). unless (nat_le ((own c.args.environment.now left).size + x.size) 64) Size)
-    (c.own-in-Joined.ensures.exact right more (c.own.ensures.rest left (nodes_of right ++ more) is)))))
+    ∙ ap (λ (x : SizeAndSign). unless (nat_le (x.size + c.self_determined-in-Joined.result.0.size) 64) Size) (c.self_determined.ensures.exact left (nodes_of right ++ more) is)
+    ∙ ap (λ (x : SizeAndSign). unless (nat_le ((self_determined c.args.environment.now left).size + x.size) 64) Size)
+    (c.self_determined-in-Joined.ensures.exact right more (c.self_determined.ensures.rest left (nodes_of right ++ more) is)))))
 
 pub returns-in-Joined-clause-rest : goal.returns-in-Joined-clause-rest
 returns-in-Joined-clause-rest t c =
@@ -171,7 +171,7 @@ returns-in-Repeated-clause-exact t c =
     (λ operand more is. c.or-in-Repeated.ensures
     ∙ ap (λ (o : Option Flaw). option_or o c.repeated_flaw.result) (c.flaw_at-operand.ensures.exact operand more is)
     ∙ ap (option_or (flaw_of c.args.environment.now operand)) (c.repeated_flaw.ensures
-    ∙ ap (λ (x : SizeAndSign). unless (nat_le 1 c.in-Repeated.count && nat_le (c.in-Repeated.count * x.size) 64) Size) (c.own-in-Repeated.ensures.exact operand more is)))
+    ∙ ap (λ (x : SizeAndSign). unless (nat_le 1 c.in-Repeated.count && nat_le (c.in-Repeated.count * x.size) 64) Size) (c.self_determined-in-Repeated.ensures.exact operand more is)))
 
 pub returns-in-Repeated-clause-rest : goal.returns-in-Repeated-clause-rest
 returns-in-Repeated-clause-rest t c =

@@ -12,9 +12,9 @@ use Rattle.vvalue.proofs.value.+values.Goals as goal
 pub of_conversion-returns-clause-exact : goal.of_conversion-returns-clause-exact
 of_conversion-returns-clause-exact t c =
     by_first (λ tree more. c.fitted_value.result ≡ value_of c.args.environment.now tree c.args.here) (Conversion c.args.signed) c.args.nodes.now
-    (λ operand more is. conversion_is c.args.environment.now c.args.signed operand c.args.here c.own.result.0
+    (λ operand more is. conversion_is c.args.environment.now c.args.signed operand c.args.here c.self_determined.result.0
     c.value_of-value.result.0 c.with_sign.result c.fitted_value.result
-    c.fitted_value.ensures.exact c.with_sign.ensures (c.value_of-value.ensures.exact operand more is) (c.own.ensures.exact operand more is))
+    c.fitted_value.ensures.exact c.with_sign.ensures (c.value_of-value.ensures.exact operand more is) (c.self_determined.ensures.exact operand more is))
 
 pub of_conversion-returns-clause-rest : goal.of_conversion-returns-clause-rest
 of_conversion-returns-clause-rest t c =
@@ -53,11 +53,11 @@ of_conditional-returns-clause-exact t c =
     (λ condition when_true when_false more is.
     let behind_first = c.value_of-condition.ensures.rest condition (nodes_of when_true ++ (nodes_of when_false ++ more)) is in
     let behind_second = c.value_of-when_true.ensures.rest when_true (nodes_of when_false ++ more) behind_first in
-    conditional_is c.args.environment.now condition when_true when_false c.args.here c.own.result.0
+    conditional_is c.args.environment.now condition when_true when_false c.args.here c.self_determined.result.0
     c.value_of-condition.result.0 c.value_of-when_true.result.0 c.value_of-when_false.result.0 c.chosen_value.result c.fitted_value.result c.truth.result
     c.fitted_value.ensures.exact c.chosen_value.ensures c.truth.ensures
     (c.value_of-condition.ensures.exact condition (nodes_of when_true ++ (nodes_of when_false ++ more)) is)
-    (c.own.ensures.exact condition (nodes_of when_true ++ (nodes_of when_false ++ more)) is)
+    (c.self_determined.ensures.exact condition (nodes_of when_true ++ (nodes_of when_false ++ more)) is)
     (c.value_of-when_true.ensures.exact when_true (nodes_of when_false ++ more) behind_first)
     (c.value_of-when_false.ensures.exact when_false more behind_second))
 
@@ -71,9 +71,9 @@ of_conditional-returns-clause-rest t c =
 pub of_bit-returns-clause-exact : goal.of_bit-returns-clause-exact
 of_bit-returns-clause-exact t c =
     by_first (λ tree more. c.fitted_value.result ≡ value_of c.args.environment.now tree c.args.here) (Bit c.args.variable) c.args.nodes.now
-    (λ index more is. bit_is c.args.environment.now c.args.variable index c.args.here c.own.result.0
+    (λ index more is. bit_is c.args.environment.now c.args.variable index c.args.here c.self_determined.result.0
     c.value_of-index.result.0 c.bit_value.result c.fitted_value.result
-    c.fitted_value.ensures.exact c.bit_value.ensures (c.value_of-index.ensures.exact index more is) (c.own.ensures.exact index more is))
+    c.fitted_value.ensures.exact c.bit_value.ensures (c.value_of-index.ensures.exact index more is) (c.self_determined.ensures.exact index more is))
 
 pub of_bit-returns-clause-rest : goal.of_bit-returns-clause-rest
 of_bit-returns-clause-rest t c =
@@ -82,9 +82,9 @@ of_bit-returns-clause-rest t c =
 pub of_bit_of-returns-clause-exact : goal.of_bit_of-returns-clause-exact
 of_bit_of-returns-clause-exact t c =
     by_first (λ tree more. c.fitted_value.result ≡ value_of c.args.environment.now tree c.args.here) (BitOf c.args.value c.args.bounds) c.args.nodes.now
-    (λ index more is. bit_of_is c.args.environment.now c.args.value c.args.bounds index c.args.here c.own.result.0
+    (λ index more is. bit_of_is c.args.environment.now c.args.value c.args.bounds index c.args.here c.self_determined.result.0
     c.value_of-index.result.0 c.indexed_bit.result c.fitted_value.result
-    c.fitted_value.ensures.exact c.indexed_bit.ensures (c.value_of-index.ensures.exact index more is) (c.own.ensures.exact index more is))
+    c.fitted_value.ensures.exact c.indexed_bit.ensures (c.value_of-index.ensures.exact index more is) (c.self_determined.ensures.exact index more is))
 
 pub of_bit_of-returns-clause-rest : goal.of_bit_of-returns-clause-rest
 of_bit_of-returns-clause-rest t c =
@@ -94,12 +94,12 @@ of_bit_of-returns-clause-rest t c =
 pub of_joined-returns-clause-exact : goal.of_joined-returns-clause-exact
 of_joined-returns-clause-exact t c =
     by_first (λ tree more. c.fitted_value.result ≡ value_of c.args.environment.now tree c.args.here) Joined c.args.nodes.now
-    (λ left right more is. joined_is c.args.environment.now left right c.args.here c.own.result.0 c.own-2.result.0
+    (λ left right more is. joined_is c.args.environment.now left right c.args.here c.self_determined.result.0 c.self_determined-2.result.0
     c.value_of-left.result.0 c.value_of-right.result.0 c.joined_value.result c.fitted_value.result
     c.fitted_value.ensures.exact c.joined_value.ensures (c.value_of-left.ensures.exact left (nodes_of right ++ more) is)
-    (c.own.ensures.exact left (nodes_of right ++ more) is)
+    (c.self_determined.ensures.exact left (nodes_of right ++ more) is)
     (c.value_of-right.ensures.exact right more (c.value_of-left.ensures.rest left (nodes_of right ++ more) is))
-    (c.own-2.ensures.exact right more (c.own.ensures.rest left (nodes_of right ++ more) is)))
+    (c.self_determined-2.ensures.exact right more (c.self_determined.ensures.rest left (nodes_of right ++ more) is)))
 
 pub of_joined-returns-clause-rest : goal.of_joined-returns-clause-rest
 of_joined-returns-clause-rest t c =
@@ -109,9 +109,9 @@ of_joined-returns-clause-rest t c =
 pub of_repeated-returns-clause-exact : goal.of_repeated-returns-clause-exact
 of_repeated-returns-clause-exact t c =
     by_first (λ tree more. c.fitted_value.result ≡ value_of c.args.environment.now tree c.args.here) (Repeated c.args.count) c.args.nodes.now
-    (λ operand more is. repeated_is c.args.environment.now c.args.count operand c.args.here c.own.result.0
+    (λ operand more is. repeated_is c.args.environment.now c.args.count operand c.args.here c.self_determined.result.0
     c.value_of-value.result.0 c.repeated_value.result c.fitted_value.result
-    c.fitted_value.ensures.exact c.repeated_value.ensures (c.value_of-value.ensures.exact operand more is) (c.own.ensures.exact operand more is))
+    c.fitted_value.ensures.exact c.repeated_value.ensures (c.value_of-value.ensures.exact operand more is) (c.self_determined.ensures.exact operand more is))
 
 pub of_repeated-returns-clause-rest : goal.of_repeated-returns-clause-rest
 of_repeated-returns-clause-rest t c =

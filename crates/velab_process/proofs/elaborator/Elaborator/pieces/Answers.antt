@@ -4,7 +4,7 @@ use Rattle.vast.specs.NumberedStatements.{ArgumentTree}
 use Rattle.vexpr_parse.specs.Texts.{words_of}
 use Rattle.vdesign.specs.declared.print.Piece.{Piece}
 use Rattle.velab_expr.specs.declared.fault.Rule.TheVariants.{Kind}
-use Rattle.velab_expr.specs.Answers.{Refuses, found}
+use Rattle.velab_expr.specs.Answers.{Refuses, value_or_fault}
 use Rattle.velab_expr.specs.FirstWords.{first_argument}
 use Rattle.velab_process.specs.Prints.{default_form, ends_line, arguments_given, lower_arguments, lower_line}
 use Rattle.vmodules.specs.Placed.{placed_argument}
@@ -24,7 +24,7 @@ returns-in-Some c =
     (λ all. Prints c.new-printer.result all c.in_ok-is_right.is_right c.put_arguments.new.printer)) is_given c.in_ok-is_right.ensures in
     line_by (default_form c.args.kind) c.default_form.result (ends_line c.args.kind) c.ends_line.result (lower_arguments c.args.self.now.scope.now (arguments_given trees)) c.in_ok-is_right.is_right c.new-printer.result c.put_arguments.new.printer c.in_ok-pieces.pieces c.right_pieces.result
     (first_argument trees) c.default_form.ensures c.ends_line.ensures c.new-printer.ensures taken c.in_ok-pieces.ensures c.right_pieces.ensures
-    ∙ ap (λ (ps : Option (List Piece)). found ps Kind (first_argument trees)) c.in-Some.is
+    ∙ ap (λ (ps : Option (List Piece)). value_or_fault ps Kind (first_argument trees)) c.in-Some.is
 
 pub returns-in-None : goal.returns-in-None
 returns-in-None c =
@@ -38,7 +38,7 @@ returns-in-None c =
     subst (λ fault. Refuses fault (lower_line c.args.self.now.scope.now c.args.kind trees)) (sym c.refusal.ensures)
     (line_by (default_form c.args.kind) c.default_form.result (ends_line c.args.kind) c.ends_line.result (lower_arguments c.args.self.now.scope.now (arguments_given trees)) c.in_ok-is_right.is_right c.new-printer.result c.put_arguments.new.printer c.in_ok-pieces.pieces c.right_pieces.result
     (first_argument trees) c.default_form.ensures c.ends_line.ensures c.new-printer.ensures taken c.in_ok-pieces.ensures c.right_pieces.ensures
-    ∙ ap (λ (ps : Option (List Piece)). found ps Kind (first_argument trees)) c.in-None.is
+    ∙ ap (λ (ps : Option (List Piece)). value_or_fault ps Kind (first_argument trees)) c.in-None.is
     ∙ ap (λ at. Err (record { rule = Kind; at = at })) (sym (c.first_argument.ensures words ∙ sym (first_placed path plain))))
 
 pub returns-in_err-is_right : goal.returns-in_err-is_right
