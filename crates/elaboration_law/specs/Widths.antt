@@ -24,7 +24,7 @@ pub record Worth : Type 0 where
 abbrev pub part_in : Worth → Bounds → design.ExpressionTree
 part_in name selected = plain (part_of name.value name.bounds selected (part_size selected))
 
--- 5.1.14: once at least, and at most 64 bits together
+-- 5.1.14: at least once (own: it allows 0 times within a concatenation), and at most 64 bits together (own)
 abbrev pub can_repeat : ℕ → ℕ → Bool
 can_repeat count size = nat_le 1 count && nat_le (count * size) 64
 
@@ -93,7 +93,7 @@ module _ (named : Text → Worth) where
   is_sized_if None = true
   is_sized_if (Some tree) = is_sized tree
 
-  -- ---- ranges (4.3.1): bounds from 0 to 65535, at most 64 bits from one to the other
+  -- ---- ranges (4.3.1): bounds from 0 to 65535 (own), at most 64 bits from one to the other (own)
 
   abbrev pub is_bound : text.ExpressionTree → Bool
   is_bound tree = is_sized tree && is_some (bound_in (constant_in tree))

@@ -40,7 +40,7 @@ in_force_after_slot design time values (Some place) in_force = Printed place (wa
 
 -- ---- item by item
 
--- a line of `$display` or `$strobe` prints itself (17.1.1, 17.1.2), the monitor at a slot's end, after the strobes
+-- a line of `$display` or `$strobe` prints itself (17.1.1, 17.1.2), the monitor at a slot's end (17.1.3), after the strobes (own)
 abbrev pub item_text : Design → InForce → Item → List ℕ
 item_text design in_force (Line text) = text
 item_text design in_force (Monitor place) = []

@@ -1,4 +1,5 @@
--- *trusted*: What the processes of a design begin before (IEEE 1364-2005, clause 12, 6.1, 9.9), by the trees of its text; `statement_law` proves it.
+-- *trusted*: The statements with which each process of a design starts (IEEE 1364-2005, clause 12, 6.1, 9.9), by the trees of its text;
+-- `statement_law` proves it.
 use Rattle.std.specs.Prelude.{◌≡◌, ℕ, zero, suc, if◌then◌else◌, List, [], ◌∷◌, ◌++◌, Option, None, Some, Result, slice_get}
 use Rattle.basis.specs.declared.timescale.Timescale.{Timescale}
 use Rattle.vast.specs.Words.{Text}

@@ -1,6 +1,6 @@
--- *product rule*: A word as elaboration reads it: its letters, which of an escaped name are those behind the backslash (3.7.1), and its number among the words of the text, by which a fault tells its
--- place; and of a string that a task prints the path of the scope that the task stands in (17.1.1.6), once its instance is known (`placed_items` of
--- `vmodules`): it is empty before that, and in all other words.
+-- *product rule*: A word as elaboration reads it: its letters, which of an escaped name are those after the backslash (3.7.1); its number
+-- among the words of the text, by which a fault says its place; and its path. A string that a task prints has the path of the scope that the
+-- task stands in (17.1.1.6), once its instance is known (`placed_items` of `vmodules`). In all other words, and before that, it is empty.
 use Rattle.std.specs.Prelude.{ℕ, suc, if◌then◌else◌, List, [], ◌∷◌}
 use Rattle.vast.specs.Words.{Text, is_leaf, without_backslash}
 use Rattle.vast.specs.TokenTexts.{token_text}

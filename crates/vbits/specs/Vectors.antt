@@ -121,7 +121,7 @@ case_ne v w = single (if same_letters v.letters w.letters then Zero else One)
 
 -- ---- truth and reductions (5.1.9, 5.1.11)
 
--- 1 if a letter is 1, else x if one is unknown, else 0
+-- 1 if a letter is 1, be others unknown or not (own), else x if one is unknown, else 0
 unfoldable pub truth : Vector → Bit4
 truth v =
     if list_any is_one v.letters then One else if list_any is_unknown v.letters then X else Zero

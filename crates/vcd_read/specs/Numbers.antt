@@ -1,4 +1,4 @@
--- *trusted*: Numbers in a value change dump (IEEE 1364-2005, 18.2.1, 2.5).
+-- *trusted*: Numbers in a value change dump (IEEE 1364-2005, 18.2.1, 3.5.1).
 use Rattle.std.specs.Prelude.{◌≡◌, ℕ, ◌<◌, ◌^◌, length, true}
 use Rattle.std.specs.Str.{all_ascii_digits}
 use Rattle.std.specs.Str.Parse.{digits_value}

@@ -1,4 +1,5 @@
--- *trusted*: A design as the definitions see it (IEEE 1364-2005, clause 12): variables, scopes, and one table of actions.
+-- *trusted*: A design as the definitions see it: the variables (IEEE 1364-2005, clause 4) and scopes (12.5) of a hierarchy, and one table of
+-- actions, in which statements are numbered; the standard has no such table.
 use Rattle.std.specs.Prelude.{ℕ, Bool, List, Option}
 use Rattle.vbits.specs.Vectors.{Vector}
 use Rattle.basis.specs.declared.timescale.Timescale.{Timescale}

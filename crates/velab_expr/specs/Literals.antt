@@ -60,11 +60,11 @@ based_value size base ds =
     if is_decimal_base base then decimal_value size ds
     else lettered_value size (letters_per_digit base) ds
 
--- 1 to 64; 32 where none is written
+-- 1 to 64 (own); 32 where none is written (own: 3.5.1 has at least 32)
 abbrev pub size_of : Text → ℕ
 size_of ds = if length ds == 0 then 32 else max 1 (min 64 (spelled_number ds))
 
--- a decimal number without base: signed, 32 bits
+-- a decimal number without base: signed, 32 bits (own: 3.5.1 has at least 32)
 abbrev pub plain_constant : Text → Constant
 plain_constant ds = record { value = with_sign (of_number 32 (spelled_number ds)) true; spreads = false }
 

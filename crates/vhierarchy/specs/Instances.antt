@@ -35,16 +35,16 @@ use Rattle.velab_process.specs.Statements.{Table}
 use Rattle.velab_declaration.specs.Parameters.{Overrides, Base, item_scope}
 use Rattle.velab_declaration.specs.Variables.{port_names, declared_names, port_scope, lower_ports, lower_variables}
 
--- this answer, barring a word at which the rule is broken
+-- this answer; or, where there is a word at which the rule is broken, that fault
 abbrev pub unless_word : {A : Type 0} → Option Word → Rule → Result A ElabFault → Result A ElabFault
 unless_word None rule answer = answer
 unless_word (Some word) rule answer = refuse rule (Some word)
 
--- this answer, where none of these words stands again
+-- this answer; or, where one of these words stands twice, the rule is broken at the second
 abbrev pub unless_doubled : {A : Type 0} → Rule → List Word → Result A ElabFault → Result A ElabFault
 unless_doubled rule words answer = unless_word (first_again words) rule answer
 
--- this, where no fault was found in it
+-- this; or the fault that was found in it, if one was
 abbrev pub value_unless_fault : {A : Type 0} → Option ElabFault → A → Result A ElabFault
 value_unless_fault None x = Ok x
 value_unless_fault (Some fault) x = Err fault
@@ -277,7 +277,7 @@ variable_paths part = map (λ v. v.name) part.variables
 abbrev pub scope_paths : Part → List Text
 scope_paths part = map (λ s. s.path) part.scopes
 
--- a path of a `$dumpvars` is a scope's (18.1.2), named from the top on (own)
+-- a path of a `$dumpvars` is a scope's, named from the top on (own: 18.1.2 has variables, too, and names that begin lower)
 abbrev pub broken_path : List Text → List Text → Text → Option Rule
 broken_path scopes variables path =
     if is_declared scopes path then None
@@ -350,7 +350,7 @@ rule_of_port flaw.Valued = rule.Kind
 abbrev pub broken_ports : SourceTree → Option ElabFault
 broken_ports modules = option_map (λ m. fault_at (rule_of_port m.flaw) (Some m.word)) (first_misdeclared modules)
 
--- this answer, where no fault was found before
+-- this answer; or the fault that was found before, if one was
 abbrev pub unless_fault : {A : Type 0} → Option ElabFault → Result A ElabFault → Result A ElabFault
 unless_fault None answer = answer
 unless_fault (Some fault) answer = Err fault

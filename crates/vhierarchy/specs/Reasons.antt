@@ -1,4 +1,4 @@
--- *trusted*: Why a text has no design: the rule that a fault says is broken (IEEE 1364-2005, clause 12).
+-- *product rule*: Why a text has no design: the rule that a fault says is broken, with its number (docs/LANGUAGE.md).
 use Rattle.std.specs.Prelude.{◌≡◌, Option}
 use Rattle.vast.specs.Words.{Text}
 use Rattle.vast.specs.NumberedModules.{SourceTree}

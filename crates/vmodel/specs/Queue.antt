@@ -19,7 +19,7 @@ pub record Queue : Type 0 where
   pub inactive : List ℕ
   pub activated : List (List Part)  -- nonblocking updates that are active
   pub posted : List (List Part)
-  pub strobes : List ℕ  -- monitor events, by the places of their actions, in order of creation (17.1.2)
+  pub strobes : List ℕ  -- monitor events, by the places of their actions, in order of creation (17.1.2; own)
   pub future : List (ℕ × Later)  -- in order of time, later than now and within the limit
   pub beyond : Bool  -- something is past the limit
 

@@ -1,4 +1,4 @@
--- *trusted*: Runs under logs, and their histories (IEEE 1364-2005, 4.2.2, 4.6, 9.9.1, 17.4; docs/SCHEDULING.md).
+-- *trusted*: Runs under logs, and their histories (IEEE 1364-2005, 4.2.1, 4.2.2, 9.9.1, 17.4; docs/SCHEDULING.md).
 use Rattle.std.specs.Prelude.{ℕ, zero, suc, ◌==◌, ◌&&◌, ◌||◌, is_some, Bool, true, false, List, [], ◌∷◌, ◌++◌, Option, Some, None, map, length}
 use Rattle.vbits.specs.Vectors.{Vector, resize, with_sign}
 use Rattle.sched_core.specs.Rules.{Rules, stands, choice_at}

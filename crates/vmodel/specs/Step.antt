@@ -200,7 +200,7 @@ abbrev pub posts : Option Post → Queue → Queue
 posts None q = q
 posts (Some post) q = posts_after post.after post.parts q
 
--- 11.3, 17.1.2: a monitor event stands after those created before
+-- 11.3, 17.1.2: a monitor event stands after those created before (own: 11.4 leaves their order open)
 abbrev pub with_strobe : Option ℕ → Queue → Queue
 with_strobe strobed q = record q { strobes = q.strobes ++ option_to_list strobed }
 
@@ -218,7 +218,7 @@ activate_next_region [] [] [] [] q = record q { strobes = [] }
 abbrev pub with_queue_moves : Queue → Queue
 with_queue_moves q = activate_next_region q.active q.activated q.inactive q.posted q
 
--- the monitor events that run in these moves, in order of creation (17.1.2)
+-- 17.1.2: the monitor events that run in these moves, in order of creation (own)
 abbrev pub run_monitors : List ℕ → List (List Part) → List ℕ → List (List Part) → List ℕ → List ℕ
 run_monitors (p ∷ ps) us is posts strobes = []
 run_monitors [] (u ∷ us) is posts strobes = []
@@ -391,7 +391,7 @@ slot_end_by None s = idle_items s.queue.active s.queue.activated s.queue.time s.
 abbrev pub slot_end_of : State → List Item
 slot_end_of s = slot_end_by s.cause s
 
--- the lines of the monitor events, in order of creation (11.4)
+-- 11.4: the lines of the monitor events, in order of creation (own)
 abbrev pub strobe_items : Design → State → List ℕ → List Item
 strobe_items design s [] = []
 strobe_items design s (place ∷ places) = line_item design s place ∷ strobe_items design s places

@@ -41,7 +41,8 @@ abbrev pub second_of : List ModuleTree → Option Word
 second_of (m ∷ (other ∷ more)) = Some other.name
 second_of _ = None
 
--- 12.1.1: the module of that name; without a name the only one that has no instances
+-- The module of that name; without a name the only one that is never instantiated (12.1.1). One top is simulated at a time (own: 12.1.1
+-- has each such module run beside the others).
 abbrev pub top_of : SourceTree → Option Text → Option ModuleTree
 top_of modules None = only_of (roots modules)
 top_of modules (Some name) = module_of modules name

@@ -23,7 +23,10 @@ pub record Misdeclared : Type 0 where
 abbrev pub misdeclared_at : PortFlaw → Option Word → Option Misdeclared
 misdeclared_at flaw = option_map (λ word. record { flaw = flaw; word = word })
 
--- 12.3.3: as what an item declares names: as ports; as ports whose net or variable a word says; as inputs; as nets or variables; as variables
+-- What an item declares its names as (12.3.3):
+--   `is_whole`: a port whose net or variable the declaration names, too (`output reg q`), so that no other item may declare it
+--   `is_input`: an input
+--   `is_reg`: a variable, not a net
 abbrev pub is_whole : DirectionTree → Bool
 is_whole (input wire type) = wire
 is_whole (output net type) = is_some net

@@ -1,4 +1,4 @@
--- *trusted*: Names and lists of them (IEEE 1364-2005, 3.7).
+-- *trusted*: Names are alike where their letters are (IEEE 1364-2005, 3.7); lists of them, in which none may stand twice (4.11).
 use Rattle.std.specs.Prelude.{Bool, false, ◌||◌, if◌then◌else◌, List, [], ◌∷◌, ◌++◌, map, Option, None, Some}
 use Rattle.std.specs.List.{list_any}
 use Rattle.std.specs.Str.{bytes_eq}

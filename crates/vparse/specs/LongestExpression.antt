@@ -1,4 +1,4 @@
--- *trusted*: The longest expression at a token (IEEE 1364-2005, A.8.3; docs/LANGUAGE.md, "Grammar" and "Depth"), for `parse_expr` alone.
+-- *product rule*: What `parse_expr` answers: the longest expression at a token (docs/LANGUAGE.md, "Grammar" and "Depth"), for that call alone.
 use Rattle.std.specs.Prelude.{◌≡◌, ℕ, ◌≤◌, true, false, List, ◌++◌, Option, length, drop, slice_get}
 use Rattle.vsrc.specs.Source.{place_of}
 use Rattle.vsrc.specs.declared.expanded.Place.{Place}

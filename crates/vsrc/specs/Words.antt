@@ -6,7 +6,7 @@ use Rattle.basis.specs.Letters.{begins_name, is_in_name}
 use Rattle.vsrc.specs.declared.words.Word.{Word}
 use Rattle.vsrc.specs.declared.words.Word.TheVariants.{Define, Undef, Ifdef, Ifndef, Elsif, Else, Endif, Timescale, DefaultNettype}
 
--- 3.2: what stands between words of one line: space, tab, carriage return and form feed
+-- 3.2: what stands between words of one line: space, tab, form feed and carriage return (own)
 abbrev pub is_blank : ℕ → Bool
 is_blank c = c == 32 || c == 9 || c == 13 || c == 12
 

@@ -54,7 +54,7 @@ places_of_case now kind value branches otherwise =
 
 -- ---- 9.6: `repeat`
 
--- a count is read by its own sign; one that is unknown is 0, and so is one below 0
+-- a count is read by its own sign; one that is unknown is 0 (9.6), and so is one below 0 (own)
 abbrev pub turns_in : Vector → ℕ
 turns_in count = if is_one (sign_letter count) then 0 else unwrap_or (number count.letters) 0
 

@@ -35,7 +35,7 @@ rises bounds = nat_le bounds.left bounds.right
 abbrev pub in_order : Bounds → Bounds → Bool
 in_order declared selected = both_fall declared selected || (rises declared && rises selected)
 
--- 5.2.1: bounds from 0 to 65535, at most 64 bits, and in the order of the declared bounds; a single bit is in both orders
+-- 5.2.1: bounds from 0 to 65535 (own), at most 64 bits (own), and in the order of the declared bounds; a single bit is in both orders
 abbrev pub is_part : Bounds → Bounds → Bool
 is_part declared selected =
     nat_le (max selected.left selected.right) 65535
@@ -59,7 +59,7 @@ flaw_of now (conditional condition when_true when_false) =
     option_or (flaw_of now condition) (option_or (flaw_of now when_true) (flaw_of now when_false))
 flaw_of now (joined left right) =  -- 5.1.14; at most 64 bits (own); a number without a size has 32 bits here, too (own)
     option_or (flaw_of now left) (option_or (flaw_of now right) (unless (nat_le (size_of now left + size_of now right) 64) Size))
-flaw_of now (repeated count o) =  -- 5.1.14: at least once
+flaw_of now (repeated count o) =  -- 5.1.14: at least once (own: it allows 0 times within a concatenation), at most 64 bits (own)
     option_or (flaw_of now o) (unless (nat_le 1 count && nat_le (count * size_of now o) 64) Size)
 
 -- ---- targets

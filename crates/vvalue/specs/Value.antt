@@ -180,6 +180,7 @@ extended_value v extension here = with_sign (resize (with_sign v extension) here
 abbrev pub fitted_value : Vector → SizeAndSign → Vector
 fitted_value v here = extended_value v here.signed here
 
+-- a unary + keeps unknown bits as they are (own: 5.1.5 makes the whole result x)
 abbrev pub kept_value : Sign → Vector → Vector
 kept_value signs.Plus v = v
 kept_value signs.Minus v = vectors.neg v
@@ -266,8 +267,8 @@ binary_value (MaxSized operator) v w = compared_value operator v w
 binary_value (SelfDetermined operator) v w = combined_value operator v w
 binary_value (LeftContextDetermined operator) v w = shifted_value operator v w
 
--- 5.4, 5.5: the value where it stands. Where an operator takes its operands by themselves, or at a size of their own, its result is then
--- extended to the size of where it stands. A number that spreads is extended by its leftmost letter (3.5.1)
+-- 5.4, 5.5: the value in a context of this size and sign. The operands of comparisons, reductions and logical operators don't take the
+-- context's size; their result is extended to it. A number that spreads is extended by its leftmost letter (3.5.1)
 abbrev pub value_of : Environment → ExpressionTree → SizeAndSign → Vector
 value_of now (constant c) here = extended_value c.value (c.spreads || here.signed) here
 value_of now (variable n) here = fitted_value (value_at now n) here
