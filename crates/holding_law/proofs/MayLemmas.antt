@@ -11,7 +11,8 @@ use Rattle.vmodel.specs.declared.choice.Choice.TheVariants.{Run, Update, Advance
 use Rattle.vmodel.specs.Queue.{Later, Queue, without_process}
 use Rattle.vmodel.specs.State.{State}
 use Rattle.vmodel.specs.Choices.{in_order, first_update, or_advance, active_choices, offered_choices, free_among, active_order, order_by, order_of, taking_or_holding, choices_by, choices}
-use Rattle.vmodel.specs.Kept.{IsIdle, AreHeldBack, IsKept}
+use Rattle.vmodel.specs.Kept.{AreHeldBack, IsKept}
+use Rattle.vmodel.specs.SlotEnds.{IsIdle}
 use Rattle.vmodel.specs.RulesLaws.{idle_when, idle_when_ordered}
 use Rattle.holding_law.proofs.MemberLemmas.{IsIn, in_counts, counts_in, in_left, in_free}
 

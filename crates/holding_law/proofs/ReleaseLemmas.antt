@@ -16,7 +16,8 @@ use Rattle.vmodel.specs.Step.{transition_of, transition_by, next}
 use Rattle.vmodel.specs.Run.{Setting, state_after}
 use Rattle.vmodel.specs.RunProgress.{after_is}
 use Rattle.vmodel.specs.RunLaws.{IsAlwaysKept}
-use Rattle.vmodel.specs.Kept.{IsIdle, AreHeldBack}
+use Rattle.vmodel.specs.Kept.{AreHeldBack}
+use Rattle.vmodel.specs.SlotEnds.{IsIdle}
 use Rattle.holding_law.specs.Held.{held_in, IsHeld}
 use Rattle.holding_law.proofs.MemberLemmas.{IsIn, contains_in, in_left, none_in}
 use Rattle.holding_law.proofs.MayLemmas.{LastIsIn, held_in_active, last_in, may_go}

@@ -27,7 +27,7 @@ use Rattle.vmodel.specs.Step.{Transition, transition_of, shown_items, idle_items
 use Rattle.vmodel.specs.Run.{Setting, rules_of, opening_of, printed_at_first, state_after, items_after}
 use Rattle.vmodel.specs.RunProgress.{opening_is, width_is, after_is}
 use Rattle.vmodel.specs.RunLaws.{IsAlwaysKept}
-use Rattle.vmodel.specs.Kept.{IsIdle}
+use Rattle.vmodel.specs.SlotEnds.{IsIdle}
 use Rattle.holding_law.specs.SlotLines.{times_in, lines_in, AreWithin, HasSlotLines}
 use Rattle.holding_law.proofs.MemberLemmas.{IsIn}
 use Rattle.holding_law.proofs.MayLemmas.{MayGo, may_go}

@@ -17,7 +17,7 @@ use Rattle.explore.specs.declared.rank_marks.FoundMark.{FoundMark}
 use Rattle.sched_core.specs.declared.end.Cause.{Cause}
 use Rattle.vmodel.specs.State.{State}
 use Rattle.vmodel.specs.Run.{Setting, rules_of, state_after, is_mark}
-use Rattle.vmodel.specs.Kept.{IsSlotEnd}
+use Rattle.vmodel.specs.SlotEnds.{IsSlotEnd}
 use Rattle.vmachine.specs.declared.machine_state.MachineState.{MachineState}
 use Rattle.vmachine.specs.Machines.{Stands, machine_rules}
 use Rattle.vmachine.specs.Reads.{slot_in}

@@ -10,7 +10,7 @@ use Rattle.vmodel.specs.State.{State}
 use Rattle.sched_core.specs.declared.setting.Looked.TheVariants.{Values}
 use Rattle.sched_core.specs.Bags.{IsBagLess}
 use Rattle.vmodel.specs.Run.{Setting, rules_of, state_after}
-use Rattle.vmodel.specs.Kept.{IsSlotEnd}
+use Rattle.vmodel.specs.SlotEnds.{IsSlotEnd}
 use Rattle.vmachine.specs.declared.machine_state.MachineState.{MachineState}
 use Rattle.vmachine.specs.Machines.{Stands, machine_rules}
 use Rattle.racebook.specs.Races.{IsWhole}

@@ -9,7 +9,7 @@ use Rattle.explore.specs.declared.findings.Status.TheVariants.{Exhausted}
 use Rattle.explore.specs.Found.{ListsFound, ListsAll}
 use Rattle.vmodel.specs.State.{State}
 use Rattle.vmodel.specs.Run.{Setting, rules_of, state_after}
-use Rattle.vmodel.specs.Kept.{IsSlotEnd}
+use Rattle.vmodel.specs.SlotEnds.{IsSlotEnd}
 use Rattle.vmachine.specs.declared.machine_state.MachineState.{MachineState}
 use Rattle.vmachine.specs.Machines.{Stands, machine_rules}
 use Rattle.racebook.specs.Order.{IsEarlier, AreInTextOrder}

@@ -10,7 +10,7 @@ use crate::words::{Words, is_one_of};
 use crate::{bounds, declarations, expressions, keywords, statements, system_verilog};
 use basis::NoMemory;
 use std::alloc::Global;
-use vast::words::unescaped;
+use vast::words::without_backslash;
 use vlex::{TokenKind, Tokens};
 use vsrc::Place;
 
@@ -93,7 +93,7 @@ pub(crate) fn is_same(one: &Found<'_>, other: &Found<'_>) -> bool {
             Some(rule) => rule.names_word,
         },
     };
-    one.what == other.what && (!names_word || unescaped(one.word) == unescaped(other.word))
+    one.what == other.what && (!names_word || without_backslash(one.word) == without_backslash(other.word))
 }
 
 /// Keeps what was found, or counts it where it is there.

@@ -1,6 +1,6 @@
 // The words of a text, looked at from one of them.
 
-use vast::words::unescaped;
+use vast::words::without_backslash;
 use vlex::{TokenKind, Tokens};
 use vsrc::Place;
 
@@ -94,12 +94,12 @@ impl<'a> Words<'a> {
 
     /// The letters of the name that the word is.
     pub(crate) fn name(&self) -> &'a [u8] {
-        unescaped(self.word())
+        without_backslash(self.word())
     }
 
     /// The letters of the name so many places earlier.
     pub(crate) fn name_before(&self, fewer: usize) -> &'a [u8] {
-        unescaped(self.before(fewer))
+        without_backslash(self.before(fewer))
     }
 
     /// Whether the word so many places later is a name, and no keyword.

@@ -16,7 +16,8 @@ use Rattle.vmodel.specs.State.{State}
 use Rattle.vmodel.specs.Step.{Transition, next, line_item, shown_items, idle_items, slot_end_by, slot_end_of, strobe_items, before_end, end_items, items_of}
 use Rattle.vmodel.specs.Run.{Setting, opening_of, state_after, items_after}
 use Rattle.vmodel.specs.RunProgress.{opening_is, after_is}
-use Rattle.vmodel.specs.Kept.{IsSlotEnd, HasSlotEnd}
+use Rattle.vmodel.specs.Kept.{HasSlotEnd}
+use Rattle.vmodel.specs.SlotEnds.{IsSlotEnd}
 
 -- ---- of one state
 

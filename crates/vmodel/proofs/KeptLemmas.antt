@@ -18,7 +18,8 @@ use Rattle.sched_core.specs.declared.setting.Departures.TheVariants.{Taking, Hol
 use Rattle.std.specs.Option.{ForSome}
 use Rattle.vmodel.specs.Run.{Setting, busy_from, opening_process, held_at_first, opening_of, state_after}
 use Rattle.vmodel.specs.RunProgress.{opening_is, after_is}
-use Rattle.vmodel.specs.Kept.{RisesFrom, IsInOrder, count_in, asleep, IsInPlace, IsIdle, AreHeldBack, IsKept, IsEmptied}
+use Rattle.vmodel.specs.Kept.{RisesFrom, IsInOrder, count_in, asleep, IsInPlace, AreHeldBack, IsKept, IsEmptied}
+use Rattle.vmodel.specs.SlotEnds.{IsIdle}
 use Rattle.vmodel.proofs.PlaceLemmas.{count-other, count-self, rises_below}
 use Rattle.vmodel.proofs.MovedLemmas.{most_at, IsWaiting, nobody_last, settled_by, order-process_with_move, is_there, place-process_with_move, continuation_at}
 use Rattle.vmodel.proofs.AwakeLemmas.{order-with_woken, place-with_woken}

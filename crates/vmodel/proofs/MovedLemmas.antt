@@ -11,7 +11,8 @@ use Rattle.vmodel.specs.declared.process.Frame.{Frame}
 use Rattle.vmodel.specs.State.{Process}
 use Rattle.vmodel.specs.Queue.{Later, Queue, with_process, slot_with_sleeper, slot_with_update, later_at, later}
 use Rattle.vmodel.specs.Step.{without_active, process_to_continue, with_next_step, with_delay, reschedule, posts_after, posts, activate_next_region, with_queue_moves, continuation_of, waits_by}
-use Rattle.vmodel.specs.Kept.{IsInOrder, count_in, places, most_places, HasRest, waits_of, IsInPlace, IsIdle}
+use Rattle.vmodel.specs.Kept.{IsInOrder, count_in, places, most_places, HasRest, waits_of, IsInPlace}
+use Rattle.vmodel.specs.SlotEnds.{IsIdle}
 use Rattle.vmodel.proofs.PlaceLemmas.{alike, count-other, count-self, count-without_self, count-without, count-with, asleep-wake, asleep-update, without_rises, with_rises, wake_rises, update_rises}
 
 -- ---- what holds of a queue after a move, by the cases of the move

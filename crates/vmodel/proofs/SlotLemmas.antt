@@ -17,7 +17,8 @@ use Rattle.vmodel.specs.Choices.{advance_choice, or_advance, offered_choices, or
 use Rattle.vmodel.specs.Step.{continuation_of, with_woken, with_update, with_advance, transition_of, transition_by, next}
 use Rattle.vmodel.specs.Run.{Setting, rules_of, is_mark, state_after}
 use Rattle.vmodel.specs.RunProgress.{after_is, width_is}
-use Rattle.vmodel.specs.Kept.{count_in, IsIdle, AreHeldBack, IsKept}
+use Rattle.vmodel.specs.Kept.{count_in, AreHeldBack, IsKept}
+use Rattle.vmodel.specs.SlotEnds.{IsIdle}
 use Rattle.vmodel.proofs.PlaceLemmas.{count-self}
 use Rattle.vmodel.proofs.MovedLemmas.{LastIsActive}
 use Rattle.vmodel.proofs.OpenLemmas.{IsOpen, open_choice}

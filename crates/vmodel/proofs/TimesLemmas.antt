@@ -23,7 +23,8 @@ use Rattle.vmodel.specs.Choices.{choices}
 use Rattle.vmodel.specs.Step.{environment_of, Transition, StepResult, execute_at, place_of, process_to_continue, with_next_step, reschedule, posts, with_strobe, with_queue_moves, with_moves_by, with_woken, with_moves, with_step, transition_with, action_transition, continuation_transition, continuation_of, held_of, without_update, with_update, with_advance, transition_of, with_views, transition_by, next, shown_items, idle_items, slot_end_by, slot_end_of, strobe_items, before_end, end_items, items_of}
 use Rattle.vmodel.specs.Run.{Setting, rules_of, opening_of, state_after, items_after}
 use Rattle.vmodel.specs.RunProgress.{opening_is, after_is, width_is}
-use Rattle.vmodel.specs.Kept.{RisesFrom, IsIdle, IsKept, slot_times, count_in}
+use Rattle.vmodel.specs.Kept.{RisesFrom, IsKept, slot_times, count_in}
+use Rattle.vmodel.specs.SlotEnds.{IsIdle}
 use Rattle.vmodel.proofs.MovedLemmas.{sleeps_by, posts_by, settled_by}
 use Rattle.vmodel.proofs.OpenLemmas.{IsOpen, open_choice}
 use Rattle.vmodel.proofs.KeptLemmas.{kept}

@@ -1,11 +1,11 @@
--- *trusted*: What every state of a run keeps, under every log (IEEE 1364-2005, 11.3, 11.4; docs/SCHEDULING.md). Only `IsSlotEnd` and what
--- it names has to be believed; all else is a law.
+-- *internal*: What every state of a run keeps, under every log (docs/SCHEDULING.md): it is proved of all of them.
 use Rattle.std.specs.Prelude.{◌≡◌, ℕ, suc, ◌+◌, ◌≤◌, ◌==◌, if◌then◌else◌, List, [], ◌∷◌, length, slice_get, Option, Some, None}
 use Rattle.std.specs.Option.{ForSome}
 use Rattle.vmodel.specs.declared.process.Frame.{Frame}
 use Rattle.vmodel.specs.Queue.{Later, Queue}
 use Rattle.vmodel.specs.State.{Process, State}
 use Rattle.vmodel.specs.Holding.{release}
+use Rattle.vmodel.specs.SlotEnds.{IsIdle, IsSlotEnd}
 use Rattle.vmodel.specs.Step.{continuation_of}
 use Rattle.vmodel.specs.Run.{Setting, state_after}
 use Rattle.vbits.specs.Vectors.{Vector}
@@ -65,9 +65,6 @@ pub record IsInPlace (q : Queue) (processes : List Process) : Type 0 where
   pub waiting : (p : ℕ) → HasRest (waits_of (slice_get processes p)) (continuation_of (slice_get processes p))
   pub last : ForSome q.last (λ p. 1 ≤ count_in p q.active)
 
-abbrev pub IsIdle : Queue → Type 0
-IsIdle q = (q.active ≡ []) × (q.activated ≡ [])
-
 abbrev pub IsEmptied : Queue → Type 0
 IsEmptied q = (q.inactive ≡ []) × (q.posted ≡ []) × (q.strobes ≡ [])
 
@@ -111,13 +108,6 @@ AreShaped [] [] = Unit {0}
 AreShaped [] (value ∷ values) = ⊥
 AreShaped (variable ∷ variables) [] = ⊥
 AreShaped (variable ∷ variables) (value ∷ values) = HasShape variable value × AreShaped variables values
-
--- 11.4: the state is a slot end: nothing is active and the run goes on, at this time and with these values
-pub record IsSlotEnd (time : ℕ) (values : List Vector) (s : State) : Type 0 where
-  pub goes_on : s.cause ≡ None
-  pub idle : IsIdle s.queue
-  pub time_is : s.queue.time ≡ time
-  pub values_are : s.values ≡ values
 
 -- the run was at such a slot end after n steps or before
 abbrev pub HasSlotEnd : Setting → List (ℕ × ℕ) → ℕ → ℕ → List Vector → Type 0

@@ -16,6 +16,7 @@ pub mod SameLaws
 pub mod Digest
 pub mod Run
 pub mod RunProgress
+pub mod SlotEnds
 pub mod Kept
 pub mod RunLaws
 pub mod PartLaws

@@ -13,7 +13,7 @@ use Rattle.vmodel.specs.Choices.{in_order, first_update, or_advance, active_choi
 use Rattle.vmodel.specs.Step.{next}
 use Rattle.vmodel.specs.Same.{state_same}
 use Rattle.vmodel.specs.Run.{Setting, rules_of, is_mark}
-use Rattle.vmodel.specs.Kept.{IsIdle}
+use Rattle.vmodel.specs.SlotEnds.{IsIdle}
 use Rattle.vmodel.specs.SameLaws.{states_tell}
 
 -- where nothing is offered nothing is active

@@ -12,7 +12,7 @@ use Rattle.sched_core.specs.declared.end.Cause.{Cause}
 use Rattle.sched_core.specs.Rules.{IsRun, choice_at}
 use Rattle.sched_core.specs.Replay.{EndsAfter}
 use Rattle.vmodel.specs.Choices.{choices}
-use Rattle.vmodel.specs.Kept.{IsIdle, IsSlotEnd}
+use Rattle.vmodel.specs.SlotEnds.{IsIdle, IsSlotEnd}
 use Rattle.vmodel.specs.Queue.{Queue}
 use Rattle.vmodel.specs.State.{State}
 use Rattle.vmodel.specs.Run.{Setting, cause_of, rules_of, state_after}
