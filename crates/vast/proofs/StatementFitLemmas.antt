@@ -2,13 +2,14 @@
 use Rattle.std.proofs.Common.{◌≡◌, ◌≢◌, ℕ, suc, ◌+◌, ◌-◌, Bool, true, false, not, List, [], ◌∷◌, Vec, Box, Global, length, map, nat_eq, ◌&&◌, max, nat_le, refl, sym, ap, ◌∙◌, arith, Option}
 use Rattle.std.specs.List.{list_all}
 use Rattle.std.proofs.lemmas.Bool.Decides.{nat_tests}
+use Rattle.std.proofs.Math.Bool.{and-true}
 use Rattle.vast.specs.Words.{Text, is_name}
 use Rattle.vast.specs.Expressions.{fits_expression, depth, fits_parts, greatest_depth, is_some_part}
 use Rattle.vast.specs.Statements.{TargetTree, whole, bit, part, joined, TargetTrees, none, first, target_depth, greatest_target_depth, fits_target, fits_targets, is_some_target, fits_delay, delay_depth, fits_optional_delay, optional_delay_depth, fits_event, event_depth, ArgumentTree, argument_depth, arguments_depth, fits_argument, fits_print, fits_task, task_depth, StatementTree, empty, block, assign, nonblocking, trigger, if_true, if_else, case_of, while_true, repeat_times, forever, for_loop, wait_for, delay, event, task, StatementTrees, no_statement, first_statement, BranchTree, labelled, default, BranchTrees, no_branch, first_branch, ends_in_if, is_some_branch, defaults, fits_statement, fits_statements, statement_depth, statements_depth, fits_branch, branch_depth, fits_branches, branches_depth, fits_block_name}
 use Rattle.vast.specs.StatementTrees.{argument_tree, task_tree, target_tree, target_trees, statement_tree, statement_trees, branch_trees}
 use Rattle.vast.specs.ExpressionTrees.{tree_of, boxed_tree}
 use Rattle.vast.specs.Modules.{fits_value, fits_body}
-use Rattle.vast.specs.Within.{target_stands, targets_stand, target_within, argument_within, arguments_within, task_within, case_within, setting_within, statement_stands, statements_stand, branch_stands, branches_stand}
+use Rattle.vast.specs.Within.{target_stands, targets_stand, target_within, argument_within, arguments_within, task_within, case_within, setting_within, assignment_within, statement_stands, statements_stand, branch_stands, branches_stand, own_within, inner_stands}
 use Rattle.vast.specs.declared.expression.Expression.{Expression}
 use Rattle.vast.specs.declared.statement.CaseKind.{CaseKind}
 use Rattle.vast.specs.declared.statement.Printing.{Printing}
@@ -120,6 +121,33 @@ counted n a b c d e m f g h k l o =
         ∙ and_assoc ((f && g) && h) (k && l) o
         ∙ ap (λ x. x && o) (and_assoc ((f && g) && h) k l)
 
+named : (n : ℕ) (a : Bool) → (nat_le 1 n && ((nat_le 1 (n - 1) && a) && true)) ≡ (nat_le 2 n && a)
+named n a = grind (arith, nat_tests)
+
+-- what stands in a statement itself, and the statements in it
+both_parts : (n : ℕ) (tree : StatementTree) → (nat_le 1 n && (own_within (n - 1) tree && inner_stands (n - 1) tree)) ≡ statement_stands n tree
+both_parts n empty = and-true (nat_le 1 n)
+both_parts n (block label list) = refl
+both_parts n (assign target amount value) = ap (λ b. nat_le 1 n && b) (and-true (assignment_within (n - 1) target amount value))
+both_parts n (nonblocking target amount value) = ap (λ b. nat_le 1 n && b) (and-true (assignment_within (n - 1) target amount value))
+both_parts n (trigger letters) = named n (is_name letters)
+both_parts n (if_true condition body) = refl
+both_parts n (if_else condition body other) = refl
+both_parts n (case_of kind value branches) = refl
+both_parts n (while_true condition body) = refl
+both_parts n (repeat_times count body) = refl
+both_parts n (forever body) = refl
+both_parts n (for_loop target value condition next_target next_value body) =
+    let more = setting_within (n - 1) next_target next_value && statement_stands (n - 1) body in
+    ap (λ b. nat_le 1 n && b) (sym (and_assoc (setting_within (n - 1) target value) (fits_value (n - 1) condition) more))
+both_parts n (wait_for condition body) = refl
+both_parts n (delay amount body) = refl
+both_parts n (event control body) = refl
+both_parts n (task call) = ap (λ b. nat_le 1 n && b) (and-true (task_within (n - 1) call))
+
+pub parts_stand : (n : ℕ) (tree : StatementTree) → n ≢ 0 → (own_within (n - 1) tree && inner_stands (n - 1) tree) ≡ statement_stands n tree
+parts_stand n tree positive = some_level n (own_within (n - 1) tree && inner_stands (n - 1) tree) positive ∙ both_parts n tree
+
 mutual
   pub statement_stands_is : (n : ℕ) (tree : StatementTree) → statement_stands n tree ≡ fits_body n tree
   statement_stands_is n empty = refl
@@ -227,23 +255,23 @@ module _ (words : List Text) where
         ∙ some_level n (is_some_target (target_trees words targets.items) && targets_stand (n - 1) (target_trees words targets.items)) positive
         ∙ sym (ap (target_stands n) (ap (target_tree words) is ∙ tree_of_joined at targets))
 
-    pub block_stands : (e : Statement) (label : Option Token) (list : Vec Statement Global) (items : List Statement) → e ≡ Block label list →
-        items ≡ list.items →
-        (fits_block_name (option_map (token_text words) label) && statements_stand (n - 1) (statement_trees words items))
-        ≡ statement_stands n (statement_tree words e)
-    block_stands e label list items is same =
-        let fits = fits_block_name (option_map (token_text words) label) in
-        ap (λ (xs : List Statement). fits && statements_stand (n - 1) (statement_trees words xs)) same
-        ∙ some_level n (fits && statements_stand (n - 1) (statement_trees words list.items)) positive
-        ∙ sym (ap (statement_stands n) (ap (statement_tree words) is ∙ tree_of_whole_block words label list))
+  pub block_name : (e : Statement) (n : ℕ) (label : Option Token) (list : Vec Statement Global) → e ≡ Block label list →
+      fits_block_name (option_map (token_text words) label) ≡ own_within n (statement_tree words e)
+  block_name e n label list is = sym (ap (own_within n) (ap (statement_tree words) is ∙ tree_of_whole_block words label list))
 
-    pub case_stands : (e : Statement) (at : ℕ) (kind : CaseKind) (value : Box Expression Global) (branches : Vec Branch Global) (amount : Expression)
-        (one two : List Branch) → e ≡ Case at kind value branches → amount ≡ value.value → one ≡ branches.items → two ≡ branches.items →
-        (case_within (n - 1) (tree_of words amount) (branch_trees words one) && branches_stand (n - 1) (branch_trees words two))
-        ≡ statement_stands n (statement_tree words e)
-    case_stands e at kind value branches amount one two is valued same same_too =
-        (λ i. case_within (n - 1) (tree_of words (valued i)) (branch_trees words (same i)) && branches_stand (n - 1) (branch_trees words (same_too i)))
-        ∙ some_level n
-        (case_within (n - 1) (boxed_tree words value) (branch_trees words branches.items) && branches_stand (n - 1) (branch_trees words branches.items))
-        positive
-        ∙ sym (ap (statement_stands n) (ap (statement_tree words) is ∙ tree_of_case words at kind value branches))
+  pub block_inner : (e : Statement) (n : ℕ) (label : Option Token) (list : Vec Statement Global) (items : List Statement) → e ≡ Block label list →
+      items ≡ list.items → statements_stand n (statement_trees words items) ≡ inner_stands n (statement_tree words e)
+  block_inner e n label list items is same =
+      ap (λ (xs : List Statement). statements_stand n (statement_trees words xs)) same
+      ∙ sym (ap (inner_stands n) (ap (statement_tree words) is ∙ tree_of_whole_block words label list))
+
+  module _ (e : Statement) (n : ℕ) (at : ℕ) (kind : CaseKind) (value : Box Expression Global) (branches : Vec Branch Global) (is : e ≡ Case at kind value branches) (items : List Branch) (same : items ≡ branches.items) where
+    whole_case : statement_tree words e ≡ case_of kind (boxed_tree words value) (branch_trees words branches.items)
+    whole_case = ap (statement_tree words) is ∙ tree_of_case words at kind value branches
+
+    pub case_head : (amount : Expression) → amount ≡ value.value →
+        case_within n (tree_of words amount) (branch_trees words items) ≡ own_within n (statement_tree words e)
+    case_head amount valued = (λ i. case_within n (tree_of words (valued i)) (branch_trees words (same i))) ∙ sym (ap (own_within n) whole_case)
+
+    pub case_inner : branches_stand n (branch_trees words items) ≡ inner_stands n (statement_tree words e)
+    case_inner = ap (λ (xs : List Branch). branches_stand n (branch_trees words xs)) same ∙ sym (ap (inner_stands n) whole_case)

@@ -129,3 +129,46 @@ abbrev mutual
   pub branches_stand : ℕ → BranchTrees → Bool
   branches_stand levels no_branch = true
   branches_stand levels (first_branch one more) = branch_stands levels one && branches_stand levels more
+
+-- a statement in two parts, with so many levels below it
+
+-- what stands in it, but for the statements in it and what a `for` assigns after its body
+abbrev pub own_within : ℕ → StatementTree → Bool
+own_within levels empty = true
+own_within levels (block label list) = fits_block_name label
+own_within levels (assign target amount value) = assignment_within levels target amount value
+own_within levels (nonblocking target amount value) = assignment_within levels target amount value
+own_within levels (trigger letters) = nat_le 1 levels && is_name letters
+own_within levels (if_true condition body) = fits_value levels condition
+own_within levels (if_else condition body other) = fits_value levels condition
+own_within levels (case_of kind value branches) = case_within levels value branches
+own_within levels (while_true condition body) = fits_value levels condition
+own_within levels (repeat_times count body) = fits_value levels count
+own_within levels (forever body) = true
+own_within levels (for_loop target value condition next_target next_value body) =
+    setting_within levels target value && fits_value levels condition
+own_within levels (wait_for condition body) = fits_value levels condition
+own_within levels (delay amount body) = delay_within levels amount
+own_within levels (event control body) = event_within levels control
+own_within levels (task call) = task_within levels call
+
+-- the statements in it, with what a `for` assigns after its body
+abbrev pub inner_stands : ℕ → StatementTree → Bool
+inner_stands levels empty = true
+inner_stands levels (block label list) = statements_stand levels list
+inner_stands levels (assign target amount value) = true
+inner_stands levels (nonblocking target amount value) = true
+inner_stands levels (trigger letters) = true
+inner_stands levels (if_true condition body) = statement_stands levels body
+inner_stands levels (if_else condition body other) =
+    statement_stands levels body && (not (ends_in_if body) && statement_stands levels other)
+inner_stands levels (case_of kind value branches) = branches_stand levels branches
+inner_stands levels (while_true condition body) = statement_stands levels body
+inner_stands levels (repeat_times count body) = statement_stands levels body
+inner_stands levels (forever body) = statement_stands levels body
+inner_stands levels (for_loop target value condition next_target next_value body) =
+    setting_within levels next_target next_value && statement_stands levels body
+inner_stands levels (wait_for condition body) = statement_stands levels body
+inner_stands levels (delay amount body) = statement_stands levels body
+inner_stands levels (event control body) = statement_stands levels body
+inner_stands levels (task call) = true

@@ -7,7 +7,7 @@ ghost use Rattle.vast.specs.TokenTexts.{texts};
 ghost use Rattle.vast.specs.ExpressionTrees.{tree_of};
 ghost use Rattle.vast.specs.Statements.{ends_in_if as tree_ends_in_if, is_some_branch as is_some_tree, defaults, is_default as is_default_tree};
 ghost use Rattle.vast.specs.StatementTrees.{statement_tree, statement_trees, branch_tree, branch_trees};
-ghost use Rattle.vast.specs.Within.{statement_stands as tree_stands, statements_stand as trees_stand, branch_stands as branch_tree_stands, branches_stand as branch_trees_stand, case_within};
+ghost use Rattle.vast.specs.Within.{statement_stands as tree_stands, statements_stand as trees_stand, branch_stands as branch_tree_stands, branches_stand as branch_trees_stand, case_within, own_within, inner_stands};
 ghost use Rattle.vast.specs.Modules.{fits_body};
 
 use crate::expression::Expression;
@@ -76,20 +76,13 @@ fn case_fits(words: &[&[u8]], value: &Expression, branches: &[Branch], levels: u
     expression_fits(words, value, levels) && (is_some_branch(branches) && has_one_default(branches))
 }
 
-// Whether the statement fits, and has so many levels at most.
-#[cycle(statements)]
-#[tactic(auto, using(crate::proofs::StatementFitLemmas::stands_nowhere))]
-fn statement_stands(words: &[&[u8]], statement: &Statement, levels: u32) -> bool
-    ensures { result ≡ tree_stands levels (statement_tree (texts words.now) statement.now) }
+// Whether what stands in a statement fits, but for the statements in it and what a `for` assigns after its body.
+fn own_parts_fit(words: &[&[u8]], statement: &Statement, below: u32) -> bool
+    ensures { result ≡ own_within below (statement_tree (texts words.now) statement.now) }
 {
-    if levels == 0 {
-        return false;
-    }
-    let below = levels - 1;
     match statement {
-        Statement::Empty => true,
-        Statement::Block { name, statements } => block_name_fits(words, name)
-            && statements_stand(words, statements, below),
+        Statement::Empty | Statement::Forever { .. } => true,
+        Statement::Block { name, .. } => block_name_fits(words, name),
         Statement::Assign {
             target,
             delay,
@@ -103,58 +96,76 @@ fn statement_stands(words: &[&[u8]], statement: &Statement, levels: u32) -> bool
             ..
         } => assignment_fits(words, target, delay, value, below),
         Statement::Trigger { name, .. } => below > 0 && is_name(letters(words, *name)),
-        Statement::If {
-            condition,
-            body,
-            ..
-        } => expression_fits(words, condition, below) && statement_stands(words, body, below),
-        Statement::IfElse {
-            condition,
-            body,
-            other,
-            ..
-        } => {
-            expression_fits(words, condition, below)
-                && (statement_stands(words, body, below)
-                    && (!ends_in_if(body) && statement_stands(words, other, below)))
-        }
+        Statement::If { condition, .. } => expression_fits(words, condition, below),
+        Statement::IfElse { condition, .. } => expression_fits(words, condition, below),
         Statement::Case {
             value,
             branches,
             ..
-        } => case_fits(words, value, branches, below) && branches_stand(words, branches, below),
-        Statement::While {
-            condition,
-            body,
-            ..
-        } => expression_fits(words, condition, below) && statement_stands(words, body, below),
-        Statement::Repeat { count, body, .. } => expression_fits(words, count, below)
-            && statement_stands(words, body, below),
-        Statement::Forever { body, .. } => statement_stands(words, body, below),
+        } => case_fits(words, value, branches, below),
+        Statement::While { condition, .. } => expression_fits(words, condition, below),
+        Statement::Repeat { count, .. } => expression_fits(words, count, below),
         Statement::For {
             target,
             value,
             condition,
+            ..
+        } => {
+            setting_fits(words, target, value, below) && expression_fits(words, condition, below)
+        }
+        Statement::Wait { condition, .. } => expression_fits(words, condition, below),
+        Statement::Delayed { delay, .. } => delay_fits(words, delay, below),
+        Statement::OnEvent { event, .. } => event_fits(words, event, below),
+        Statement::Task { task, .. } => task_fits(words, task, below),
+    }
+}
+
+// Whether the statement fits, and has so many levels at most.
+#[cycle(statements)]
+#[tactic(auto, using(crate::proofs::StatementFitLemmas::stands_nowhere))]
+fn statement_stands(words: &[&[u8]], statement: &Statement, levels: u32) -> bool
+    ensures { result ≡ tree_stands levels (statement_tree (texts words.now) statement.now) }
+{
+    if levels == 0 {
+        return false;
+    }
+    let below = levels - 1;
+    own_parts_fit(words, statement, below) && inner_statements_stand(words, statement, below)
+}
+
+// Whether the statements in a statement stand, with what a `for` assigns after its body.
+#[cycle(statements)]
+fn inner_statements_stand(words: &[&[u8]], statement: &Statement, below: u32) -> bool
+    ensures { result ≡ inner_stands below (statement_tree (texts words.now) statement.now) }
+{
+    match statement {
+        Statement::Empty => true,
+        Statement::Block { statements, .. } => statements_stand(words, statements, below),
+        Statement::Assign { .. } => true,
+        Statement::Nonblocking { .. } => true,
+        Statement::Trigger { .. } => true,
+        Statement::If { body, .. } => statement_stands(words, body, below),
+        Statement::IfElse { body, other, .. } => {
+            statement_stands(words, body, below)
+                && (!ends_in_if(body) && statement_stands(words, other, below))
+        }
+        Statement::Case { branches, .. } => branches_stand(words, branches, below),
+        Statement::While { body, .. } => statement_stands(words, body, below),
+        Statement::Repeat { body, .. } => statement_stands(words, body, below),
+        Statement::Forever { body, .. } => statement_stands(words, body, below),
+        Statement::For {
             next_target,
             next_value,
             body,
             ..
         } => {
-            setting_fits(words, target, value, below)
-                && (expression_fits(words, condition, below)
-                    && (setting_fits(words, next_target, next_value, below)
-                        && statement_stands(words, body, below)))
+            setting_fits(words, next_target, next_value, below)
+                && statement_stands(words, body, below)
         }
-        Statement::Wait {
-            condition,
-            body,
-            ..
-        } => expression_fits(words, condition, below) && statement_stands(words, body, below),
-        Statement::Delayed { delay, body, .. } => delay_fits(words, delay, below)
-            && statement_stands(words, body, below),
-        Statement::OnEvent { event, body, .. } => event_fits(words, event, below)
-            && statement_stands(words, body, below),
-        Statement::Task { task, .. } => task_fits(words, task, below),
+        Statement::Wait { body, .. } => statement_stands(words, body, below),
+        Statement::Delayed { body, .. } => statement_stands(words, body, below),
+        Statement::OnEvent { body, .. } => statement_stands(words, body, below),
+        Statement::Task { .. } => true,
     }
 }
 
