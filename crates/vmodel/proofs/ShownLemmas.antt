@@ -1,9 +1,12 @@
 -- Items that are put behind others, where memory gets short on the way.
 use Rattle.std.proofs.Common.{◌≡◌, ℕ, zero, suc, ◌+◌, ◌≤◌, min, List, [], ◌∷◌, ◌++◌, length, take, refl, sym, ap, subst, ◌∙◌, arith}
-use Rattle.std.proofs.lemmas.List.{append_assoc, take_at, take_all}
+use Rattle.std.proofs.lemmas.List.{append_assoc, append-nil, take_at, take_all}
 use Rattle.std.specs.Prelude.{Result, Ok, Err, OnErr}
+use Rattle.vdesign.specs.Design.{Design}
 use Rattle.vmodel.specs.declared.history.Item.{Item}
-use Rattle.vmodel.specs.Step.{before_end, HasFront}
+use Rattle.vmodel.specs.Step.{Transition, items_of, slot_end_of, HasFront}
+use Rattle.vmodel.specs.Touched.{front_items}
+use Rattle.vmodel.proofs.TouchedLemmas.{front_and_end}
 
 -- what holds anyway holds of a refusal
 pub on_err : {T E P : Type 0} (r : Result T E) → P → OnErr r P
@@ -51,10 +54,16 @@ behind_first old first more middle now is front = (
       ∙ ap (λ xs. old ++ xs) (taken_behind first more front.0),
 )
 
--- before a slot end
-module _ (old strobes ends : List Item) (end : Item) (now : List Item) (is : end ∷ [] ≡ ends) where
-  pub before_slot_end : HasFront old strobes now → HasFront old (before_end strobes ends) now
-  before_slot_end front = subst (λ xs. HasFront old (before_end strobes xs) now) is (before_more old strobes (end ∷ []) now front)
+-- nothing came
+pub none_came : (old coming now : List Item) → now ≡ old → HasFront old coming now
+none_came old coming now is = (0, is ∙ sym (append-nil old))
 
-  pub without_slot_end : now ≡ old ++ strobes → HasFront old (before_end strobes ends) now
-  without_slot_end all = before_slot_end (all_came old strobes now all)
+-- what comes before the end of the slot, or some of it
+module _ (design : Design) (transition : Transition) (old now : List Item) where
+  pub front_came : HasFront old (front_items design transition) now → HasFront old (items_of design transition) now
+  front_came front =
+      subst (λ items. HasFront old items now) (sym (front_and_end design transition))
+      (before_more old (front_items design transition) (slot_end_of transition.state) now front)
+
+  pub whole_front_came : now ≡ old ++ front_items design transition → HasFront old (items_of design transition) now
+  whole_front_came is = front_came (all_came old (front_items design transition) now is)

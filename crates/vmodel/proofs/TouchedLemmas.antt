@@ -23,7 +23,7 @@ use Rattle.vmodel.specs.declared.process.Frame.{Frame}
 use Rattle.vdesign.specs.declared.action.Action.{Action}
 use Rattle.vmodel.specs.State.{State}
 use Rattle.vmodel.specs.Step.{Transition, StepResult, place_of, continuation_of, held_of, environment_of, execute_at, with_step, with_woken, with_update, with_advance, with_moves_by, action_transition, continuation_transition, transition_of, transition_by, next, idle_items, slot_end_by, slot_end_of, shown_items, strobe_items, before_end, items_of}
-use Rattle.vmodel.specs.Touched.{is_in, ChangesOnly, ChangesOnlySince, TouchesToo, variables_of, IsKeptAs, IsUnended, is_slot_end, end_due, front_items}
+use Rattle.vmodel.specs.Touched.{is_in, ChangesOnly, ChangesOnlySince, TouchesToo, variables_of, IsKeptAs, HasNoSlotEnd, is_slot_end, end_due, front_items}
 use Rattle.vmodel.proofs.PartLemmas.{write_is, written_length}
 
 -- ---- values
@@ -62,12 +62,12 @@ nowhere_above [] m none = omega arith
 nowhere_above (w ∷ ws) zero none = absurd cc
 nowhere_above (w ∷ ws) (suc m) none = omega (arith, nowhere_above ws m none)
 
--- ---- values that follow others, variable by variable
+-- ---- values that become others, variable by variable
 
 -- the first of the variables that may differ gets its value
-pub followed_there : (m : ℕ) (ms : List ℕ) (old new after : List Vector) (v : Vector) → slice_get new m ≡ Some v → after ≡ slice_set old m v →
+pub assigned_there : (m : ℕ) (ms : List ℕ) (old new after : List Vector) (v : Vector) → slice_get new m ≡ Some v → after ≡ slice_set old m v →
     ChangesOnly (Some (m ∷ ms)) old new → ChangesOnly (Some ms) after new
-followed_there m ms old new after v is set (long, same) = subst (λ (vs : List Vector). ChangesOnly (Some ms) vs new) (sym set)
+assigned_there m ms old new after v is set (long, same) = subst (λ (vs : List Vector). ChangesOnly (Some ms) vs new) (sym set)
     (long ∙ sym (length-set old m v), λ n out. by n out (n == m) refl)
   where
     by : (n : ℕ) → is_in n ms ≡ false → (b : Bool) → (n == m) ≡ b → slice_get new n ≡ slice_get (slice_set old m v) n
@@ -77,8 +77,8 @@ followed_there m ms old new after v is set (long, same) = subst (λ (vs : List V
     by n out false e = same n (ap (λ b. b || is_in n ms) e ∙ out) ∙ sym (set_elsewhere old m n v e)
 
 -- one that isn't there needs none
-pub followed_nowhere : (m : ℕ) (ms : List ℕ) (old new : List Vector) → slice_get new m ≡ None → ChangesOnly (Some (m ∷ ms)) old new → ChangesOnly (Some ms) old new
-followed_nowhere m ms old new none (long, same) = (long, λ n out. by n out (n == m) refl)
+pub assigned_nowhere : (m : ℕ) (ms : List ℕ) (old new : List Vector) → slice_get new m ≡ None → ChangesOnly (Some (m ∷ ms)) old new → ChangesOnly (Some ms) old new
+assigned_nowhere m ms old new none (long, same) = (long, λ n out. by n out (n == m) refl)
   where
     by : (n : ℕ) → is_in n ms ≡ false → (b : Bool) → (n == m) ≡ b → slice_get new n ≡ slice_get old n
     by n out true e =
@@ -87,8 +87,8 @@ followed_nowhere m ms old new none (long, same) = (long, λ n out. by n out (n =
     by n out false e = same n (ap (λ b. b || is_in n ms) e ∙ out)
 
 -- where no variable may differ they are the same
-pub followed_all : (old new : List Vector) → ChangesOnly (Some []) old new → old ≡ new
-followed_all old new (long, same) = same_throughout old new (sym long) (λ n. sym (same n refl))
+pub assigned_all : (old new : List Vector) → ChangesOnly (Some []) old new → old ≡ new
+assigned_all old new (long, same) = same_throughout old new (sym long) (λ n. sym (same n refl))
 
 -- ---- parts
 
@@ -209,29 +209,29 @@ front_and_end design t =
     ∙ sym (append_assoc shown (if is_slot_end t.state then strobes else []) (end_due (is_slot_end t.state) t.state))
     ∙ ap (λ (ends : List Item). front_items design t ++ ends) (sym (slot_end_is t.state))
 
-shown_unended : (design : Design) (s : State) (shown : Option Shown) → IsUnended (shown_items design s shown)
-shown_unended design s None = tt
-shown_unended design s (Some (Commands command)) = (refl, tt)
-shown_unended design s (Some (Prints place)) = (refl, tt)
-shown_unended design s (Some (Watches place)) = (refl, tt)
+no_end_in_shown : (design : Design) (s : State) (shown : Option Shown) → HasNoSlotEnd (shown_items design s shown)
+no_end_in_shown design s None = tt
+no_end_in_shown design s (Some (Commands command)) = (refl, tt)
+no_end_in_shown design s (Some (Prints place)) = (refl, tt)
+no_end_in_shown design s (Some (Watches place)) = (refl, tt)
 
-strobes_unended : (design : Design) (s : State) (places : List ℕ) → IsUnended (strobe_items design s places)
-strobes_unended design s [] = tt
-strobes_unended design s (place ∷ places) = (refl, strobes_unended design s places)
+no_end_in_strobes : (design : Design) (s : State) (places : List ℕ) → HasNoSlotEnd (strobe_items design s places)
+no_end_in_strobes design s [] = tt
+no_end_in_strobes design s (place ∷ places) = (refl, no_end_in_strobes design s places)
 
-pub unended_both : (xs ys : List Item) → IsUnended xs → IsUnended ys → IsUnended (xs ++ ys)
-unended_both [] ys h k = k
-unended_both (x ∷ xs) ys h k = (h.0, unended_both xs ys h.1 k)
+pub no_end_in_both : (xs ys : List Item) → HasNoSlotEnd xs → HasNoSlotEnd ys → HasNoSlotEnd (xs ++ ys)
+no_end_in_both [] ys h k = k
+no_end_in_both (x ∷ xs) ys h k = (h.0, no_end_in_both xs ys h.1 k)
 
-strobes_if : (due : Bool) (design : Design) (s : State) (places : List ℕ) → IsUnended (if due then strobe_items design s places else [])
-strobes_if true design s places = strobes_unended design s places
+strobes_if : (due : Bool) (design : Design) (s : State) (places : List ℕ) → HasNoSlotEnd (if due then strobe_items design s places else [])
+strobes_if true design s places = no_end_in_strobes design s places
 strobes_if false design s places = tt
 
 -- nothing of the front ends a slot
-pub front_unended : (design : Design) (t : Transition) → IsUnended (front_items design t)
-front_unended design t =
-    unended_both (shown_items design t.state t.effect.shown) (if is_slot_end t.state then strobe_items design t.state t.monitors else [])
-    (shown_unended design t.state t.effect.shown) (strobes_if (is_slot_end t.state) design t.state t.monitors)
+pub no_end_in_front : (design : Design) (t : Transition) → HasNoSlotEnd (front_items design t)
+no_end_in_front design t =
+    no_end_in_both (shown_items design t.state t.effect.shown) (if is_slot_end t.state then strobe_items design t.state t.monitors else [])
+    (no_end_in_shown design t.state t.effect.shown) (strobes_if (is_slot_end t.state) design t.state t.monitors)
 
 -- a slot end is a mark
 pub slot_end_marks : (s : State) → is_slot_end s ≡ true → is_mark s ≡ true

@@ -54,9 +54,9 @@ ends_slot (Line text) = false
 ends_slot (Monitor place) = false
 
 -- none of these ends a slot
-abbrev pub IsUnended : List Item → Type 0
-IsUnended [] = Unit {0}
-IsUnended (item ∷ more) = (ends_slot item ≡ false) × IsUnended more
+abbrev pub HasNoSlotEnd : List Item → Type 0
+HasNoSlotEnd [] = Unit {0}
+HasNoSlotEnd (item ∷ more) = (ends_slot item ≡ false) × HasNoSlotEnd more
 
 -- a slot has ended, and the run goes on
 abbrev pub is_slot_end : State → Bool

@@ -109,29 +109,9 @@ fn put_strobes(
     Ok(())
 }
 
-// Puts behind others what the state after a step adds, where it is a slot end, at which these monitor events ran (11.4); where memory
-// is short, the first of it.
-fn put_end(
-    items: &mut Vec<Item>,
-    design: &Design,
-    state: &State,
-    monitors: &[usize],
-) -> Result<(), NoMemory>
-    ensures ok { OnOk result (items.new.items ≡ items.old.items
-        ++ spec.end_items design.now state.now monitors.now) }
-    ensures front { OnErr result (HasFront items.old.items
-        (spec.end_items design.now state.now monitors.now) items.new.items) }
-{
-    let alloc = *items.allocator();
-    if let Some(end) = state.slot_end(alloc)? {
-        put_strobes(items, design, state, monitors)?;
-        items.push(end)?;
-    }
-    Ok(())
-}
-
 /// Puts after others what a step gives to the history before the end of the slot, in order: what it showed at once, and where the state
-/// after it is a slot end the lines of the monitor events.
+/// after it is a slot end the lines of the monitor events (11.4). Where memory is short, the others still stand, and after them come the
+/// first of these at most.
 pub fn put_front(
     items: &mut Vec<Item>,
     design: &Design,
@@ -139,8 +119,10 @@ pub fn put_front(
     effect: &Effect,
     monitors: &[usize],
 ) -> Result<(), NoMemory>
-    ensures { OnOk result (items.new.items
+    ensures ok { OnOk result (items.new.items
         ≡ items.old.items ++ front_items design.now (transition_to state.now effect.now monitors.now)) }
+    ensures front { OnErr result (HasFront items.old.items
+        (front_items design.now (transition_to state.now effect.now monitors.now)) items.new.items) }
 {
     if let Some(shown) = effect.shown {
         put_shown(items, design, state, shown)?;
@@ -166,10 +148,8 @@ pub fn put_items(
     ensures front { OnErr result (HasFront items.old.items
         (items_of design.now (transition_to state.now effect.now monitors.now)) items.new.items) }
 {
-    if let Some(shown) = effect.shown {
-        put_shown(items, design, state, shown)?;
-    }
-    put_end(items, design, state, monitors)
+    put_front(items, design, state, effect, monitors)?;
+    put_slot_end(items, state)
 }
 
 /// Puts after others the slot end of a state, where it is one. Where memory is short, the others stand as they were.

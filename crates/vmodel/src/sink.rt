@@ -4,7 +4,7 @@ ghost use Rattle.std.specs.Prelude.{◌≡◌, ℕ, List, [], ◌∷◌, ◌++�
 ghost use Rattle.vbits.specs.Vectors.{Vector};
 ghost use Rattle.vmodel.specs.declared.history.Item.{Item};
 ghost use Rattle.vmodel.specs.declared.history.Item.TheVariants.{SlotEnd};
-ghost use Rattle.vmodel.specs.Touched.{ChangesOnlySince, IsKeptAs, IsUnended};
+ghost use Rattle.vmodel.specs.Touched.{ChangesOnlySince, HasNoSlotEnd, IsKeptAs};
 
 use crate::history::Item;
 use crate::touched::Touched;
@@ -36,7 +36,7 @@ pub trait HistorySink {
         ensures err { IfErr result (λ fault.
             fails self.old (SlotEnd time values.now ∷ []) fault self.new) };
 
-    /// Whether it may keep the values at the end of the last slot.
+    /// Whether the sink may keep values. Where the answer is false it keeps none.
     fn keeps_values(&self) -> bool
         ensures { result ≡ false → kept self.now ≡ None };
 
@@ -51,15 +51,15 @@ pub trait HistorySink {
     /// To take items and then more is to take them all.
     ghost joins: { (s t u : Self) (xs ys : List Item) → takes s xs t → takes t ys u → takes s (xs ++ ys) u };
 
-    /// The same where taking more fails.
+    /// To take items and then to fail at more is to fail at them all.
     ghost fails_later: { (s t u : Self) (xs ys : List Item) (fault : Self.Fault) → takes s xs t → fails t ys fault u → fails s (xs ++ ys) fault u };
 
-    /// The same where more items weren't come to.
+    /// To fail at items is to fail at these and any that come after them.
     ghost fails_before: { (s u : Self) (xs ys : List Item) (fault : Self.Fault) → fails s xs fault u → fails s (xs ++ ys) fault u };
 
     /// What it keeps after the end of a slot are the values there.
     ghost keeps: { (s u : Self) (time : ℕ) (values : List Vector) → takes s (SlotEnd time values ∷ []) u → IsKeptAs values (kept u) };
 
     /// What it keeps stays until the next end of a slot.
-    ghost keeps_on: { (s u : Self) (items : List Item) → IsUnended items → takes s items u → kept u ≡ kept s };
+    ghost keeps_on: { (s u : Self) (items : List Item) → HasNoSlotEnd items → takes s items u → kept u ≡ kept s };
 }

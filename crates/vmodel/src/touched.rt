@@ -1,10 +1,9 @@
 // Which variables a run may have changed since the end of a slot: a dump tells these alone (IEEE 1364-2005, 18.2.1).
 
-ghost use Rattle.std.specs.Prelude.{◌≡◌, ◌∷◌, [], None, Some, OnOk, option_map};
+ghost use Rattle.std.specs.Prelude.{◌≡◌, ◌∷◌, [], None, Some, option_map};
 ghost use Rattle.vmodel.specs.Touched as spec;
 
 use crate::part::{Kept, Part, Parts};
-use basis::NoMemory;
 use std::alloc::Global;
 use std::marker::Model;
 
@@ -65,37 +64,34 @@ impl Touched {
         self.list.clear();
     }
 
-    // This variable may have changed, too.
-    fn touch(&mut self, variable: u32) -> Result<(), NoMemory>
-        ensures { OnOk result (spec.TouchesToo (variable ∷ []) self.old self.new) }
+    // This variable may have changed, too. Where the list has no room for it, any may.
+    #[tactic(auto, using(crate::proofs::TouchedLemmas::touches_pushed))]
+    fn touch(&mut self, variable: u32)
+        ensures { spec.TouchesToo (variable ∷ []) self.old self.new }
     {
         if self.any || is_in(variable, &self.list) {
-            return Ok(());
+            return;
         }
-        if self.list.len() >= MOST {
+        if self.list.len() >= MOST || self.list.push(variable).is_err() {
             self.any = true;
-            return Ok(());
         }
-        self.list.push(variable)?;
-        Ok(())
     }
 
     // The variables of these parts may have changed, too.
-    fn touch_each(&mut self, parts: &[Part]) -> Result<(), NoMemory>
-        ensures { OnOk result (spec.TouchesToo (spec.variables_of parts.now) self.old self.new) }
+    fn touch_each(&mut self, parts: &[Part])
+        ensures { spec.TouchesToo (spec.variables_of parts.now) self.old self.new }
     {
         for part in parts {
-            self.touch(part.variable())?;
+            self.touch(part.variable());
         }
-        Ok(())
     }
 
     /// The variables that these parts are of may have changed, too.
-    pub fn touch_all(&mut self, parts: &Parts) -> Result<(), NoMemory>
-        ensures { OnOk result (spec.TouchesToo (spec.variables_of parts.now) self.old self.new) }
+    pub fn touch_all(&mut self, parts: &Parts)
+        ensures { spec.TouchesToo (spec.variables_of parts.now) self.old self.new }
     {
         if self.any {
-            return Ok(());
+            return;
         }
         match parts.kept() {
             Kept::One(part) => self.touch(part.variable()),

@@ -166,8 +166,8 @@ impl Values {
     }
 
     // The value of a variable in place of its own, where there is one.
-    #[tactic(auto, using(crate::proofs::TouchedLemmas::followed_there, crate::proofs::TouchedLemmas::followed_nowhere))]
-    fn follow_at(&mut self, values: &[Vec4], variable: u32)
+    #[tactic(auto, using(crate::proofs::TouchedLemmas::assigned_there, crate::proofs::TouchedLemmas::assigned_nowhere))]
+    fn assign_at(&mut self, values: &[Vec4], variable: u32)
         ensures { TakesOver variable self.old values.now self.new }
     {
         if let Some(value) = values.get(variable as usize) {
@@ -176,25 +176,25 @@ impl Values {
     }
 
     // Those of some variables in place of its own.
-    fn follow_each(&mut self, values: &[Vec4], variables: &[u32])
+    fn assign_each(&mut self, values: &[Vec4], variables: &[u32])
         requires { ChangesOnly (Some variables.now) self.old values.now }
         ensures { self.new ≡ values.now }
     {
         for variable in variables {
-            self.follow_at(values, *variable);
+            self.assign_at(values, *variable);
         }
     }
 
     /// Other values in place of these, which differ from them only in such variables. It takes memory only where any variable may
     /// differ and they are more; where it is refused the values are lost.
-    pub fn follow(&mut self, values: &[Vec4], touched: &Touched) -> Result<(), NoMemory>
+    pub fn assign_touched(&mut self, values: &[Vec4], touched: &Touched) -> Result<(), NoMemory>
         requires { ChangesOnly touched.now self.old values.now }
         ensures { OnOk result (self.new ≡ values.now) }
     {
         match touched.listed() {
             None => self.assign(values),
             Some(variables) => {
-                self.follow_each(values, variables);
+                self.assign_each(values, variables);
                 Ok(())
             }
         }

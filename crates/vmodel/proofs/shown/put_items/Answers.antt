@@ -1,20 +1,18 @@
-use Rattle.std.proofs.Common.{◌∙◌, ◌++◌, ap, sym}
-use Rattle.std.proofs.lemmas.List.{append-nil}
+use Rattle.std.proofs.Common.{◌∙◌}
 use Rattle.std.proofs.lemmas.Result.{on_err_weaker}
-use Rattle.vmodel.specs.Step.{shown_items, end_items}
-use Rattle.vmodel.proofs.ShownLemmas.{behind_first}
+use Rattle.vmodel.specs.InnerStep.{transition_to}
+use Rattle.vmodel.proofs.ShownLemmas.{on_err, front_came, whole_front_came}
 use Rattle.vmodel.proofs.shown.put_items.Goals as goal
-use Rattle.vmodel.proofs.shown.put_items.Goals.{in-Some+in_ok-put_shown, in_default}
+
+pub returns-in_err-put_front-clause-front : goal.returns-in_err-put_front-clause-front
+returns-in_err-put_front-clause-front c =
+    let transition = transition_to c.args.state.now c.args.effect.now c.args.monitors.now in
+    on_err c.from_residual.result
+    (front_came c.args.design.now transition c.args.items.now.items c.put_front.new.items.items c.in_err-put_front.ensures.front)
 
 pub returns-clause-front : goal.returns-clause-front
 returns-clause-front c =
-    let old = c.args.items.now.items in
-    let shown = shown_items c.args.design.now c.args.state.now in
-    let ending = end_items c.args.design.now c.args.state.now in
-    on_err_weaker c.put_end.result
-    (behind_first old (shown c.args.effect.now.shown) (ending c.args.monitors.now) c.match-effect.items.items c.put_end.new.items.items
-    (elim c.match-effect.branch [
-      | in-Some+in_ok-put_shown w ↦ ap (λ v. v.items) w.items-is ∙ w.in_ok-put_shown.ensures.ok ∙ ap (λ one. old ++ shown one) (sym w.in-Some.is)
-      | in_default w ↦ ap (λ v. v.items) w.items-is ∙ sym (append-nil old) ∙ ap (λ one. old ++ shown one) (sym w.in_default.is)
-    ]))
-    c.put_end.ensures.front
+    let transition = transition_to c.args.state.now c.args.effect.now c.args.monitors.now in
+    on_err_weaker c.put_slot_end.result
+    (λ kept. whole_front_came c.args.design.now transition c.args.items.now.items c.put_slot_end.new.items.items (kept ∙ c.in_ok-put_front.ensures.ok))
+    c.put_slot_end.ensures.err
