@@ -6,7 +6,7 @@ ghost use Rattle.byte_sinks.specs.ByteSinks.{Stopped};
 ghost use Rattle.lines_text.specs.declared.in_force.InForce.TheVariants.{Nobody};
 ghost use Rattle.lines_text.specs.LinesText.{line_at as line_text_at};
 
-use crate::in_force::{InForce, monitor_due, line_at, watched_values};
+use crate::in_force::{InForce, line_at, monitor_due, watched_values};
 use basis::OrMemory;
 use byte_sinks::{ByteSink, put};
 use std::alloc::Global;

@@ -93,7 +93,8 @@ pub(crate) fn is_same(one: &Found<'_>, other: &Found<'_>) -> bool {
             Some(rule) => rule.names_word,
         },
     };
-    one.what == other.what && (!names_word || without_backslash(one.word) == without_backslash(other.word))
+    one.what == other.what
+        && (!names_word || without_backslash(one.word) == without_backslash(other.word))
 }
 
 /// Keeps what was found, or counts it where it is there.

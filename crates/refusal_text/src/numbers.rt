@@ -2,7 +2,7 @@
 
 use crate::construct::Construct;
 use crate::find::What;
-use crate::letters::{Flaw, Letters, len_of, flaw_of_number, use_len};
+use crate::letters::{Flaw, Letters, flaw_of_number, len_of, use_len};
 use crate::lines::{from, front};
 use crate::mistakes::Mistake;
 use crate::words::is_one_of;

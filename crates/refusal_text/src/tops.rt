@@ -24,7 +24,10 @@ fn put_names(
 }
 
 // The modules of which there are no instances.
-fn never_instantiated<'a>(alloc: Global, modules: &Modules<'a>) -> Result<Vec<Named<'a>>, NoMemory> {
+fn never_instantiated<'a>(
+    alloc: Global,
+    modules: &Modules<'a>,
+) -> Result<Vec<Named<'a>>, NoMemory> {
     let mut tops = Vec::new(alloc);
     for module in &modules.modules {
         if !are_named(&modules.instances, module.name) {

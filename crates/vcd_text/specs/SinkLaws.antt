@@ -3,7 +3,7 @@ use Rattle.std.proofs.Common.{◌≡◌, ℕ, Bool, true, false, cond, List, [],
 use Rattle.vdesign.specs.Design.{Design}
 use Rattle.vbits.specs.Vectors.{Vector}
 use Rattle.vdesign.specs.declared.dump.DumpCommand.{DumpCommand}
-use Rattle.vmodel.specs.Touched.{IsKeptAs, IsUnended}
+use Rattle.vmodel.specs.Touched.{HasNoSlotEnd, IsKeptAs}
 use Rattle.vmodel.specs.declared.history.Item.{Item}
 use Rattle.vmodel.specs.declared.history.Item.TheVariants.{SlotEnd, Dump, Line, Monitor}
 use Rattle.basis.specs.declared.memory.OrMemory.{OrMemory}
@@ -44,7 +44,7 @@ kept_at_command (Started last on marks old commands) command = refl
 kept_at_command Failed command = refl
 
 -- and it stays until the next one
-kept_over : (design : Design) (p : Progress) (items : List Item) → IsUnended items → kept_of (progress_over design p items) ≡ kept_of p
+kept_over : (design : Design) (p : Progress) (items : List Item) → HasNoSlotEnd items → kept_of (progress_over design p items) ≡ kept_of p
 kept_over design p [] h = refl
 kept_over design p (SlotEnd t values ∷ items) h = absurd (let no : true ≡ false = h.0 in cc)
 kept_over design p (Dump command ∷ items) h = kept_over design (progress_at_command p command) items h.1 ∙ kept_at_command p command
@@ -55,7 +55,7 @@ module _ {O : Type 0} (takes : O → List ℕ → O → Type 0) where
   pub keeps_end : (s u : DumpSink O) (t : ℕ) (values : List Vector) → Takes takes s (SlotEnd t values ∷ []) u → IsKeptAs values (kept_in u)
   keeps_end s u t values p = subst (λ (q : Progress). IsKeptAs values (kept_of q)) (sym p.1) (kept_at_end s.design.now s.progress t values)
 
-  pub keeps_between : (s u : DumpSink O) (items : List Item) → IsUnended items → Takes takes s items u → kept_in u ≡ kept_in s
+  pub keeps_between : (s u : DumpSink O) (items : List Item) → HasNoSlotEnd items → Takes takes s items u → kept_in u ≡ kept_in s
   keeps_between s u items h p = ap kept_of p.1 ∙ kept_over s.design.now s.progress items h
 
 module _ {O F : Type 0} (takes : O → List ℕ → O → Type 0) (fails : O → List ℕ → F → O → Type 0) (laws : IsByteSink takes fails) where

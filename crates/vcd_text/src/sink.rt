@@ -92,7 +92,7 @@ fn put_slot<O: ByteSink>(
         values,
         touched,
     )?;
-    kept.follow(values, touched)?;
+    kept.assign_touched(values, touched)?;
     match put(byte_sink, &text) {
         Ok(()) => {
             *last = line_after(*last, time, &text);

@@ -6,7 +6,7 @@ use Rattle.vmachine.specs.Inner.{HandsOn}
 use Rattle.vmachine.specs.Runs.{AllWaits, IsHandedBySlot, IsHandedSo}
 use Rattle.vmachine.specs.declared.run.Run.{Run}
 
--- what the sink took, where this is left of what waited
+-- what the sink took, where this is left of what was pending
 pub record IsTaken {T : Type 0} (takes : T → List Item → T → Type 0) (first new : T) (all left : List Item) : Type 0 where
   pub handed : List Item
   pub taken : takes first handed new
@@ -40,7 +40,7 @@ module _ {T : Type 0} (takes : T → List Item → T → Type 0) (none : (s : T)
   unfolding given_nothing
   given_no_slot = record { so = given_nothing; each = refl; cut = λ more. refl; waits = waits.waits }
 
--- what was handed and what waits, after a step that gave more
+-- what was handed on and what is pending, after a step that gave more
 pub gave_more : (setting : Setting) (log : List (ℕ × ℕ)) (n : ℕ) (more : List Item) → items_after setting log n ++ more ≡ items_after setting log (n + 1) →
     (handed waiting now : List Item) → now ≡ waiting ++ more → handed ++ waiting ≡ items_after setting log n → handed ++ now ≡ items_after setting log (n + 1)
 gave_more setting log n more gave handed waiting now is all =

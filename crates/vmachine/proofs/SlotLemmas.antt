@@ -8,8 +8,8 @@ use Rattle.vmodel.specs.declared.history.Item.TheVariants.{SlotEnd}
 use Rattle.vmodel.specs.State.{State}
 use Rattle.vmodel.specs.Choices.{choices, choices_by}
 use Rattle.vmodel.specs.Step.{Transition, slot_end_by, slot_end_of, items_of}
-use Rattle.vmodel.specs.Touched.{ends_slot, IsUnended, front_items}
-use Rattle.vmodel.proofs.TouchedLemmas.{idle, not_idle, unended_both, front_and_end, front_unended}
+use Rattle.vmodel.specs.Touched.{ends_slot, HasNoSlotEnd, front_items}
+use Rattle.vmodel.proofs.TouchedLemmas.{idle, not_idle, no_end_in_both, front_and_end, no_end_in_front}
 use Rattle.vmodel.specs.Run.{is_mark}
 use Rattle.vmachine.specs.Handed.{in_first, by_slot, TakesEach}
 use Rattle.vmachine.specs.Inner.{HandsOn}
@@ -20,27 +20,27 @@ use Rattle.vmachine.specs.Runs.{IsCut, Waits}
 within : (x : Item) (xs : List Item) → ends_slot x ≡ false → by_slot (x ∷ xs) ≡ in_first x (by_slot xs)
 within x xs h = ap (λ (b : Bool). if b then (x ∷ []) ∷ by_slot xs else in_first x (by_slot xs)) h
 
-behind_end : (front : List Item) (time : ℕ) (values : List Vector) (more : List Item) → IsUnended front →
+behind_end : (front : List Item) (time : ℕ) (values : List Vector) (more : List Item) → HasNoSlotEnd front →
     by_slot (front ++ SlotEnd time values ∷ more) ≡ (front ++ SlotEnd time values ∷ []) ∷ by_slot more
 behind_end [] time values more h = refl
 behind_end (x ∷ xs) time values more h =
     within x (xs ++ SlotEnd time values ∷ more) h.0 ∙ ap (in_first x) (behind_end xs time values more h.1)
 
-without_end : (x : Item) (xs : List Item) → IsUnended (x ∷ xs) → by_slot (x ∷ xs) ≡ (x ∷ xs) ∷ []
+without_end : (x : Item) (xs : List Item) → HasNoSlotEnd (x ∷ xs) → by_slot (x ∷ xs) ≡ (x ∷ xs) ∷ []
 without_end x [] h = within x [] h.0
 without_end x (y ∷ ys) h = within x (y ∷ ys) h.0 ∙ ap (in_first x) (without_end y ys h.1)
 
-cut_behind : (handed front : List Item) (time : ℕ) (values : List Vector) → IsCut handed → IsUnended front →
+cut_behind : (handed front : List Item) (time : ℕ) (values : List Vector) → IsCut handed → HasNoSlotEnd front →
     IsCut (handed ++ (front ++ SlotEnd time values ∷ []))
-cut_behind handed front time values cut unended more =
+cut_behind handed front time values cut no_end more =
     let end : List Item = SlotEnd time values ∷ [] in
     let whole : by_slot ((handed ++ (front ++ end)) ++ more) ≡ by_slot handed ++ ((front ++ end) ∷ by_slot more) =
     ap by_slot (append_assoc handed (front ++ end) more ∙ ap (λ (xs : List Item). handed ++ xs) (append_assoc front end more))
     ∙ cut (front ++ SlotEnd time values ∷ more)
-    ∙ ap (λ (slots : List (List Item)). by_slot handed ++ slots) (behind_end front time values more unended) in
+    ∙ ap (λ (slots : List (List Item)). by_slot handed ++ slots) (behind_end front time values more no_end) in
     let parts : by_slot (handed ++ (front ++ end)) ++ by_slot more ≡ by_slot handed ++ ((front ++ end) ∷ by_slot more) =
     ap (λ (slots : List (List Item)). slots ++ by_slot more)
-    (cut (front ++ end) ∙ ap (λ (slots : List (List Item)). by_slot handed ++ slots) (behind_end front time values [] unended))
+    (cut (front ++ end) ∙ ap (λ (slots : List (List Item)). by_slot handed ++ slots) (behind_end front time values [] no_end))
     ∙ append_assoc (by_slot handed) ((front ++ end) ∷ []) (by_slot more) in
     whole ∙ sym parts
 
@@ -66,17 +66,17 @@ ends_one None s e = inr (idle s.queue.active s.queue.activated s.queue.time s.va
 over : (s : State) → is_some s.cause ≡ true → length (choices s) ≡ 0
 over s e = ap (λ (b : Bool). length (if b then [] else choices_by s.held_back s.queue)) e
 
--- ---- what waits to be handed on
+-- ---- what is pending
 
-pub waits_more : (xs ys : List Item) (s : State) → IsUnended xs → Waits ys s → Waits (xs ++ ys) s
-waits_more xs ys s unended (front, unended_too, is) = (
+pub waits_more : (xs ys : List Item) (s : State) → HasNoSlotEnd xs → Waits ys s → Waits (xs ++ ys) s
+waits_more xs ys s no_end (front, no_end_too, is) = (
   xs ++ front,
-  unended_both xs front unended unended_too,
+  no_end_in_both xs front no_end no_end_too,
   ap (λ (zs : List Item). xs ++ zs) is ∙ sym (append_assoc xs front (slot_end_of s)),
 )
 
 pub items_wait : (design : Design) (transition : Transition) → Waits (items_of design transition) transition.state
-items_wait design transition = (front_items design transition, front_unended design transition, front_and_end design transition)
+items_wait design transition = (front_items design transition, no_end_in_front design transition, front_and_end design transition)
 
 -- ---- handing on
 
@@ -93,19 +93,19 @@ pub record IsHandedOn {T : Type 0} (takes : T → List Item → T → Type 0) (s
   pub taken : takes old handed new
   pub each : TakesEach takes old (by_slot handed) new
   pub cut : length (choices s) ≢ 0 → IsCut handed
-  pub unended : length (choices s) ≢ 0 → IsUnended left
+  pub no_end : length (choices s) ≢ 0 → HasNoSlotEnd left
 
 module _ {T : Type 0} (takes : T → List Item → T → Type 0) (joins : (s t u : T) (xs ys : List Item) → takes s xs t → takes t ys u → takes s (xs ++ ys) u)
     (s : State) (old sink new : T) (handed left : List Item)
     (taken : takes old handed sink) (each : TakesEach takes old (by_slot handed) sink) (cut : IsCut handed) where
-  stays : (waiting : List Item) → new ≡ sink → left ≡ waiting → IsUnended left → IsHandedOn takes s old new (handed ++ waiting) left
-  stays waiting same kept unended = record {
+  stays : (waiting : List Item) → new ≡ sink → left ≡ waiting → HasNoSlotEnd left → IsHandedOn takes s old new (handed ++ waiting) left
+  stays waiting same kept no_end = record {
     handed = handed;
     is = ap (λ (xs : List Item). handed ++ xs) kept;
     taken = subst (takes old handed) (sym same) taken;
     each = subst (TakesEach takes old (by_slot handed)) (sym same) each;
     cut = λ goes_on. cut;
-    unended = λ goes_on. unended;
+    no_end = λ goes_on. no_end;
   }
 
   goes : (waiting : List Item) → by_slot waiting ≡ waiting ∷ [] → takes sink waiting new → left ≡ [] →
@@ -117,33 +117,33 @@ module _ {T : Type 0} (takes : T → List Item → T → Type 0) (joins : (s t u
     each = subst (λ (slots : List (List Item)). TakesEach takes old slots new) (sym (cut waiting ∙ ap (λ (slots : List (List Item)). by_slot handed ++ slots) one))
         (takes_one_more takes (by_slot handed) waiting old sink new each took);
     cut = cut_too;
-    unended = λ goes_on. subst IsUnended (sym nothing) tt;
+    no_end = λ goes_on. subst HasNoSlotEnd (sym nothing) tt;
   }
 
   at_end : (x : Item) (xs : List Item) → Waits (x ∷ xs) s → takes sink (x ∷ xs) new → left ≡ [] →
       ((is_some s.cause ≡ true) × (slot_end_of s ≡ [])) ⊎ (slot_end_of s ≡ SlotEnd s.queue.time s.values ∷ []) →
       IsHandedOn takes s old new (handed ++ x ∷ xs) left
-  at_end x xs (front, unended, is) took nothing (inl (some, none)) =
+  at_end x xs (front, no_end, is) took nothing (inl (some, none)) =
       let same : x ∷ xs ≡ front = is ∙ ap (λ (end : List Item). front ++ end) none ∙ append-nil front in
-      goes (x ∷ xs) (without_end x xs (subst IsUnended (sym same) unended)) took nothing (λ goes_on. absurd (goes_on (over s some)))
-  at_end x xs (front, unended, is) took nothing (inr end) =
+      goes (x ∷ xs) (without_end x xs (subst HasNoSlotEnd (sym same) no_end)) took nothing (λ goes_on. absurd (goes_on (over s some)))
+  at_end x xs (front, no_end, is) took nothing (inr end) =
       let same : x ∷ xs ≡ front ++ SlotEnd s.queue.time s.values ∷ [] = is ∙ ap (λ (rest : List Item). front ++ rest) end in
-      goes (x ∷ xs) (ap by_slot same ∙ behind_end front s.queue.time s.values [] unended ∙ ap (λ (slot : List Item). slot ∷ []) (sym same)) took nothing
-      (λ goes_on. subst (λ (slot : List Item). IsCut (handed ++ slot)) (sym same) (cut_behind handed front s.queue.time s.values cut unended))
+      goes (x ∷ xs) (ap by_slot same ∙ behind_end front s.queue.time s.values [] no_end ∙ ap (λ (slot : List Item). slot ∷ []) (sym same)) took nothing
+      (λ goes_on. subst (λ (slot : List Item). IsCut (handed ++ slot)) (sym same) (cut_behind handed front s.queue.time s.values cut no_end))
 
   by_mark : (mark : Bool) (waiting : List Item) → is_mark s ≡ mark → Waits waiting s → HandsOn takes mark sink waiting new left →
       IsHandedOn takes s old new (handed ++ waiting) left
-  by_mark false waiting m (front, unended, is) on =
+  by_mark false waiting m (front, no_end, is) on =
       stays waiting on.0 on.1
-      (subst IsUnended (sym (on.1 ∙ is ∙ ap (λ (end : List Item). front ++ end) (ends_none s.cause s m) ∙ append-nil front)) unended)
-  by_mark true [] m waits on = stays [] on.0 on.1 (subst IsUnended (sym on.1) tt)
+      (subst HasNoSlotEnd (sym (on.1 ∙ is ∙ ap (λ (end : List Item). front ++ end) (ends_none s.cause s m) ∙ append-nil front)) no_end)
+  by_mark true [] m waits on = stays [] on.0 on.1 (subst HasNoSlotEnd (sym on.1) tt)
   by_mark true (x ∷ xs) m waits on = at_end x xs waits on.0 on.1 (ends_one s.cause s m)
 
   pub handed_on : (waiting : List Item) → Waits waiting s → HandsOn takes (is_mark s) sink waiting new left →
       IsHandedOn takes s old new (handed ++ waiting) left
   handed_on waiting waits on = by_mark (is_mark s) waiting refl waits on
 
--- what was handed on where something waited
+-- what was handed on where something was pending
 pub hands_some : {T : Type 0} (takes : T → List Item → T → Type 0) (old new : T) (waiting left : List Item) → waiting ≢ [] → takes old waiting new → left ≡ [] →
     HandsOn takes true old waiting new left
 hands_some takes old new [] left some took none = absurd (some refl)

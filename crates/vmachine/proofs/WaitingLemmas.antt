@@ -1,5 +1,5 @@
--- What waits to be handed on, as a machine's state has it and as the state of the run has.
-use Rattle.std.proofs.Common.{◌≡◌, ℕ, Bool, List, [], ◌++◌, ap, subst, ◌∙◌}
+-- What is pending, as a machine's state has it and as the state of the run has.
+use Rattle.std.proofs.Common.{◌≡◌, ℕ, Bool, false, List, [], ◌++◌, append-nil, sym, ap, subst, ◌∙◌}
 use Rattle.vdesign.specs.Design.{Design}
 use Rattle.vmodel.specs.declared.effect.Effect.{Effect}
 use Rattle.vmodel.specs.declared.history.Item.{Item}
@@ -24,13 +24,18 @@ hands_there takes setting s t rest old new p q stands is on =
     subst (λ (mark : Bool). HandsOn takes mark old (waiting_in p (rest_in s)) new (waiting_in q (rest_in s))) (marks_read setting s t stands)
     (subst (λ (r : State). HandsOn takes (is_mark r) old (waiting_in p r) new (waiting_in q r)) is on)
 
--- what waits after a step, as the state of the run has it
-pub waits_there : (design : Design) (p q : Pending) (before after rest : State) (effect : Effect) (monitors : List ℕ) (transition : Transition) → rest ≡ after →
-    waiting_in q rest ≡ waiting_in p before ++ items_of design (transition_to rest effect monitors) →
+-- where no end is due only items are
+items_alone : (p : Pending) (s : State) → p.due ≡ false → waiting_in p s ≡ p.items.items
+items_alone p s none = ap (λ (due : Bool). p.items.items ++ end_due due s) none ∙ append-nil p.items.items
+
+-- what is pending after a step, as the state of the run has it
+pub waits_there : (design : Design) (p q : Pending) (before after rest : State) (effect : Effect) (monitors : List ℕ) (transition : Transition) → p.due ≡ false → rest ≡ after →
+    waiting_in q rest ≡ p.items.items ++ items_of design (transition_to rest effect monitors) →
     items_of design (transition_to after effect monitors) ≡ items_of design transition → waiting_in q after ≡ waiting_in p before ++ items_of design transition
-waits_there design p q before after rest effect monitors transition is waits same =
-    subst (λ (r : State). waiting_in q r ≡ waiting_in p before ++ items_of design (transition_to r effect monitors)) is waits
-    ∙ ap (λ (items : List Item). waiting_in p before ++ items) same
+waits_there design p q before after rest effect monitors transition none is waits same =
+    subst (λ (r : State). waiting_in q r ≡ p.items.items ++ items_of design (transition_to r effect monitors)) is waits
+    ∙ ap (λ (items : List Item). p.items.items ++ items) same
+    ∙ ap (λ (items : List Item). items ++ items_of design transition) (sym (items_alone p before none))
 
 pub nothing_waits : (p : Pending) (s : State) → IsNothing p → waiting_in p s ≡ []
 nothing_waits p s (none, ended) = λ i. none i ++ end_due (ended i) s

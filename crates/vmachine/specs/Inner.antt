@@ -22,7 +22,7 @@ IsOfSink P (Fault (Replay fault)) = ⊥
 IsOfSink P (Fault (Sink fault)) = P fault
 IsOfSink P (Memory m) = ⊥
 
--- at a mark the sink takes what waits, if anything does; else all stays
+-- at a mark the sink takes what is pending, if anything is; else all stays
 abbrev pub HandsOn : {T : Type 0} → (T → List Item → T → Type 0) → Bool → T → List Item → T → List Item → Type 0
 HandsOn takes false old waiting new left = (new ≡ old) × (left ≡ waiting)
 HandsOn takes true old [] new left = (new ≡ old) × (left ≡ [])

@@ -5,7 +5,7 @@ use Rattle.vmodel.specs.declared.history.Item.{Item}
 use Rattle.vmodel.specs.State.{State}
 use Rattle.vmodel.specs.Step.{slot_end_of}
 use Rattle.vmodel.specs.Run.{Setting, items_after, state_after, is_mark}
-use Rattle.vmodel.specs.Touched.{IsUnended}
+use Rattle.vmodel.specs.Touched.{HasNoSlotEnd}
 use Rattle.vflat.specs.Representations.{rest_in}
 use Rattle.vmachine.specs.Handed.{RunsInto, RunsBySlot, by_slot, TakesEach}
 use Rattle.vmachine.specs.Inner.{IsAt}
@@ -17,7 +17,7 @@ use Rattle.vmachine.specs.declared.run.Run.{Run}
 abbrev pub state_of : Setting → Run → State
 state_of setting run = state_after setting run.log.now run.n
 
--- what it gave that waits to be handed on
+-- what is pending
 abbrev pub waiting : Run → List Item
 waiting run = waiting_in run.pending (rest_in run.state)
 
@@ -25,10 +25,10 @@ waiting run = waiting_in run.pending (rest_in run.state)
 pub record IsRunAt (setting : Setting) (steps : ℕ) (run : Run) : Type 0 where
   pub so : IsAt setting run.log.now run.rest.now steps run.n (state_of setting run)
   pub stands : Stands setting run.state (state_of setting run)
-  pub unended : IsUnended run.pending.items.items
+  pub no_end : HasNoSlotEnd run.pending.items.items
   pub due : run.pending.due ≡ true → is_mark (rest_in run.state) ≡ true
 
--- the sink took all that the run gave so far, but for what waits
+-- the sink took all that the run gave so far, but for what is pending
 pub record IsHandedSo {T : Type 0} (takes : T → List Item → T → Type 0) (setting : Setting) (run : Run) (first now : T) : Type 0 where
   pub handed : List Item
   pub taken : takes first handed now
@@ -45,16 +45,16 @@ Reaches takes setting steps first run now None = IsHandedSo takes setting run fi
 abbrev pub IsCut : List Item → Type 0
 IsCut front = (more : List Item) → by_slot (front ++ more) ≡ by_slot front ++ by_slot more
 
--- of what waits in a state only the last item ends a slot, and does where the state is a slot end
+-- of what is pending in a state only the last item ends a slot, and does where the state is a slot end
 abbrev pub Waits : List Item → State → Type 0
-Waits items s = (front : List Item) × IsUnended front × (items ≡ front ++ slot_end_of s)
+Waits items s = (front : List Item) × HasNoSlotEnd front × (items ≡ front ++ slot_end_of s)
 
--- all that the run gave so far waits
+-- all that the run gave so far is pending
 pub record AllWaits (setting : Setting) (run : Run) : Type 0 where
   pub is : waiting run ≡ items_after setting run.log.now run.n
   pub waits : Waits (waiting run) (state_of setting run)
 
--- the sink took what each slot gave by itself, but for what waits
+-- the sink took what each slot gave by itself, but for what is pending
 pub record IsHandedBySlot {T : Type 0} (takes : T → List Item → T → Type 0) (setting : Setting) (run : Run) (first now : T) : Type 0 where
   pub so : IsHandedSo takes setting run first now
   pub each : TakesEach takes first (by_slot so.handed) now

@@ -1,4 +1,4 @@
--- *internal*: What a run gave that waits to be handed on.
+-- *internal*: What is pending: given by a run, and not yet handed on.
 use Rattle.std.specs.Prelude.{◌≡◌, false, List, [], ◌++◌}
 use Rattle.vmodel.specs.declared.history.Item.{Item}
 use Rattle.vmodel.specs.State.{State}
@@ -9,6 +9,6 @@ use Rattle.vmachine.specs.declared.run.Pending.{Pending}
 abbrev pub waiting_in : Pending → State → List Item
 waiting_in pending s = pending.items.items ++ end_due pending.due s
 
--- nothing waits
+-- nothing is pending
 abbrev pub IsNothing : Pending → Type 0
 IsNothing pending = (pending.items.items ≡ []) × (pending.due ≡ false)

@@ -16,7 +16,7 @@ ghost use Rattle.vmodel.specs.InnerStep.{transition_to};
 ghost use Rattle.vmodel.specs.Run.{Setting, rules_of, is_mark};
 ghost use Rattle.vmodel.specs.State.{State};
 ghost use Rattle.vmodel.specs.Step.{items_of};
-ghost use Rattle.vmodel.specs.Touched.{ChangesOnlySince, IsUnended, end_due};
+ghost use Rattle.vmodel.specs.Touched.{ChangesOnlySince, HasNoSlotEnd, end_due};
 
 use crate::machine::Machine;
 use crate::machine_state::MachineState;
@@ -52,14 +52,14 @@ fn replay_refusal<F>(fault: ReplayFault) -> OrMemory<RunFault<F>>
     OrMemory::Fault(RunFault::Replay(fault))
 }
 
-/// What a run gave that wasn't handed on yet: items, and after them the end of the slot, where it is due.
+/// What is pending, given by a run and not yet handed on: items, and after them the end of the slot, where it is due.
 #[derive(Drop)]
 pub(crate) struct Pending {
     items: Vec<Item>,
     due: bool,
 }
 
-// Hands on the items that wait, if any do.
+// Hands on the pending items, if there are any.
 fn hand_items<S: HistorySink>(
     sink: &mut S,
     items: &mut Vec<Item>,
@@ -111,7 +111,7 @@ fn hand_end<S: HistorySink>(
     }
 }
 
-// Hands on what waits.
+// Hands on what is pending.
 fn hand_all<S: HistorySink>(
     sink: &mut S,
     pending: &mut Pending,
@@ -119,7 +119,7 @@ fn hand_all<S: HistorySink>(
     touched: &mut Touched,
 ) -> Result<(), OrMemory<RunFault<S::Fault>>>
     requires since { ChangesOnlySince touched.old (S.kept sink.old) state.now.values }
-    requires unended { IsUnended pending.old.items.items }
+    requires no_end { HasNoSlotEnd pending.old.items.items }
     ensures ok { OnOk result (S.takes sink.old (waiting_in pending.old state.now) sink.new) }
     ensures none { OnOk result (pending.new.items.items ≡ []) }
     ensures due { OnOk result (pending.new.due ≡ false) }
@@ -133,14 +133,14 @@ fn hand_all<S: HistorySink>(
     }
 }
 
-// Whether nothing waits to be handed on.
+// Whether nothing is pending.
 fn none_waits(pending: &Pending) -> bool
     ensures { Decides result (IsNothing pending.now) }
 {
     pending.items.is_empty() && !pending.due
 }
 
-// Hands on what waits, if anything does, where a slot or the run has ended.
+// Hands on what is pending, if anything is, where a slot or the run has ended.
 fn hand<S: HistorySink>(
     sink: &mut S,
     pending: &mut Pending,
@@ -148,11 +148,11 @@ fn hand<S: HistorySink>(
     touched: &mut Touched,
 ) -> Result<(), OrMemory<RunFault<S::Fault>>>
     requires since { ChangesOnlySince touched.old (S.kept sink.old) state.now.values }
-    requires unended { IsUnended pending.old.items.items }
+    requires no_end { HasNoSlotEnd pending.old.items.items }
     requires due { pending.old.due ≡ true → is_mark state.now ≡ true }
     ensures ok { OnOk result (HandsOn S.takes (is_mark state.now)
         sink.old (waiting_in pending.old state.now) sink.new (waiting_in pending.new state.now)) }
-    ensures unended { OnOk result (IsUnended pending.new.items.items) }
+    ensures no_end { OnOk result (HasNoSlotEnd pending.new.items.items) }
     ensures due { OnOk result (pending.new.due ≡ false) }
     ensures since { OnOk result (ChangesOnlySince touched.new (S.kept sink.new) state.now.values) }
     ensures err { IfErr result (IsOfSink (λ fault.
@@ -164,7 +164,7 @@ fn hand<S: HistorySink>(
     hand_all(sink, pending, state, touched)
 }
 
-// What a step gives waits after what waited: its items, and the end of the slot, where one ends.
+// What a step gives is pending after what was: its items, and the end of the slot, where one ends. No such end was due.
 fn put_pending(
     pending: &mut Pending,
     design: &Design,
@@ -173,9 +173,9 @@ fn put_pending(
     monitors: &[usize],
 ) -> Result<(), NoMemory>
     requires { pending.old.due ≡ false }
-    ensures waits { (before : State) → OnOk result (waiting_in pending.new state.now
-        ≡ waiting_in pending.old before ++ items_of design.now (transition_to state.now effect.now monitors.now)) }
-    ensures unended { IsUnended pending.old.items.items → OnOk result (IsUnended pending.new.items.items) }
+    ensures waits { OnOk result (waiting_in pending.new state.now
+        ≡ pending.old.items.items ++ items_of design.now (transition_to state.now effect.now monitors.now)) }
+    ensures no_end { HasNoSlotEnd pending.old.items.items → OnOk result (HasNoSlotEnd pending.new.items.items) }
     ensures due { OnOk result (pending.new.due ≡ true → is_mark state.now ≡ true) }
 {
     put_front(&mut pending.items, design, state, effect, monitors)?;
@@ -220,8 +220,7 @@ fn choose<'l>(
     }
 }
 
-/// A run on its way: what its state is after so many steps, what is left of its log, and the items that wait to be handed on. Where it
-/// has paused none wait.
+/// A run on its way: what its state is after so many steps, what is left of its log, and what is pending. Where it has paused nothing is.
 #[derive(Drop)]
 pub struct Run<'l> {
     log: &'l Log,
@@ -294,7 +293,7 @@ impl Machine {
                 &mut effect,
                 &mut monitors,
             )?;
-            touched.touch_all(&effect.wrote)?;
+            touched.touch_all(&effect.wrote);
             put_pending(
                 &mut run.pending,
                 &self.design,
@@ -378,7 +377,8 @@ impl Machine {
     }
 
     /// Runs the design under the log to its end, by at most `steps` steps, and hands all that it gives to its history on
-    /// to the sink, in order: once for each slot, and once more for what a slot without an end left, if it left anything.
+    /// to the sink, in order and slot by slot: the items of a slot by `take`, if it has any, and then its end by `take_end`.
+    /// Of a slot without an end it hands on the items alone.
     ///
     /// The step limit is tested before the log: where the run goes on after `steps` steps the fault is E403, whatever the
     /// log names there; else a named step that isn't reached or hasn't the choice is E402. E901 where memory was refused;

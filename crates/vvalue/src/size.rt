@@ -104,7 +104,10 @@ fn own_repeated(count: u32, operand: SizeAndSign) -> SizeAndSign
 
 /// The size and the sign that the expression has by itself that these nodes begin with, and the nodes
 /// after it.
-pub fn self_determined<'n>(nodes: &'n [Node], environment: &Environment<'_>) -> (SizeAndSign, &'n [Node])
+pub fn self_determined<'n>(
+    nodes: &'n [Node],
+    environment: &Environment<'_>,
+) -> (SizeAndSign, &'n [Node])
     ensures exact { IsOfFirst nodes.now (spec.self_determined environment.now) result.0 }
     ensures rest { AreBehindFirst nodes.now result.1.now }
     ensures within { IsWithin result.0 }

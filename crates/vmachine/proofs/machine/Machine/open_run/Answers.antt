@@ -3,7 +3,7 @@ use Rattle.vmodel.specs.RunProgress.{opening_is}
 use Rattle.vmodel.specs.Run.{state_after}
 use Rattle.vmodel.specs.State.{State}
 use Rattle.vmodel.specs.Step.{slot_end_of}
-use Rattle.vmodel.specs.Touched.{IsUnended, is_slot_end, end_due}
+use Rattle.vmodel.specs.Touched.{HasNoSlotEnd, is_slot_end, end_due}
 use Rattle.vmodel.proofs.TouchedLemmas.{slot_end_is, slot_end_marks}
 use Rattle.vflat.specs.Representations.{rest_in}
 use Rattle.vmachine.specs.Inner.{IsAt}
@@ -19,7 +19,7 @@ returns-clause-here c = λ steps.
       so = subst (λ (rest : List (ℕ × ℕ)). IsAt setting log rest steps 0 (state_after setting log 0)) (sym c.members.ensures.list)
           (at_opening setting log steps (state_after setting log 0) c.members.ensures.lawful (opening_is setting));
       stands = opening_read setting c.in_ok-state.state log c.in_ok-state.ensures;
-      unended = subst IsUnended (sym c.new.ensures.items) tt;
+      no_end = subst HasNoSlotEnd (sym c.new.ensures.items) tt;
       due = λ due. slot_end_marks (rest_in c.in_ok-state.state) (ap is_slot_end (sym c.rest.ensures) ∙ sym c.is_slot_end.ensures ∙ due);
     }
 

@@ -138,22 +138,6 @@ returns-in_err-step_into-clause-left g c = λ first start.
     (subst (λ l. LeavesSink g.S.HistorySink.takes g.S.HistorySink.fails setting l c.args.steps first (Memory c.in_err-step_into.field-0.0) c.hand.new.sink) c.walk.invariant.1
     (handed_first g.S.HistorySink.takes setting log c.walk.run.rest.now c.args.steps c.walk.run.n now first c.hand.new.sink after.handed (waiting_in c.hand.new.pending (rest_in c.walk.run.state)) here after.taken (after.is ∙ given.is)))
 
-pub returns-in_err-touch_all-clause-left : goal.returns-in_err-touch_all-clause-left
-returns-in_err-touch_all-clause-left g c = λ first start.
-    let setting = c.args.self.now in
-    let log = c.walk.run.log.now in
-    let here = c.walk.invariant.0.so in
-    let now = state_of setting c.walk.run in
-    let given = c.walk.invariant.2 first start in
-    let on : HandsOn g.S.HistorySink.takes (is_mark now) c.walk.sink (waiting c.walk.run) c.hand.new.sink (waiting_in c.hand.new.pending (rest_in c.walk.run.state)) =
-    hands_there g.S.HistorySink.takes c.args.self.now c.walk.run.state now c.rest.result.now c.walk.sink c.hand.new.sink c.walk.run.pending c.hand.new.pending c.walk.invariant.0.stands c.rest.ensures c.in_ok-hand.ensures.ok in
-    let after = taken_on g.S.HistorySink.takes g.met.S.HistorySink.joins (is_mark now) first c.walk.sink c.hand.new.sink given.handed (waiting c.walk.run)
-    (waiting_in c.hand.new.pending (rest_in c.walk.run.state)) given.taken on in
-    left_by g.S.HistorySink.takes g.S.HistorySink.fails setting c.args.run.now.log.now c.args.steps first c.hand.new.sink c.from_residual-in_err-touch_all.result (Memory c.in_err-touch_all.field-0.0)
-    c.from_residual-in_err-touch_all.ensures.1
-    (subst (λ l. LeavesSink g.S.HistorySink.takes g.S.HistorySink.fails setting l c.args.steps first (Memory c.in_err-touch_all.field-0.0) c.hand.new.sink) c.walk.invariant.1
-    (handed_first g.S.HistorySink.takes setting log c.walk.run.rest.now c.args.steps c.walk.run.n now first c.hand.new.sink after.handed (waiting_in c.hand.new.pending (rest_in c.walk.run.state)) here after.taken (after.is ∙ given.is)))
-
 pub returns-in_err-put_pending-clause-left : goal.returns-in_err-put_pending-clause-left
 returns-in_err-put_pending-clause-left g c = λ first start.
     let setting = c.args.self.now in
@@ -200,15 +184,15 @@ walk-preserved g c =
     let after_rest : State = rest_in c.step_into.new.self in
     let more : waiting_in c.put_pending.new.pending after_rest ≡ waiting_in c.hand.new.pending (rest_in c.walk.run.state) ++ items_of setting.design transition =
     waits_there setting.design c.hand.new.pending c.put_pending.new.pending (rest_in c.walk.run.state) after_rest c.rest-in-walk.result.now effect monitors transition
-    c.rest-in-walk.ensures (subst (λ (d : Design). waiting_in c.put_pending.new.pending c.rest-in-walk.result.now
-    ≡ waiting_in c.hand.new.pending (rest_in c.walk.run.state) ++ items_of d (transition_to c.rest-in-walk.result.now effect monitors)) design
-    (c.in_ok-put_pending.ensures.waits (rest_in c.walk.run.state))) read.1 in
+    c.in_ok-hand.ensures.due c.rest-in-walk.ensures (subst (λ (d : Design). waiting_in c.put_pending.new.pending c.rest-in-walk.result.now
+    ≡ c.hand.new.pending.items.items ++ items_of d (transition_to c.rest-in-walk.result.now effect monitors)) design
+    c.in_ok-put_pending.ensures.waits) read.1 in
     let wrote : after_rest.values ≡ with_parts effect.wrote (rest_in c.walk.run.state).values =
     step_writes setting.design (code_of setting.design) c.walk.run.state c.step_into.new.self choice effect monitors stepped in (
       record {
         so = subst (IsAt setting log later c.args.steps (c.walk.run.n + 1)) at.at at;
         stands = subst (Stands setting c.step_into.new.self) at.at read.0;
-        unended = c.in_ok-put_pending.ensures.unended c.in_ok-hand.ensures.unended;
+        no_end = c.in_ok-put_pending.ensures.no_end c.in_ok-hand.ensures.no_end;
         due = λ due. ap is_mark (sym c.rest-in-walk.ensures) ∙ c.in_ok-put_pending.ensures.due due;
       },
       c.walk.invariant.1,
@@ -238,10 +222,10 @@ walk-preserved g c =
             cut = after.cut goes_on;
             waits = subst (Waits (waiting_in c.put_pending.new.pending after_rest)) at.at
                 (subst (λ (xs : List Item). Waits xs transition.state) (sym more)
-                (waits_more (waiting_in c.hand.new.pending (rest_in c.walk.run.state)) (items_of setting.design transition) transition.state (after.unended goes_on) (items_wait setting.design transition)));
+                (waits_more (waiting_in c.hand.new.pending (rest_in c.walk.run.state)) (items_of setting.design transition) transition.state (after.no_end goes_on) (items_wait setting.design transition)));
           },
       subst (λ (values : List Vector). ChangesOnlySince c.touch_all.new.self (g.S.HistorySink.kept c.hand.new.sink) values) (sym wrote)
-          (changes_more effect.wrote c.hand.new.touched c.touch_all.new.self (g.S.HistorySink.kept c.hand.new.sink) (rest_in c.walk.run.state).values c.in_ok-touch_all.ensures
+          (changes_more effect.wrote c.hand.new.touched c.touch_all.new.self (g.S.HistorySink.kept c.hand.new.sink) (rest_in c.walk.run.state).values c.touch_all.ensures
           (subst (λ (r : State). ChangesOnlySince c.hand.new.touched (g.S.HistorySink.kept c.hand.new.sink) r.values) c.rest.ensures c.in_ok-hand.ensures.since)),
     )
 
