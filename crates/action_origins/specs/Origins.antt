@@ -1,6 +1,6 @@
 -- *product rule*: Where the statement of each action of a design begins (statements are those of IEEE 1364-2005, clause 9; 6.1, 9.9,
--- 12.3.9.2): the numbers of the words, one for each action, in the order in which elaboration puts the actions (`lower_statement` of `velab_process`, `elaborate_instance` of
--- `vhierarchy`). Words are counted by the lengths of `Lengths.antt`, which are those of what is spelled (the law [lengths] of `law.rt`).
+-- 12.3.9.2): the numbers of the words, one for each action, in the order in which elaboration puts the actions (`lower_statement` of
+-- `velab_process`, `elaborate_instance` of `vhierarchy`). Words are counted by the lengths of `Lengths.antt`, which are those of what is spelled (the law [lengths] of `law.rt`).
 use Rattle.std.specs.Prelude.{ℕ, zero, suc, ◌+◌, ◌-◌, List, [], ◌∷◌, ◌++◌, map, length, Option, None, Some, option_map}
 use Rattle.std.specs.List.{filter_map, flat_map}
 use Rattle.vast.specs.Words.{Text}

@@ -16,7 +16,7 @@ use Rattle.velab_expr.specs.declared.scope.Meaning.{Meaning}
 use Rattle.velab_expr.specs.declared.scope.Meaning.TheVariants.{Variable, Parameter, Event, Instance}
 use Rattle.velab_expr.specs.declared.scope.Operand.{Operand}
 use Rattle.velab_expr.specs.declared.scope.Operand.TheVariants as operand
-use Rattle.velab_expr.specs.Answers.{◌>>=◌, unless_flawed}
+use Rattle.velab_expr.specs.Answers.{◌>>=◌, value_unless_flawed}
 use Rattle.velab_expr.specs.FirstWords.{first_in, first_among}
 use Rattle.velab_expr.specs.Scopes.{Scope, bounds_for, operand_by, lower_name, variable_by, lower_variable, event_by, lower_event, meaning_of}
 use Rattle.velab_expr.specs.Constants.{nothing, constant_value, checked_constant, bound_in, part_bounds}
@@ -62,7 +62,7 @@ event_tells scope name = by (meaning_of scope name)
 
 -- ---- expressions
 
-unflawed_tells : {A : Type 0} (flaw : Option Flaw) (word : Option Word) (x : A) → Tells is_local (unless_flawed flaw word x)
+unflawed_tells : {A : Type 0} (flaw : Option Flaw) (word : Option Word) (x : A) → Tells is_local (value_unless_flawed flaw word x)
 unflawed_tells None word x = tt
 unflawed_tells (Some NoBits) word x = refl
 unflawed_tells (Some Size) word x = refl

@@ -18,7 +18,7 @@ use Rattle.velab_expr.specs.declared.fault.Rule.TheVariants.{Width, Constant, Ki
 use Rattle.velab_expr.specs.declared.fault.ElabFault.{ElabFault}
 use Rattle.velab_expr.specs.declared.scope.Operand.{Operand}
 use Rattle.velab_expr.specs.declared.scope.Operand.TheVariants as operand
-use Rattle.velab_expr.specs.Answers.{◌>>=◌, require, value_or_fault, unless_flawed}
+use Rattle.velab_expr.specs.Answers.{◌>>=◌, require, value_or_fault, value_unless_flawed}
 use Rattle.velab_expr.specs.FirstWords.{first_in, first_among}
 use Rattle.velab_expr.specs.Scopes.{Scope, lower_name, lower_variable, lower_event}
 use Rattle.velab_expr.specs.Constants.{nothing, constant_value, checked_constant, bound_in, part_bounds}
@@ -62,8 +62,8 @@ sizes_only (design.joined left right) =
     or_of_size (flaw_of nothing left) (option_or (flaw_of nothing right) size) (sizes_only left)
     (or_of_size (flaw_of nothing right) size (sizes_only right) (unless_of_size (nat_le (size_of nothing left + size_of nothing right) 64)))
 sizes_only (design.repeated count o) =
-    let check_part_count = nat_le 1 count && nat_le (count * size_of nothing o) 64 in
-    or_of_size (flaw_of nothing o) (flaws.unless check_part_count Size) (sizes_only o) (unless_of_size check_part_count)
+    let is_few = nat_le 1 count && nat_le (count * size_of nothing o) 64 in
+    or_of_size (flaw_of nothing o) (flaws.unless is_few Size) (sizes_only o) (unless_of_size is_few)
 
 module _ (q : Question) (scope : Scope) where
   -- ---- names
@@ -88,10 +88,10 @@ module _ (q : Question) (scope : Scope) where
 
   -- ---- expressions
 
-  unflawed_knows : {A : Type 0} (e : ExpressionTree) (word : Option Word) (x : A) → Judges q.asked true (unless_flawed (flaw_of nothing e) word x)
+  unflawed_knows : {A : Type 0} (e : ExpressionTree) (word : Option Word) (x : A) → Judges q.asked true (value_unless_flawed (flaw_of nothing e) word x)
   unflawed_knows {A = A} e word x = by (flaw_of nothing e) (sizes_only e)
     where
-      by : (flaw : Option Flaw) → IsOfSize flaw → Judges q.asked true (unless_flawed flaw word x)
+      by : (flaw : Option Flaw) → IsOfSize flaw → Judges q.asked true (value_unless_flawed flaw word x)
       by None h = refl
       by (Some NoBits) h = absurd h
       by (Some Size) h = λ e. absurd (let no = q.no_width in cc)

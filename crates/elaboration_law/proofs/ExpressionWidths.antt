@@ -27,7 +27,7 @@ use Rattle.velab_expr.specs.declared.scope.Meaning.{Meaning}
 use Rattle.velab_expr.specs.declared.scope.Meaning.TheVariants.{Variable, Parameter, Event, Instance}
 use Rattle.velab_expr.specs.declared.scope.Operand.{Operand}
 use Rattle.velab_expr.specs.declared.scope.Operand.TheVariants as operand
-use Rattle.velab_expr.specs.Answers.{◌>>=◌, require, answer_if, value_or_fault, unless_flawed}
+use Rattle.velab_expr.specs.Answers.{◌>>=◌, require, answer_if, value_or_fault, value_unless_flawed}
 use Rattle.velab_expr.specs.FirstWords.{first_in, first_among}
 use Rattle.velab_expr.specs.Scopes.{Scope, meaning_of, bounds_for, operand_by, lower_name}
 use Rattle.velab_expr.specs.Constants.{nothing, constant_value, checked_constant, bound_in, part_bounds, count_in}
@@ -103,9 +103,9 @@ joined_within front rest = same_truth (nat_le rest 64 && nat_le (front + min 64 
   where
     forth : (nat_le rest 64 && nat_le (front + min 64 rest) 64) ≡ true → nat_le (front + rest) 64 ≡ true
     forth e =
-        let check_part_count = is_within rest (and_left (nat_le rest 64) (nat_le (front + min 64 rest) 64) e) in
+        let few = is_within rest (and_left (nat_le rest 64) (nat_le (front + min 64 rest) 64) e) in
         let all = is_within (front + min 64 rest) (and_right (nat_le rest 64) (nat_le (front + min 64 rest) 64) e) in
-        within_holds (front + rest) (omega (arith, check_part_count, all))
+        within_holds (front + rest) (omega (arith, few, all))
 
     back : nat_le (front + rest) 64 ≡ true → (nat_le rest 64 && nat_le (front + min 64 rest) 64) ≡ true
     back e =
@@ -168,7 +168,7 @@ pub measured_is : (word : Option Word) (meaning : ExpressionTree) (holds : Bool)
     IsMeasured meaning holds (a >>= checked_constant word)
 measured_is word meaning holds (Ok e) h = by (flaw_of nothing e) h.says
   where
-    by : (flaw : Option Flaw) → Says flaw holds → IsMeasured meaning holds (unless_flawed flaw word (constant_value e))
+    by : (flaw : Option Flaw) → Says flaw holds → IsMeasured meaning holds (value_unless_flawed flaw word (constant_value e))
     by None s = (ap constant_value (h.same refl), s)
     by (Some NoBits) s = λ no. absurd cc
     by (Some Size) s = λ is. s
@@ -439,13 +439,13 @@ module _ (scope : Scope) (named : Text → Worth) (vectors : AreVectors named) w
   constant_sizes h tree = by (lower true scope tree) (lower_sizes true nothing h tree)
     where
       told : (e : ExpressionTree) → e ≡ meant named tree → (flaw : Option Flaw) → Says flaw (is_sized named tree) →
-          IsConstant (meant named tree) (is_sized named tree) (unless_flawed flaw (first_in tree) e)
+          IsConstant (meant named tree) (is_sized named tree) (value_unless_flawed flaw (first_in tree) e)
       told e is None s = (is, s)
       told e is (Some NoBits) s = λ no. absurd cc
       told e is (Some Size) s = λ f. s
 
       by : (a : Result ExpressionTree ElabFault) → Sizes true nothing (meant named tree) (is_sized named tree) a →
-          IsConstant (meant named tree) (is_sized named tree) (a >>= λ e. unless_flawed (flaw_of nothing e) (first_in tree) e)
+          IsConstant (meant named tree) (is_sized named tree) (a >>= λ e. value_unless_flawed (flaw_of nothing e) (first_in tree) e)
       by (Ok e) k = told e (k.same refl) (flaw_of nothing e) k.says
       by (Err fault) k = k
 
@@ -474,13 +474,13 @@ module _ (scope : Scope) (named : Text → Worth) (vectors : AreVectors named) w
       right : Bool
       right = is_bound named range.right
 
-      check_part_count : Bool
-      check_part_count = nat_le (span (selected_by named range.left range.right)) 64
+      is_few : Bool
+      is_few = nat_le (span (selected_by named range.left range.right)) 64
 
       told : (bounds : Bounds) → bounds ≡ selected_by named range.left range.right → (test : Bool) → nat_le (span bounds) 64 ≡ test → left ≡ true → right ≡ true →
           IsRange named (Some range) (is_range named (Some range)) (require test Width (first_in range.left) bounds >>= λ bounds. Ok (Some bounds))
-      told bounds is true e l r = (ap Some is, and_both left (right && check_part_count) l (and_both right check_part_count r (ap (λ (b : Bounds). nat_le (span b) 64) (sym is) ∙ e)))
-      told bounds is false e l r = λ f. second_false left (right && check_part_count) (second_false right check_part_count (ap (λ (b : Bounds). nat_le (span b) 64) (sym is) ∙ e))
+      told bounds is true e l r = (ap Some is, and_both left (right && is_few) l (and_both right is_few r (ap (λ (b : Bounds). nat_le (span b) 64) (sym is) ∙ e)))
+      told bounds is false e l r = λ f. second_false left (right && is_few) (second_false right is_few (ap (λ (b : Bounds). nat_le (span b) 64) (sym is) ∙ e))
 
       by : (a b : Result ℕ ElabFault) → IsBound (constant_in named range.left) left a → IsBound (constant_in named range.right) right b →
           IsRange named (Some range) (is_range named (Some range))
@@ -489,5 +489,5 @@ module _ (scope : Scope) (named : Text → Worth) (vectors : AreVectors named) w
           told (record { left = high; right = low })
           (λ i. record { left = unwrap_or (sym k.0 i) 65536; right = unwrap_or (sym l.0 i) 65536 })
           (nat_le (span (record { left = high; right = low })) 64) refl k.1 l.1
-      by (Ok high) (Err fault) k l = λ e. second_false left (right && check_part_count) (first_false right check_part_count (l e))
-      by (Err fault) b k l = λ e. first_false left (right && check_part_count) (k e)
+      by (Ok high) (Err fault) k l = λ e. second_false left (right && is_few) (first_false right is_few (l e))
+      by (Err fault) b k l = λ e. first_false left (right && is_few) (k e)

@@ -182,9 +182,9 @@ module _ (modules : SourceTree) where
       let listed = subst (λ (l : List Instance). Contains l child) (sym (children_are modules context.path 0 own.scope.known context.unit.items own.children own.instances_are)) inside in
       let it = mapped_contains (instance_of context.path) child own.children listed in
       let step = each_ok (λ so_far c. elaborate_instance levels modules so_far (child_context own.scope context c)) own.whole all own.children it.0 opened.1 it.1 in
-      let value_or_fault = elaborated_below depth levels step.0 (child_context own.scope context it.0) step.1 one step.2
+      let found = elaborated_below depth levels step.0 (child_context own.scope context it.0) step.1 one step.2
       (subst (λ (i : Instance). StandsBelow modules depth i one) (sym it.2) stands) in
-      (value_or_fault.0, omega (arith, value_or_fault.1), value_or_fault.2)
+      (found.0, omega (arith, found.1), found.2)
 
 -- where a fault is told: by an instance, or by one that is too deep
 pub data ToldBelow (modules : SourceTree) (levels : ℕ) (top : Instance) (fault : ElabFault) : Type 0 where

@@ -169,8 +169,8 @@ module _ (modules : SourceTree) (top : Option Text) where
         true≢false (sym twice ∙ sym (ap (λ (i : Instance). has_double (names_in_module i.unit)) found.at) ∙ names_once found.part found.context found.own.scope found.own.names_are)
     names_never (head_twice levels one name overrides list child stands inside there twice) =
         let found = (was_elaborated levels one stands).1 in
-        let instances_from = subst (λ (i : Instance). Contains i.unit.items (instances name overrides list)) (sym found.at) inside in
-        true≢false (sym twice ∙ heads_once modules 0 found.own.scope.known found.context.unit.items found.own.children name overrides list child found.own.instances_are instances_from there)
+        let listed = subst (λ (i : Instance). Contains i.unit.items (instances name overrides list)) (sym found.at) inside in
+        true≢false (sym twice ∙ heads_once modules 0 found.own.scope.known found.context.unit.items found.own.children name overrides list child found.own.instances_are listed there)
     names_never (variable_twice m is_top twice) =
         let all = all_elaborated modules top scale design is in
         let same = one_top modules top m all.unit is_top all.is_top in

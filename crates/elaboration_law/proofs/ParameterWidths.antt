@@ -47,21 +47,21 @@ module _ (scope : Scope) (named : Text → Worth) (vectors : AreVectors named) (
   type_sizes (Some (typed type)) = bounds_sizes scope named vectors agrees type.range
 
   module _ (outer : Scope) (outside : Text → Worth) (outer_vectors : AreVectors outside) (outer_agrees : AreWorth true nothing outer outside) (values : List NamedConnection) where
-    value_set : (self_determined : text.ExpressionTree) (other : Option text.ExpressionTree) →
-        IsConstant (set_to outside values named self_determined other) (is_sized named self_determined && is_sized_if outside other) (lower_parameter_value outer scope self_determined other)
-    value_set self_determined None = by (lower_constant scope self_determined) (constant_sizes scope named vectors agrees self_determined)
+    value_set : (own : text.ExpressionTree) (other : Option text.ExpressionTree) →
+        IsConstant (set_to outside values named own other) (is_sized named own && is_sized_if outside other) (lower_parameter_value outer scope own other)
+    value_set own None = by (lower_constant scope own) (constant_sizes scope named vectors agrees own)
       where
-        by : (a : Result ExpressionTree ElabFault) → IsConstant (meant named self_determined) (is_sized named self_determined) a → IsConstant (meant named self_determined) (is_sized named self_determined && true) a
-        by (Ok e) h = (h.0, and_both (is_sized named self_determined) true h.1 refl)
-        by (Err fault) h = λ e. first_false (is_sized named self_determined) true (h e)
-    value_set self_determined (Some other) =
-        by (lower_constant scope self_determined) (lower_constant outer other) (constant_sizes scope named vectors agrees self_determined) (constant_sizes outer outside outer_vectors outer_agrees other)
+        by : (a : Result ExpressionTree ElabFault) → IsConstant (meant named own) (is_sized named own) a → IsConstant (meant named own) (is_sized named own && true) a
+        by (Ok e) h = (h.0, and_both (is_sized named own) true h.1 refl)
+        by (Err fault) h = λ e. first_false (is_sized named own) true (h e)
+    value_set own (Some other) =
+        by (lower_constant scope own) (lower_constant outer other) (constant_sizes scope named vectors agrees own) (constant_sizes outer outside outer_vectors outer_agrees other)
       where
-        by : (a b : Result ExpressionTree ElabFault) → IsConstant (meant named self_determined) (is_sized named self_determined) a → IsConstant (meant outside other) (is_sized outside other) b →
-            IsConstant (meant outside other) (is_sized named self_determined && is_sized outside other) (a >>= λ self_determined. b)
-        by (Ok e) (Ok f) h k = (k.0, and_both (is_sized named self_determined) (is_sized outside other) h.1 k.1)
-        by (Ok e) (Err fault) h k = λ is. second_false (is_sized named self_determined) (is_sized outside other) (k is)
-        by (Err fault) b h k = λ is. first_false (is_sized named self_determined) (is_sized outside other) (h is)
+        by : (a b : Result ExpressionTree ElabFault) → IsConstant (meant named own) (is_sized named own) a → IsConstant (meant outside other) (is_sized outside other) b →
+            IsConstant (meant outside other) (is_sized named own && is_sized outside other) (a >>= λ own. b)
+        by (Ok e) (Ok f) h k = (k.0, and_both (is_sized named own) (is_sized outside other) h.1 k.1)
+        by (Ok e) (Err fault) h k = λ is. second_false (is_sized named own) (is_sized outside other) (k is)
+        by (Err fault) b h k = λ is. first_false (is_sized named own) (is_sized outside other) (h is)
 
 -- a name stands for what is worth so much, and for no variable
 abbrev pub HasWorth : Worth → Meaning → Type 0

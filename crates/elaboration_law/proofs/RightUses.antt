@@ -23,7 +23,7 @@ use Rattle.velab_expr.specs.declared.scope.Meaning.{Meaning}
 use Rattle.velab_expr.specs.declared.scope.Meaning.TheVariants as means
 use Rattle.velab_expr.specs.declared.scope.Operand.{Operand}
 use Rattle.velab_expr.specs.declared.scope.Operand.TheVariants as operand
-use Rattle.velab_expr.specs.Answers.{◌>>=◌, require, answer_if, unless_flawed}
+use Rattle.velab_expr.specs.Answers.{◌>>=◌, require, answer_if, value_unless_flawed}
 use Rattle.velab_expr.specs.FirstWords.{first_in, first_among}
 use Rattle.velab_expr.specs.Scopes.{Scope, meaning_of, bounds_for, operand_by, variable_by, lower_name, lower_variable}
 use Rattle.velab_expr.specs.Constants.{nothing, checked_constant, part_bounds}
@@ -369,7 +369,7 @@ module _ (vs : List Variable) (place : Place) (scope : Scope) (h : IsAt place sc
 
   -- ---- targets
 
-  unflawed_says : (flaw : Option Flaw) (word : Option Word) (e : ExpressionTree) → Says (bits_in vs) (bits_in vs e) (unless_flawed flaw word e)
+  unflawed_says : (flaw : Option Flaw) (word : Option Word) (e : ExpressionTree) → Says (bits_in vs) (bits_in vs e) (value_unless_flawed flaw word e)
   unflawed_says None word e = refl
   unflawed_says (Some flaw) word e = tt
 

@@ -19,7 +19,7 @@ use Rattle.vvalue.specs.declared.flaw.Flaw.TheVariants.{NoBits, Size}
 use Rattle.velab_expr.specs.declared.fault.ElabFault.{ElabFault}
 use Rattle.velab_expr.specs.declared.scope.Meaning.{Meaning}
 use Rattle.velab_expr.specs.declared.scope.Meaning.TheVariants.{Variable, Parameter, Event, Instance}
-use Rattle.velab_expr.specs.Answers.{◌>>=◌, unless_flawed}
+use Rattle.velab_expr.specs.Answers.{◌>>=◌, value_unless_flawed}
 use Rattle.velab_expr.specs.FirstWords.{first_in}
 use Rattle.velab_expr.specs.Scopes.{Scope, meaning_of, variable_by, lower_variable}
 use Rattle.velab_expr.specs.Constants.{nothing, constant_value, part_bounds}
@@ -150,13 +150,13 @@ module _ (scope : Scope) (named : Text → Worth) (vectors : AreVectors named) (
       (lower_sizes scope named vectors true nothing constants index)
     where
       kept : (e : ExpressionTree) → IsLike true now e (meant named index) (is_sized named index) → (flaw : Option Flaw) → Says flaw (is_sized named index) →
-          Sizes false now (meant named index) (is_sized named index) (unless_flawed flaw (first_in index) e)
+          Sizes false now (meant named index) (is_sized named index) (value_unless_flawed flaw (first_in index) e)
       kept e s None h = record { same = λ no. absurd cc; size = s.size; says = s.says }
       kept e s (Some NoBits) h = λ no. absurd cc
       kept e s (Some Size) h = λ is. h
 
       by : (a : Result ExpressionTree ElabFault) → Sizes true now (meant named index) (is_sized named index) a → Sizes true nothing (meant named index) (is_sized named index) a →
-          Sizes false now (meant named index) (is_sized named index) (a >>= λ e. unless_flawed (flaw_of nothing e) (first_in index) e)
+          Sizes false now (meant named index) (is_sized named index) (a >>= λ e. value_unless_flawed (flaw_of nothing e) (first_in index) e)
       by (Ok e) s h = kept e s (flaw_of nothing e) h.says
       by (Err fault) s h = h
 

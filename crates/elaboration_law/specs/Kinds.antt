@@ -136,7 +136,7 @@ is_suited place (use_of_time constant) = true
 is_suited place (use_of_formats arguments) = formats_fit [] arguments
 is_suited place (use_of_levels levels) = is_some (levels_in levels)
 
--- 12.5, 18.1.2: the path is that of an instance (own: a variable may be dumped, too), or of nothing (E303)
+-- 12.5, 18.1.2: the path is that of an instance (own: 18.1.2 has variables, too), or of nothing (E303)
 abbrev pub is_no_variable : List Instance → Text → Bool
 is_no_variable all path = is_declared (flat_map path_in all) path || not (is_declared (flat_map variable_paths_in all) path)
 

@@ -64,7 +64,7 @@ shown_as form factor v = text_in form.width form.notation factor v
 
 abbrev pub piece_text : Environment → Piece → List ℕ
 piece_text now (Text bytes) = bytes
-piece_text now (Value form values_watched value) = shown_as form now.factor (self_determined_value now value)
+piece_text now (Value form is_watched value) = shown_as form now.factor (self_determined_value now value)
 
 abbrev pub pieces_text : Environment → List Piece → List ℕ
 pieces_text now [] = []

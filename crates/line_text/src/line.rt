@@ -12,7 +12,7 @@ use value_text::{
 use vbits::Vec4;
 use vdesign::expression::Expression;
 use vdesign::print::{Form, Notation, Piece, Width};
-use vvalue::asked::by_itself;
+use vvalue::asked::self_determined_value;
 use vvalue::environment::Environment;
 
 // A value in all its digits, or letters (17.1.1.2).
@@ -125,8 +125,8 @@ fn put_piece(
             put_value(
                 text,
                 *form,
-                by_itself(value, environment),
-                environment.factor,
+                self_determined_value(value, environment),
+                environment.factor(),
             )
         }
     }
@@ -159,7 +159,7 @@ fn put_if_watched(
         (values.new.items ≡ values.old.items ++ spec.watched_one environment.now watched value.now) }
 {
     if watched {
-        values.push(by_itself(value, environment))?;
+        values.push(self_determined_value(value, environment))?;
     }
     Ok(())
 }

@@ -132,7 +132,7 @@ abbrev mutual
 
 -- a statement in two parts, with so many levels below it
 
--- what stands in it, but for the statements in it and what a `for` assigns after its body
+-- what stands in it, but for the statements in it, the labels of a case's branches, and what a `for` assigns after its body
 abbrev pub own_within : ℕ → StatementTree → Bool
 own_within levels empty = true
 own_within levels (block label list) = fits_block_name label
@@ -152,7 +152,8 @@ own_within levels (delay amount body) = delay_within levels amount
 own_within levels (event control body) = event_within levels control
 own_within levels (task call) = task_within levels call
 
--- the statements in it, with what a `for` assigns after its body
+-- the statements in it, with the labels of a case's branches, and with what a `for` assigns after its body; before an `else` none ends
+-- in an `if` without one
 abbrev pub inner_stands : ℕ → StatementTree → Bool
 inner_stands levels empty = true
 inner_stands levels (block label list) = statements_stand levels list

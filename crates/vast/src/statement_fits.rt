@@ -76,7 +76,8 @@ fn case_fits(words: &[&[u8]], value: &Expression, branches: &[Branch], levels: u
     expression_fits(words, value, levels) && (is_some_branch(branches) && has_one_default(branches))
 }
 
-// Whether what stands in a statement fits, but for the statements in it and what a `for` assigns after its body.
+// Whether what stands in a statement fits, with so many levels below it: but for the statements in it, the labels of a case's branches,
+// and what a `for` assigns after its body.
 fn own_parts_fit(words: &[&[u8]], statement: &Statement, below: u32) -> bool
     ensures { result ≡ own_within below (statement_tree (texts words.now) statement.now) }
 {
@@ -133,7 +134,8 @@ fn statement_stands(words: &[&[u8]], statement: &Statement, levels: u32) -> bool
     own_parts_fit(words, statement, below) && inner_statements_stand(words, statement, below)
 }
 
-// Whether the statements in a statement stand, with what a `for` assigns after its body.
+// Whether the statements in a statement stand, with so many levels below it: with the labels of a case's branches, and with what a `for`
+// assigns after its body.
 #[cycle(statements)]
 fn inner_statements_stand(words: &[&[u8]], statement: &Statement, below: u32) -> bool
     ensures { result ≡ inner_stands below (statement_tree (texts words.now) statement.now) }

@@ -449,7 +449,7 @@ pub starts_step : (driven : List Place) (vs : List Variable) (i : ℕ) (v : Vari
 starts_step driven vs i v within is marks are mark one mark_is told done all same =
     let rest : List Vector = starts_from driven (i + 1) (drop (i + 1) vs) in
     let here : i ≡ 0 + i = omega arith in
-    let with_mark : mark ≡ mark_of driven i v.length =
+    let marked : mark ≡ mark_of driven i v.length =
     mark_is ∙ ap (λ (l : List Vector). unwrap_or (slice_get l i) (filled 1 X)) are ∙ mark_there driven 0 vs i i v (filled 1 X) here within is in
-    append_assoc done (one ∷ []) rest ∙ (λ j. done ++ told with_mark j ∷ rest)
+    append_assoc done (one ∷ []) rest ∙ (λ j. done ++ told marked j ∷ rest)
     ∙ ap (λ (l : List Variable). done ++ starts_from driven i l) (sym (drop_at vs i v within is)) ∙ same

@@ -71,9 +71,9 @@ module _ (words made : List Text) (list : List Declared) (kind : DeclarationWord
   pub integers_names : (long : Bool) → kind ≡ declaring.Integers long → texts_of words list ≡ names_of (own_kind words made kind list)
   integers_names long is = item_names (integer_kind long) (not long) None words list ∙ sym (ap (λ (k : DeclarationWords). names_of (own_kind words made k list)) is)
 
-pub item_of_names : (words made : List Text) (item : ModuleItem) (place : ℕ) (kind : DeclarationWords) (declaration_with : Vec Declared Global) (list : List Declared) →
-    item ≡ Declaration place kind declaration_with → list ≡ declaration_with.items → names_of (own_kind words made kind list) ≡ names_of (own_tree words made item)
-item_of_names words made item place kind declaration_with list is same =
+pub item_of_names : (words made : List Text) (item : ModuleItem) (place : ℕ) (kind : DeclarationWords) (declared : Vec Declared Global) (list : List Declared) →
+    item ≡ Declaration place kind declared → list ≡ declared.items → names_of (own_kind words made kind list) ≡ names_of (own_tree words made item)
+item_of_names words made item place kind declared list is same =
     ap (λ (l : List Declared). names_of (own_kind words made kind l)) same ∙ sym (ap (λ (m : ModuleItem). names_of (own_tree words made m)) is)
 
 -- the names of a declaration one by one, and of items, item by item
@@ -97,9 +97,9 @@ names_are words made ports unit items are same =
 
 -- ---- the variables of items, and of ports, one after another
 
-pub declaration_is : (words made : List Text) (item : ModuleItem) (place : ℕ) (kind : DeclarationWords) (declaration_with : Vec Declared Global) (list : List Declared) →
-    item ≡ Declaration place kind declaration_with → list ≡ declaration_with.items → own_kind words made kind list ≡ own_tree words made item
-declaration_is words made item place kind declaration_with list is same = ap (own_kind words made kind) same ∙ sym (ap (own_tree words made) is)
+pub declaration_is : (words made : List Text) (item : ModuleItem) (place : ℕ) (kind : DeclarationWords) (declared : Vec Declared Global) (list : List Declared) →
+    item ≡ Declaration place kind declared → list ≡ declared.items → own_kind words made kind list ≡ own_tree words made item
+declaration_is words made item place kind declared list is same = ap (own_kind words made kind) same ∙ sym (ap (own_tree words made) is)
 
 -- the variables of a declaration one by one
 pub own_opens : (words made : List Text) (path : Text) (form : Form) (one : Declared) (more : List Declared) →

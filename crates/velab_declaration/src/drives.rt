@@ -194,12 +194,7 @@ pub fn starts_of(
         (drivers_fault (blank_environment variables.now) [] actions.now words.now)) }
 {
     let values = blanks(alloc, variables)?;
-    let environment = Environment {
-        values: &values,
-        variables,
-        time: 0,
-        factor: 1,
-    };
+    let environment = Environment::at_zero(&values, variables);
     let mut marks = no_marks(alloc, variables)?;
     match first_again(actions, words, &environment, &mut marks) {
         None => Ok(starts_by(alloc, variables, &marks)?),

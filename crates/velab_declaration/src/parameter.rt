@@ -31,7 +31,7 @@ use vlex::Tokens;
 use vmodules::connect::ConnectionMap;
 use vmodules::letters::letters;
 use vmodules::names::Names;
-use vvalue::asked::{by_itself, right_side};
+use vvalue::asked::{right_side, self_determined_value};
 
 /// The names of an instance so far: those of its variables, and its parameters, named events and instances as far as they are known;
 /// the number of its first variable, and that of the next named event; the top's name. A design has at most 1,024 variables and 4,294,967,295 events.
@@ -130,7 +130,7 @@ fn typed_value(signed: bool, bounds: Option<Bounds>, value: &Expression) -> Vec4
     match bounds {
         Some(bounds) => right_side(value, span(bounds), &nothing()).with_sign(signed),
         None => {
-            let value = by_itself(value, &nothing());
+            let value = self_determined_value(value, &nothing());
             if signed { value.with_sign(true) } else { value }
         }
     }
@@ -151,7 +151,7 @@ fn parameter_by(kind: Option<&ParameterType>, bounds: Option<Bounds>, value: &Ex
         spec.parameter_by (type_of words kind.entry) bounds value.now }
 {
     match kind {
-        None => by_itself(value, &nothing()),
+        None => self_determined_value(value, &nothing()),
         Some(ParameterType::Integer { long }) => {
             right_side(value, integer_length(*long), &nothing()).with_sign(!*long)
         }

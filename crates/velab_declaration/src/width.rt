@@ -173,12 +173,7 @@ pub fn check_flaws(
         (spec.flaw_rule (spec.blank_environment variables.now)) actions.now words.now)) }
 {
     let values = blanks(alloc, variables)?;
-    let environment = Environment {
-        values: &values,
-        variables,
-        time: 0,
-        factor: 1,
-    };
+    let environment = Environment::at_zero(&values, variables);
     match first_flawed(actions, words, &environment) {
         None => Ok(()),
         Some(fault) => Err(OrMemory::Fault(fault)),

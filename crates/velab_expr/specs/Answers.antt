@@ -34,9 +34,9 @@ value_or_fault None rule word = refuse rule word
 value_or_fault (Some x) rule word = Ok x
 
 -- this, where no size is wrong
-abbrev pub unless_flawed : {A : Type 0} → Option Flaw → Option Word → A → Result A ElabFault
-unless_flawed None word x = Ok x
-unless_flawed (Some flaw) word x = refuse (rule_of flaw) word
+abbrev pub value_unless_flawed : {A : Type 0} → Option Flaw → Option Word → A → Result A ElabFault
+value_unless_flawed None word x = Ok x
+value_unless_flawed (Some flaw) word x = refuse (rule_of flaw) word
 
 -- what the answer lists, behind these
 abbrev pub behind : {A F : Type 0} → List A → Result (List A) F → Result (List A) F

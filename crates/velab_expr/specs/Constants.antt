@@ -8,7 +8,7 @@ use Rattle.vdesign.specs.declared.expression.Bounds.{Bounds}
 use Rattle.vvalue.specs.Value.{Environment, self_determined_value}
 use Rattle.vvalue.specs.Flaws.{flaw_of}
 use Rattle.vast.specs.NumberedWords.{Word}
-use Rattle.velab_expr.specs.Answers.{unless_flawed}
+use Rattle.velab_expr.specs.Answers.{value_unless_flawed}
 use Rattle.velab_expr.specs.declared.fault.ElabFault.{ElabFault}
 
 -- there are no variables
@@ -21,7 +21,7 @@ constant_value tree = self_determined_value nothing tree
 
 -- the same where its sizes are right; else this is told by its first word
 abbrev pub checked_constant : Option Word → ExpressionTree → Result Vector ElabFault
-checked_constant word tree = unless_flawed (flaw_of nothing tree) word (constant_value tree)
+checked_constant word tree = value_unless_flawed (flaw_of nothing tree) word (constant_value tree)
 
 abbrev pub is_negative : Vector → Bool
 is_negative value = is_one (sign_letter value)

@@ -9,7 +9,7 @@ use Rattle.vdesign.specs.Expressions.{ExpressionTree, constant, variable, bit, b
 use Rattle.vdesign.specs.declared.expression.Bounds.{Bounds}
 use Rattle.vvalue.specs.Value.{part_of, part_size}
 use Rattle.vvalue.specs.Flaws.{is_part, flaw_of}
-use Rattle.velab_expr.specs.Answers.{◌>>=◌, require, answer_if, unless_flawed, value_or}
+use Rattle.velab_expr.specs.Answers.{◌>>=◌, require, answer_if, value_unless_flawed, value_or}
 use Rattle.velab_expr.specs.Literals.{constant_of}
 use Rattle.velab_expr.specs.FirstWords.{first_in, first_among}
 use Rattle.velab_expr.specs.Scopes.{Scope, lower_name}
@@ -104,7 +104,7 @@ lower_expression scope tree = lower false scope tree
 
 -- a constant, and what it is worth
 abbrev pub lower_constant : Scope → text.ExpressionTree → Result ExpressionTree ElabFault
-lower_constant scope tree = lower true scope tree >>= λ e. unless_flawed (flaw_of nothing e) (first_in tree) e
+lower_constant scope tree = lower true scope tree >>= λ e. value_unless_flawed (flaw_of nothing e) (first_in tree) e
 
 abbrev pub lower_value : Scope → text.ExpressionTree → Result Vector ElabFault
 lower_value scope tree = lower true scope tree >>= checked_constant (first_in tree)

@@ -16,7 +16,7 @@ use basis::OrMemory;
 use vast::expression::Expression as Written;
 use vbits::{Bit4, Vec4};
 use vdesign::expression::{Bounds, Expression};
-use vvalue::asked::by_itself;
+use vvalue::asked::self_determined_value;
 use vvalue::environment::Environment;
 use vvalue::flaw::{Flaw, flaw_of};
 
@@ -29,12 +29,7 @@ const GREATEST_BOUND: u64 = 65535;
 pub fn nothing() -> Environment<'static>
     ensures { result ≡ spec.nothing }
 {
-    Environment {
-        values: &[],
-        variables: &[],
-        time: 0,
-        factor: 1,
-    }
+    Environment::at_zero(&[], &[])
 }
 
 /// The rule that is broken where an expression has this flaw.
@@ -54,7 +49,7 @@ pub fn worth_of(expression: &Expression, written: &Written) -> Result<Vec4, OrMe
 {
     let environment = nothing();
     match flaw_of(expression, &environment) {
-        None => Ok(by_itself(expression, &environment)),
+        None => Ok(self_determined_value(expression, &environment)),
         Some(flaw) => { Err(refusal(rule_of(flaw), first_in(written))) }
     }
 }

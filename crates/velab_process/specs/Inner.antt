@@ -46,6 +46,25 @@ abbrev pub Begins : {A : Type 0} → Result (Vec ℕ A) (OrMemory ElabFault) →
 Begins (Ok places) table answer = answer ≡ Ok (record { table = table; places = places.items })
 Begins (Err e) table answer = Refuses e answer
 
+-- an `if`, a `case` or a loop (9.4 to 9.6)
+abbrev pub is_control_flow : StatementTree → Bool
+is_control_flow empty = false
+is_control_flow (block label statements) = false
+is_control_flow (assign target amount value) = false
+is_control_flow (nonblocking target amount value) = false
+is_control_flow (trigger letters) = false
+is_control_flow (if_true condition body) = true
+is_control_flow (if_else condition body other) = true
+is_control_flow (case_of kind value branches) = true
+is_control_flow (while_true condition body) = true
+is_control_flow (repeat_times count body) = true
+is_control_flow (forever body) = true
+is_control_flow (for_loop target value condition next_target next_value body) = true
+is_control_flow (wait_for condition body) = false
+is_control_flow (delay amount body) = false
+is_control_flow (event control body) = false
+is_control_flow (task call) = false
+
 -- a `for` behind its first assignment
 abbrev pub lower_loop : Scope → Table → text.ExpressionTree → StatementTree → TargetTree → text.ExpressionTree → Result Lowered ElabFault
 lower_loop scope table condition body next_target next_value =

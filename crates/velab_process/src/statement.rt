@@ -8,7 +8,7 @@ ghost use Rattle.velab_process.specs.Statements.{at_next, with_places_before, wi
 ghost use Rattle.velab_process.specs.Processes as processes;
 ghost use Rattle.velab_process.specs.Processes.{procedural, continuous, with_begins_before, lower_processes};
 ghost use Rattle.vmodules.specs.Placed.{inside};
-ghost use Rattle.velab_process.specs.Inner.{Begins, statement_at, statements_at, branch_at, branches_at, task_at, arguments_at, lower_loop as spec_loop, starts_in, values_in, drives_in, processes_of_item, processes_of, values_of};
+ghost use Rattle.velab_process.specs.Inner.{Begins, statement_at, statements_at, branch_at, branches_at, task_at, arguments_at, lower_loop as spec_loop, is_control_flow, starts_in, values_in, drives_in, processes_of_item, processes_of, values_of};
 ghost use Rattle.vast.specs.Words.{Text};
 ghost use Rattle.vast.specs.NumberedTrees.{tree_of as text_tree, trees_of};
 ghost use Rattle.vast.specs.NumberedTrees.{target_tree, delay_tree, event_tree};
@@ -349,6 +349,39 @@ impl<'a> Elaborator<'a> {
             Statement::Delayed { delay, body, .. } => self.lower_delayed(body, delay, table, into),
             Statement::Task { task, .. } => self.lower_task(task, table, into),
             Statement::Trigger { name, .. } => self.lower_trigger(*name, table, into),
+            Statement::Wait {
+                condition,
+                body,
+                ..
+            } => self.lower_wait(body, condition, table, into),
+            Statement::OnEvent { event, body, .. } => self.lower_event_control(
+                body, event, table, into,
+            ),
+            Statement::If { .. }
+            | Statement::IfElse { .. }
+            | Statement::Case { .. }
+            | Statement::While { .. }
+            | Statement::Repeat { .. }
+            | Statement::Forever { .. }
+            | Statement::For { .. } => self.lower_control_flow(statement, table, into),
+        }
+    }
+
+    // An `if`, a `case` or a loop (9.4 to 9.6).
+    #[cycle(statements)]
+    fn lower_control_flow(
+        &self,
+        statement: &Statement,
+        table: &mut Table,
+        into: &mut Vec<usize>,
+    ) -> Result<(), OrMemory<ElabFault>>
+        requires { is_control_flow
+            (statement_at (words_of self.now.tokens.now) self.now.path.now statement.now) ≡ true }
+        ensures { Makes result (record { table = table.new; places = into.new.items })
+            (with_places_before into.old.items (lower_statement self.now.scope.now table.old
+            (statement_at (words_of self.now.tokens.now) self.now.path.now statement.now))) }
+    {
+        match statement {
             Statement::If {
                 condition,
                 body,
@@ -391,14 +424,7 @@ impl<'a> Elaborator<'a> {
                 self.lower_assignment(true, target, &None, value, table, into)?;
                 self.lower_loop(body, condition, next_target, next_value, table, into)
             }
-            Statement::Wait {
-                condition,
-                body,
-                ..
-            } => self.lower_wait(body, condition, table, into),
-            Statement::OnEvent { event, body, .. } => self.lower_event_control(
-                body, event, table, into,
-            ),
+            _ => unreachable!(),
         }
     }
 

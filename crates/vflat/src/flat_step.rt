@@ -391,7 +391,7 @@ impl Flat {
         self.rest.close(monitors);
         *effect = Effect {
             wrote: update,
-            ..Effect::quiet()
+            ..Effect::none()
         };
     }
 
@@ -557,7 +557,7 @@ impl Flat {
         ensures ok { OnOk result (self.new ≡ (flat_next design.now code.now self.old i).flat) }
         ensures err { OnErr result (self.new ≡ self.old) }
     {
-        let mut effect = Effect::quiet();
+        let mut effect = Effect::none();
         let mut monitors = Vec::new(*self.points.allocator());
         self.step_into(design, code, i, &mut effect, &mut monitors)
     }

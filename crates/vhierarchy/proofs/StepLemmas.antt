@@ -27,9 +27,9 @@ pub hands_over : {A F : Type 0} (result : Result A (OrMemory F)) (e : OrMemory F
 hands_over (Ok x) e answer h p = absurd h
 hands_over {F = F} (Err y) e answer h p = subst (λ (o : OrMemory F). Refuses o answer) (sym h) p
 
-pub hands_as : {A B F : Type 0} (fault_at : A → B) (result : Result A (OrMemory F)) (e : OrMemory F) (answer : Result B F) → IsErrAnd result (λ y. y ≡ e) → Refuses e answer → GivesAs fault_at result answer
-hands_as fault_at (Ok x) e answer h p = absurd h
-hands_as {F = F} fault_at (Err y) e answer h p = subst (λ (o : OrMemory F). Refuses o answer) (sym h) p
+pub hands_as : {A B F : Type 0} (told : A → B) (result : Result A (OrMemory F)) (e : OrMemory F) (answer : Result B F) → IsErrAnd result (λ y. y ≡ e) → Refuses e answer → GivesAs told result answer
+hands_as told (Ok x) e answer h p = absurd h
+hands_as {F = F} told (Err y) e answer h p = subst (λ (o : OrMemory F). Refuses o answer) (sym h) p
 
 -- the fault of a first step is that of both
 pub first_refused : {A B F : Type 0} (a : Result A F) (rest : A → Result B F) (e : OrMemory F) → Refuses e a → Refuses e (a >>= rest)

@@ -1,4 +1,4 @@
--- *product rule*: Why a text has no design: the rule that a fault says is broken, with its number (docs/LANGUAGE.md).
+-- *product rule*: Why a text has no design: the first rule that it breaks, and at which word (docs/FAULTS.md).
 use Rattle.std.specs.Prelude.{◌≡◌, Option}
 use Rattle.vast.specs.Words.{Text}
 use Rattle.vast.specs.NumberedModules.{SourceTree}

@@ -273,7 +273,7 @@ impl Machine {
             LeavesSink S.takes S.fails self.now run.old.log.now steps first fault sink.new) }
         ensures whole { may_pause ≡ false → IfOk result IsSome }
     {
-        let mut effect = Effect::quiet();
+        let mut effect = Effect::none();
         let mut monitors = Vec::new(self.alloc);
         let mut touched = Touched::any(self.alloc);
         'walk: loop {
@@ -409,7 +409,7 @@ impl Machine {
         let mut state = self.opening_state()?;
         let mut items = Vec::new(self.alloc);
         put_slot_end(&mut items, &state)?;
-        let mut effect = Effect::quiet();
+        let mut effect = Effect::none();
         let mut monitors = Vec::new(self.alloc);
         let mut rest = log.members();
         let mut n = 0;

@@ -4,7 +4,7 @@ use Rattle.vbits.specs.Vectors.{Vector}
 use Rattle.vmodel.specs.Queue.{Queue}
 use Rattle.vmodel.specs.State.{State}
 
--- nothing is active, no process and no update
+-- nothing is active, no process and no update; then nothing waits in another region of this time either ([kept] of `run_law`)
 abbrev pub IsIdle : Queue → Type 0
 IsIdle q = (q.active ≡ []) × (q.activated ≡ [])
 

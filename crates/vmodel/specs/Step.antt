@@ -26,7 +26,7 @@ use Rattle.vmodel.specs.declared.effect.Post.{Post}
 use Rattle.vmodel.specs.declared.effect.Shown.{Shown}
 use Rattle.vmodel.specs.declared.effect.Shown.TheVariants.{Commands, Prints, Watches}
 use Rattle.vmodel.specs.declared.part.Part.{Part}
-use Rattle.vvalue.specs.Value.{Environment, holds, delay_of}
+use Rattle.vvalue.specs.Value.{Environment, written_time, holds, delay_of}
 use Rattle.vvalue.specs.Cases.{places_of_case, turns_of}
 use Rattle.line_text.specs.LineText.{pieces_text}
 use Rattle.vmodel.specs.Value.{assigned_parts, held_value, resumed_parts}
@@ -293,11 +293,6 @@ transition_with design p step s = complete step.effect (with_woken design s.valu
 -- nothing happens
 abbrev pub no_transition : State → Transition
 no_transition s = record { state = s; effect = no_effect; monitors = [] }
-
--- 17.7.1: a time in units in which delays are written. Every time of a run is a multiple of its unit, so nothing is rounded
-abbrev pub written_time : ℕ → ℕ → ℕ
-written_time time zero = zero
-written_time time (suc n) = time / suc n
 
 -- what is known at a time, with these values
 abbrev pub environment_at : Design → List Vector → ℕ → Environment

@@ -74,7 +74,7 @@ pub struct Effect {
 
 impl Effect {
     /// What a step does that only goes on.
-    pub fn quiet() -> Effect
+    pub fn none() -> Effect
         ensures { result ≡ spec.no_effect }
     {
         Effect {
@@ -96,13 +96,13 @@ pub(crate) fn write_effect(parts: Parts) -> Effect
 {
     Effect {
         wrote: parts,
-        ..Effect::quiet()
+        ..Effect::none()
     }
 }
 
 impl Effect {
     // From here on it is that of a step that only goes on. Field by field, so that nothing is moved.
-    fn quieten(&mut self)
+    fn reset(&mut self)
         ensures { self.new ≡ spec.no_effect }
     {
         self.held = None;
@@ -119,7 +119,7 @@ impl Effect {
     fn end(&mut self, cause: Cause)
         ensures { self.new ≡ effect_of_end cause }
     {
-        self.quieten();
+        self.reset();
         self.cause = Some(cause);
     }
 
@@ -127,7 +127,7 @@ impl Effect {
     fn write(&mut self, parts: Parts)
         ensures { self.new ≡ record spec.no_effect { wrote = parts } }
     {
-        self.quieten();
+        self.reset();
         self.wrote = parts;
     }
 
@@ -135,7 +135,7 @@ impl Effect {
     fn post(&mut self, after: u128, parts: Parts)
         ensures { self.new ≡ record spec.no_effect { posted = Some (spec.post_after after parts) } }
     {
-        self.quieten();
+        self.reset();
         self.posted = Some(Post { after, parts });
     }
 
@@ -143,7 +143,7 @@ impl Effect {
     fn trigger(&mut self, event: usize)
         ensures { self.new ≡ record spec.no_effect { triggered = Some event } }
     {
-        self.quieten();
+        self.reset();
         self.triggered = Some(event);
     }
 
@@ -151,7 +151,7 @@ impl Effect {
     fn suspend(&mut self, disposition: Disposition)
         ensures { self.new ≡ record spec.no_effect { disposition = disposition } }
     {
-        self.quieten();
+        self.reset();
         self.disposition = disposition;
     }
 
@@ -159,7 +159,7 @@ impl Effect {
     fn show(&mut self, shown: Shown)
         ensures { self.new ≡ record spec.no_effect { shown = Some shown } }
     {
-        self.quieten();
+        self.reset();
         self.shown = Some(shown);
     }
 
@@ -167,7 +167,7 @@ impl Effect {
     fn strobe(&mut self, place: usize)
         ensures { self.new ≡ record spec.no_effect { strobed = Some place } }
     {
-        self.quieten();
+        self.reset();
         self.strobed = Some(place);
     }
 
@@ -256,7 +256,7 @@ fn while_of<'d>(
         while_result place (holds_at environment.now condition.now) body.now after
         ≡ step_result result.then result.next.now after effect.new }
 {
-    effect.quieten();
+    effect.reset();
     if holds(condition, environment) {
         comes_again(place, body.as_slice())
     } else {
@@ -277,7 +277,7 @@ fn wait_of<'d>(
         ≡ step_result result.then result.next.now after effect.new }
 {
     if holds(condition, environment) {
-        effect.quieten();
+        effect.reset();
         return goes_to(body.as_slice());
     }
     effect.suspend(Disposition::Waiting(place));
@@ -419,7 +419,7 @@ pub fn effect_of<'d>(
             when_true,
             otherwise,
         } => {
-            effect.quieten();
+            effect.reset();
             Ok(goes_to(branch_of(condition, when_true, otherwise, environment)))
         }
         Action::Case {
@@ -428,7 +428,7 @@ pub fn effect_of<'d>(
             branches,
             otherwise,
         } => {
-            effect.quieten();
+            effect.reset();
             Ok(goes_to(places_of_case(*kind, value, branches, otherwise, environment)))
         }
         Action::While { condition, body } => Ok(while_of(
@@ -439,11 +439,11 @@ pub fn effect_of<'d>(
             effect,
         )),
         Action::Repeat { count, .. } => {
-            effect.quieten();
+            effect.reset();
             Ok(turns_first(place, &[], turns_of(count, environment)))
         }
         Action::Forever { body } => {
-            effect.quieten();
+            effect.reset();
             Ok(comes_again(place, body.as_slice()))
         }
         Action::Delay { amount, body } => {
@@ -476,7 +476,7 @@ pub fn effect_of<'d>(
             Ok(goes_to(&[]))
         }
         Action::NoOperation => {
-            effect.quieten();
+            effect.reset();
             Ok(goes_to(&[]))
         }
         Action::Finish => {
@@ -496,7 +496,7 @@ fn turn_of<'d>(place: usize, turns: u64, action: &'d Action, effect: &mut Effect
         spec.execute_turn place turns action.now after
         ≡ step_result result.then result.next.now after effect.new }
 {
-    effect.quieten();
+    effect.reset();
     match action {
         Action::Repeat { body, .. } => {
             turns_first(place, body.as_slice(), turns.saturating_sub(1))
@@ -543,7 +543,7 @@ fn resume_of<'d>(
             written_of(alloc, targets, held, environment, effect)
         }
         _ => {
-            effect.quieten();
+            effect.reset();
             Ok(Course {
                 next: &[],
                 then: Some(Frame::Writing(place)),

@@ -149,27 +149,11 @@ pub fn is_print(action: &Action) -> bool
     matches!(action, Action::Print { .. })
 }
 
-// A time in units in which delays are written (17.7.1).
-fn written_time(time: u64, factor: u64) -> u64
-    ensures { result ≡ spec.written_time time factor }
-{
-    if factor == 0 {
-        return 0;
-    }
-    time / factor
-}
-
 /// What is known at a time, in units of the precision, where the variables have these values.
 pub fn environment_at<'m>(design: &'m Design, values: &'m [Vec4], time: u64) -> Environment<'m>
     ensures { result ≡ spec.environment_at design.now values.now time }
 {
-    let factor = design.scale.factor();
-    Environment {
-        values,
-        variables: &design.variables,
-        time: written_time(time, factor),
-        factor,
-    }
+    Environment::new(values, &design.variables, time, design.scale)
 }
 
 impl State {
@@ -190,7 +174,7 @@ impl State {
         ensures { transition_to self.now effect.new monitors.new.items ≡ no_transition self.now }
     {
         monitors.clear();
-        *effect = Effect::quiet();
+        *effect = Effect::none();
     }
 
     // What a process comes to first, if something is left.
@@ -368,7 +352,7 @@ impl State {
     {
         self.queue.advance();
         self.close(monitors);
-        *effect = Effect::quiet();
+        *effect = Effect::none();
     }
 
     // The step of a choice, without what is held back from now on and the lines of the slot.
@@ -587,7 +571,7 @@ impl State {
         ensures err { OnErr result (self.new ≡ self.old) }
         ensures err_monitors { OnErr result (monitors.new.items ≡ monitors.old.items) }
     {
-        let mut effect = Effect::quiet();
+        let mut effect = Effect::none();
         self.step_into(design, i, &mut effect, monitors)?;
         Ok(effect)
     }
@@ -597,7 +581,7 @@ impl State {
         ensures ok { OnOk result (self.new ≡ (next design.now self.old i).state) }
         ensures err { OnErr result (self.new ≡ self.old) }
     {
-        let mut effect = Effect::quiet();
+        let mut effect = Effect::none();
         let mut monitors = Vec::new(*self.processes.allocator());
         self.step_into(design, i, &mut effect, &mut monitors)
     }

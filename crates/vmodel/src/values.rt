@@ -129,7 +129,7 @@ impl Eq for Values {
 }
 
 impl Values {
-    /// A variable starts at x, a net that nothing drives at z (4.2.2, 4.6).
+    /// A variable starts at x, a net that nothing drives at z (4.2.1, 4.2.2).
     pub fn opening(alloc: Global, variables: &[Variable]) -> Result<Values, NoMemory>
         ensures { IfOk result (λ values. values ≡ map opening_value variables.now) }
     {

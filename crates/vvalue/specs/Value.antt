@@ -1,6 +1,6 @@
 -- *trusted*: What an expression is worth (IEEE 1364-2005, 3.5.1, 5.4, 5.5): its own size and sign, and its value at the size and sign of
 -- what it stands in.
-use Rattle.std.specs.Prelude.{ℕ, zero, suc, ◌+◌, ◌-◌, ◌*◌, max, min, nat_le, Bool, false, if◌then◌else◌, ◌&&◌, ◌||◌, List, [], ◌∷◌, ◌++◌, length, take, slice_get, Option, None, Some, unwrap_or, option_and_then}
+use Rattle.std.specs.Prelude.{ℕ, zero, suc, ◌+◌, ◌-◌, ◌*◌, ◌/◌, max, min, nat_le, Bool, false, if◌then◌else◌, ◌&&◌, ◌||◌, List, [], ◌∷◌, ◌++◌, length, take, slice_get, Option, None, Some, unwrap_or, option_and_then}
 use Rattle.vbits.specs.declared.bit4.Bit4.{Bit4}
 use Rattle.vbits.specs.declared.bit4.Bit4.TheVariants.{Zero, One, X, Z}
 use Rattle.vbits.specs.Letters.{not_letter, and_letter, or_letter, is_one}
@@ -34,6 +34,11 @@ pub record Environment : Type 0 where
   pub variables : List Variable
   pub time : ℕ
   pub factor : ℕ
+
+-- 17.7.1: a time in units in which delays are written. Every time of a run is a multiple of its unit, so nothing is rounded
+abbrev pub written_time : ℕ → ℕ → ℕ
+written_time moment zero = zero
+written_time moment (suc n) = moment / suc n
 
 -- the value of the variable of this number; x, one bit wide, where there is none
 abbrev pub value_at : Environment → ℕ → Vector
@@ -180,7 +185,7 @@ extended_value v extension here = with_sign (resize (with_sign v extension) here
 abbrev pub fitted_value : Vector → SizeAndSign → Vector
 fitted_value v here = extended_value v here.signed here
 
--- a unary + keeps unknown bits as they are (own: 5.1.5 makes the whole result x)
+-- a unary + keeps unknown bits as they are (5.1.5 says both: the same as its operand, and x where a bit is unknown)
 abbrev pub kept_value : Sign → Vector → Vector
 kept_value signs.Plus v = v
 kept_value signs.Minus v = vectors.neg v
@@ -268,7 +273,8 @@ binary_value (SelfDetermined operator) v w = combined_value operator v w
 binary_value (LeftContextDetermined operator) v w = shifted_value operator v w
 
 -- 5.4, 5.5: the value in a context of this size and sign. The operands of comparisons, reductions and logical operators don't take the
--- context's size; their result is extended to it. A number that spreads is extended by its leftmost letter (3.5.1)
+-- context's size, nor do those of concatenations, `$signed` and `$unsigned`, an index, the right operand of a shift and the condition of
+-- `?:`; the result is extended to it. A number that spreads is extended by its leftmost letter (3.5.1)
 abbrev pub value_of : Environment → ExpressionTree → SizeAndSign → Vector
 value_of now (constant c) here = extended_value c.value (c.spreads || here.signed) here
 value_of now (variable n) here = fitted_value (value_at now n) here

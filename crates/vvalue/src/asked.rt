@@ -12,7 +12,7 @@ use vbits::Vec4;
 use vdesign::expression::Expression;
 
 /// The value of an expression at its own size and sign.
-pub fn by_itself(expression: &Expression, environment: &Environment<'_>) -> Vec4
+pub fn self_determined_value(expression: &Expression, environment: &Environment<'_>) -> Vec4
     ensures { result ≡ spec.self_determined_value environment.now expression.now }
 {
     let nodes = expression.nodes();
@@ -26,7 +26,7 @@ pub fn by_itself(expression: &Expression, environment: &Environment<'_>) -> Vec4
 pub fn holds(condition: &Expression, environment: &Environment<'_>) -> bool
     ensures { result ≡ spec.holds environment.now condition.now }
 {
-    is_one(by_itself(condition, environment).truth())
+    is_one(self_determined_value(condition, environment).truth())
 }
 
 /// What so many bits get of an expression that is assigned to them: at the larger of both sizes, extended by its own sign and cut on
@@ -59,5 +59,6 @@ fn amount_of(value: Vec4) -> u64
 pub fn delay_of(amount: &Expression, environment: &Environment<'_>) -> u128
     ensures { result ≡ spec.delay_of environment.now amount.now }
 {
-    u128::from(amount_of(by_itself(amount, environment))) * u128::from(environment.factor)
+    u128::from(amount_of(self_determined_value(amount, environment)))
+        * u128::from(environment.factor())
 }

@@ -6,7 +6,7 @@ ghost use Rattle.vvalue.specs.Cases as spec;
 ghost use Rattle.vvalue.specs.Fits.{IsWithin};
 ghost use Rattle.vvalue.specs.Value.{self_determined as own_size_and_sign, value_of as value_there};
 
-use crate::asked::by_itself;
+use crate::asked::self_determined_value;
 use crate::environment::Environment;
 use crate::select::is_negative;
 use crate::size::self_determined;
@@ -159,5 +159,5 @@ fn turns_in(count: Vec4) -> u64
 pub fn turns_of(count: &Expression, environment: &Environment<'_>) -> u64
     ensures { result ≡ spec.turns_of environment.now count.now }
 {
-    turns_in(by_itself(count, environment))
+    turns_in(self_determined_value(count, environment))
 }

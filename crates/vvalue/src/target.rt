@@ -4,7 +4,7 @@ ghost use Rattle.std.specs.Prelude.{◌≡◌, ◌≤◌, min, length};
 ghost use Rattle.vvalue.specs.Targets as spec;
 ghost use Rattle.vvalue.specs.Value.{part_size as size_of_part};
 
-use crate::asked::by_itself;
+use crate::asked::self_determined_value;
 use crate::environment::{Environment, bounds_of, value_at};
 use crate::select::{index_in, part_size, place_in};
 use vdesign::action::Target;
@@ -41,7 +41,7 @@ pub fn targets_size(targets: &[Target], environment: &Environment<'_>) -> u32
 pub fn place_at(environment: &Environment<'_>, variable: u32, index: &Expression) -> Option<u64>
     ensures { result ≡ spec.place_at environment.now variable index.now }
 {
-    match index_in(by_itself(index, environment)) {
+    match index_in(self_determined_value(index, environment)) {
         None => None,
         Some(number) => place_in(bounds_of(environment, variable), number),
     }

@@ -22,8 +22,8 @@ lower-returns-in-Block t c =
     (block_trees (words_of c.args.self.now.tokens.now) c.args.statement.now c.in-Block.name c.in-Block.statements c.deref.result.now c.in-Block.is c.deref.ensures.value)
     c.lower_block.ensures
 
-pub lower-returns-in-Case : goal.lower-returns-in-Case
-lower-returns-in-Case t c =
+pub lower_control_flow-returns-in-Case : goal.lower_control_flow-returns-in-Case
+lower_control_flow-returns-in-Case t c =
     let path = c.args.self.now.path.now in
     subst (λ (s : StatementTree). Makes c.lower_case.result (record { table = c.lower_case.new.table; places = c.lower_case.new.into.items })
     (with_places_before c.args.into.now.items (lower_statement c.args.self.now.scope.now c.args.table.now (placed path s))))
@@ -57,8 +57,8 @@ lower_branches-loop-branch-preserved t c =
     (sym (drop_at c.args.branches.now c.loop-branch.branch-index c.branch-item.result c.loop-branch-test.true c.branch-item.is))
     ∙ c.loop-branch.invariant
 
-pub lower-returns-in_ok-lower_assignment-in-For : goal.lower-returns-in_ok-lower_assignment-in-For
-lower-returns-in_ok-lower_assignment-in-For t c =
+pub lower_control_flow-returns-in_ok-lower_assignment-in-For : goal.lower_control_flow-returns-in_ok-lower_assignment-in-For
+lower_control_flow-returns-in_ok-lower_assignment-in-For t c =
     let words = words_of c.args.self.now.tokens.now in
     let scope = c.args.self.now.scope.now in
     let path = c.args.self.now.path.now in
@@ -76,5 +76,5 @@ lower-returns-in_ok-lower_assignment-in-For t c =
     (with_places_before into (lower_statement scope c.args.table.now s))) tree
     (subst (λ (answer : Result Lowered ElabFault). Makes c.lower_loop.result (record { table = c.lower_loop.new.table; places = c.lower_loop.new.into.items }) answer)
     (statement_put into (λ table. lower_loop scope table condition body next last) (lower_assignment true scope c.args.table.now target None value)
-    c.lower_assignment-in-For.new.table c.lower_assignment-in-For.new.into.items c.in_ok-lower_assignment-in-For.ensures)
+    c.lower_assignment.new.table c.lower_assignment.new.into.items c.in_ok-lower_assignment-in-For.ensures)
     c.lower_loop.ensures)

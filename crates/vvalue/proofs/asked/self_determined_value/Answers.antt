@@ -1,7 +1,7 @@
 use Rattle.std.proofs.Common.{[], ap, ◌∙◌}
 use Rattle.vvalue.specs.Value.{value_of}
 use Rattle.vvalue.proofs.NodeLemmas.{alone}
-use Rattle.vvalue.proofs.asked.by_itself.Goals as goal
+use Rattle.vvalue.proofs.asked.self_determined_value.Goals as goal
 
 pub returns : goal.returns
 returns c =
